@@ -10,6 +10,7 @@ mod ask;
 mod fault;
 mod field;
 mod judge;
+pub mod laws;
 mod name;
 mod operation;
 mod range;
