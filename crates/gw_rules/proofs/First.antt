@@ -26,9 +26,9 @@ none_below : {X : Type 0} (test : X → Bool) (xs : List X) → position test xs
 none_below test xs e =
     ltb-false (position_or_len test xs) (length xs) (cond_none (nat_lt (position_or_len test xs) (length xs)) (position_or_len test xs) e)
   where
-  cond_none : (b : Bool) (n : ℕ) → cond b (Some n) None ≡ None → b ≡ false
-  cond_none true n e = absurd (cc)
-  cond_none false n e = refl
+    cond_none : (b : Bool) (n : ℕ) → cond b (Some n) None ≡ None → b ≡ false
+    cond_none true n e = absurd (cc)
+    cond_none false n e = refl
 
 -- what a place that the search found says of a list with a first rule
 found_at : (d : Rule) (rules : List Rule) (ask : Ask) (place number : ℕ) → position (λ rule. matches rule ask) rules ≡ Some place → place + 1 ≡ number → IsFirst rules ask number
@@ -40,10 +40,10 @@ found_at d rules ask place number e n =
       numbered = record { counted = omega arith; there = ap (slice_get rules) before ∙ slice_get-get_or rules place d at.0 };
       matching = (matches_iff (get_or rules place d) ask).0 at.1;
       least = λ lower other below has matching.
-        let one : 1 ≤ lower = has.counted in
-        let is : get_or rules (lower - 1) d ≡ other = get_or_from_slice_get rules (lower - 1) other d has.there in
-        let fails : matches (get_or rules (lower - 1) d) ask ≡ false = at.2 (lower - 1) (omega arith) in
-        both_ways (matches other ask) (sym (ap (λ rule. matches rule ask) is) ∙ fails) ((matches_iff other ask).1 matching);
+          let one : 1 ≤ lower = has.counted in
+          let is : get_or rules (lower - 1) d ≡ other = get_or_from_slice_get rules (lower - 1) other d has.there in
+          let fails : matches (get_or rules (lower - 1) d) ask ≡ false = at.2 (lower - 1) (omega arith) in
+          both_ways (matches other ask) (sym (ap (λ rule. matches rule ask) is) ∙ fails) ((matches_iff other ask).1 matching);
     }
 
 found : (rules : List Rule) (ask : Ask) (number : ℕ) → first rules ask ≡ Some number → IsFirst rules ask number
@@ -73,11 +73,11 @@ never_first rules ask number none is =
 first_once : (rules : List Rule) (ask : Ask) (m n : ℕ) → IsFirst rules ask m → IsFirst rules ask n → m ≡ n
 first_once rules ask m n a b =
     elim (cases_order m n) [
-      inl same ↦ same
+      | inl same ↦ same
       | inr apart ↦ elim apart [
-          inl below ↦ absurd (b.least m a.rule below a.numbered a.matching)
-          | inr above ↦ absurd (a.least n b.rule above b.numbered b.matching)
-        ]
+        | inl below ↦ absurd (b.least m a.rule below a.numbered a.matching)
+        | inr above ↦ absurd (a.least n b.rule above b.numbered b.matching)
+      ]
     ]
 
 -- `first` answers a number exactly where the rule of that number is the first that matches
@@ -85,18 +85,18 @@ pub first_iff : (rules : List Rule) (ask : Ask) (number : ℕ) → (first rules 
 first_iff rules ask number =
     (found rules ask number, λ is. only (first rules ask) refl is)
   where
-  only : (answer : Option ℕ) → first rules ask ≡ answer → IsFirst rules ask number → answer ≡ Some number
-  only None e is = absurd (never_first rules ask number (unmatched rules ask e) is)
-  only (Some other) e is = ap (λ n. Some n) (first_once rules ask other number (found rules ask other e) is)
+    only : (answer : Option ℕ) → first rules ask ≡ answer → IsFirst rules ask number → answer ≡ Some number
+    only None e is = absurd (never_first rules ask number (unmatched rules ask e) is)
+    only (Some other) e is = ap (λ n. Some n) (first_once rules ask other number (found rules ask other e) is)
 
 -- and none exactly where no rule matches
 pub none_iff : (rules : List Rule) (ask : Ask) → (first rules ask ≡ None) ↔ All (λ rule. ¬ Matches rule ask) rules
 none_iff rules ask =
     (unmatched rules ask, λ none. only (first rules ask) refl none)
   where
-  only : (answer : Option ℕ) → first rules ask ≡ answer → All (λ rule. ¬ Matches rule ask) rules → answer ≡ None
-  only None e none = refl
-  only (Some other) e none = absurd (never_first rules ask other none (found rules ask other e))
+    only : (answer : Option ℕ) → first rules ask ≡ answer → All (λ rule. ¬ Matches rule ask) rules → answer ≡ None
+    only None e none = refl
+    only (Some other) e none = absurd (never_first rules ask other none (found rules ask other e))
 
 -- a default of false is no true
 some_true : (test : ℕ → Bool) (o : Option ℕ) → option_map_or test o false ≡ true → (number : ℕ) × (o ≡ Some number) × (test number ≡ true)
@@ -110,11 +110,12 @@ says rules number rule there = ap (λ o. option_map_or (λ (rule : Rule). rule.a
 -- the policy allows exactly what its first matching rule allows
 pub allows_iff : (rules : List Rule) (ask : Ask) → (allows rules ask ≡ true) ↔ Allows rules ask
 unfolding allows
-allows_iff rules ask =
-    (λ t.
-        let by = some_true (allows_at rules) (first rules ask) t in
-        let is = found rules ask by.0 by.1 in
-        (by.0, is, sym (says rules by.0 is.rule is.numbered.there) ∙ by.2),
-     λ a.
-        ap (λ o. option_map_or (allows_at rules) o false) ((first_iff rules ask a.0).1 a.1)
-        ∙ (says rules a.0 a.1.rule a.1.numbered.there ∙ a.2))
+allows_iff rules ask = (
+  λ t.
+      let by = some_true (allows_at rules) (first rules ask) t in
+      let is = found rules ask by.0 by.1 in
+      (by.0, is, sym (says rules by.0 is.rule is.numbered.there) ∙ by.2),
+  λ a.
+      ap (λ o. option_map_or (allows_at rules) o false) ((first_iff rules ask a.0).1 a.1)
+      ∙ (says rules a.0 a.1.rule a.1.numbered.there ∙ a.2),
+)

@@ -14,9 +14,10 @@ use Rattle.gw_rules.proofs.Fields.{each_field_at, each_field_from}
 
 -- a test of each element is a fact of each
 all_iff : {X : Type 0} (test : X → Bool) (P : X → Type 0) → ((x : X) → test x ≡ true → P x) → ((x : X) → P x → test x ≡ true) → (xs : List X) → (list_all test xs ≡ true) ↔ All P xs
-all_iff test P of from xs =
-    (λ t. All-weaker (λ x. test x ≡ true) P of xs (AllPass-from_list_all test xs t),
-     λ all. list_all-from_AllPass test xs (All-weaker P (λ x. test x ≡ true) from xs all))
+all_iff test P of from xs = (
+  λ t. All-weaker (λ x. test x ≡ true) P of xs (AllPass-from_list_all test xs t),
+  λ all. list_all-from_AllPass test xs (All-weaker P (λ x. test x ≡ true) from xs all),
+)
 
 has_few : (rule : Rule) → has_few_ranges rule ≡ true → HasFewRanges rule
 has_few rule t field =

@@ -62,6 +62,7 @@ admitted (range ∷ ranges) value h = some_range range ranges value ∙ admitted
 pub matches_iff : (rule : Rule) (ask : Ask) → (matches rule ask ≡ true) ↔ Matches rule ask
 unfolding matches
 matches_iff rule ask =
-    let test : FieldName → Bool = λ field. admits (ranges_of field rule) (value_of field ask) in
-    (λ t field named. met (ranges_of field rule) (value_of field ask) (each_field_at test t field) named,
-     λ h. each_field_from test (λ field. admitted (ranges_of field rule) (value_of field ask) (h field)))
+    let test : FieldName → Bool = λ field. admits (ranges_of field rule) (value_of field ask) in (
+      λ t field named. met (ranges_of field rule) (value_of field ask) (each_field_at test t field) named,
+      λ h. each_field_from test (λ field. admitted (ranges_of field rule) (value_of field ask) (h field)),
+    )

@@ -84,7 +84,6 @@ HasFewRanges rule = (field : FieldName) → length (ranges_of field rule) ≤ MA
 abbrev pub has_few_ranges : Rule → Bool
 has_few_ranges rule = each_field (λ field. nat_le (length (ranges_of field rule)) MAX_RANGES)
 
-
 -- no range has its low end above its high end, and the test that computes it
 abbrev pub HasOrderedRanges : Rule → Type 0
 HasOrderedRanges rule = (field : FieldName) → All (λ range. range.low ≤ range.high) (ranges_of field rule)

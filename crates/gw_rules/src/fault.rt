@@ -1,5 +1,8 @@
 //! Why a rule list isn't made.
+ghost use Rattle.std.specs.Prelude.{◌≡◌};
+ghost use Rattle.gw_rules.specs.declared.fault.RuleFault.TheVariants.{Memory};
 
+use std::alloc::{AllocError, AllocFailed};
 use thiserror::Error;
 
 /// Why a rule or a rule list isn't made.
@@ -14,4 +17,20 @@ pub enum RuleFault {
     /// 3: there is no memory for a rule's name or ranges.
     #[error("out of memory")]
     Memory,
+}
+
+impl From<AllocError> for RuleFault {
+    ghost from_gives = { λ _ fault. fault ≡ Memory };
+
+    fn from(_error: AllocError) -> Self {
+        RuleFault::Memory
+    }
+}
+
+impl<T: Drop> From<AllocFailed<T>> for RuleFault {
+    ghost from_gives = { λ _ fault. fault ≡ Memory };
+
+    fn from(_error: AllocFailed<T>) -> Self {
+        RuleFault::Memory
+    }
 }

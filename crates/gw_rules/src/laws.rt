@@ -11,19 +11,16 @@ ghost use Rattle.gw_rules.specs.RuleList.{Allows, IsFirst, allows, first};
 /// and one of the rule's ranges holds its value.
 pub fn matching()
     ensures { (rule : Rule) (ask : Ask) → IsTrue (matches rule ask) ↔ Matches rule ask }
-{
-}
+{}
 
 /// The first rule is the one of the least number that matches, and there is none exactly where no
 /// rule matches.
 pub fn first_match()
     ensures least { (rules : List Rule) (ask : Ask) (number : ℕ) → (first rules ask ≡ Some number) ↔ IsFirst rules ask number }
     ensures none { (rules : List Rule) (ask : Ask) → (first rules ask ≡ None) ↔ All (λ rule. ¬ Matches rule ask) rules }
-{
-}
+{}
 
 /// An ask is allowed exactly where there is a first rule that matches, and it says allow.
 pub fn decision()
     ensures { (rules : List Rule) (ask : Ask) → IsTrue (allows rules ask) ↔ Allows rules ask }
-{
-}
+{}

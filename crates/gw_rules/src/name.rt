@@ -25,10 +25,9 @@ impl RuleName {
         ensures text { IfOk result (λ name. name ≡ text.now) }
         ensures memory { IsOkUnless result RuleFault.Memory }
     {
-        match String::from_str(alloc, text) {
-            Ok(text) => Ok(RuleName { text }),
-            Err(_) => Err(RuleFault::Memory),
-        }
+        Ok(RuleName {
+            text: String::from_str(alloc, text)?,
+        })
     }
 
     /// The text of the name.

@@ -39,10 +39,8 @@ impl Ranges {
         ensures err { OnErr result (self.new ≡ self.old) }
         ensures memory { IsOkUnless result RuleFault.Memory }
     {
-        match self.ranges.push(range) {
-            Ok(()) => Ok(()),
-            Err(_) => Err(RuleFault::Memory),
-        }
+        self.ranges.push(range)?;
+        Ok(())
     }
 
     /// The ranges in order.
@@ -63,7 +61,7 @@ impl Ranges {
     pub(crate) fn is_ordered(&self) -> bool
         ensures { result ≡ list_all is_ordered self.now }
     {
-        all_ordered(self.ranges.as_slice())
+        all_ordered(&self.ranges)
     }
 
     /// Whether a rule with these ranges for a field can match an ask that has this value there.
@@ -74,7 +72,7 @@ impl Ranges {
             return true;
         }
         match value {
-            Some(value) => any_holds(self.ranges.as_slice(), value),
+            Some(value) => any_holds(&self.ranges, value),
             None => false,
         }
     }

@@ -41,10 +41,10 @@ impl RuleList {
         ensures too_many { IsErrOf result RuleFault.TooMany ↔ (¬ KeepsCounts rules.items) }
         ensures range { IsErrOf result RuleFault.Range ↔ (KeepsCounts rules.items × (¬ KeepsOrder rules.items)) }
     {
-        if !keeps_counts(rules.as_slice()) {
+        if !keeps_counts(&rules) {
             return Err(RuleFault::TooMany);
         }
-        if !keeps_order(rules.as_slice()) {
+        if !keeps_order(&rules) {
             return Err(RuleFault::Range);
         }
         Ok(RuleList { rules })
@@ -66,7 +66,7 @@ impl RuleList {
         ensures first { result ≡ first self.now ask.now }
         ensures within { IfSome result (λ number. (1 ≤ number) × (number ≤ length self.now)) }
     {
-        match place_of(self.rules.as_slice(), ask) {
+        match place_of(&self.rules, ask) {
             Some(place) => Some(place as u16 + 1),
             None => None,
         }

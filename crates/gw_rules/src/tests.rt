@@ -3,7 +3,9 @@ ghost use Rattle.std.specs.Prelude.{◌≡◌, List, if◌then◌else◌};
 ghost use Rattle.gw_rules.specs.declared.rule.Rule.{Rule};
 ghost use Rattle.gw_rules.specs.RuleList.{allows, first};
 
-use crate::{Ask, FieldName, Judge, Operation, Range, Ranges, Rule, RuleFault, RuleList, RuleName, laws};
+use crate::{
+    Ask, FieldName, Judge, Operation, Range, Ranges, Rule, RuleFault, RuleList, RuleName, laws,
+};
 use std::alloc::Global;
 use std::test::Fail;
 
@@ -21,18 +23,19 @@ fn denial<J: Judge>(judge: &J, ask: &Ask) -> Option<Option<u16>>
     }
 }
 
+/// Two rules in order.
+fn pair(alloc: Global, first: Rule, second: Rule) -> Result<Vec<Rule>, RuleFault> {
+    let mut rules = Vec::new(alloc);
+    rules.push(first)?;
+    rules.push(second)?;
+    Ok(rules)
+}
+
 /// A rule that denies these source keys, before one that allows all.
 fn keys_denied(alloc: Global, keys: Range) -> Result<RuleList, RuleFault> {
     let denies = Rule::new(alloc, "broadcast", false)?.with(FieldName::SourceKey, keys)?;
     let allows = Rule::new(alloc, "all", true)?;
-    list(alloc, denies, allows)
-}
-
-fn list(alloc: Global, first: Rule, second: Rule) -> Result<RuleList, RuleFault> {
-    let mut rules = Vec::new(alloc);
-    rules.push(first).map_err(|_| RuleFault::Memory)?;
-    rules.push(second).map_err(|_| RuleFault::Memory)?;
-    RuleList::new(rules)
+    RuleList::new(pair(alloc, denies, allows)?)
 }
 
 fn from_key(key: Option<u64>) -> Ask {
@@ -86,7 +89,7 @@ fn numbered(alloc: Global, count: u64) -> Result<Vec<Rule>, RuleFault> {
     let mut rules = Vec::new(alloc);
     for port in 0..count {
         let rule = Rule::new(alloc, "port", true)?.with(FieldName::Port, Range::only(port))?;
-        rules.push(rule).map_err(|_| RuleFault::Memory)?;
+        rules.push(rule)?;
     }
     Ok(rules)
 }
@@ -114,7 +117,8 @@ fn counts_are_judged_before_ends(rt: HostRuntime) -> Result<(), Fail> {
         for _ in 0..count {
             rule = rule.with(FieldName::Priority, backward)?;
         }
-        let refused = list(alloc, rule, Rule::new(alloc, "all", true)?);
+        let rules = pair(alloc, rule, Rule::new(alloc, "all", true)?)?;
+        let refused = RuleList::new(rules);
         assert_eq!(rt; refused.err(), Some(fault), "at {count} ranges");
     }
     Ok(())
@@ -150,7 +154,10 @@ fn each_field_has_its_own_place(rt: HostRuntime) -> Result<(), Fail> {
     ] {
         assert_eq!(rt; ask.value(field), Some(field.number()));
         rule = rule.with(field, Range::only(field.number()))?;
-        assert_eq!(rt; rule.ranges(field).as_slice(), [Range::only(field.number())].as_slice());
+        assert_eq!(rt;
+            rule.ranges(field).as_slice(),
+            [Range::only(field.number())].as_slice()
+        );
     }
     assert!(rt; rule.matches(&ask));
     assert!(rt; !rule.matches(&Ask::default()));
@@ -178,12 +185,18 @@ fn a_rule_may_be_written_as_a_struct(rt: HostRuntime) -> Result<(), Fail> {
 
 #[test]
 fn faults_are_told_in_words(rt: HostRuntime) -> Result<(), Fail> {
-    for (fault, words) in [
-        (RuleFault::TooMany, "too many rules or ranges"),
-        (RuleFault::Range, "a range's low end is above its high end"),
-        (RuleFault::Memory, "out of memory"),
-    ] {
-        assert_eq!(rt; format!(in rt.alloc(); "{fault}")?.as_str(), words);
-    }
+    let alloc = rt.alloc();
+    assert_eq!(rt;
+        RuleFault::TooMany.to_string(alloc)?.as_str(),
+        "too many rules or ranges"
+    );
+    assert_eq!(rt;
+        RuleFault::Range.to_string(alloc)?.as_str(),
+        "a range's low end is above its high end"
+    );
+    assert_eq!(rt;
+        RuleFault::Memory.to_string(alloc)?.as_str(),
+        "out of memory"
+    );
     Ok(())
 }
