@@ -1,15 +1,17 @@
 -- The tests that code makes of a list's limits are the limits.
 use Rattle.std.proofs.Common.{◌≡◌, ℕ, ◌≤◌, Bool, true, List, length, ◌↔◌, nat_le}
 use Rattle.std.specs.List.{All, list_all}
-use Rattle.std.proofs.lemmas.Bool.{leb-true, le-leb}
+use Rattle.std.proofs.lemmas.Bool.{leb-true, le-leb, and_parts, and_from}
 use Rattle.std.proofs.lemmas.List.Elements.{All-weaker}
 use Rattle.std.proofs.lemmas.List.Sums.{AllPass-from_list_all, list_all-from_AllPass}
 use Rattle.gw_rules.specs.declared.field.FieldName.{FieldName}
 use Rattle.gw_rules.specs.declared.range.Range.{Range}
 use Rattle.gw_rules.specs.declared.rule.Rule.{Rule}
 use Rattle.gw_rules.specs.declared.rule.TheConstants.{MAX_RANGES}
+use Rattle.gw_rules.specs.declared.rule_list.TheConstants.{MAX_RULES}
 use Rattle.gw_rules.specs.Range.{is_ordered}
 use Rattle.gw_rules.specs.Rule.{ranges_of, HasFewRanges, has_few_ranges, HasOrderedRanges, has_ordered_ranges}
+use Rattle.gw_rules.specs.RuleList.{keeps_counts, keeps_order, KeepsCounts, KeepsOrder}
 use Rattle.gw_rules.proofs.Fields.{each_field_at, each_field_from}
 
 -- a test of each element is a fact of each
@@ -39,10 +41,17 @@ order_passes : (rule : Rule) → HasOrderedRanges rule → has_ordered_ranges ru
 order_passes rule ordered =
     each_field_from (λ f. list_all is_ordered (ranges_of f rule)) (λ f. (ordered_iff (ranges_of f rule)).1 (ordered f))
 
--- each rule has few ranges
-pub few_iff : (rules : List Rule) → (list_all has_few_ranges rules ≡ true) ↔ All HasFewRanges rules
-few_iff rules = all_iff has_few_ranges HasFewRanges has_few few_passes rules
+-- the counts are kept exactly where there are few rules, each with few ranges
+pub counts_iff : (rules : List Rule) → (keeps_counts rules ≡ true) ↔ KeepsCounts rules
+counts_iff rules =
+    let few = all_iff has_few_ranges HasFewRanges has_few few_passes rules in (
+      λ t.
+          let parts = and_parts (nat_le (length rules) MAX_RULES) (list_all has_few_ranges rules) t in
+          (leb-true (length rules) MAX_RULES parts.0, few.0 parts.1),
+      λ keeps.
+          and_from (nat_le (length rules) MAX_RULES) (list_all has_few_ranges rules) (le-leb (length rules) MAX_RULES keeps.0) (few.1 keeps.1),
+    )
 
--- each rule has its ranges the right way round
-pub order_iff : (rules : List Rule) → (list_all has_ordered_ranges rules ≡ true) ↔ All HasOrderedRanges rules
+-- the order is kept exactly where each range of each rule is the right way round
+pub order_iff : (rules : List Rule) → (keeps_order rules ≡ true) ↔ KeepsOrder rules
 order_iff rules = all_iff has_ordered_ranges HasOrderedRanges has_order order_passes rules

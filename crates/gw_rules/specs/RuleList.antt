@@ -1,10 +1,11 @@
 -- The first rule that matches, whether the policy allows an ask, and the limits of a rule list.
-use Rattle.std.specs.Prelude.{◌≡◌, ℕ, ◌+◌, ◌-◌, ◌≤◌, ◌<◌, Bool, false, IsTrue, List, length, Option, Some, slice_get, position, All}
+use Rattle.std.specs.Prelude.{◌≡◌, ℕ, ◌+◌, ◌-◌, ◌≤◌, ◌<◌, Bool, false, ◌&&◌, nat_le, IsTrue, List, length, Option, Some, slice_get, position, All}
+use Rattle.std.specs.List.{list_all}
 use Rattle.std.specs.Option.{option_map, option_map_or}
 use Rattle.gw_rules.specs.declared.ask.Ask.{Ask}
 use Rattle.gw_rules.specs.declared.rule.Rule.{Rule}
 use Rattle.gw_rules.specs.declared.rule_list.TheConstants.{MAX_RULES}
-use Rattle.gw_rules.specs.Rule.{matches, Matches, HasFewRanges, HasOrderedRanges}
+use Rattle.gw_rules.specs.Rule.{matches, Matches, HasFewRanges, has_few_ranges, HasOrderedRanges, has_ordered_ranges}
 
 -- the number of the first rule that matches an ask, counted from 1, or none
 unfoldable pub first : List Rule → Ask → Option ℕ
@@ -35,9 +36,17 @@ abbrev pub Allows : List Rule → Ask → Type 0
 Allows rules ask = (number : ℕ) × (deciding : IsFirst rules ask number) × IsTrue deciding.rule.allow
 
 -- at most 512 rules, and each with at most four ranges for a field
+abbrev pub keeps_counts : List Rule → Bool
+keeps_counts rules = nat_le (length rules) MAX_RULES && list_all has_few_ranges rules
+
+-- no range has its low end above its high end
+abbrev pub keeps_order : List Rule → Bool
+keeps_order rules = list_all has_ordered_ranges rules
+
+-- the limits of counts, in words
 abbrev pub KeepsCounts : List Rule → Type 0
 KeepsCounts rules = (length rules ≤ MAX_RULES) × All HasFewRanges rules
 
--- no range has its low end above its high end
+-- the limits of ends, in words
 abbrev pub KeepsOrder : List Rule → Type 0
 KeepsOrder rules = All HasOrderedRanges rules

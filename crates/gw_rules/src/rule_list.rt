@@ -1,8 +1,8 @@
 //! A policy: rules in order, of which the first that matches an ask decides.
-ghost use Rattle.std.specs.Prelude.{◌≡◌, ◌+◌, ◌≤◌, ◌<◌, ◌↔◌, IsTrue, IsOk, IfOk, IfSome, IsErrOf, All, [], false, length, position};
+ghost use Rattle.std.specs.Prelude.{◌≡◌, ◌≤◌, ◌<◌, ◌↔◌, ◌&&◌, IsTrue, IsFalse, IsOk, IfOk, IfSome, IsErrOf, [], false, length, position};
 ghost use Rattle.std.specs.List.{list_all};
-ghost use Rattle.gw_rules.specs.Rule.{HasFewRanges, HasOrderedRanges, has_few_ranges, has_ordered_ranges, matches};
-ghost use Rattle.gw_rules.specs.RuleList.{KeepsCounts, KeepsOrder, allows, first};
+ghost use Rattle.gw_rules.specs.Rule.{has_few_ranges, matches};
+ghost use Rattle.gw_rules.specs.RuleList.{KeepsCounts, KeepsOrder, allows, first, keeps_counts, keeps_order};
 
 use crate::{Ask, Rule, RuleFault};
 use std::marker::Model;
@@ -19,15 +19,15 @@ pub struct RuleList {
 }
 
 impl Model for RuleList {
-    ghost use Rattle.std.specs.Prelude.{List};
+    ghost use Rattle.std.specs.Prelude.{◌&&◌, IsTrue, List};
     ghost use Rattle.gw_rules.specs.declared.rule.Rule.{Rule};
-    ghost use Rattle.gw_rules.specs.RuleList.{KeepsCounts, KeepsOrder};
+    ghost use Rattle.gw_rules.specs.RuleList.{keeps_counts, keeps_order};
 
     ghost Value = { List Rule };
 
     ghost view = { λ a. a.rules.items };
 
-    ghost invariant = { λ a. KeepsCounts a.rules.items × KeepsOrder a.rules.items };
+    ghost invariant = { λ a. IsTrue (keeps_counts a.rules.items && keeps_order a.rules.items) };
 }
 
 impl RuleList {
@@ -37,14 +37,14 @@ impl RuleList {
     /// else `Range` where a range's low end is above its high end. The rules are dropped then.
     pub fn new(rules: Vec<Rule>) -> Result<Self, RuleFault>
         ensures list { IfOk result (λ list. list ≡ rules.items) }
-        ensures accepted { IsOk result ↔ (KeepsCounts rules.items × KeepsOrder rules.items) }
-        ensures too_many { IsErrOf result RuleFault.TooMany ↔ (¬ KeepsCounts rules.items) }
-        ensures range { IsErrOf result RuleFault.Range ↔ (KeepsCounts rules.items × (¬ KeepsOrder rules.items)) }
+        ensures accepted { IsOk result ↔ IsTrue (keeps_counts rules.items && keeps_order rules.items) }
+        ensures too_many { IsErrOf result RuleFault.TooMany ↔ IsFalse (keeps_counts rules.items) }
+        ensures range { IsErrOf result RuleFault.Range ↔ (IsTrue (keeps_counts rules.items) × IsFalse (keeps_order rules.items)) }
     {
-        if !keeps_counts(&rules) {
+        if !are_few(&rules) {
             return Err(RuleFault::TooMany);
         }
-        if !keeps_order(&rules) {
+        if !are_ordered(&rules) {
             return Err(RuleFault::Range);
         }
         Ok(RuleList { rules })
@@ -53,9 +53,8 @@ impl RuleList {
     /// The rules in order.
     pub fn rules(&self) -> &[Rule]
         ensures rules { result.now ≡ self.now }
-        ensures count { length self.now ≤ MAX_RULES }
-        ensures few { All HasFewRanges self.now }
-        ensures ordered { All HasOrderedRanges self.now }
+        ensures counts { KeepsCounts self.now }
+        ensures order { KeepsOrder self.now }
     {
         self.rules.as_slice()
     }
@@ -92,26 +91,20 @@ fn place_of(rules: &[Rule], ask: &Ask) -> Option<usize>
     rules.iter().position(|rule| rule.matches(ask))
 }
 
-fn keeps_counts(rules: &[Rule]) -> bool
-    ensures { IsTrue result ↔ KeepsCounts rules.now }
+fn are_few(rules: &[Rule]) -> bool
+    ensures { result ≡ keeps_counts rules.now }
 {
-    rules.len() <= MAX_RULES && all_have_few_ranges(rules)
+    rules.len() <= MAX_RULES && have_few_ranges(rules)
 }
 
-fn keeps_order(rules: &[Rule]) -> bool
-    ensures { IsTrue result ↔ KeepsOrder rules.now }
-{
-    all_have_ordered_ranges(rules)
-}
-
-fn all_have_few_ranges(rules: &[Rule]) -> bool
+fn have_few_ranges(rules: &[Rule]) -> bool
     ensures { result ≡ list_all has_few_ranges rules.now }
 {
     rules.iter().all(|rule| rule.has_few_ranges())
 }
 
-fn all_have_ordered_ranges(rules: &[Rule]) -> bool
-    ensures { result ≡ list_all has_ordered_ranges rules.now }
+fn are_ordered(rules: &[Rule]) -> bool
+    ensures { result ≡ keeps_order rules.now }
 {
     rules.iter().all(|rule| rule.has_ordered_ranges())
 }

@@ -180,6 +180,7 @@ fn a_rule_may_be_written_as_a_struct(rt: HostRuntime) -> Result<(), Fail> {
     laws::matching();
     laws::first_match();
     laws::decision();
+    laws::limits();
     Ok(())
 }
 
