@@ -1,5 +1,5 @@
--- What holds of each of the ten fields: a test of all of them, and the limits of a rule and of a list.
-use Rattle.std.proofs.Common.{◌≡◌, ℕ, ◌≤◌, ◌<◌, Bool, true, false, ◌&&◌, List, length, ◌↔◌, arith, nat_le}
+-- A test of each of the ten fields, at one of them and from all of them.
+use Rattle.std.proofs.Common.{◌≡◌, Bool, true, ◌&&◌}
 use Rattle.std.proofs.lemmas.Bool.{and_parts, and_from}
 use Rattle.gw_rules.specs.declared.field.FieldName.{FieldName}
 use Rattle.gw_rules.specs.declared.field.FieldName.TheVariants.{Operation, Port, SourceNetwork, SourceKey, DestinationNetwork, Service, ObjectType, Instance, Property, Priority}

@@ -1,5 +1,5 @@
 -- The first rule that matches is the one of the least number, and the policy allows what it allows.
-use Rattle.std.proofs.Common.{◌≡◌, ℕ, ◌+◌, ◌-◌, ◌≤◌, ◌<◌, Bool, true, false, cond, List, [], ◌∷◌, length, ◌↔◌, ◌⊎◌, inl, inr, Option, Some, None, arith, refl, sym, subst, ◌∙◌, ap, nat_lt, get_or}
+use Rattle.std.proofs.Common.{◌≡◌, ℕ, ◌+◌, ◌-◌, ◌≤◌, Bool, true, false, cond, List, [], ◌∷◌, length, ◌↔◌, inl, inr, Option, Some, None, arith, refl, sym, subst, ◌∙◌, ap, nat_lt, get_or}
 use Rattle.std.specs.List.{All, position, position_or_len, slice_get}
 use Rattle.std.specs.Option.{option_map, option_map_or}
 use Rattle.std.proofs.lemmas.Bool.{both_ways, cases_order, ltb-false, false≢true}
@@ -9,7 +9,7 @@ use Rattle.std.proofs.lemmas.Option.{slice_get-get_or, get_or_from_slice_get, sl
 use Rattle.gw_rules.specs.declared.ask.Ask.{Ask}
 use Rattle.gw_rules.specs.declared.rule.Rule.{Rule}
 use Rattle.gw_rules.specs.Rule.{matches, Matches}
-use Rattle.gw_rules.specs.RuleList.{first, allows, allows_at, HasNumber, IsFirst, Allows}
+use Rattle.gw_rules.specs.RuleList.{first, allows, allows_at, IsFirst, Allows}
 use Rattle.gw_rules.proofs.Matching.{matches_iff}
 
 -- a number counted from 1 is one more than the place
