@@ -11,6 +11,10 @@ use Rattle.gw_rules.specs.Rule.{matches, Matches, HasFewRanges, has_few_ranges, 
 unfoldable pub first : List Rule → Ask → Option ℕ
 first rules ask = option_map (λ place. place + 1) (position (λ rule. matches rule ask) rules)
 
+-- a number of one of the rules
+abbrev pub IsNumberOf : List Rule → ℕ → Type 0
+IsNumberOf rules number = (1 ≤ number) × (number ≤ length rules)
+
 -- the rule of a number says allow
 abbrev pub allows_at : List Rule → ℕ → Bool
 allows_at rules number = option_map_or (λ rule. rule.allow) (slice_get rules (number - 1)) false

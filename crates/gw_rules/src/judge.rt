@@ -1,12 +1,12 @@
 //! What any judge of a policy answers, however it keeps the policy.
-ghost use Rattle.std.specs.Prelude.{◌≡◌, ◌≤◌, List, IfSome, length};
+ghost use Rattle.std.specs.Prelude.{◌≡◌, List, IfSome};
 ghost use Rattle.gw_rules.specs.declared.rule.Rule.{Rule};
-ghost use Rattle.gw_rules.specs.RuleList.{allows, first};
+ghost use Rattle.gw_rules.specs.RuleList.{IsNumberOf, allows, first};
 
 use crate::{Ask, RuleList};
 
-/// A judge of asks by the first rule that matches. It may keep the rules in another form than a list,
-/// so a relation says for which lists its answers are right.
+/// A judge of asks by the first rule that matches. It may keep the rules in another form than a
+/// list, so a relation says for which lists its answers are right.
 pub trait Judge {
     /// The judge answers as this list of rules does.
     ghost StandsFor: { Self → List Rule → Type 0 };
@@ -14,7 +14,7 @@ pub trait Judge {
     /// The number of the first rule that matches the ask, counted from 1, or none.
     fn first(&self, ask: &Ask) -> Option<u16>
         ensures first { (rules : List Rule) → StandsFor self.now rules → result ≡ first rules ask.now }
-        ensures within { (rules : List Rule) → StandsFor self.now rules → IfSome result (λ number. (1 ≤ number) × (number ≤ length rules)) };
+        ensures within { (rules : List Rule) → StandsFor self.now rules → IfSome result (IsNumberOf rules) };
 
     /// Whether there is a first rule that matches the ask, and it says allow.
     fn allows(&self, ask: &Ask) -> bool

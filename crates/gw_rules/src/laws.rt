@@ -16,8 +16,10 @@ pub fn matching()
 /// The first rule is the one of the least number that matches, and there is none exactly where no
 /// rule matches.
 pub fn first_match()
-    ensures least { (rules : List Rule) (ask : Ask) (number : ℕ) → (first rules ask ≡ Some number) ↔ IsFirst rules ask number }
-    ensures none { (rules : List Rule) (ask : Ask) → (first rules ask ≡ None) ↔ All (λ rule. ¬ Matches rule ask) rules }
+    ensures least { (rules : List Rule) (ask : Ask) (number : ℕ) →
+        (first rules ask ≡ Some number) ↔ IsFirst rules ask number }
+    ensures none { (rules : List Rule) (ask : Ask) →
+        (first rules ask ≡ None) ↔ All (λ rule. ¬ Matches rule ask) rules }
 {}
 
 /// An ask is allowed exactly where there is a first rule that matches, and it says allow.

@@ -7,8 +7,8 @@ use crate::{Range, RuleFault};
 use std::alloc::Global;
 use std::marker::Model;
 
-/// The ranges that a rule has for one field, in order. A rule that has none for a field doesn't name
-/// that field. Contracts see the list.
+/// The ranges that a rule has for one field, in order. A rule that has none for a field doesn't
+/// name that field. Contracts see the list.
 #[derive(Debug, Drop)]
 pub struct Ranges {
     ranges: Vec<Range>,

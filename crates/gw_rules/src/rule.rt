@@ -63,8 +63,8 @@ impl Rule {
         })
     }
 
-    /// The rule with one more range for a field, behind those that it has. With `Memory` the rule is
-    /// dropped.
+    /// The rule with one more range for a field, behind those that it has. With `Memory` the rule
+    /// is dropped.
     pub fn with(mut self, field: FieldName, range: Range) -> Result<Self, RuleFault>
         ensures rule { IfOk result (λ rule. rule ≡ with_range field range self) }
         ensures memory { IsOkUnless result RuleFault.Memory }

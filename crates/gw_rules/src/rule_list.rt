@@ -1,8 +1,8 @@
 //! A policy: rules in order, of which the first that matches an ask decides.
-ghost use Rattle.std.specs.Prelude.{◌≡◌, ◌≤◌, ◌<◌, ◌↔◌, ◌&&◌, IsTrue, IsFalse, IsOk, IfOk, IfSome, IsErrOf, [], false, length, position};
+ghost use Rattle.std.specs.Prelude.{◌≡◌, ◌<◌, ◌↔◌, ◌&&◌, IsTrue, IsFalse, IsOk, IfOk, IfSome, IsErrOf, [], false, length, position};
 ghost use Rattle.std.specs.List.{list_all};
 ghost use Rattle.gw_rules.specs.Rule.{has_few_ranges, matches};
-ghost use Rattle.gw_rules.specs.RuleList.{KeepsCounts, KeepsOrder, allows, first, keeps_counts, keeps_order};
+ghost use Rattle.gw_rules.specs.RuleList.{IsNumberOf, KeepsCounts, KeepsOrder, allows, first, keeps_counts, keeps_order};
 
 use crate::{Ask, Rule, RuleFault};
 use std::marker::Model;
@@ -10,9 +10,9 @@ use std::marker::Model;
 /// How many rules a [`RuleList`] may have.
 pub const MAX_RULES: usize = 512;
 
-/// A policy: at most 512 rules in order, each with at most four ranges for a field, none of which has
-/// its low end above its high end. The first rule that matches an ask decides; where none does, the
-/// ask is denied. Contracts see the list of the rules.
+/// A policy: at most 512 rules in order, each with at most four ranges for a field, none of which
+/// has its low end above its high end. The first rule that matches an ask decides; where none does,
+/// the ask is denied. Contracts see the list of the rules.
 #[derive(Debug, Drop)]
 pub struct RuleList {
     rules: Vec<Rule>,
@@ -39,7 +39,8 @@ impl RuleList {
         ensures list { IfOk result (λ list. list ≡ rules.items) }
         ensures accepted { IsOk result ↔ IsTrue (keeps_counts rules.items && keeps_order rules.items) }
         ensures too_many { IsErrOf result RuleFault.TooMany ↔ IsFalse (keeps_counts rules.items) }
-        ensures range { IsErrOf result RuleFault.Range ↔ (IsTrue (keeps_counts rules.items) × IsFalse (keeps_order rules.items)) }
+        ensures range { IsErrOf result RuleFault.Range ↔
+            (IsTrue (keeps_counts rules.items) × IsFalse (keeps_order rules.items)) }
     {
         if !are_few(&rules) {
             return Err(RuleFault::TooMany);
@@ -63,7 +64,7 @@ impl RuleList {
     #[tactic(auto, unfolding(crate::specs::RuleList::first))]
     pub fn first(&self, ask: &Ask) -> Option<u16>
         ensures first { result ≡ first self.now ask.now }
-        ensures within { IfSome result (λ number. (1 ≤ number) × (number ≤ length self.now)) }
+        ensures within { IfSome result (IsNumberOf self.now) }
     {
         match place_of(&self.rules, ask) {
             Some(place) => Some(place as u16 + 1),

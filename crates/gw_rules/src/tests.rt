@@ -14,7 +14,8 @@ const LAST_KEY: u64 = 0xffff_ffff_ffff;
 
 /// The number of the rule that denies the ask, if it is denied: what a caller makes of any judge.
 fn denial<J: Judge>(judge: &J, ask: &Ask) -> Option<Option<u16>>
-    ensures { (rules : List Rule) → J.StandsFor judge.now rules → result ≡ (if allows rules ask.now then None else Some (first rules ask.now)) }
+    ensures { (rules : List Rule) → J.StandsFor judge.now rules →
+        result ≡ (if allows rules ask.now then None else Some (first rules ask.now)) }
 {
     if judge.allows(ask) {
         None
