@@ -1,0 +1,54 @@
+//! Application values: a tag of application class and a content (clause 20.2).
+
+ghost use Rattle.std.specs.Prelude.{◌≡◌, ◌++◌, OnOk, OnErr};
+ghost use Rattle.gw_addr.specs.Reading.{Keeps};
+ghost use Rattle.gw_tags.specs.Value.{value_of, value_text, number_text};
+
+use crate::tag::{Kind, Tag};
+use crate::writing::write_tag;
+use std::alloc::AllocError;
+
+/// A value of a property, by its kind.
+#[derive(Clone, Copy, Debug, PartialEq, Eq)]
+pub enum AppValue {
+    /// One of the choices of an enumeration, by its number (clause 20.2.11).
+    Enumerated(u32),
+}
+
+fn leading_zero_octets(number: u32) -> usize
+{
+    match number {
+        0..=0xFF => 3,
+        0x100..=0xFFFF => 2,
+        0x1_0000..=0xFF_FFFF => 1,
+        _ => 0,
+    }
+}
+
+fn put_number(out: &mut Vec<u8>, kind: u8, number: u32) -> Result<(), AllocError>
+{
+    let octets = number.to_be_bytes();
+    let content = &octets[leading_zero_octets(number)..];
+    let kind = Kind::Length(content.len() as u32);
+    write_tag(out, Tag { number: 9, context: false, kind })?;
+    out.extend_from_slice(content)
+}
+
+/// Appends the one spelling of the value that has the fewest octets.
+///
+/// # Errors
+///
+/// 1 Memory, where the buffer can't grow. The buffer is then unchanged.
+pub fn write_value(out: &mut Vec<u8>, value: AppValue) -> Result<(), AllocError>
+    ensures ok { OnOk result (out.new.items ≡ out.old.items ++ value_text (value_of value)) }
+    ensures err { OnErr result (out.new.items ≡ out.old.items) }
+{
+    let len = out.len();
+    let written = match value {
+        AppValue::Enumerated(number) => put_number(out, 9, number),
+    };
+    if written.is_err() {
+        out.truncate(len);
+    }
+    written
+}
