@@ -57,6 +57,10 @@ number_text n = drop (4 - octet_count n) (to_be_bytes w32 n)
 abbrev pub content_text : Value → List ℕ
 content_text (enumerated n) = number_text n
 
+-- a content behind the tag that announces it
+abbrev pub tagged : ℕ → List ℕ → List ℕ
+tagged number content = canonical (record { number = number; context = false; kind = Length (length content) }) ++ content
+
 -- the one spelling that is written, with the fewest octets
 unfoldable pub value_text : Value → List ℕ
-value_text value = canonical (record { number = number_of value; context = false; kind = Length (length (content_text value)) }) ++ content_text value
+value_text value = tagged (number_of value) (content_text value)

@@ -1,8 +1,8 @@
 //! Application values: a tag of application class and a content (clause 20.2).
 
-ghost use Rattle.std.specs.Prelude.{◌≡◌, ◌++◌, OnOk, OnErr};
+ghost use Rattle.std.specs.Prelude.{◌≡◌, ◌<◌, ◌-◌, ◌++◌, OnOk, OnErr};
 ghost use Rattle.gw_addr.specs.Reading.{Keeps};
-ghost use Rattle.gw_tags.specs.Value.{value_of, value_text, number_text};
+ghost use Rattle.gw_tags.specs.Value.{value_of, value_text, number_text, octet_count, tagged};
 
 use crate::tag::{Kind, Tag};
 use crate::writing::write_tag;
@@ -16,6 +16,7 @@ pub enum AppValue {
 }
 
 fn leading_zero_octets(number: u32) -> usize
+    ensures { result ≡ 4 - octet_count number }
 {
     match number {
         0..=0xFF => 3,
@@ -26,11 +27,18 @@ fn leading_zero_octets(number: u32) -> usize
 }
 
 fn put_number(out: &mut Vec<u8>, kind: u8, number: u32) -> Result<(), AllocError>
+    requires { kind < 255 }
+    ensures ok { OnOk result (out.new.items ≡ out.old.items ++ tagged kind (number_text number)) }
+    ensures front { Keeps out.old.items out.new.items }
 {
     let octets = number.to_be_bytes();
     let content = &octets[leading_zero_octets(number)..];
-    let kind = Kind::Length(content.len() as u32);
-    write_tag(out, Tag { number: 9, context: false, kind })?;
+    let tag = Tag {
+        number: kind,
+        context: false,
+        kind: Kind::Length(content.len() as u32),
+    };
+    write_tag(out, tag)?;
     out.extend_from_slice(content)
 }
 
@@ -39,6 +47,7 @@ fn put_number(out: &mut Vec<u8>, kind: u8, number: u32) -> Result<(), AllocError
 /// # Errors
 ///
 /// 1 Memory, where the buffer can't grow. The buffer is then unchanged.
+#[tactic(auto, unfolding(crate::specs::Value::value_text))]
 pub fn write_value(out: &mut Vec<u8>, value: AppValue) -> Result<(), AllocError>
     ensures ok { OnOk result (out.new.items ≡ out.old.items ++ value_text (value_of value)) }
     ensures err { OnErr result (out.new.items ≡ out.old.items) }

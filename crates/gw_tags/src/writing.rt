@@ -1,20 +1,15 @@
 //! Writing a tag behind what a buffer has (clause 20.2.1).
 
-ghost use Rattle.std.specs.Prelude.{◌≡◌, ◌++◌, ◌∷◌, [], OnOk, OnErr};
+ghost use Rattle.std.specs.Prelude.{◌≡◌, ◌<◌, ◌+◌, ◌*◌, ◌++◌, OnOk, OnErr};
 ghost use Rattle.gw_addr.specs.Reading.{Keeps};
-ghost use Rattle.gw_tags.specs.Tag.{class_of, low_of, number_octets, length_octets, shortest_number, shortest_length, canonical};
+ghost use Rattle.gw_tags.specs.Tag.{class_of, low_of, length_octets, shortest_length, canonical};
 
 use crate::tag::{Kind, Tag};
 use std::alloc::AllocError;
 
-fn class_bit(context: bool) -> u8
-    ensures { result ≡ class_of context }
-{
-    if context { 0x08 } else { 0 }
-}
-
 fn low_bits(kind: Kind) -> u8
-    ensures { result ≡ low_of kind (shortest_length kind) }
+    ensures below { result < 8 }
+    ensures value { result ≡ low_of kind (shortest_length kind) }
 {
     match kind {
         Kind::Length(length) if length < 5 => length as u8,
@@ -44,16 +39,30 @@ fn put_length(out: &mut Vec<u8>, kind: Kind) -> Result<(), AllocError>
     Ok(())
 }
 
+fn class_bit(context: bool) -> u8
+    ensures { result ≡ class_of context }
+{
+    if context { 0x08 } else { 0 }
+}
+
+#[tactic(auto, using(crate::proofs::Octets::first_octet_joins))]
+fn first_octet(high: u8, context: bool, low: u8) -> u8
+    requires high { high < 16 }
+    requires low { low < 8 }
+    ensures { result ≡ 16 * high + class_of context + low }
+{
+    high << 4 | class_bit(context) | low
+}
+
 fn put_tag(out: &mut Vec<u8>, tag: Tag) -> Result<(), AllocError>
     ensures ok { OnOk result (out.new.items ≡ out.old.items ++ canonical tag) }
     ensures front { Keeps out.old.items out.new.items }
 {
-    let low = class_bit(tag.context) | low_bits(tag.kind);
+    let low = low_bits(tag.kind);
     if tag.number < 15 {
-        out.push(tag.number << 4 | low)?;
+        out.push(first_octet(tag.number, tag.context, low))?;
     } else {
-        out.push(0xF0 | low)?;
-        out.push(tag.number)?;
+        out.extend_from_slice(&[first_octet(15, tag.context, low), tag.number])?;
     }
     put_length(out, tag.kind)
 }
