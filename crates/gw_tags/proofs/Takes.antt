@@ -17,16 +17,19 @@ first_is first lt = elim (cases_lt 7 (first % 16)) [
     | inr unset ↦ rw (le-ltb 7 (first % 16) unset) (omega arith)
   ]
 
+pub first_made : (first high low : ℕ) → first < 256 → first / 16 ≡ high → first % 8 ≡ low → first ≡ 16 * high + class_of (ltb 7 (first % 16)) + low
+first_made first high low lt high_is low_is = rw (← high_is, ← low_is) (first_is first lt)
+
 -- ---- what was read
 
 -- a number was read, and where it stood
-record ReadsNumber (first : ℕ) (octets : List ℕ) (n : ℕ) (rest : List ℕ) : Type 0 where
-  place : NumberPlace
-  high : first / 16 ≡ high_of n place
-  room : NumberHasRoom n place
-  takes : Takes octets (number_octets n place) rest
+pub record ReadsNumber (first : ℕ) (octets : List ℕ) (n : ℕ) (rest : List ℕ) : Type 0 where
+  pub place : NumberPlace
+  pub high : first / 16 ≡ high_of n place
+  pub room : NumberHasRoom n place
+  pub takes : Takes octets (number_octets n place) rest
 
-tag_number_takes : (first : ℕ) (octets : List ℕ) (n : ℕ) (rest : List ℕ) → first < 256 → AreOctets octets → tag_number_at first octets ≡ Ok (n, rest) → ReadsNumber first octets n rest
+pub tag_number_takes : (first : ℕ) (octets : List ℕ) (n : ℕ) (rest : List ℕ) → first < 256 → AreOctets octets → tag_number_at first octets ≡ Ok (n, rest) → ReadsNumber first octets n rest
 unfolding tag_number_at
 tag_number_takes first octets n rest lt fits e = elim (chosen (eqb (first / 16) 15) (octet_at Short octets) (Ok (first / 16, octets)) (Ok (n, rest)) e) [
     | inl own ↦
@@ -41,11 +44,11 @@ tag_number_takes first octets n rest lt fits e = elim (chosen (eqb (first / 16) 
   ]
 
 -- a kind was read, and where its length stood
-record ReadsKind (low : ℕ) (octets : List ℕ) (kind : Kind) (rest : List ℕ) : Type 0 where
-  place : LengthPlace
-  low_is : low ≡ low_of kind place
-  room : LengthHasRoom kind place
-  takes : Takes octets (length_octets kind place) rest
+pub record ReadsKind (low : ℕ) (octets : List ℕ) (kind : Kind) (rest : List ℕ) : Type 0 where
+  pub place : LengthPlace
+  pub low_is : low ≡ low_of kind place
+  pub room : LengthHasRoom kind place
+  pub takes : Takes octets (length_octets kind place) rest
 
 -- an octet in front of what was read
 behind : (first octet : ℕ) (others text rest : List ℕ) → first ≡ octet → Takes others text rest → Takes (first ∷ others) (octet ∷ text) rest
@@ -81,7 +84,7 @@ length_takes (first ∷ others) n rest fits e =
         ]
     ]
 
-kind_takes : (low : ℕ) (octets : List ℕ) (kind : Kind) (rest : List ℕ) → low < 8 → AreOctets octets → kind_at low octets ≡ Ok (kind, rest) → ReadsKind low octets kind rest
+pub kind_takes : (low : ℕ) (octets : List ℕ) (kind : Kind) (rest : List ℕ) → low < 8 → AreOctets octets → kind_at low octets ≡ Ok (kind, rest) → ReadsKind low octets kind rest
 unfolding kind_at
 kind_takes low octets kind rest lt fits e =
     elim (chosen (eqb low 6) (Ok (Opening, octets)) (cond (eqb low 7) (Ok (Closing, octets)) (cond (eqb low 5) (length_at octets >>= λ n. Ok (Length n.0, n.1)) (Ok (Length low, octets)))) (Ok (kind, rest)) e) [
@@ -104,6 +107,20 @@ kind_takes low octets kind rest lt fits e =
         ]
     ]
 
+-- a number and a kind that were read make a spelling
+joined : (first : ℕ) (others : List ℕ) (n : ℕ) (middle : List ℕ) (kind : Kind) (rest : List ℕ) → first < 256 → ReadsNumber first others n middle → ReadsKind (first % 8) middle kind rest → BeginsWith (first ∷ others) (record { number = n; context = ltb 7 (first % 16); kind = kind }) rest
+joined first others n middle kind rest small a b = record {
+  front = first ∷ (number_octets n a.place ++ length_octets kind b.place);
+  spells = record {
+    number_place = a.place;
+    length_place = b.place;
+    number_room = a.room;
+    length_room = b.room;
+    spelled = ap (λ (o : ℕ). o ∷ (number_octets n a.place ++ length_octets kind b.place)) (first_made first (high_of n a.place) (low_of kind b.place) small a.high b.low_is);
+  };
+  parts = ap (λ (o : List ℕ). first ∷ o) (Takes-then others (number_octets n a.place) middle (length_octets kind b.place) rest a.takes b.takes).parts;
+}
+
 -- what was read is spelled so
 pub header_takes : (octets : List ℕ) (tag : Tag) (rest : List ℕ) → AreOctets octets → header_at octets ≡ Ok (tag, rest) → BeginsWith octets tag rest
 unfolding header_at
@@ -114,18 +131,5 @@ header_takes (first ∷ others) tag rest fits e =
     let b = bind_ok (kind_at (first % 8) a.0.1) (λ kind. Ok (record { number = a.0.0; context = ltb 7 (first % 16); kind = kind.0 }, kind.1)) (tag, rest) a.2 in
     let number = tag_number_takes first others a.0.0 a.0.1 small (AreOctets-rest first others fits) a.1 in
     let kind = kind_takes (first % 8) a.0.1 b.0.0 b.0.1 (omega arith) number.takes.rest_octets b.1 in
-    let both = Takes-then others (number_octets a.0.0 number.place) a.0.1 (length_octets b.0.0 kind.place) b.0.1 number.takes kind.takes in
-    let read : Tag = record { number = a.0.0; context = ltb 7 (first % 16); kind = b.0.0 } in
-    let made : Tag × List ℕ = (read, b.0.1) in
-    let whole : BeginsWith (first ∷ others) read b.0.1 = record {
-      front = first ∷ (number_octets a.0.0 number.place ++ length_octets b.0.0 kind.place);
-      spells = record {
-        number_place = number.place;
-        length_place = kind.place;
-        number_room = number.room;
-        length_room = kind.room;
-        spelled = ap (λ (o : ℕ). o ∷ (number_octets a.0.0 number.place ++ length_octets b.0.0 kind.place)) (rw (← number.high, ← kind.low_is) (first_is first small));
-      };
-      parts = ap (λ (o : List ℕ). first ∷ o) both.parts;
-    } in
-    subst (λ (x : Tag × List ℕ). BeginsWith (first ∷ others) x.0 x.1) (ok_is made (tag, rest) b.2) whole
+    let made : Tag × List ℕ = (record { number = a.0.0; context = ltb 7 (first % 16); kind = b.0.0 }, b.0.1) in
+    subst (λ (x : Tag × List ℕ). BeginsWith (first ∷ others) x.0 x.1) (ok_is made (tag, rest) b.2) (joined first others a.0.0 a.0.1 b.0.0 b.0.1 small number kind)

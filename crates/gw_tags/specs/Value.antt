@@ -1,6 +1,7 @@
 -- Application values (ISO 16484-5, clause 20.2): a tag of application class and a content.
-use Rattle.std.specs.Prelude.{◌≡◌, ℕ, ◌+◌, ◌*◌, ◌-◌, ◌<◌, ◌≤◌, ◌^◌, false, List, [], ◌∷◌, ◌++◌, length, drop, slice_index, nat_lt, if◌then◌else◌}
+use Rattle.std.specs.Prelude.{◌≡◌, ℕ, ◌+◌, ◌*◌, ◌-◌, ◌<◌, ◌≤◌, ◌^◌, false, List, [], ◌∷◌, ◌++◌, length, drop, nat_lt, if◌then◌else◌}
 use Rattle.std.specs.Int.{w32, to_be_bytes}
+use Rattle.gw_addr.specs.Reading.{AreOctets}
 use Rattle.gw_tags.specs.declared.tag.Kind.TheVariants.{Length}
 use Rattle.gw_tags.specs.declared.value.AppValue.{AppValue}
 use Rattle.gw_tags.specs.declared.value.AppValue.TheVariants.{Enumerated}
@@ -26,7 +27,7 @@ big_endian (octet ∷ octets) high = big_endian octets (256 * high + octet)
 pub record SpellsNumber (octets : List ℕ) (n : ℕ) : Type 0 where
   pub least : 1 ≤ length octets
   pub most : length octets ≤ 4
-  pub octets_fit : (i : ℕ) → slice_index octets i < 256
+  pub octets_fit : AreOctets octets
   pub number : n ≡ big_endian octets 0
 
 -- the content of a value
