@@ -1,15 +1,15 @@
 -- Octets that end within a tag can be completed to a spelling of one.
-use Rattle.std.proofs.Common.{◌≡◌, ◌≢◌, ℕ, zero, suc, ◌+◌, ◌-◌, ◌*◌, ◌/◌, ◌%◌, ◌^◌, ◌<◌, ◌≤◌, Bool, true, false, cond, eqb, ltb, List, [], ◌∷◌, ◌++◌, length, take, drop, get_or, Result, Ok, Err, refl, sym, ap, subst, ◌∙◌, append_assoc, arith, inl, inr, ◌⊎◌}
+use Rattle.std.proofs.Common.{◌≡◌, ◌≢◌, ℕ, zero, suc, ◌+◌, ◌*◌, ◌/◌, ◌%◌, ◌^◌, ◌<◌, false, cond, eqb, ltb, List, [], ◌∷◌, ◌++◌, length, take, drop, Ok, Err, refl, sym, ap, ◌∙◌, append_assoc, arith, inl, inr}
 use Rattle.std.specs.Int.{Width, w16, w32, byte_len, from_be_bytes, to_be_bytes}
-use Rattle.std.proofs.lemmas.Bool.{cases_lt, eqb-false, eqb-true, ltb-true, le-ltb, lt-ltb}
-use Rattle.std.proofs.lemmas.List.{length-append, append-nil}
-use Rattle.gw_addr.specs.Reading.{◌>>=◌, AreOctets, Takes, octet_at, number_at}
-use Rattle.gw_addr.proofs.Reading.{AreOctets-rest, bind_ok, bind_err, guard_err, chosen, ok_is, IsWide, wide16, wide32}
+use Rattle.std.proofs.lemmas.Bool.{eqb-true, ltb-true}
+use Rattle.gw_addr.specs.Reading.{◌>>=◌, AreOctets, octet_at, number_at}
+use Rattle.gw_addr.proofs.Reading.{AreOctets-rest, bind_err, guard_err, chosen, IsWide, wide16, wide32}
 use Rattle.gw_tags.specs.declared.tag.Kind.{Kind}
 use Rattle.gw_tags.specs.declared.tag.Kind.TheVariants.{Length, Opening, Closing}
 use Rattle.gw_tags.specs.declared.fault.TagFault.{TagFault}
-use Rattle.gw_tags.specs.declared.fault.TagFault.TheVariants.{Short, BadTag}
-use Rattle.gw_tags.specs.Tag.{Tag, NumberPlace, high_bits, own_octet, LengthPlace, low_bits, one_octet, two_octets, four_octets, high_of, class_of, low_of, number_octets, length_octets, NumberHasRoom, LengthHasRoom, spelling, Spells, IsCut, tag_number_at, length_at, kind_at, header_at}
+use Rattle.gw_tags.specs.declared.fault.TagFault.TheVariants.{Short}
+use Rattle.gw_tags.specs.Tag.{high_bits, own_octet, LengthPlace, low_bits, one_octet, two_octets, four_octets, high_of, class_of, low_of, number_octets, length_octets, LengthHasRoom, IsCut, tag_number_at, length_at, kind_at, header_at}
+use Rattle.gw_tags.proofs.Octets.{none, one_more}
 use Rattle.gw_tags.proofs.Takes.{first_made, ReadsNumber, tag_number_takes}
 
 -- octets that some number of a width begins with
@@ -28,13 +28,6 @@ of_cells width limit wide octets missing some len fits = record {
   room = wide.below (octets ++ missing) fits;
   whole = sym (wide.back (octets ++ missing) len fits);
 }
-
-none : AreOctets []
-none i = omega arith
-
-one_more : (octet : ℕ) (octets : List ℕ) → octet < 256 → AreOctets octets → AreOctets (octet ∷ octets)
-one_more octet octets lt fits zero = lt
-one_more octet octets lt fits (suc i) = fits i
 
 one_zero : AreOctets (0 ∷ [])
 one_zero = one_more 0 [] (omega arith) none

@@ -1,9 +1,9 @@
 -- What reading a tag gives, and what is wrong with the octets where it gives a fault.
-use Rattle.std.proofs.Common.{◌≡◌, ◌≢◌, ℕ, ◌<◌, ◌≤◌, Bool, true, false, cond, ltb, ◌&&◌, ◌||◌, List, [], ◌∷◌, ◌++◌, Result, Ok, Err, refl, sym, ap, subst, ◌∙◌, append_assoc, arith, inl, inr, ◌⊎◌}
+use Rattle.std.proofs.Common.{◌≡◌, ℕ, Bool, true, false, cond, ltb, ◌&&◌, ◌||◌, List, [], ◌∷◌, ◌++◌, Result, Ok, Err, refl, sym, ap, subst, ◌∙◌, append_assoc, arith, inl, inr}
 use Rattle.std.specs.Prelude.{◌↔◌, IfOk, IsOkAnd}
 use Rattle.std.proofs.lemmas.Bool.{ltb-true}
-use Rattle.std.proofs.lemmas.List.{append-nil, append_cancel_left}
-use Rattle.gw_addr.specs.Reading.{◌>>=◌, AreOctets, Gives}
+use Rattle.std.proofs.lemmas.List.{append-nil}
+use Rattle.gw_addr.specs.Reading.{AreOctets, Gives}
 use Rattle.gw_addr.proofs.Reading.{bind_ok, bind_err, chosen, ok_is}
 use Rattle.gw_tags.specs.declared.tag.Kind.{Kind}
 use Rattle.gw_tags.specs.declared.tag.Kind.TheVariants.{Length, Opening, Closing}

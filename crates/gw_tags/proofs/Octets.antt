@@ -1,7 +1,8 @@
 -- Facts about one octet, as tables.
-use Rattle.std.proofs.Common.{◌≡◌, ℕ, ◌+◌, ◌*◌, ◌/◌, ◌%◌, ◌<◌, Bool, true, false, not, eqb, ltb, refl, arith, subst}
+use Rattle.std.proofs.Common.{◌≡◌, ℕ, zero, suc, ◌+◌, ◌*◌, ◌/◌, ◌%◌, ◌<◌, Bool, true, false, List, [], ◌∷◌, not, eqb, ltb, refl, arith}
 use Rattle.std.specs.Int.RustNames.{bit_and, bit_or}
 use Rattle.std.proofs.lemmas.Bool.{agree_below_at, eqb-true}
+use Rattle.gw_addr.specs.Reading.{AreOctets}
 use Rattle.gw_tags.specs.Tag.{class_of}
 
 -- the class bit is set where the low four bits are 8 or more
@@ -19,3 +20,10 @@ first_octet_joins high low context high_lt low_lt =
       | false ↦ agree_below_at (test 0) (λ n. true) 128 (8 * high + low) refl (omega arith)
       ] in
     eqb-true _ _ (rw (place, part) at all)
+
+pub none : AreOctets []
+none i = omega arith
+
+pub one_more : (octet : ℕ) (octets : List ℕ) → octet < 256 → AreOctets octets → AreOctets (octet ∷ octets)
+one_more octet octets lt fits zero = lt
+one_more octet octets lt fits (suc i) = fits i

@@ -1,14 +1,14 @@
 -- The laws of reading a tag: what was read is spelled so, what is spelled so is read again, and what is cut can be completed.
-use Rattle.std.proofs.Common.{◌≡◌, ℕ, ◌+◌, ◌*◌, ◌/◌, ◌%◌, ◌^◌, ◌<◌, ◌≤◌, Bool, true, false, cond, eqb, ltb, List, [], ◌∷◌, ◌++◌, length, Result, Ok, Err, refl, sym, ap, subst, ◌∙◌, append_assoc, arith, inl, inr}
-use Rattle.std.specs.Int.{w16, w32, to_be_bytes}
-use Rattle.std.proofs.lemmas.Bool.{ne_eqb, eqb-true, le-ltb, lt-ltb}
-use Rattle.gw_addr.specs.Reading.{◌>>=◌, AreOctets, Takes, octet_at, number_at}
-use Rattle.gw_addr.proofs.Reading.{bind_ok, bind_err, chosen, ok_is, Takes-then, octet_takes, number_takes, number_again, wide16, wide32}
+use Rattle.std.proofs.Common.{◌≡◌, ℕ, ◌+◌, ◌*◌, ◌/◌, ◌%◌, ◌^◌, ◌<◌, Bool, true, false, eqb, ltb, List, ◌++◌, Result, Ok, refl, ap, append_assoc, arith}
+use Rattle.std.specs.Int.{w16, w32}
+use Rattle.std.proofs.lemmas.Bool.{ne_eqb, le-ltb, lt-ltb}
+use Rattle.gw_addr.specs.Reading.{◌>>=◌}
+use Rattle.gw_addr.proofs.Reading.{number_again, wide16, wide32}
 use Rattle.gw_tags.specs.declared.tag.Kind.{Kind}
 use Rattle.gw_tags.specs.declared.tag.Kind.TheVariants.{Length, Opening, Closing}
 use Rattle.gw_tags.specs.declared.fault.TagFault.{TagFault}
-use Rattle.gw_tags.specs.declared.fault.TagFault.TheVariants.{Short, BadTag}
-use Rattle.gw_tags.specs.Tag.{Tag, IsTag, is_tag, NumberPlace, high_bits, own_octet, LengthPlace, low_bits, one_octet, two_octets, four_octets, high_of, class_of, low_of, number_octets, length_octets, NumberHasRoom, LengthHasRoom, spelling, Spells, tag_number_at, length_at, kind_at, header_at, tag_at}
+use Rattle.gw_tags.specs.declared.fault.TagFault.TheVariants.{Short}
+use Rattle.gw_tags.specs.Tag.{Tag, IsTag, is_tag, NumberPlace, high_bits, own_octet, LengthPlace, low_bits, one_octet, two_octets, four_octets, high_of, class_of, low_of, number_octets, length_octets, NumberHasRoom, LengthHasRoom, Spells, tag_number_at, length_at, kind_at, header_at, tag_at}
 
 -- ---- the first octet
 

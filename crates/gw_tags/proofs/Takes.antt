@@ -1,14 +1,14 @@
 -- What was read as a tag is a spelling of it, and what ends within a tag can be completed to one.
-use Rattle.std.proofs.Common.{◌≡◌, ◌≢◌, ℕ, ◌+◌, ◌*◌, ◌/◌, ◌%◌, ◌^◌, ◌<◌, ◌≤◌, Bool, true, false, cond, eqb, ltb, List, [], ◌∷◌, ◌++◌, length, Result, Ok, Err, refl, sym, ap, subst, ◌∙◌, append_assoc, arith, inl, inr, ◌⊎◌}
+use Rattle.std.proofs.Common.{◌≡◌, ◌≢◌, ℕ, ◌+◌, ◌*◌, ◌/◌, ◌%◌, ◌^◌, ◌<◌, cond, eqb, ltb, List, [], ◌∷◌, ◌++◌, length, Result, Ok, refl, ap, subst, ◌∙◌, arith, inl, inr}
 use Rattle.std.specs.Int.{w16, w32, to_be_bytes}
 use Rattle.std.proofs.lemmas.Bool.{cases_lt, eqb-false, eqb-true, le-ltb, lt-ltb}
 use Rattle.gw_addr.specs.Reading.{◌>>=◌, AreOctets, Takes, octet_at, number_at}
-use Rattle.gw_addr.proofs.Reading.{AreOctets-rest, bind_ok, bind_err, chosen, ok_is, Takes-then, octet_takes, number_takes, wide16, wide32}
+use Rattle.gw_addr.proofs.Reading.{AreOctets-rest, bind_ok, chosen, ok_is, Takes-then, octet_takes, number_takes, wide16, wide32}
 use Rattle.gw_tags.specs.declared.tag.Kind.{Kind}
 use Rattle.gw_tags.specs.declared.tag.Kind.TheVariants.{Length, Opening, Closing}
 use Rattle.gw_tags.specs.declared.fault.TagFault.{TagFault}
-use Rattle.gw_tags.specs.declared.fault.TagFault.TheVariants.{Short, BadTag}
-use Rattle.gw_tags.specs.Tag.{Tag, NumberPlace, high_bits, own_octet, LengthPlace, low_bits, one_octet, two_octets, four_octets, high_of, class_of, low_of, number_octets, length_octets, NumberHasRoom, LengthHasRoom, spelling, Spells, BeginsWith, tag_number_at, length_at, kind_at, header_at}
+use Rattle.gw_tags.specs.declared.fault.TagFault.TheVariants.{Short}
+use Rattle.gw_tags.specs.Tag.{Tag, NumberPlace, high_bits, own_octet, LengthPlace, low_bits, one_octet, two_octets, four_octets, high_of, class_of, low_of, number_octets, length_octets, NumberHasRoom, LengthHasRoom, BeginsWith, tag_number_at, length_at, kind_at, header_at}
 
 -- the parts of a first octet make it up
 first_is : (first : ℕ) → first < 256 → first ≡ 16 * (first / 16) + class_of (ltb 7 (first % 16)) + first % 8

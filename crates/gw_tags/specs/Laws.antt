@@ -1,7 +1,6 @@
 -- What holds of all spellings of tags, objects and values.
-use Rattle.std.specs.Prelude.{◌≡◌, ℕ, ◌≤◌, List, ◌++◌, length, Result, Ok}
+use Rattle.std.specs.Prelude.{◌≡◌, ℕ, ◌≤◌, List, ◌++◌, length, Ok}
 use Rattle.gw_addr.specs.Reading.{AreOctets}
-use Rattle.gw_tags.specs.declared.fault.TagFault.{TagFault}
 use Rattle.gw_tags.specs.Tag.{Tag, IsTag, Spells, canonical, tag_at}
 use Rattle.gw_tags.specs.Object.{Object, IsObject, object_octets, object_of}
 use Rattle.gw_tags.specs.Value.{Value, IsValue, SpellsValue, value_text}

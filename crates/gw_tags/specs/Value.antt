@@ -5,7 +5,7 @@ use Rattle.gw_addr.specs.Reading.{AreOctets}
 use Rattle.gw_tags.specs.declared.tag.Kind.TheVariants.{Length}
 use Rattle.gw_tags.specs.declared.value.AppValue.{AppValue}
 use Rattle.gw_tags.specs.declared.value.AppValue.TheVariants.{Enumerated}
-use Rattle.gw_tags.specs.Tag.{Tag, Spells, canonical}
+use Rattle.gw_tags.specs.Tag.{Spells, canonical}
 
 -- a value without where it lies in memory
 pub data Value : Type 0 where

@@ -1,5 +1,4 @@
 use Rattle.std.proofs.Common.{arith}
-use Rattle.gw_addr.specs.Reading.{AreOctets}
 use Rattle.gw_tags.specs.declared.fault.TagFault.TheVariants.{Short, BadTag}
 use Rattle.gw_tags.specs.Tag.{IsCut, BeginsWithNoTag, tag_at}
 use Rattle.gw_tags.proofs.Faults.{gives_found, gives_both, gives_fault, is_read, tag_is_short, tag_is_bad}
