@@ -4,6 +4,7 @@ use Rattle.std.specs.Int.{w16, w32, to_be_bytes}
 use Rattle.gw_addr.specs.Reading.{◌>>=◌, octet_at, number_at}
 use Rattle.gw_tags.specs.declared.tag.Kind.{Kind}
 use Rattle.gw_tags.specs.declared.tag.Kind.TheVariants.{Length, Opening, Closing}
+use Rattle.gw_tags.specs.declared.tag.Tag.{Tag as RustTag}
 use Rattle.gw_tags.specs.declared.fault.TagFault.{TagFault}
 use Rattle.gw_tags.specs.declared.fault.TagFault.TheVariants.{Short, BadTag}
 use Rattle.gw_tags.specs.Kind.{is_length}
@@ -13,6 +14,10 @@ pub record Tag : Type 0 where
   pub number : ℕ
   pub context : Bool
   pub kind : Kind
+
+-- a tag of the code, without the proof that it is one
+abbrev pub tag_view : RustTag → Tag
+tag_view tag = record { number = tag.number; context = tag.context; kind = tag.kind }
 
 -- the number 255 is reserved, and in the application class nothing opens or closes a list (clauses 20.2.1.2 and 20.2.1.3.2)
 abbrev pub is_tag : Tag → Bool

@@ -7,12 +7,13 @@ use Rattle.gw_tags.specs.declared.value.AppValue.{AppValue}
 use Rattle.gw_tags.specs.declared.value.AppValue.TheVariants.{Enumerated}
 use Rattle.gw_tags.specs.Tag.{Spells, canonical}
 
--- a value without where it lies in memory
+-- a value, by its kind
 pub data Value : Type 0 where
   enumerated : ℕ → Value
 
-abbrev pub value_of : AppValue → Value
-value_of (Enumerated n) = enumerated n
+-- a value of the code, without where it lies in memory
+abbrev pub value_view : AppValue → Value
+value_view (Enumerated n) = enumerated n
 
 -- the tag number of a value's kind (clause 20.2.1.4)
 abbrev pub number_of : Value → ℕ

@@ -1,9 +1,6 @@
 //! Object identifiers (clause 20.2.14).
 
-ghost use Rattle.std.specs.Prelude.{◌≡◌, ◌<◌, ◌^◌, ◌↔◌, IsSome, IfSome};
-ghost use Rattle.gw_tags.specs.Object.{IsObject, object_octets, object_of};
-
-use std::marker::Model;
+ghost use Rattle.std.specs.Prelude.{◌<◌, ◌^◌};
 
 /// An object of a device: its type and its instance.
 ///
@@ -13,34 +10,24 @@ use std::marker::Model;
 /// |    type    |        instance         |    four octets, the most significant first
 /// +------------+-------------------------+
 /// ```
-///
-/// A contract sees it as the record of its two fields, `specs/Object.antt`.
 #[derive(Clone, Copy, Debug, PartialEq, Eq, PartialOrd, Ord, Hash)]
 pub struct ObjectId {
     /// The number of the type, 0 to 1023.
     pub kind: u16,
     /// The instance among the objects of the type, 0 to 4194303.
     pub instance: u32,
-}
-
-impl Model for ObjectId {
-    ghost use Rattle.std.specs.Prelude.{◌<◌, ◌^◌};
-    ghost use Rattle.gw_tags.specs.Object.{Object};
-
-    ghost Value = { Object };
-
-    ghost view = { λ o. record { kind = o.kind; instance = o.instance } };
-
-    ghost invariant = { λ o. (o.kind < 2 ^ 10) × (o.instance < 2 ^ 22) };
-
-    ghost inverse = { λ o. record { kind = o.kind; instance = o.instance } };
+    ghost kind_fits: { kind < 2 ^ 10 },
+    ghost instance_fits: { instance < 2 ^ 22 },
 }
 
 impl ObjectId {
+    ghost use Rattle.std.specs.Prelude.{◌≡◌, ◌↔◌, IsSome, IfSome};
+    ghost use Rattle.gw_tags.specs.Object.{IsObject, object_view, object_octets, object_of};
+
     /// The object of this type and instance, if they fit 10 and 22 bits.
     pub fn new(kind: u16, instance: u32) -> Option<ObjectId>
         ensures fits { IsSome result ↔ IsObject (record { kind = kind; instance = instance }) }
-        ensures value { IfSome result (λ o. o ≡ record { kind = kind; instance = instance }) }
+        ensures value { IfSome result (λ o. object_view o ≡ record { kind = kind; instance = instance }) }
     {
         if kind < 1 << 10 && instance < 1 << 22 {
             Some(ObjectId { kind, instance })
@@ -52,8 +39,7 @@ impl ObjectId {
     /// The object that four octets stand for.
     #[tactic(auto, unfolding(crate::specs::Object::object_of))]
     pub fn from_octets(octets: [u8; 4]) -> ObjectId
-        ensures value { result ≡ object_of octets }
-        ensures fits { IsObject result }
+        ensures { object_view result ≡ object_of octets }
     {
         let number = u32::from_be_bytes(octets);
         ObjectId {
@@ -65,8 +51,7 @@ impl ObjectId {
     /// The four octets that stand for the object.
     #[tactic(auto, unfolding(crate::specs::Object::object_octets))]
     pub fn to_octets(self) -> [u8; 4]
-        ensures value { result ≡ object_octets self }
-        ensures fits { IsObject self }
+        ensures { result ≡ object_octets (object_view self) }
     {
         (u32::from(self.kind) << 22 | self.instance).to_be_bytes()
     }

@@ -3,7 +3,7 @@
 ghost use Rattle.std.specs.Prelude.{◌≡◌, ◌↔◌, ◌%◌, List, ℕ, IfOk, IsOkAnd, nat_lt};
 ghost use Rattle.std.specs.Int.{w16, w32};
 ghost use Rattle.gw_addr.specs.Reading.{Gives, octet_at, number_at};
-ghost use Rattle.gw_tags.specs.Tag.{Tag, IsTag, BeginsWith, BeginsWithNoTag, IsCut, tag_number_at, length_at, kind_at, header_at, tag_at, low_bits_at};
+ghost use Rattle.gw_tags.specs.Tag.{Tag as TagFields, IsTag, tag_view, BeginsWith, BeginsWithNoTag, IsCut, tag_number_at, length_at, kind_at, header_at, tag_at, low_bits_at};
 
 use crate::fault::TagFault;
 use crate::tag::{Kind, Tag};
@@ -122,7 +122,7 @@ fn read_whole(octets: &[u8]) -> Result<Whole<'_>, TagFault>
 
 #[tactic(auto, unfolding(crate::specs::Tag::tag_at))]
 fn read(octets: &[u8]) -> Result<Header<'_>, TagFault>
-    ensures exact { Gives (λ header. (header.tag, header.rest.now)) result (tag_at octets.now) }
+    ensures exact { Gives (λ header. (tag_view header.tag, header.rest.now)) result (tag_at octets.now) }
     ensures low_bits { IfOk result (λ header. header.low_bits ≡ low_bits_at octets.now) }
 {
     let Whole {
@@ -155,17 +155,17 @@ fn read(octets: &[u8]) -> Result<Header<'_>, TagFault>
 /// 255, or it opens or closes a list and its class is application.
 pub fn read_tag(octets: &[u8]) -> Result<Header<'_>, TagFault>
     // What is read is spelled so, and can be written.
-    ensures found { IfOk result (λ header. BeginsWith octets.now header.tag header.rest.now) }
-    ensures valid { IfOk result (λ header. IsTag header.tag) }
+    ensures found { IfOk result (λ header. BeginsWith octets.now (tag_view header.tag) header.rest.now) }
+    ensures valid { IfOk result (λ header. IsTag (tag_view header.tag)) }
     // What is spelled so is read, and the octets behind it are the rest.
-    ensures only { (tag : Tag) (rest : List ℕ) → IsTag tag → BeginsWith octets.now tag rest → IsOkAnd result (λ header. (header.tag ≡ tag) × (header.rest.now ≡ rest)) }
+    ensures only { (tag : TagFields) (rest : List ℕ) → IsTag tag → BeginsWith octets.now tag rest → IsOkAnd result (λ header. (tag_view header.tag ≡ tag) × (header.rest.now ≡ rest)) }
 
     // Which fault it is.
     ensures short { (result ≡ Err TagFault.Short) ↔ IsCut octets.now }
     ensures bad_tag { (result ≡ Err TagFault.BadTag) ↔ BeginsWithNoTag octets.now }
 
     ensures low_bits { IfOk result (λ header. header.low_bits ≡ low_bits_at octets.now) }
-    ensures exact { Gives (λ header. (header.tag, header.rest.now)) result (tag_at octets.now) }
+    ensures exact { Gives (λ header. (tag_view header.tag, header.rest.now)) result (tag_at octets.now) }
 {
     read(octets)
 }

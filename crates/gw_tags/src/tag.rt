@@ -1,9 +1,7 @@
 //! The tag that stands before each value (clause 20.2.1).
 
-ghost use Rattle.std.specs.Prelude.{◌≡◌};
+ghost use Rattle.std.specs.Prelude.{◌≡◌, ◌<◌, ◌||◌, IsTrue};
 ghost use Rattle.gw_tags.specs.Kind.{is_length};
-
-use std::marker::Model;
 
 /// What a tag announces (clause 20.2.1.3).
 #[derive(Clone, Copy, Debug, PartialEq, Eq)]
@@ -36,8 +34,6 @@ impl Kind {
 /// C    1: context specific class, 0: application class
 /// LLL  0 to 4: a length; 5: a length in the octets that follow; 6: opening; 7: closing
 /// ```
-///
-/// A contract sees a tag as the record of its three fields, `specs/Tag.antt`.
 #[derive(Clone, Copy, Debug, PartialEq, Eq)]
 pub struct Tag {
     /// The number, 0 to 254.
@@ -46,18 +42,6 @@ pub struct Tag {
     pub context: bool,
     /// What follows. Only in the context class does a list open or close.
     pub kind: Kind,
-}
-
-impl Model for Tag {
-    ghost use Rattle.std.specs.Prelude.{◌<◌, ◌||◌, IsTrue};
-    ghost use Rattle.gw_tags.specs.Kind.{is_length};
-    ghost use Rattle.gw_tags.specs.Tag.{Tag as TagValue};
-
-    ghost Value = { TagValue };
-
-    ghost view = { λ t. record { number = t.number; context = t.context; kind = t.kind } };
-
-    ghost invariant = { λ t. (t.number < 255) × IsTrue (is_length t.kind || t.context) };
-
-    ghost inverse = { λ t. record { number = t.number; context = t.context; kind = t.kind } };
+    ghost numbered: { number < 255 },
+    ghost classed: { IsTrue (is_length kind || context) },
 }

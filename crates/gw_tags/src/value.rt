@@ -2,7 +2,7 @@
 
 ghost use Rattle.std.specs.Prelude.{◌≡◌, ◌<◌, ◌-◌, ◌++◌, OnOk, OnErr};
 ghost use Rattle.gw_addr.specs.Reading.{Keeps};
-ghost use Rattle.gw_tags.specs.Value.{value_of, value_text, number_text, octet_count, tagged};
+ghost use Rattle.gw_tags.specs.Value.{value_view, value_text, number_text, octet_count, tagged};
 
 use crate::tag::{Kind, Tag};
 use crate::writing::write_tag;
@@ -49,7 +49,7 @@ fn put_number(out: &mut Vec<u8>, kind: u8, number: u32) -> Result<(), AllocError
 /// 1 Memory, where the buffer can't grow. The buffer is then unchanged.
 #[tactic(auto, unfolding(crate::specs::Value::value_text))]
 pub fn write_value(out: &mut Vec<u8>, value: AppValue) -> Result<(), AllocError>
-    ensures ok { OnOk result (out.new.items ≡ out.old.items ++ value_text (value_of value)) }
+    ensures ok { OnOk result (out.new.items ≡ out.old.items ++ value_text (value_view value)) }
     ensures err { OnErr result (out.new.items ≡ out.old.items) }
 {
     let len = out.len();

@@ -2,7 +2,7 @@
 
 ghost use Rattle.std.specs.Prelude.{◌≡◌, ◌<◌, ◌+◌, ◌*◌, ◌++◌, OnOk, OnErr};
 ghost use Rattle.gw_addr.specs.Reading.{Keeps};
-ghost use Rattle.gw_tags.specs.Tag.{class_of, low_of, length_octets, shortest_length, canonical};
+ghost use Rattle.gw_tags.specs.Tag.{tag_view, class_of, low_of, length_octets, shortest_length, canonical};
 
 use crate::tag::{Kind, Tag};
 use std::alloc::AllocError;
@@ -55,7 +55,7 @@ fn first_octet(high: u8, context: bool, low: u8) -> u8
 }
 
 fn put_tag(out: &mut Vec<u8>, tag: Tag) -> Result<(), AllocError>
-    ensures ok { OnOk result (out.new.items ≡ out.old.items ++ canonical tag) }
+    ensures ok { OnOk result (out.new.items ≡ out.old.items ++ canonical (tag_view tag)) }
     ensures front { Keeps out.old.items out.new.items }
 {
     let low = low_bits(tag.kind);
@@ -74,7 +74,7 @@ fn put_tag(out: &mut Vec<u8>, tag: Tag) -> Result<(), AllocError>
 ///
 /// 1 Memory, where the buffer can't grow.
 pub fn write_tag(out: &mut Vec<u8>, tag: Tag) -> Result<(), AllocError>
-    ensures ok { OnOk result (out.new.items ≡ out.old.items ++ canonical tag) }
+    ensures ok { OnOk result (out.new.items ≡ out.old.items ++ canonical (tag_view tag)) }
     ensures err { OnErr result (out.new.items ≡ out.old.items) }
 {
     let len = out.len();
