@@ -77,12 +77,12 @@ length_cut (first ∷ others) fault fits e =
           let f = two_cut others (ltb-true _ _ g.0) others_fit in
           (sym g.1, behind_254 first others (eqb-true _ _ two.0) f)
       | inr more ↦ elim (chosen (eqb first 255) (number_at Short w32 others) (Ok (first, others)) (Err fault) more.1) [
-          | inl four ↦
-              let g = guard_err (ltb (length others) 4) Short fault (from_be_bytes w32 (take 4 others), drop 4 others) four.1 in
-              let f = four_cut others (ltb-true _ _ g.0) others_fit in
-              (sym g.1, behind_255 first others (eqb-true _ _ four.0) f)
-          | inr one ↦ absurd (let h = one.1 in cc)
-        ]
+        | inl four ↦
+            let g = guard_err (ltb (length others) 4) Short fault (from_be_bytes w32 (take 4 others), drop 4 others) four.1 in
+            let f = four_cut others (ltb-true _ _ g.0) others_fit in
+            (sym g.1, behind_255 first others (eqb-true _ _ four.0) f)
+        | inr one ↦ absurd (let h = one.1 in cc)
+      ]
     ]
 
 kind_cut : (low : ℕ) (octets : List ℕ) (fault : TagFault) → AreOctets octets → kind_at low octets ≡ Err fault → (fault ≡ Short) × (low ≡ 5) × IsFrontOfLength octets
@@ -91,15 +91,15 @@ kind_cut low octets fault fits e =
     elim (chosen (eqb low 6) (Ok (Opening, octets)) (cond (eqb low 7) (Ok (Closing, octets)) (cond (eqb low 5) (length_at octets >>= λ n. Ok (Length n.0, n.1)) (Ok (Length low, octets)))) (Err fault) e) [
       | inl opening ↦ absurd (let h = opening.1 in cc)
       | inr more ↦ elim (chosen (eqb low 7) (Ok (Closing, octets)) (cond (eqb low 5) (length_at octets >>= λ n. Ok (Length n.0, n.1)) (Ok (Length low, octets))) (Err fault) more.1) [
-          | inl closing ↦ absurd (let h = closing.1 in cc)
-          | inr length ↦ elim (chosen (eqb low 5) (length_at octets >>= λ n. Ok (Length n.0, n.1)) (Ok (Length low, octets)) (Err fault) length.1) [
-              | inl own ↦ elim (bind_err (length_at octets) (λ n. Ok (Length n.0, n.1)) fault own.1) [
-                  | inl here ↦ let f = length_cut octets fault fits here in (f.0, eqb-true _ _ own.0, f.1)
-                  | inr after ↦ absurd (let h = after.2 in cc)
-                ]
-              | inr bits ↦ absurd (let h = bits.1 in cc)
-            ]
+        | inl closing ↦ absurd (let h = closing.1 in cc)
+        | inr length ↦ elim (chosen (eqb low 5) (length_at octets >>= λ n. Ok (Length n.0, n.1)) (Ok (Length low, octets)) (Err fault) length.1) [
+          | inl own ↦ elim (bind_err (length_at octets) (λ n. Ok (Length n.0, n.1)) fault own.1) [
+            | inl here ↦ let f = length_cut octets fault fits here in (f.0, eqb-true _ _ own.0, f.1)
+            | inr after ↦ absurd (let h = after.2 in cc)
+          ]
+          | inr bits ↦ absurd (let h = bits.1 in cc)
         ]
+      ]
     ]
 
 -- each value of the low bits announces something
@@ -127,9 +127,9 @@ octet_cut (octet ∷ octets) fault e = absurd cc
 number_cut : (first : ℕ) (octets : List ℕ) (fault : TagFault) → tag_number_at first octets ≡ Err fault → (fault ≡ Short) × (first / 16 ≡ 15) × (octets ≡ [])
 unfolding tag_number_at
 number_cut first octets fault e = elim (chosen (eqb (first / 16) 15) (octet_at Short octets) (Ok (first / 16, octets)) (Err fault) e) [
-    | inl own ↦ let f = octet_cut octets fault own.1 in (f.0, eqb-true _ _ own.0, f.1)
-    | inr bits ↦ absurd (let h = bits.1 in cc)
-  ]
+  | inl own ↦ let f = octet_cut octets fault own.1 in (f.0, eqb-true _ _ own.0, f.1)
+  | inr bits ↦ absurd (let h = bits.1 in cc)
+]
 
 empty_cut : IsCut []
 empty_cut = record {
@@ -166,9 +166,9 @@ cut_at_length first others n middle small a low b = record {
     number_room = a.room;
     length_room = b.room;
     spelled =
-      let octets : others ++ b.missing ≡ number_octets n a.place ++ length_octets (Length b.n) b.place = ap (λ (o : List ℕ). o ++ b.missing) a.takes.parts ∙ append_assoc (number_octets n a.place) middle b.missing ∙ ap (λ (o : List ℕ). number_octets n a.place ++ o) b.whole in
-      let octet : first ≡ 16 * high_of n a.place + class_of (ltb 7 (first % 16)) + low_of (Length b.n) b.place = first_made first (high_of n a.place) (low_of (Length b.n) b.place) small a.high (low ∙ sym b.low) in
-      ap (λ (o : List ℕ). first ∷ o) octets ∙ ap (λ (o : ℕ). o ∷ (number_octets n a.place ++ length_octets (Length b.n) b.place)) octet;
+        let octets : others ++ b.missing ≡ number_octets n a.place ++ length_octets (Length b.n) b.place = ap (λ (o : List ℕ). o ++ b.missing) a.takes.parts ∙ append_assoc (number_octets n a.place) middle b.missing ∙ ap (λ (o : List ℕ). number_octets n a.place ++ o) b.whole in
+        let octet : first ≡ 16 * high_of n a.place + class_of (ltb 7 (first % 16)) + low_of (Length b.n) b.place = first_made first (high_of n a.place) (low_of (Length b.n) b.place) small a.high (low ∙ sym b.low) in
+        ap (λ (o : List ℕ). first ∷ o) octets ∙ ap (λ (o : ℕ). o ∷ (number_octets n a.place ++ length_octets (Length b.n) b.place)) octet;
   };
 }
 

@@ -67,26 +67,26 @@ pub tag_is_short : (octets : List ℕ) → AreOctets octets → (tag_at octets �
 unfolding tag_at
 tag_is_short octets fits = (
   λ e. elim (bind_err (header_at octets) (λ header. cond (is_tag header.0) (Ok header) (Err BadTag)) Short e) [
-      | inl here ↦ (header_cut octets Short fits here).1
-      | inr (header, read, after) ↦ elim (chosen (is_tag header.0) (Ok header) (Err BadTag) (Err Short) after) [
-          | inl known ↦ absurd (let h = known.1 in cc)
-          | inr reserved ↦ absurd (let h = reserved.1 in cc)
-        ]
-    ],
-  λ c. rw (cut_is_short octets (header_at octets) fits c refl) refl
+    | inl here ↦ (header_cut octets Short fits here).1
+    | inr (header, read, after) ↦ elim (chosen (is_tag header.0) (Ok header) (Err BadTag) (Err Short) after) [
+      | inl known ↦ absurd (let h = known.1 in cc)
+      | inr reserved ↦ absurd (let h = reserved.1 in cc)
+    ]
+  ],
+  λ c. rw (cut_is_short octets (header_at octets) fits c refl) refl,
 )
 
 pub tag_is_bad : (octets : List ℕ) → AreOctets octets → (tag_at octets ≡ Err BadTag) ↔ BeginsWithNoTag octets
 unfolding tag_at
 tag_is_bad octets fits = (
   λ e. elim (bind_err (header_at octets) (λ header. cond (is_tag header.0) (Ok header) (Err BadTag)) BadTag e) [
-      | inl here ↦ absurd (let h = (header_cut octets BadTag fits here).0 in cc)
-      | inr (header, read, after) ↦ elim (chosen (is_tag header.0) (Ok header) (Err BadTag) (Err BadTag) after) [
-          | inl known ↦ absurd (let h = known.1 in cc)
-          | inr reserved ↦ record { tag = header.0; rest = header.1; begins = header_takes octets header.0 header.1 fits read; reserved = reserved.0 }
-        ]
-    ],
-  λ b. rw (begins_again octets b.tag b.rest b.begins, b.reserved) refl
+    | inl here ↦ absurd (let h = (header_cut octets BadTag fits here).0 in cc)
+    | inr (header, read, after) ↦ elim (chosen (is_tag header.0) (Ok header) (Err BadTag) (Err BadTag) after) [
+      | inl known ↦ absurd (let h = known.1 in cc)
+      | inr reserved ↦ record { tag = header.0; rest = header.1; begins = header_takes octets header.0 header.1 fits read; reserved = reserved.0 }
+    ]
+  ],
+  λ b. rw (begins_again octets b.tag b.rest b.begins, b.reserved) refl,
 )
 
 -- what is spelled so is read

@@ -16,9 +16,9 @@ first_octet_joins high low context high_lt low_lt =
     let part : (8 * high + low) % 8 ≡ low = omega arith in
     let test = λ (class n : ℕ). eqb (bit_or (bit_or (n / 8 * 16 % 256) class) (n % 8)) (16 * (n / 8) + class + n % 8) in
     let all : test (class_of context) (8 * high + low) ≡ true = elim context as (λ c. test (class_of c) (8 * high + low) ≡ true) [
-        true ↦ agree_below_at (test 8) (λ n. true) 128 (8 * high + low) refl (omega arith)
+      | true ↦ agree_below_at (test 8) (λ n. true) 128 (8 * high + low) refl (omega arith)
       | false ↦ agree_below_at (test 0) (λ n. true) 128 (8 * high + low) refl (omega arith)
-      ] in
+    ] in
     eqb-true _ _ (rw (place, part) at all)
 
 pub none : AreOctets []

@@ -13,9 +13,9 @@ use Rattle.gw_tags.specs.Tag.{Tag, NumberPlace, high_bits, own_octet, LengthPlac
 -- the parts of a first octet make it up
 first_is : (first : ℕ) → first < 256 → first ≡ 16 * (first / 16) + class_of (ltb 7 (first % 16)) + first % 8
 first_is first lt = elim (cases_lt 7 (first % 16)) [
-    | inl set ↦ rw (lt-ltb 7 (first % 16) set) (omega arith)
-    | inr unset ↦ rw (le-ltb 7 (first % 16) unset) (omega arith)
-  ]
+  | inl set ↦ rw (lt-ltb 7 (first % 16) set) (omega arith)
+  | inr unset ↦ rw (le-ltb 7 (first % 16) unset) (omega arith)
+]
 
 pub first_made : (first high low : ℕ) → first < 256 → first / 16 ≡ high → first % 8 ≡ low → first ≡ 16 * high + class_of (ltb 7 (first % 16)) + low
 first_made first high low lt high_is low_is = rw (← high_is, ← low_is) (first_is first lt)
@@ -32,16 +32,16 @@ pub record ReadsNumber (first : ℕ) (octets : List ℕ) (n : ℕ) (rest : List 
 pub tag_number_takes : (first : ℕ) (octets : List ℕ) (n : ℕ) (rest : List ℕ) → first < 256 → AreOctets octets → tag_number_at first octets ≡ Ok (n, rest) → ReadsNumber first octets n rest
 unfolding tag_number_at
 tag_number_takes first octets n rest lt fits e = elim (chosen (eqb (first / 16) 15) (octet_at Short octets) (Ok (first / 16, octets)) (Ok (n, rest)) e) [
-    | inl own ↦
-        let t = octet_takes Short octets n rest fits own.1 in
-        record { place = own_octet; high = eqb-true _ _ own.0; room = t.1; takes = t.0 }
-    | inr bits ↦
-        let both = ok_is (first / 16, octets) (n, rest) bits.1 in
-        let number : first / 16 ≡ n = ap (λ (p : ℕ × List ℕ). p.0) both in
-        let others : octets ≡ rest = ap (λ (p : ℕ × List ℕ). p.1) both in
-        let other : first / 16 ≢ 15 = eqb-false _ _ bits.0 in
-        record { place = high_bits; high = number; room = omega arith; takes = record { parts = others; rest_octets = rw (← others) fits } }
-  ]
+  | inl own ↦
+      let t = octet_takes Short octets n rest fits own.1 in
+      record { place = own_octet; high = eqb-true _ _ own.0; room = t.1; takes = t.0 }
+  | inr bits ↦
+      let both = ok_is (first / 16, octets) (n, rest) bits.1 in
+      let number : first / 16 ≡ n = ap (λ (p : ℕ × List ℕ). p.0) both in
+      let others : octets ≡ rest = ap (λ (p : ℕ × List ℕ). p.1) both in
+      let other : first / 16 ≢ 15 = eqb-false _ _ bits.0 in
+      record { place = high_bits; high = number; room = omega arith; takes = record { parts = others; rest_octets = rw (← others) fits } }
+]
 
 -- a kind was read, and where its length stood
 pub record ReadsKind (low : ℕ) (octets : List ℕ) (kind : Kind) (rest : List ℕ) : Type 0 where
@@ -71,17 +71,17 @@ length_takes (first ∷ others) n rest fits e =
           let t = number_takes Short w16 (2 ^ 16) wide16 others n rest others_fit two.1 in
           record { place = two_octets; low_is = refl; room = t.1; takes = behind first 254 others (to_be_bytes w16 n) rest (eqb-true _ _ two.0) t.0 }
       | inr more ↦ elim (chosen (eqb first 255) (number_at Short w32 others) (Ok (first, others)) (Ok (n, rest)) more.1) [
-          | inl four ↦
-              let t = number_takes Short w32 (2 ^ 32) wide32 others n rest others_fit four.1 in
-              record { place = four_octets; low_is = refl; room = t.1; takes = behind first 255 others (to_be_bytes w32 n) rest (eqb-true _ _ four.0) t.0 }
-          | inr one ↦
-              let both = ok_is (first, others) (n, rest) one.1 in
-              let number : first ≡ n = ap (λ (p : ℕ × List ℕ). p.0) both in
-              let others_are : others ≡ rest = ap (λ (p : ℕ × List ℕ). p.1) both in
-              let not_two : first ≢ 254 = eqb-false _ _ more.0 in
-              let not_four : first ≢ 255 = eqb-false _ _ one.0 in
-              record { place = one_octet; low_is = refl; room = omega arith; takes = behind first n others [] rest number (record { parts = others_are; rest_octets = rw (← others_are) others_fit }) }
-        ]
+        | inl four ↦
+            let t = number_takes Short w32 (2 ^ 32) wide32 others n rest others_fit four.1 in
+            record { place = four_octets; low_is = refl; room = t.1; takes = behind first 255 others (to_be_bytes w32 n) rest (eqb-true _ _ four.0) t.0 }
+        | inr one ↦
+            let both = ok_is (first, others) (n, rest) one.1 in
+            let number : first ≡ n = ap (λ (p : ℕ × List ℕ). p.0) both in
+            let others_are : others ≡ rest = ap (λ (p : ℕ × List ℕ). p.1) both in
+            let not_two : first ≢ 254 = eqb-false _ _ more.0 in
+            let not_four : first ≢ 255 = eqb-false _ _ one.0 in
+            record { place = one_octet; low_is = refl; room = omega arith; takes = behind first n others [] rest number (record { parts = others_are; rest_octets = rw (← others_are) others_fit }) }
+      ]
     ]
 
 pub kind_takes : (low : ℕ) (octets : List ℕ) (kind : Kind) (rest : List ℕ) → low < 8 → AreOctets octets → kind_at low octets ≡ Ok (kind, rest) → ReadsKind low octets kind rest
@@ -90,21 +90,21 @@ kind_takes low octets kind rest lt fits e =
     elim (chosen (eqb low 6) (Ok (Opening, octets)) (cond (eqb low 7) (Ok (Closing, octets)) (cond (eqb low 5) (length_at octets >>= λ n. Ok (Length n.0, n.1)) (Ok (Length low, octets)))) (Ok (kind, rest)) e) [
       | inl opening ↦ stays low octets Opening low_bits kind rest fits (eqb-true _ _ opening.0) tt refl opening.1
       | inr more ↦ elim (chosen (eqb low 7) (Ok (Closing, octets)) (cond (eqb low 5) (length_at octets >>= λ n. Ok (Length n.0, n.1)) (Ok (Length low, octets))) (Ok (kind, rest)) more.1) [
-          | inl closing ↦ stays low octets Closing low_bits kind rest fits (eqb-true _ _ closing.0) tt refl closing.1
-          | inr length ↦ elim (chosen (eqb low 5) (length_at octets >>= λ n. Ok (Length n.0, n.1)) (Ok (Length low, octets)) (Ok (kind, rest)) length.1) [
-              | inl own ↦
-                  let a = bind_ok (length_at octets) (λ n. Ok (Length n.0, n.1)) (kind, rest) own.1 in
-                  let r = length_takes octets a.0.0 a.0.1 fits a.1 in
-                  let five : low ≡ 5 = eqb-true _ _ own.0 in
-                  let made : Kind × List ℕ = (Length a.0.0, a.0.1) in
-                  subst (λ (x : Kind × List ℕ). ReadsKind low octets x.0 x.1) (ok_is made (kind, rest) a.2) (record { place = r.place; low_is = five ∙ r.low_is; room = r.room; takes = r.takes })
-              | inr bits ↦
-                  let not_six : low ≢ 6 = eqb-false _ _ more.0 in
-                  let not_seven : low ≢ 7 = eqb-false _ _ length.0 in
-                  let not_five : low ≢ 5 = eqb-false _ _ bits.0 in
-                  stays low octets (Length low) low_bits kind rest fits refl (omega arith) refl bits.1
-            ]
+        | inl closing ↦ stays low octets Closing low_bits kind rest fits (eqb-true _ _ closing.0) tt refl closing.1
+        | inr length ↦ elim (chosen (eqb low 5) (length_at octets >>= λ n. Ok (Length n.0, n.1)) (Ok (Length low, octets)) (Ok (kind, rest)) length.1) [
+          | inl own ↦
+              let a = bind_ok (length_at octets) (λ n. Ok (Length n.0, n.1)) (kind, rest) own.1 in
+              let r = length_takes octets a.0.0 a.0.1 fits a.1 in
+              let five : low ≡ 5 = eqb-true _ _ own.0 in
+              let made : Kind × List ℕ = (Length a.0.0, a.0.1) in
+              subst (λ (x : Kind × List ℕ). ReadsKind low octets x.0 x.1) (ok_is made (kind, rest) a.2) (record { place = r.place; low_is = five ∙ r.low_is; room = r.room; takes = r.takes })
+          | inr bits ↦
+              let not_six : low ≢ 6 = eqb-false _ _ more.0 in
+              let not_seven : low ≢ 7 = eqb-false _ _ length.0 in
+              let not_five : low ≢ 5 = eqb-false _ _ bits.0 in
+              stays low octets (Length low) low_bits kind rest fits refl (omega arith) refl bits.1
         ]
+      ]
     ]
 
 -- a number and a kind that were read make a spelling

@@ -37,15 +37,15 @@ data Size (n : ℕ) : Type 0 where
 
 size_of : (n : ℕ) → Size n
 size_of n = elim (cases_lt n 256) [
-    | inl one ↦ size_one one (in_one n one)
-    | inr above ↦ elim (cases_lt n 65536) [
-        | inl two ↦ size_two two above (in_two n above two)
-        | inr higher ↦ elim (cases_lt n 16777216) [
-            | inl three ↦ size_three three higher (in_three n higher three)
-            | inr highest ↦ size_four highest (in_four n highest)
-          ]
-      ]
+  | inl one ↦ size_one one (in_one n one)
+  | inr above ↦ elim (cases_lt n 65536) [
+    | inl two ↦ size_two two above (in_two n above two)
+    | inr higher ↦ elim (cases_lt n 16777216) [
+      | inl three ↦ size_three three higher (in_three n higher three)
+      | inr highest ↦ size_four highest (in_four n highest)
+    ]
   ]
+]
 
 count_below : (octets : List ℕ) (n : ℕ) → Size n → SpellsNumber octets n → octet_count n ≤ length octets
 count_below [] n size s = absurd (omega (arith, s.least))

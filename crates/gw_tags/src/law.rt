@@ -15,5 +15,4 @@ pub fn laws()
     ensures values_are_prefix_free { ValuesArePrefixFree }
     ensures value_text_spells { ValueTextSpells }
     ensures value_text_is_shortest { ValueTextIsShortest }
-{
-}
+{}

@@ -53,7 +53,10 @@ fn four_octets(octets: &[u8]) -> Result<(u32, &[u8]), TagFault>
         return Err(TagFault::Short);
     }
     let (front, rest) = octets.split_at(4);
-    Ok((u32::from_be_bytes([front[0], front[1], front[2], front[3]]), rest))
+    Ok((
+        u32::from_be_bytes([front[0], front[1], front[2], front[3]]),
+        rest,
+    ))
 }
 
 #[tactic(auto, unfolding(crate::specs::Tag::tag_number_at))]
@@ -96,6 +99,7 @@ fn kind(low_bits: u8, rest: &[u8]) -> Result<(Kind, &[u8]), TagFault>
     }
 }
 
+#[tactic(auto, using(crate::proofs::Octets::class_bit_set))]
 fn is_context(first: u8) -> bool
     ensures { result ≡ nat_lt 7 (first % 16) }
 {
@@ -120,6 +124,7 @@ fn read_whole(octets: &[u8]) -> Result<Whole<'_>, TagFault>
     })
 }
 
+/// What `read_tag` gives, said by the reading function alone.
 #[tactic(auto, unfolding(crate::specs::Tag::tag_at))]
 fn read(octets: &[u8]) -> Result<Header<'_>, TagFault>
     ensures exact { Gives (λ header. (tag_view header.tag, header.rest.now)) result (tag_at octets.now) }
