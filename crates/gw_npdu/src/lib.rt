@@ -1,0 +1,14 @@
+//! The network layer's messages of BACnet, ISO 16484-5, clause 6.2: read and written exactly.
+#![tactic(auto)]
+
+mod fault;
+mod message;
+mod npdu;
+mod onward;
+mod station;
+
+pub use fault::{EncodeFault, NpduFault};
+pub use message::NetMessage;
+pub use npdu::{Npdu, Payload, Priority};
+pub use onward::Onward;
+pub use station::{Destination, Reach, Station};
