@@ -1,9 +1,8 @@
 //! Writing a message of the network layer: the one canonical spelling, by clause 6.2.
 
-ghost use Rattle.std.specs.Prelude.{◌≡◌, ℕ, ◌+◌, ◌<◌, ◌≤◌, ◌↔◌, ◌++◌, [], ◌∷◌, length, OnOk, OnErr, IsErrOf, option_map};
-ghost use Rattle.std.specs.Int.{w16, to_be_bytes};
+ghost use Rattle.std.specs.Prelude.{◌≡◌, ◌+◌, ◌<◌, ◌≤◌, ◌↔◌, ◌++◌, [], ◌∷◌, length, OnOk, OnErr, IsErrOf, option_map};
 ghost use Rattle.gw_addr.specs.Reading.{Keeps};
-ghost use Rattle.gw_npdu.specs.Npdu.{Fields, place, destination_part, source_part, hops_part, payload_part, payload_octets, header, control, spelling, view, destination_view, station_view, payload_view, priority_of, is_message};
+ghost use Rattle.gw_npdu.specs.Npdu.{place, destination_part, source_part, hops_part, payload_part, payload_octets, header, control, spelling, view, destination_view, station_view, payload_view, priority_of};
 
 use crate::control::Control;
 use crate::fault::EncodeFault;
@@ -13,8 +12,9 @@ use bitflags::Flags;
 use std::alloc::AllocError;
 
 /// The most octets that a message of the network layer has.
-const MAX_LEN: usize = 1497;
+pub const MAX_LEN: usize = 1497;
 
+/// The two low bits of the control octet.
 fn priority_bits(priority: Priority) -> Control
     ensures { result.0 ≡ priority_of priority }
 {
@@ -26,24 +26,86 @@ fn priority_bits(priority: Priority) -> Control
     }
 }
 
-/// The control octet of a message.
-pub fn control(npdu: &Npdu<'_>) -> Control
-    ensures { result.0 ≡ control (view npdu.now) }
+impl<'a> Payload<'a> {
+    /// The octets of the payload that no field of the network layer names: the APDU, or what stands behind the
+    /// type and the vendor of a message between routers.
+    pub fn octets(&self) -> &'a [u8]
+        ensures { result.now ≡ payload_octets (payload_view self.now) }
+    {
+        match self {
+            Payload::Apdu(octets) => octets,
+            Payload::Message(message) => message.octets,
+        }
+    }
+}
+
+impl Npdu<'_> {
+    /// The control octet of the message. Its reserved bits are zero.
+    pub fn control(&self) -> Control
+        ensures { result.0 ≡ control (view self.now) }
+    {
+        let mut control = priority_bits(self.priority);
+        if self.reply_expected {
+            control.insert(Control::REPLY_EXPECTED);
+        }
+        if self.source.is_some() {
+            control.insert(Control::SOURCE);
+        }
+        if self.destination.is_some() {
+            control.insert(Control::DESTINATION);
+        }
+        if matches!(self.payload, Payload::Message(_)) {
+            control.insert(Control::MESSAGE);
+        }
+        control
+    }
+
+    /// How many octets stand in front of the payload's own.
+    pub fn header_len(&self) -> usize
+        ensures len { result ≡ length (header (view self.now)) }
+        ensures most { result ≤ 522 }
+    {
+        2 + destination_len(self.destination) + source_len(self.source) + payload_len(&self.payload)
+    }
+}
+
+/// The octets of DNET, DLEN, DADR and the hop count.
+fn destination_len(destination: Option<Destination<'_>>) -> usize
+    ensures len { result ≡ length (destination_part (option_map destination_view destination.entry)) + length (hops_part (option_map destination_view destination.entry)) }
+    ensures most { result ≤ 259 }
 {
-    let mut control = priority_bits(npdu.priority);
-    if npdu.reply_expected {
-        control.insert(Control::REPLY_EXPECTED);
+    let Some(destination) = destination else {
+        return 0;
+    };
+    match destination.reach {
+        Reach::Everywhere | Reach::Network(_) => 4,
+        Reach::Station(station) => 4 + station.address.len(),
     }
-    if npdu.source.is_some() {
-        control.insert(Control::SOURCE);
+}
+
+/// The octets of SNET, SLEN and SADR.
+fn source_len(source: Option<Station<'_>>) -> usize
+    ensures len { result ≡ length (source_part (option_map station_view source.entry)) }
+    ensures most { result ≤ 258 }
+{
+    let Some(station) = source else {
+        return 0;
+    };
+    3 + station.address.len()
+}
+
+/// The octets of the type and the vendor of a message between routers.
+fn payload_len(payload: &Payload<'_>) -> usize
+    ensures len { result ≡ length (payload_part (payload_view payload.now)) }
+    ensures most { result ≤ 3 }
+{
+    let Payload::Message(message) = payload else {
+        return 0;
+    };
+    match message.vendor {
+        None => 1,
+        Some(_) => 3,
     }
-    if npdu.destination.is_some() {
-        control.insert(Control::DESTINATION);
-    }
-    if matches!(npdu.payload, Payload::Message(_)) {
-        control.insert(Control::MESSAGE);
-    }
-    control
 }
 
 fn put_place(out: &mut Vec<u8>, network: u16, address: &[u8]) -> Result<(), AllocError>
@@ -56,13 +118,89 @@ fn put_place(out: &mut Vec<u8>, network: u16, address: &[u8]) -> Result<(), Allo
     out.extend_from_slice(address)
 }
 
-fn put_destination(out: &mut Vec<u8>, destination: &Destination<'_>) -> Result<(), AllocError>
-    ensures ok { OnOk result (out.new.items ≡ out.old.items ++ place (destination_view destination.now).network (destination_view destination.now).address) }
+fn put_destination(out: &mut Vec<u8>, destination: &Option<Destination<'_>>) -> Result<(), AllocError>
+    ensures ok { OnOk result (out.new.items ≡ out.old.items ++ destination_part (option_map destination_view destination.now)) }
     ensures front { Keeps out.old.items out.new.items }
 {
+    let Some(destination) = destination else {
+        return Ok(());
+    };
     match destination.reach {
         Reach::Everywhere => put_place(out, 65535, &[]),
         Reach::Network(network) => put_place(out, network, &[]),
         Reach::Station(station) => put_place(out, station.network, station.address),
     }
+}
+
+fn put_source(out: &mut Vec<u8>, source: &Option<Station<'_>>) -> Result<(), AllocError>
+    ensures ok { OnOk result (out.new.items ≡ out.old.items ++ source_part (option_map station_view source.now)) }
+    ensures front { Keeps out.old.items out.new.items }
+{
+    match source {
+        None => Ok(()),
+        Some(station) => put_place(out, station.network, station.address),
+    }
+}
+
+fn put_hops(out: &mut Vec<u8>, destination: &Option<Destination<'_>>) -> Result<(), AllocError>
+    ensures ok { OnOk result (out.new.items ≡ out.old.items ++ hops_part (option_map destination_view destination.now)) }
+    ensures front { Keeps out.old.items out.new.items }
+{
+    if let Some(destination) = destination {
+        out.push(destination.hops)?;
+    }
+    Ok(())
+}
+
+fn put_payload_part(out: &mut Vec<u8>, payload: &Payload<'_>) -> Result<(), AllocError>
+    ensures ok { OnOk result (out.new.items ≡ out.old.items ++ payload_part (payload_view payload.now)) }
+    ensures front { Keeps out.old.items out.new.items }
+{
+    let Payload::Message(message) = payload else {
+        return Ok(());
+    };
+    out.push(message.kind)?;
+    if let Some(vendor) = message.vendor {
+        out.extend_from_slice(&vendor.to_be_bytes())?;
+    }
+    Ok(())
+}
+
+/// Everything in front of the payload's own octets.
+pub fn put_header(out: &mut Vec<u8>, npdu: &Npdu<'_>) -> Result<(), AllocError>
+    ensures ok { OnOk result (out.new.items ≡ out.old.items ++ header (view npdu.now)) }
+    ensures front { Keeps out.old.items out.new.items }
+{
+    out.extend_from_slice(&[1, npdu.control().bits()])?;
+    put_destination(out, &npdu.destination)?;
+    put_source(out, &npdu.source)?;
+    put_hops(out, &npdu.destination)?;
+    put_payload_part(out, &npdu.payload)
+}
+
+fn put(out: &mut Vec<u8>, npdu: &Npdu<'_>) -> Result<(), AllocError>
+    ensures ok { OnOk result (out.new.items ≡ out.old.items ++ spelling (view npdu.now)) }
+    ensures front { Keeps out.old.items out.new.items }
+{
+    put_header(out, npdu)?;
+    out.extend_from_slice(npdu.payload.octets())
+}
+
+/// Appends the canonical spelling of a message.
+///
+/// The faults are those of [`EncodeFault`].
+pub fn encode(npdu: &Npdu<'_>, out: &mut Vec<u8>) -> Result<(), EncodeFault>
+    ensures ok { OnOk result (out.new.items ≡ out.old.items ++ spelling (view npdu.now)) }
+    ensures too_long { IsErrOf result EncodeFault.TooLong ↔ (1497 < length (spelling (view npdu.now))) }
+    ensures err { OnErr result (out.new.items ≡ out.old.items) }
+{
+    if npdu.payload.octets().len() > MAX_LEN - npdu.header_len() {
+        return Err(EncodeFault::TooLong);
+    }
+    let before = out.len();
+    let Ok(()) = put(out, npdu) else {
+        out.truncate(before);
+        return Err(EncodeFault::Memory);
+    };
+    Ok(())
 }
