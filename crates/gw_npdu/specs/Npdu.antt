@@ -8,8 +8,6 @@ use Rattle.gw_addr.specs.Reading.{◌>>=◌, octet_at, front_at, number_at}
 use Rattle.gw_npdu.specs.declared.fault.NpduFault.{NpduFault}
 use Rattle.gw_npdu.specs.declared.fault.NpduFault.TheVariants.{Short, Version, Address}
 use Rattle.gw_npdu.specs.declared.station.Station.{Station as LentStation}
-use Rattle.gw_npdu.specs.declared.station.Reach.{Reach}
-use Rattle.gw_npdu.specs.declared.station.Reach.TheVariants as reach
 use Rattle.gw_npdu.specs.declared.station.Destination.{Destination as LentDestination}
 use Rattle.gw_npdu.specs.declared.message.NetMessage.{NetMessage}
 use Rattle.gw_npdu.specs.declared.npdu.Priority.{Priority}
@@ -273,13 +271,8 @@ priority_of LifeSafety = 3
 abbrev pub station_view : LentStation → Station
 station_view s = record { network = s.network; address = s.address.now }
 
--- every network is 65535, and a whole network has no address
 abbrev pub destination_view : LentDestination → Destination
-destination_view d = elim d.reach [
-    | reach.Everywhere ↦ record { network = 65535; address = []; hops = d.hops }
-    | reach.Network n ↦ record { network = n; address = []; hops = d.hops }
-    | reach.Station s ↦ record { network = s.network; address = s.address.now; hops = d.hops }
-  ]
+destination_view d = record { network = d.network; address = d.address.now; hops = d.hops }
 
 abbrev pub message_view : NetMessage → Message
 message_view m = record { kind = m.kind; vendor = m.vendor; octets = m.octets.now }

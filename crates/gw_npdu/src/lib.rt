@@ -16,4 +16,5 @@ pub use fault::{EncodeFault, NpduFault};
 pub use message::NetMessage;
 pub use npdu::{Npdu, Payload, Priority};
 pub use onward::Onward;
-pub use station::{Destination, Reach, Station};
+pub use station::{Destination, Station};
+pub use writing::encode;

@@ -12,7 +12,7 @@ use crate::fault::NpduFault;
 use crate::layout::{Bound, Layout, Place};
 use crate::message::NetMessage;
 use crate::npdu::{Npdu, Payload, Priority};
-use crate::station::{Destination, Reach, Station};
+use crate::station::{Destination, Station};
 use bitflags::Flags;
 
 fn octet(octets: &[u8]) -> Result<(u8, &[u8]), NpduFault>
@@ -139,15 +139,11 @@ fn destination_of<'a>(bound: Option<Bound<'a>>) -> Result<Option<Destination<'a>
     let Some(bound) = bound else {
         return Ok(None);
     };
-    let Place { network, address } = bound.place;
-    let reach = match network {
-        0 => return Err(NpduFault::Address),
-        65535 if address.is_empty() => Reach::Everywhere,
-        65535 => return Err(NpduFault::Address),
-        _ if address.is_empty() => Reach::Network(network),
-        _ => Reach::Station(Station { network, address }),
-    };
-    Ok(Some(Destination { reach, hops: bound.hops }))
+    let Bound { place: Place { network, address }, hops } = bound;
+    if network == 0 || network == Destination::EVERY_NETWORK && !address.is_empty() {
+        return Err(NpduFault::Address);
+    }
+    Ok(Some(Destination { network, address, hops }))
 }
 
 /// The source, where it can be meant.
@@ -158,7 +154,7 @@ fn source_of<'a>(place: Option<Place<'a>>) -> Result<Option<Station<'a>>, NpduFa
     let Some(Place { network, address }) = place else {
         return Ok(None);
     };
-    if network == 0 || network == 65535 || address.is_empty() {
+    if network == 0 || network == Destination::EVERY_NETWORK || address.is_empty() {
         return Err(NpduFault::Address);
     }
     Ok(Some(Station { network, address }))

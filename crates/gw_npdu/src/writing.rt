@@ -7,7 +7,7 @@ ghost use Rattle.gw_npdu.specs.Npdu.{place, destination_part, source_part, hops_
 use crate::control::Control;
 use crate::fault::EncodeFault;
 use crate::npdu::{Npdu, Payload, Priority};
-use crate::station::{Destination, Reach, Station};
+use crate::station::{Destination, Station};
 use bitflags::Flags;
 use std::alloc::AllocError;
 
@@ -65,33 +65,30 @@ impl Npdu<'_> {
         ensures len { result ≡ length (header (view self.now)) }
         ensures most { result ≤ 522 }
     {
-        2 + destination_len(self.destination) + source_len(self.source) + payload_len(&self.payload)
+        2 + destination_len(&self.destination) + source_len(&self.source) + payload_len(&self.payload)
     }
 }
 
 /// The octets of DNET, DLEN, DADR and the hop count.
-fn destination_len(destination: Option<Destination<'_>>) -> usize
-    ensures len { result ≡ length (destination_part (option_map destination_view destination.entry)) + length (hops_part (option_map destination_view destination.entry)) }
+fn destination_len(destination: &Option<Destination<'_>>) -> usize
+    ensures len { result ≡ length (destination_part (option_map destination_view destination.now)) + length (hops_part (option_map destination_view destination.now)) }
     ensures most { result ≤ 259 }
 {
-    let Some(destination) = destination else {
-        return 0;
-    };
-    match destination.reach {
-        Reach::Everywhere | Reach::Network(_) => 4,
-        Reach::Station(station) => 4 + station.address.len(),
+    match destination {
+        None => 0,
+        Some(destination) => 4 + destination.address.len(),
     }
 }
 
 /// The octets of SNET, SLEN and SADR.
-fn source_len(source: Option<Station<'_>>) -> usize
-    ensures len { result ≡ length (source_part (option_map station_view source.entry)) }
+fn source_len(source: &Option<Station<'_>>) -> usize
+    ensures len { result ≡ length (source_part (option_map station_view source.now)) }
     ensures most { result ≤ 258 }
 {
-    let Some(station) = source else {
-        return 0;
-    };
-    3 + station.address.len()
+    match source {
+        None => 0,
+        Some(station) => 3 + station.address.len(),
+    }
 }
 
 /// The octets of the type and the vendor of a message between routers.
@@ -122,13 +119,9 @@ fn put_destination(out: &mut Vec<u8>, destination: &Option<Destination<'_>>) -> 
     ensures ok { OnOk result (out.new.items ≡ out.old.items ++ destination_part (option_map destination_view destination.now)) }
     ensures front { Keeps out.old.items out.new.items }
 {
-    let Some(destination) = destination else {
-        return Ok(());
-    };
-    match destination.reach {
-        Reach::Everywhere => put_place(out, 65535, &[]),
-        Reach::Network(network) => put_place(out, network, &[]),
-        Reach::Station(station) => put_place(out, station.network, station.address),
+    match destination {
+        None => Ok(()),
+        Some(destination) => put_place(out, destination.network, destination.address),
     }
 }
 
