@@ -15,6 +15,6 @@ pub use control::Control;
 pub use fault::{EncodeFault, NpduFault};
 pub use message::NetMessage;
 pub use npdu::{Npdu, Payload, Priority};
-pub use onward::Onward;
+pub use onward::{Onward, relay_header};
 pub use station::{Destination, Station};
 pub use writing::encode;
