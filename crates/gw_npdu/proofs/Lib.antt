@@ -1,0 +1,2 @@
+pub mod Octet
+pub mod Parts
