@@ -24,7 +24,7 @@ place_takes octets x fits e =
     let e02 = Takes-then octets (to_be_bytes w16 a.0.0 ++ b.0.0 ∷ []) b.0.1 c.0.0 c.0.1 e01 t2.0 in
     let sized : Takes octets (place a.0.0 c.0.0) c.0.1 = subst (λ (n : ℕ). Takes octets (to_be_bytes w16 a.0.0 ++ n ∷ [] ++ c.0.0) c.0.1) (sym t2.1) e02 in
     let made : Station × List ℕ = (record { network = a.0.0; address = c.0.0 }, c.0.1) in
-    subst (λ (y : Station × List ℕ). Takes octets (place y.0.network y.0.address) y.1 × (y.0.network < 2 ^ 16) × (length y.0.address < 2 ^ 8)) (ok_is made x c.2) (sized, t0.1, omega (arith, t2.1, t1.1))
+    subst (λ (y : Station × List ℕ). Takes octets (place y.0.network y.0.address) y.1 × (y.0.network < 2 ^ 16) × (length y.0.address < 2 ^ 8)) {x = made} (ok_is made x c.2) (sized, t0.1, omega (arith, t2.1, t1.1))
 
 pub place_again : (s : Station) (rest : List ℕ) → s.network < 2 ^ 16 → place_at (place s.network s.address ++ rest) ≡ Ok (s, rest)
 unfolding place_at
@@ -51,7 +51,7 @@ named_takes true octets x fits e =
     let a = bind_ok (place_at octets) (λ found. Ok (Some found.0, found.1)) x e in
     let t = place_takes octets a.0 fits a.1 in
     let made : Option Station × List ℕ = (Some a.0.0, a.0.1) in
-    subst (λ (y : Option Station × List ℕ). IsNamed true octets y.0 y.1) (ok_is made x a.2) (record { takes = t.0; present = refl; fits = (t.1, t.2) })
+    subst (λ (y : Option Station × List ℕ). IsNamed true octets y.0 y.1) {x = made} (ok_is made x a.2) (record { takes = t.0; present = refl; fits = (t.1, t.2) })
 
 pub named_again : (found : Option Station) (rest : List ℕ) → FitsPlace found → named_at (is_some found) (source_part found ++ rest) ≡ Ok (found, rest)
 unfolding named_at
@@ -82,7 +82,7 @@ hops_takes (Some bound) octets x fits e =
     let a = bind_ok (octet_at Short octets) (λ hops. Ok (Some (record { network = bound.network; address = bound.address; hops = hops.0 }), hops.1)) x e in
     let t = octet_takes Short octets a.0.0 a.0.1 fits a.1 in
     let made : Option Destination × List ℕ = (Some (record { network = bound.network; address = bound.address; hops = a.0.0 }), a.0.1) in
-    subst (λ (y : Option Destination × List ℕ). IsBound (Some bound) octets y.0 y.1) (ok_is made x a.2) (record { takes = t.0; place_is = refl; hops = t.1 })
+    subst (λ (y : Option Destination × List ℕ). IsBound (Some bound) octets y.0 y.1) {x = made} (ok_is made x a.2) (record { takes = t.0; place_is = refl; hops = t.1 })
 
 pub hops_again : (found : Option Destination) (rest : List ℕ) → hops_at (bound_of found) (hops_part found ++ rest) ≡ Ok (found, rest)
 unfolding hops_at
@@ -113,7 +113,7 @@ message_takes octets m fits e =
           let u = number_takes Short w16 (2 ^ 16) wide16 a.0.1 b.0.0 b.0.1 t.0.rest_octets b.1 in
           let both = Takes-then octets (a.0.0 ∷ []) a.0.1 (to_be_bytes w16 b.0.0) b.0.1 t.0 u.0 in
           let made : Message = record { kind = a.0.0; vendor = Some b.0.0; octets = b.0.1 } in
-          subst (λ (y : Message). (octets ≡ payload_part (message y) ++ y.octets) × FitsMessage y) (ok_is made m b.2) (both.parts, (ltb-false _ _ high.0, t.1, u.1))
+          subst (λ (y : Message). (octets ≡ payload_part (message y) ++ y.octets) × FitsMessage y) {x = made} (ok_is made m b.2) (both.parts, (ltb-false _ _ high.0, t.1, u.1))
     ]
 
 pub message_again : (kind : ℕ) (vendor : Option ℕ) (octets : List ℕ) → FitsMessage (record { kind = kind; vendor = vendor; octets = octets }) → message_at (kind ∷ [] ++ vendor_part vendor ++ octets) ≡ Ok (record { kind = kind; vendor = vendor; octets = octets })

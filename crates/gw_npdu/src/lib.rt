@@ -4,6 +4,7 @@
 mod control;
 mod fault;
 mod layout;
+pub mod laws;
 mod message;
 mod npdu;
 mod onward;
@@ -16,5 +17,6 @@ pub use fault::{EncodeFault, NpduFault};
 pub use message::NetMessage;
 pub use npdu::{Npdu, Payload, Priority};
 pub use onward::{Onward, relay_header};
+pub use reading::decode;
 pub use station::{Destination, Station};
 pub use writing::encode;

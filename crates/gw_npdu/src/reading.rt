@@ -3,7 +3,7 @@
 ghost use Rattle.std.specs.Prelude.{◌≡◌, ℕ, ◌<◌, ◌↔◌, IfOk, IsOkAnd, IsErrOf, length, option_map};
 ghost use Rattle.std.specs.Int.{w16};
 ghost use Rattle.gw_addr.specs.Reading.{Gives, octet_at, number_at, front_at};
-ghost use Rattle.gw_npdu.specs.Npdu.{Fields, place_at, named_at, hops_at, message_at, payload_at, layout_at, fields_of, destination_of, source_of, npdu_at, view, message_view, payload_view, destination_view, station_view, priority_of};
+ghost use Rattle.gw_npdu.specs.Npdu.{Fields, place_at, named_at, hops_at, message_at, payload_at, layout_at, fields_of, destination_of, source_of, npdu_at, view, IsNpdu, EndsEarly, IsOfOtherVersion, IsBadlyAddressed, message_view, payload_view, destination_view, station_view, priority_of};
 ghost use Rattle.std.specs.Int.RustNames.{bit_and};
 ghost use Rattle.gw_npdu.specs.Layout.{place_view, bound_view, layout_view, raw_fields};
 
@@ -181,4 +181,31 @@ fn whole(octets: &[u8]) -> Result<Npdu<'_>, NpduFault>
         return Err(NpduFault::Version);
     }
     fields(layout)
+}
+
+/// Reads the octets as one message, all of them.
+///
+/// The parts that the control octet names stand in this order, each number with its high octet first:
+///
+/// ```text
+/// +------+---------+------+------+------+--  --+------+------+------+--  --+------+------+--------+---  ---+
+/// |  01  | control |    DNET     | DLEN |  DADR |    SNET     | SLEN |  SADR | hops | type | vendor | octets |
+/// +------+---------+------+------+------+--  --+------+------+------+--  --+------+------+--------+---  ---+
+/// ```
+///
+/// The address parts and the octets of the payload are slices of `octets`. Faults are judged in this order:
+/// `Short` over the whole shape, then `Version`, then `Address` (ISO 16484-5, clause 6.2).
+pub fn decode(octets: &[u8]) -> Result<Npdu<'_>, NpduFault>
+    // What is read is what the octets are.
+    ensures found { IfOk result (λ n. IsNpdu octets.now (view n)) }
+    // What the octets are is read.
+    ensures only { (f : Fields) → IsNpdu octets.now f → IsOkAnd result (λ n. view n ≡ f) }
+    // What is wrong with octets that are no message.
+    ensures short { IsErrOf result NpduFault.Short ↔ EndsEarly octets.now }
+    ensures version { IsErrOf result NpduFault.Version ↔ IsOfOtherVersion octets.now }
+    ensures address { IsErrOf result NpduFault.Address ↔ IsBadlyAddressed octets.now }
+    // The same as a function of the octets.
+    ensures exact { Gives (λ n. view n) result (npdu_at octets.now) }
+{
+    whole(octets)
 }
