@@ -3,4 +3,5 @@ pub mod Parts
 pub mod Shape
 pub mod Judged
 pub mod Short
+pub mod Size
 pub mod Whole

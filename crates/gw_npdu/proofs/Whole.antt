@@ -1,5 +1,5 @@
 -- Octets are read as a message exactly where they are one, and each fault says what is wrong with them.
-use Rattle.std.proofs.Common.{◌≡◌, ℕ, Bool, true, false, cond, eqb, List, Result, Ok, Err, refl, sym, ap, subst, ◌∙◌, inl, inr, ◌⊎◌}
+use Rattle.std.proofs.Common.{◌≡◌, ℕ, ◌≤◌, Bool, true, false, cond, eqb, List, Result, Ok, Err, refl, sym, ap, subst, ◌∙◌, inl, inr, ◌⊎◌, arith}
 use Rattle.std.specs.Prelude.{◌↔◌, ◌≢◌, IfOk, IsOkAnd, IsErrOf}
 use Rattle.std.proofs.lemmas.Bool.{eqb-true, eqb-false, ne_eqb}
 use Rattle.gw_addr.specs.Reading.{◌>>=◌, Gives, AreOctets}
@@ -10,6 +10,7 @@ use Rattle.gw_npdu.specs.declared.npdu.Npdu.{Npdu}
 use Rattle.gw_npdu.specs.Npdu.{Fields, Layout, IsLaidOut, IsNpdu, IsValid, HasBadAddress, EndsEarly, IsOfOtherVersion, IsBadlyAddressed, spelling, layout_at, fields_of, npdu_at, view}
 use Rattle.gw_npdu.proofs.Shape.{layout_takes, layout_again}
 use Rattle.gw_npdu.proofs.Short.{layout_short}
+use Rattle.gw_npdu.proofs.Size.{size_ok, size_err}
 use Rattle.gw_npdu.proofs.Judged.{fields_ok, fields_err, fields_again, fields_bad, either}
 
 abbrev judged : Layout → Result Fields NpduFault
@@ -54,18 +55,18 @@ npdu_err octets fault fits e =
 short_to : (octets : List ℕ) → AreOctets octets → npdu_at octets ≡ Err Short → EndsEarly octets
 short_to octets fits e =
     elim (npdu_err octets Short fits e) [
-      | inl early ↦ λ version f laid. let again = layout_again octets version f laid in cc
+      | inl early ↦ size_err octets Short early
       | inr later ↦ elim (chosen (eqb later.0.version 1) (fields_of later.0.fields) (Err Version) (Err Short) later.2) [
           | inl first ↦ absurd (let fault = (fields_err later.0.fields Short first.1).0 in cc)
           | inr other ↦ absurd (let never = other.1 in cc)
         ]
     ]
 
-short_from : (octets : List ℕ) → AreOctets octets → EndsEarly octets → npdu_at octets ≡ Err Short
+short_from : (octets : List ℕ) → EndsEarly octets → npdu_at octets ≡ Err Short
 unfolding npdu_at
-short_from octets fits early =
+short_from octets early =
     elim (either (layout_at octets)) [
-      | inl made ↦ absurd (early made.0.version made.0.fields (layout_takes octets made.0 fits made.1))
+      | inl made ↦ absurd (let enough = size_ok octets made.0 made.1 in omega arith)
       | inr failed ↦
           let fault = (layout_short octets).only failed.0 failed.1 in
           let is : layout_at octets ≡ Err Short = failed.1 ∙ ap (λ (e : NpduFault). Err e) fault in
@@ -117,7 +118,7 @@ fault_is octets (Err e) fault given = (λ same. cc, λ same. cc)
 pub is_short : (octets : List ℕ) (r : Result Npdu NpduFault) → AreOctets octets → Gives view r (npdu_at octets) → IsErrOf r Short ↔ EndsEarly octets
 is_short octets r fits given =
     let fault = fault_is octets r Short given in
-    (λ e. short_to octets fits (fault.0 e), λ early. fault.1 (short_from octets fits early))
+    (λ e. short_to octets fits (fault.0 e), λ early. fault.1 (short_from octets early))
 
 pub is_version : (octets : List ℕ) (r : Result Npdu NpduFault) → AreOctets octets → Gives view r (npdu_at octets) → IsErrOf r Version ↔ IsOfOtherVersion octets
 is_version octets r fits given =

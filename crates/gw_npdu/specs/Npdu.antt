@@ -1,6 +1,6 @@
 -- The network layer's message (NPDU) of ISO 16484-5, clause 6.2: its fields without memory, the octets that spell
 -- them, and how octets are read.
-use Rattle.std.specs.Prelude.{unwrap_or, ◌≡◌, ◌≢◌, ℕ, ◌+◌, ◌*◌, ◌-◌, ◌^◌, ◌<◌, ◌≤◌, ◌⊎◌, Bool, true, false, ◌&&◌, ◌||◌, List, [], ◌∷◌, ◌++◌, length, Option, Some, None, is_some, IfSome, IsSomeAnd, MatchOption, Result, Ok, Err, nat_lt, ◌==◌, if◌then◌else◌}
+use Rattle.std.specs.Prelude.{unwrap_or, ◌≡◌, ◌≢◌, ℕ, ◌+◌, ◌*◌, ◌-◌, ◌^◌, ◌<◌, ◌≤◌, ◌⊎◌, Bool, true, false, ◌&&◌, ◌||◌, List, [], ◌∷◌, ◌++◌, length, Option, Some, None, is_some, IfSome, IsSomeAnd, MatchOption, Result, Ok, Err, nat_lt, slice_index, ◌==◌, if◌then◌else◌}
 use Rattle.std.specs.Option.{option_map}
 use Rattle.std.specs.Int.{w16, to_be_bytes}
 use Rattle.std.specs.Int.RustNames.{bit_and}
@@ -165,9 +165,34 @@ pub record IsNpdu (octets : List ℕ) (f : Fields) : Type 0 where
 
 -- ---- what is wrong with octets that are no message
 
--- They end before a field that the control octet or the message type names: no parts make them up.
+-- whether the bit of this worth is set
+abbrev pub is_set : ℕ → ℕ → Bool
+is_set octet worth = bit_and octet worth == worth
+
+-- the size of a network, the length of an address and the address, from this place on. An octet that is not there
+-- counts as 0, here and below.
+abbrev pub place_size : List ℕ → ℕ → ℕ
+place_size octets start = 3 + slice_index octets (start + 2)
+
+-- where the source begins: behind the destination, where the control octet names one
+abbrev pub source_start : List ℕ → ℕ
+source_start octets = 2 + (if is_set (slice_index octets 1) 32 then place_size octets 2 else 0)
+
+-- where the hop count stands
+abbrev pub hops_start : List ℕ → ℕ
+hops_start octets = source_start octets + (if is_set (slice_index octets 1) 8 then place_size octets (source_start octets) else 0)
+
+-- where the payload begins
+abbrev pub payload_start : List ℕ → ℕ
+payload_start octets = hops_start octets + (if is_set (slice_index octets 1) 32 then 1 else 0)
+
+-- how many octets the named fields have, with the type of a message between routers and the vendor of a type from 80 on
+abbrev pub named_size : List ℕ → ℕ
+named_size octets = payload_start octets + (if is_set (slice_index octets 1) 128 then (if nat_lt (slice_index octets (payload_start octets)) 128 then 1 else 3) else 0)
+
+-- They end before a field that the control octet or the message type names.
 abbrev pub EndsEarly : List ℕ → Type 0
-EndsEarly octets = (version : ℕ) (f : Fields) → ¬ IsLaidOut octets version f
+EndsEarly octets = length octets < named_size octets
 
 -- They are laid out as a message of another version than 1.
 abbrev pub IsOfOtherVersion : List ℕ → Type 0
@@ -178,10 +203,6 @@ abbrev pub IsBadlyAddressed : List ℕ → Type 0
 IsBadlyAddressed octets = (f : Fields) × IsLaidOut octets 1 f × HasBadAddress f
 
 -- ---- how octets are read
-
--- whether the bit of this worth is set
-abbrev pub is_set : ℕ → ℕ → Bool
-is_set octet worth = bit_and octet worth == worth
 
 -- a network and an address behind it
 unfoldable pub place_at : List ℕ → Result (Station × List ℕ) NpduFault
