@@ -22,7 +22,7 @@ place_takes octets x fits e =
     let t2 = front_takes Short b.0.0 b.0.1 c.0.0 c.0.1 t1.0.rest_octets c.1 in
     let e01 = Takes-then octets (to_be_bytes w16 a.0.0) a.0.1 (b.0.0 ∷ []) b.0.1 t0.0 t1.0 in
     let e02 = Takes-then octets (to_be_bytes w16 a.0.0 ++ b.0.0 ∷ []) b.0.1 c.0.0 c.0.1 e01 t2.0 in
-    let sized : Takes octets (place a.0.0 c.0.0) c.0.1 = subst (λ (n : ℕ). Takes octets (to_be_bytes w16 a.0.0 ++ n ∷ [] ++ c.0.0) c.0.1) (sym t2.1) e02 in
+    let sized : Takes octets (place a.0.0 c.0.0) c.0.1 = subst (λ (n : ℕ). Takes octets (to_be_bytes w16 a.0.0 ++ n ∷ [] ++ c.0.0) c.0.1) {x = b.0.0} {y = length c.0.0} (sym {a = length c.0.0} t2.1) e02 in
     let made : Station × List ℕ = (record { network = a.0.0; address = c.0.0 }, c.0.1) in
     subst (λ (y : Station × List ℕ). Takes octets (place y.0.network y.0.address) y.1 × (y.0.network < 2 ^ 16) × (length y.0.address < 2 ^ 8)) {x = made} (ok_is made x c.2) (sized, t0.1, omega (arith, t2.1, t1.1))
 

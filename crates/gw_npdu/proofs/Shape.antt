@@ -51,15 +51,34 @@ laid_out octets a b v c bound r0 r1 r2 f t0 t1 lt place source hops payload repl
       fits = record { destination = fits_destination f.destination at_bound hops.hops; source = source.fits; priority = rw low (low-below c lt); payload = payload.2 };
     }
 
+-- what is read behind each part
+abbrev pub layout_of : ℕ → ℕ → Option Destination → Option Station → Payload → Layout
+layout_of v c destination source payload = record { version = v; fields = record { destination = destination; source = source; reply_expected = is_set c 4; priority = bit_and c 3; payload = payload } }
+
+abbrev pub payload_read : ℕ → ℕ → Option Destination → Option Station → List ℕ → Result Layout NpduFault
+payload_read v c destination source rest = payload_at (is_set c 128) rest >>= λ payload. Ok (layout_of v c destination source payload)
+
+abbrev pub source_read : ℕ → ℕ → Option Station → Option Station → List ℕ → Result Layout NpduFault
+source_read v c bound source rest = hops_at bound rest >>= λ destination. payload_read v c destination.0 source destination.1
+
+abbrev pub bound_read : ℕ → ℕ → Option Station → List ℕ → Result Layout NpduFault
+bound_read v c bound rest = named_at (is_set c 8) rest >>= λ source. source_read v c bound source.0 source.1
+
+abbrev pub parts_read : ℕ → ℕ → List ℕ → Result Layout NpduFault
+parts_read v c rest = named_at (is_set c 32) rest >>= λ bound. bound_read v c bound.0 bound.1
+
+abbrev pub control_read : ℕ → List ℕ → Result Layout NpduFault
+control_read v rest = octet_at Short rest >>= λ control. parts_read v control.0 control.1
+
 pub layout_takes : (octets : List ℕ) (l : Layout) → AreOctets octets → layout_at octets ≡ Ok l → IsLaidOut octets l.version l.fields
 unfolding layout_at
 layout_takes octets l fits e =
-    let a = bind_ok (octet_at Short octets) _ l e in
-    let b = bind_ok (octet_at Short a.0.1) _ l a.2 in
-    let c = bind_ok (named_at (is_set b.0.0 32) b.0.1) _ l b.2 in
-    let d = bind_ok (named_at (is_set b.0.0 8) c.0.1) _ l c.2 in
-    let g = bind_ok (hops_at c.0.0 d.0.1) _ l d.2 in
-    let h = bind_ok (payload_at (is_set b.0.0 128) g.0.1) _ l g.2 in
+    let a = bind_ok (octet_at Short octets) (λ version. control_read version.0 version.1) l e in
+    let b = bind_ok (octet_at Short a.0.1) (λ control. parts_read a.0.0 control.0 control.1) l a.2 in
+    let c = bind_ok (named_at (is_set b.0.0 32) b.0.1) (λ bound. bound_read a.0.0 b.0.0 bound.0 bound.1) l b.2 in
+    let d = bind_ok (named_at (is_set b.0.0 8) c.0.1) (λ source. source_read a.0.0 b.0.0 c.0.0 source.0 source.1) l c.2 in
+    let g = bind_ok (hops_at c.0.0 d.0.1) (λ destination. payload_read a.0.0 b.0.0 destination.0 d.0.0 destination.1) l d.2 in
+    let h = bind_ok (payload_at (is_set b.0.0 128) g.0.1) (λ payload. Ok (layout_of a.0.0 b.0.0 g.0.0 d.0.0 payload)) l g.2 in
     let t0 = octet_takes Short octets a.0.0 a.0.1 fits a.1 in
     let t1 = octet_takes Short a.0.1 b.0.0 b.0.1 t0.0.rest_octets b.1 in
     let t2 = named_takes (is_set b.0.0 32) b.0.1 c.0 t1.0.rest_octets c.1 in

@@ -10,6 +10,7 @@ use Rattle.gw_addr.proofs.Reading.{bind_ok, bind_err, chosen, guard_ok, guard_er
 use Rattle.gw_npdu.specs.declared.fault.NpduFault.{NpduFault}
 use Rattle.gw_npdu.specs.declared.fault.NpduFault.TheVariants.{Short}
 use Rattle.gw_npdu.specs.Npdu.{Station, Destination, Message, Payload, Layout, message, is_set, place_size, source_start, hops_start, payload_start, named_size, place_at, named_at, hops_at, message_at, payload_at, layout_at}
+use Rattle.gw_npdu.proofs.Shape.{layout_of, payload_read, source_read, bound_read, parts_read, control_read}
 
 -- The rest is what stands from this place on.
 record At (octets : List ℕ) (n : ℕ) (rest : List ℕ) : Type 0 where
@@ -218,52 +219,42 @@ pub size_ok : (octets : List ℕ) (l : Layout) → layout_at octets ≡ Ok l →
 unfolding layout_at
 size_ok octets l e =
     let start : At octets 0 octets = record { is = refl; within = omega arith } in
-    let a = bind_ok (octet_at Short octets) _ l e in
+    let a = bind_ok (octet_at Short octets) (λ version. control_read version.0 version.1) l e in
     let at0 = octet_ok octets 0 octets a.0 start a.1 in
-    let b = bind_ok (octet_at Short a.0.1) _ l a.2 in
+    let b = bind_ok (octet_at Short a.0.1) (λ control. parts_read a.0.0 control.0 control.1) l a.2 in
     let at1 = octet_ok octets 1 a.0.1 b.0 at0.1 b.1 in
-    let c = bind_ok (named_at (is_set b.0.0 32) b.0.1) _ l b.2 in
+    let c = bind_ok (named_at (is_set b.0.0 32) b.0.1) (λ bound. bound_read a.0.0 b.0.0 bound.0 bound.1) l b.2 in
     let at2 = named_ok octets 2 (is_set b.0.0 32) b.0.1 c.0 at1.1 c.1 in
     let s = 2 + cond (is_set b.0.0 32) (place_size octets 2) 0 in
-    let d = bind_ok (named_at (is_set b.0.0 8) c.0.1) _ l c.2 in
+    let d = bind_ok (named_at (is_set b.0.0 8) c.0.1) (λ source. source_read a.0.0 b.0.0 c.0.0 source.0 source.1) l c.2 in
     let at3 = named_ok octets s (is_set b.0.0 8) c.0.1 d.0 at2.1 d.1 in
     let h = s + cond (is_set b.0.0 8) (place_size octets s) 0 in
-    let g = bind_ok (hops_at c.0.0 d.0.1) _ l d.2 in
+    let g = bind_ok (hops_at c.0.0 d.0.1) (λ destination. payload_read a.0.0 b.0.0 destination.0 d.0.0 destination.1) l d.2 in
     let at4 = hops_ok octets h c.0.0 d.0.1 g.0 at3.1 g.1 in
-    let p = bind_ok (payload_at (is_set b.0.0 128) g.0.1) _ l g.2 in
+    let p = bind_ok (payload_at (is_set b.0.0 128) g.0.1) (λ payload. Ok (layout_of a.0.0 b.0.0 g.0.0 d.0.0 payload)) l g.2 in
     let size = payload_ok octets (h + cond (is_some c.0.0) 1 0) (is_set b.0.0 128) g.0.1 p.0 at4 p.1 in
     subst (λ (n : ℕ). n ≤ length octets) (sized octets b.0.0 (is_some c.0.0) at1.0 at2.0) size
-
--- the fields behind the control octet
-behind : ℕ → ℕ → List ℕ → Result Layout NpduFault
-behind version c rest = do
-  bound ← named_at (is_set c 32) rest
-  source ← named_at (is_set c 8) bound.1
-  destination ← hops_at bound.0 source.1
-  payload ← payload_at (is_set c 128) destination.1
-  Ok (record { version = version; fields = record { destination = destination.0; source = source.0; reply_expected = is_set c 4; priority = bit_and c 3; payload = payload } })
 
 size_left : (octets : List ℕ) (n m k j : ℕ) → length octets < n → length octets < n + m + k + j
 size_left octets n m k j lt = omega arith
 
-behind_err : (octets : List ℕ) (version c : ℕ) (rest : List ℕ) (fault : NpduFault) → (c ≡ get_or octets 1 0) × At octets 2 rest → behind version c rest ≡ Err fault → length octets < named_size octets
-unfolding behind
+behind_err : (octets : List ℕ) (version c : ℕ) (rest : List ℕ) (fault : NpduFault) → (c ≡ get_or octets 1 0) × At octets 2 rest → parts_read version c rest ≡ Err fault → length octets < named_size octets
 behind_err octets version c rest fault at1 e =
-    elim (bind_err (named_at (is_set c 32) rest) _ fault e) [
+    elim (bind_err (named_at (is_set c 32) rest) (λ bound. bound_read version c bound.0 bound.1) fault e) [
       | inl no_bound ↦ subst (λ (n : ℕ). length octets < n) (sized octets c (is_set c 32) at1.0 refl) (size_left octets (source_by octets c) _ _ _ (named_err octets 2 (is_set c 32) rest fault at1.1 no_bound))
       | inr bound ↦
           let at2 = named_ok octets 2 (is_set c 32) rest bound.0 at1.1 bound.1 in
           let by = is_some bound.0.0 in
           let whole : size_by octets c by ≡ named_size octets = sized octets c by at1.0 at2.0 in
-          subst (λ (n : ℕ). length octets < n) whole (elim (bind_err (named_at (is_set c 8) bound.0.1) _ fault bound.2) [
+          subst (λ (n : ℕ). length octets < n) whole (elim (bind_err (named_at (is_set c 8) bound.0.1) (λ source. source_read version c bound.0.0 source.0 source.1) fault bound.2) [
             | inl no_source ↦ let few = named_err octets (source_by octets c) (is_set c 8) bound.0.1 fault at2.1 no_source in omega arith
             | inr source ↦
                 let at3 = named_ok octets (source_by octets c) (is_set c 8) bound.0.1 source.0 at2.1 source.1 in
-                elim (bind_err (hops_at bound.0.0 source.0.1) _ fault source.2) [
+                elim (bind_err (hops_at bound.0.0 source.0.1) (λ destination. payload_read version c destination.0 source.0.0 destination.1) fault source.2) [
                   | inl no_hops ↦ let few = hops_err octets (hops_by octets c) bound.0.0 source.0.1 fault at3.1 no_hops in omega arith
                   | inr hops ↦
                       let at4 = hops_ok octets (hops_by octets c) bound.0.0 source.0.1 hops.0 at3.1 hops.1 in
-                      elim (bind_err (payload_at (is_set c 128) hops.0.1) (λ payload. Ok (record { version = version; fields = record { destination = hops.0.0; source = source.0.0; reply_expected = is_set c 4; priority = bit_and c 3; payload = payload } })) fault hops.2) [
+                      elim (bind_err (payload_at (is_set c 128) hops.0.1) (λ payload. Ok (layout_of version c hops.0.0 source.0.0 payload)) fault hops.2) [
                         | inl no_payload ↦ payload_err octets (payload_by octets c by) (is_set c 128) hops.0.1 fault at4 no_payload
                         | inr payload ↦ absurd (let never = payload.2 in cc)
                       ]
@@ -272,14 +263,14 @@ behind_err octets version c rest fault at1 e =
     ]
 
 pub size_err : (octets : List ℕ) (fault : NpduFault) → layout_at octets ≡ Err fault → length octets < named_size octets
-unfolding layout_at behind
+unfolding layout_at
 size_err octets fault e =
     let start : At octets 0 octets = record { is = refl; within = omega arith } in
-    elim (bind_err (octet_at Short octets) _ fault e) [
+    elim (bind_err (octet_at Short octets) (λ version. control_read version.0 version.1) fault e) [
       | inl no_version ↦ let few = octet_err octets 0 octets fault start no_version in omega arith
       | inr a ↦
           let at0 = octet_ok octets 0 octets a.0 start a.1 in
-          elim (bind_err (octet_at Short a.0.1) _ fault a.2) [
+          elim (bind_err (octet_at Short a.0.1) (λ control. parts_read a.0.0 control.0 control.1) fault a.2) [
             | inl no_control ↦ let few = octet_err octets 1 a.0.1 fault at0.1 no_control in omega arith
             | inr b ↦ behind_err octets a.0.0 b.0.0 b.0.1 fault (octet_ok octets 1 a.0.1 b.0 at0.1 b.1) b.2
           ]

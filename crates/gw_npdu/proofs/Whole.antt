@@ -35,6 +35,13 @@ npdu_again : (octets : List ℕ) (f : Fields) → IsNpdu octets f → npdu_at oc
 unfolding npdu_at
 npdu_again octets f is = rw (layout_again octets 1 f is.laid_out) (fields_again f is.addressed)
 
+-- octets are one message at most
+pub read_once : (octets : List ℕ) (f g : Fields) → IsNpdu octets f → IsNpdu octets g → f ≡ g
+read_once octets f g is_f is_g =
+    let first = npdu_again octets f is_f in
+    let second = npdu_again octets g is_g in
+    cc
+
 -- what a message that is spelled is read as
 pub spelled_again : (f : Fields) → IsValid f → npdu_at (spelling f) ≡ Ok f
 spelled_again f valid =
