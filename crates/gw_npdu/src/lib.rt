@@ -19,4 +19,7 @@ pub use npdu::{Npdu, Payload, Priority};
 pub use onward::{Onward, relay_header};
 pub use reading::decode;
 pub use station::{Destination, Station};
-pub use writing::encode;
+pub use writing::{MAX_LEN, encode};
+
+#[cfg(test)]
+mod tests;

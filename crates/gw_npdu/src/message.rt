@@ -3,7 +3,7 @@
 ghost use Rattle.std.specs.Prelude.{◌≡◌, is_some, nat_le};
 
 /// A message between routers, in place of an APDU.
-#[derive(Clone, Copy, Debug)]
+#[derive(Clone, Copy, Debug, PartialEq, Eq)]
 pub struct NetMessage<'a> {
     /// The message type.
     pub kind: u8,

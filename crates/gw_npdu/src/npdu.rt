@@ -17,7 +17,7 @@ pub enum Priority {
 }
 
 /// What a message carries.
-#[derive(Clone, Copy, Debug)]
+#[derive(Clone, Copy, Debug, PartialEq, Eq)]
 pub enum Payload<'a> {
     /// An APDU of the application layer.
     Apdu(&'a [u8]),
@@ -26,7 +26,7 @@ pub enum Payload<'a> {
 }
 
 /// A message of the network layer.
-#[derive(Clone, Copy, Debug)]
+#[derive(Clone, Copy, Debug, PartialEq, Eq)]
 pub struct Npdu<'a> {
     /// Whom the message is bound for. None: a station of the network that it is on.
     pub destination: Option<Destination<'a>>,

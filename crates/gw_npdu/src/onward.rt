@@ -9,7 +9,7 @@ use crate::station::{Destination, Station};
 use crate::writing::{MAX_LEN, put_header};
 
 /// How a message goes on.
-#[derive(Clone, Copy, Debug)]
+#[derive(Clone, Copy, Debug, PartialEq, Eq)]
 pub struct Onward<'a> {
     /// Whether the destination stays, with one hop less. It is taken away on the destination's own network.
     pub keeps_destination: bool,
@@ -26,7 +26,7 @@ pub struct Onward<'a> {
 /// The faults are those of [`EncodeFault`]: `TooLong` where the header and `n` octets are over 1497 together.
 pub fn relay_header(npdu: &Npdu<'_>, how: &Onward<'_>, n: usize, out: &mut Vec<u8>) -> Result<(), EncodeFault>
     ensures ok { OnOk result (out.new.items ≡ out.old.items ++ header (onward (onward_view how.now) (view npdu.now))) }
-    ensures too_long { IsErrOf result EncodeFault.TooLong ↔ (1497 < length (header (onward (onward_view how.now) (view npdu.now))) + n) }
+    ensures too_long { IsErrOf result EncodeFault.TooLong ↔ (MAX_LEN < length (header (onward (onward_view how.now) (view npdu.now))) + n) }
     ensures err { OnErr result (out.new.items ≡ out.old.items) }
 {
     let next = next(npdu, how);

@@ -11,7 +11,7 @@ use crate::station::{Destination, Station};
 use bitflags::Flags;
 use std::alloc::AllocError;
 
-/// The most octets that a message of the network layer has.
+/// The most octets that a message of the network layer has on BACnet/IP (Annex J).
 pub const MAX_LEN: usize = 1497;
 
 /// The two low bits of the control octet.
@@ -184,7 +184,7 @@ fn put(out: &mut Vec<u8>, npdu: &Npdu<'_>) -> Result<(), AllocError>
 /// The faults are those of [`EncodeFault`].
 pub fn encode(npdu: &Npdu<'_>, out: &mut Vec<u8>) -> Result<(), EncodeFault>
     ensures ok { OnOk result (out.new.items ≡ out.old.items ++ spelling (view npdu.now)) }
-    ensures too_long { IsErrOf result EncodeFault.TooLong ↔ (1497 < length (spelling (view npdu.now))) }
+    ensures too_long { IsErrOf result EncodeFault.TooLong ↔ (MAX_LEN < length (spelling (view npdu.now))) }
     ensures err { OnErr result (out.new.items ≡ out.old.items) }
 {
     if npdu.payload.octets().len() > MAX_LEN - npdu.header_len() {
