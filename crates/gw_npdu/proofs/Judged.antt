@@ -1,9 +1,9 @@
 -- What the version and the addresses of a message are judged to be.
-use Rattle.std.proofs.Common.{◌≡◌, ℕ, ◌<◌, ◌||◌, ◌&&◌, Bool, true, false, cond, ltb, eqb, List, length, Option, Some, None, Result, Ok, Err, refl, sym, ap, subst, ◌∙◌, inl, inr, ◌⊎◌}
+use Rattle.std.proofs.Common.{◌≡◌, ◌||◌, ◌&&◌, Bool, true, false, ltb, eqb, length, Option, Some, None, Result, Ok, Err, refl, sym, ap, ◌∙◌, inl, inr, ◌⊎◌}
 use Rattle.std.specs.Prelude.{IsSomeAnd}
 use Rattle.std.proofs.lemmas.Bool.{eqb-true, ltb-true, lt-ltb}
 use Rattle.gw_addr.specs.Reading.{◌>>=◌}
-use Rattle.gw_addr.proofs.Reading.{bind_ok, bind_err, chosen, guard_ok, guard_err, ok_is}
+use Rattle.gw_addr.proofs.Reading.{bind_ok, bind_err, guard_ok, guard_err, ok_is}
 use Rattle.gw_npdu.specs.declared.fault.NpduFault.{NpduFault}
 use Rattle.gw_npdu.specs.declared.fault.NpduFault.TheVariants.{Address}
 use Rattle.gw_npdu.specs.Npdu.{Station, Destination, Fields, IsBadDestination, IsBadSource, HasBadAddress, destination_of, source_of, fields_of}
@@ -58,9 +58,9 @@ source_told : (s : Station) → tells_source s ≡ true → IsBadSource s
 source_told s e =
     elim (or_true (eqb s.network 0 || eqb s.network 65535) (eqb (length s.address) 0) e) [
       | inl number ↦ elim (or_true (eqb s.network 0) (eqb s.network 65535) number) [
-          | inl none ↦ inl (eqb-true _ _ none)
-          | inr every ↦ inr (inl (eqb-true _ _ every))
-        ]
+        | inl none ↦ inl (eqb-true _ _ none)
+        | inr every ↦ inr (inl (eqb-true _ _ every))
+      ]
       | inr empty ↦ inr (inr (eqb-true _ _ empty))
     ]
 
@@ -105,7 +105,7 @@ fields_ok f g e =
     let s = source_ok f.source b.0 b.1 in
     let same : made_of f f.destination f.source ≡ made_of f a.0 b.0 = same_made f f.destination a.0 f.source b.0 d.0 s.0 in
     let made : made_of f a.0 b.0 ≡ g = ok_is (made_of f a.0 b.0) g b.2 in
-    (same ∙ made, λ bad. elim bad [ | inl x ↦ d.1 x | inr x ↦ s.1 x ])
+    (same ∙ made, λ bad. elim bad [ inl x ↦ d.1 x | inr x ↦ s.1 x ])
 
 pub fields_err : (f : Fields) (fault : NpduFault) → fields_of f ≡ Err fault → (fault ≡ Address) × HasBadAddress f
 unfolding fields_of made_of
@@ -113,9 +113,9 @@ fields_err f fault e =
     elim (bind_err (destination_of f.destination) (λ d. source_of f.source >>= λ s. Ok (made_of f d s)) fault e) [
       | inl first ↦ let d = destination_err f.destination fault first in (d.0, inl d.1)
       | inr later ↦ elim (bind_err (source_of f.source) (λ s. Ok (made_of f later.0 s)) fault later.2) [
-          | inl second ↦ let s = source_err f.source fault second in (s.0, inr s.1)
-          | inr last ↦ absurd (let never = last.2 in cc)
-        ]
+        | inl second ↦ let s = source_err f.source fault second in (s.0, inr s.1)
+        | inr last ↦ absurd (let never = last.2 in cc)
+      ]
     ]
 
 -- a reading gave a value or a fault

@@ -1,6 +1,6 @@
 -- The control octet is the sum of its bits, and its bits are those that make it up.
-use Rattle.std.proofs.Common.{◌≡◌, ℕ, ◌+◌, ◌*◌, ◌<◌, ◌≤◌, ◌&&◌, Bool, true, false, refl, ap, arith}
-use Rattle.std.specs.Prelude.{nat_eq, nat_lt, ◌==◌}
+use Rattle.std.proofs.Common.{◌≡◌, ℕ, ◌+◌, ◌*◌, ◌<◌, ◌≤◌, Bool, true, false, refl, arith}
+use Rattle.std.specs.Prelude.{nat_eq, nat_lt}
 use Rattle.std.specs.Int.RustNames.{bit_and}
 use Rattle.std.proofs.lemmas.Bool.{agree_below_at, eqb-true, ltb-true}
 use Rattle.gw_npdu.specs.Npdu.{bit, is_set}
@@ -56,5 +56,5 @@ octet_of-bits c seven six five four three two priority lt is =
     let small : c < 256 = omega (arith, bit-most seven, bit-most six, bit-most five, bit-most four, bit-most three, bit-most two) in
     let split = octet-split c small in
     let all = same_bits (bit (is_set c 128)) (bit (is_set c 64)) (bit (is_set c 32)) (bit (is_set c 16)) (bit (is_set c 8)) (bit (is_set c 4)) (bit seven) (bit six) (bit five) (bit four) (bit three) (bit two) (bit_and c 3) priority
-        (bit-most _) (bit-most _) (bit-most _) (bit-most _) (bit-most _) (bit-most _) (bit-most _) (bit-most _) (bit-most _) (bit-most _) (bit-most _) (bit-most _) (low-below c small) lt (cc) in
+    (bit-most _) (bit-most _) (bit-most _) (bit-most _) (bit-most _) (bit-most _) (bit-most _) (bit-most _) (bit-most _) (bit-most _) (bit-most _) (bit-most _) (low-below c small) lt (cc) in
     record { seven_is = bit-same _ _ all.0; five_is = bit-same _ _ all.2; three_is = bit-same _ _ all.4; two_is = bit-same _ _ all.5; low_is = all.6 }

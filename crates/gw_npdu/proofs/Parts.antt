@@ -1,11 +1,10 @@
 -- Each part of a message: what was read is spelled so, and what is spelled so is read again.
-use Rattle.std.proofs.Common.{◌≡◌, ℕ, ◌+◌, ◌*◌, ◌^◌, ◌<◌, ◌≤◌, Bool, true, false, cond, ltb, List, [], ◌∷◌, ◌++◌, length, Option, Some, None, Result, Ok, Err, refl, sym, ap, subst, ◌∙◌, append_assoc, arith, inl, inr}
-use Rattle.std.specs.Prelude.{is_some, IfSome, MatchOption}
+use Rattle.std.proofs.Common.{◌≡◌, ℕ, ◌^◌, ◌<◌, Bool, true, false, cond, ltb, List, [], ◌∷◌, ◌++◌, length, Option, Some, None, Ok, refl, sym, ap, subst, ◌∙◌, append_assoc, arith, inl, inr}
+use Rattle.std.specs.Prelude.{is_some, IfSome}
 use Rattle.std.specs.Int.{w16, to_be_bytes}
 use Rattle.std.proofs.lemmas.Bool.{ltb-false, ltb-true, le-ltb, lt-ltb}
 use Rattle.gw_addr.specs.Reading.{◌>>=◌, AreOctets, Takes, octet_at, front_at, number_at}
-use Rattle.gw_addr.proofs.Reading.{bind_ok, ok_is, chosen, Takes-then, octet_takes, octet_again, front_takes, front_again, number_takes, number_again, wide16}
-use Rattle.gw_npdu.specs.declared.fault.NpduFault.{NpduFault}
+use Rattle.gw_addr.proofs.Reading.{bind_ok, ok_is, chosen, Takes-then, octet_takes, front_takes, front_again, number_takes, number_again, wide16}
 use Rattle.gw_npdu.specs.declared.fault.NpduFault.TheVariants.{Short}
 use Rattle.gw_npdu.specs.Npdu.{Station, Destination, Message, Payload, apdu, message, is_message, place, source_part, destination_part, hops_part, vendor_part, payload_part, payload_octets, FitsMessage, FitsPayload, place_at, named_at, hops_at, message_at, payload_at}
 

@@ -1,13 +1,12 @@
 -- The whole shape of a message: what was read is laid out so, and what is laid out so is read again.
-use Rattle.std.proofs.Common.{◌≡◌, ℕ, ◌+◌, ◌*◌, ◌^◌, ◌<◌, ◌≤◌, Bool, true, false, cond, ltb, List, [], ◌∷◌, ◌++◌, length, Option, Some, None, Result, Ok, Err, refl, sym, ap, subst, ◌∙◌, append_assoc, arith, inl, inr}
+use Rattle.std.proofs.Common.{◌≡◌, ℕ, ◌+◌, ◌*◌, ◌^◌, ◌<◌, Bool, List, [], ◌∷◌, ◌++◌, length, Option, Some, None, Result, Ok, refl, sym, ap, subst, ◌∙◌, append_assoc, arith}
 use Rattle.std.specs.Prelude.{is_some, IfSome}
-use Rattle.std.specs.Int.{w16, to_be_bytes}
 use Rattle.std.specs.Int.RustNames.{bit_and}
-use Rattle.gw_addr.specs.Reading.{◌>>=◌, AreOctets, Takes, octet_at, front_at, number_at}
-use Rattle.gw_addr.proofs.Reading.{bind_ok, bind_err, ok_is, Takes-then, octet_takes}
+use Rattle.gw_addr.specs.Reading.{◌>>=◌, AreOctets, Takes, octet_at}
+use Rattle.gw_addr.proofs.Reading.{bind_ok, ok_is, Takes-then, octet_takes}
 use Rattle.gw_npdu.specs.declared.fault.NpduFault.{NpduFault}
 use Rattle.gw_npdu.specs.declared.fault.NpduFault.TheVariants.{Short}
-use Rattle.gw_npdu.specs.Npdu.{Station, Destination, Payload, Fields, Layout, Fits, IsLaidOut, is_message, bit, is_set, control, header_with, source_part, destination_part, hops_part, payload_part, payload_octets, FitsPayload, place_at, named_at, hops_at, message_at, payload_at, layout_at}
+use Rattle.gw_npdu.specs.Npdu.{Station, Destination, Payload, Fields, Layout, IsLaidOut, is_message, bit, is_set, control, source_part, destination_part, hops_part, payload_part, payload_octets, FitsPayload, named_at, hops_at, payload_at, layout_at}
 use Rattle.gw_npdu.proofs.Octet.{IsMadeOf, octet-split, low-below, octet_of-bits}
 use Rattle.gw_npdu.proofs.Parts.{FitsPlace, IsNamed, IsBound, bound_of, named_takes, named_again, hops_takes, hops_again, destination_part-bound, is_some-bound, payload_takes, payload_again}
 
@@ -98,10 +97,17 @@ read_again : (v c : ℕ) (d : Option Destination) (s : Option Station) (reply : 
 unfolding layout_at
 read_again v c d s reply priority p made fits_d fits_s fits_p =
     let five : is_set c 32 ≡ is_some (bound_of d) = made.five_is ∙ sym (is_some-bound d) in
-    rw (five, named_again (bound_of d) (source_part s ++ (hops_part d ++ (payload_part p ++ payload_octets p))) fits_d,
-        made.three_is, named_again s (hops_part d ++ (payload_part p ++ payload_octets p)) fits_s,
-        hops_again d (payload_part p ++ payload_octets p),
-        made.seven_is, payload_again p fits_p, made.two_is, made.low_is) refl
+    rw (
+      five,
+      named_again (bound_of d) (source_part s ++ (hops_part d ++ (payload_part p ++ payload_octets p))) fits_d,
+      made.three_is,
+      named_again s (hops_part d ++ (payload_part p ++ payload_octets p)) fits_s,
+      hops_again d (payload_part p ++ payload_octets p),
+      made.seven_is,
+      payload_again p fits_p,
+      made.two_is,
+      made.low_is,
+    ) refl
 
 regroup : (v c : ℕ) (a b d e g : List ℕ) → v ∷ [] ++ c ∷ [] ++ a ++ b ++ d ++ e ++ g ≡ v ∷ c ∷ (a ++ (b ++ (d ++ (e ++ g))))
 regroup v c a b d e g = simp append_assoc
@@ -112,5 +118,5 @@ layout_again octets v f laid =
     let sum : c ≡ control f + (64 * bit laid.is_reserved.0 + 16 * bit laid.is_reserved.1) = ap (λ (n : ℕ). control f + n) laid.is_reserved.2 in
     let made = octet_of-bits c (is_message f.payload) laid.is_reserved.0 (is_some f.destination) laid.is_reserved.1 (is_some f.source) f.reply_expected f.priority laid.fits.priority (omega (arith, sum)) in
     let grouped : octets ≡ v ∷ c ∷ (source_part (bound_of f.destination) ++ (source_part f.source ++ (hops_part f.destination ++ (payload_part f.payload ++ payload_octets f.payload)))) =
-        laid.parts ∙ rw (destination_part-bound f.destination) (regroup v c (destination_part f.destination) (source_part f.source) (hops_part f.destination) (payload_part f.payload) (payload_octets f.payload)) in
+    laid.parts ∙ rw (destination_part-bound f.destination) (regroup v c (destination_part f.destination) (source_part f.source) (hops_part f.destination) (payload_part f.payload) (payload_octets f.payload)) in
     ap layout_at grouped ∙ read_again v c f.destination f.source f.reply_expected f.priority f.payload made (fits_place f.destination laid.fits.destination) laid.fits.source laid.fits.payload

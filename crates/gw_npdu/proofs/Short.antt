@@ -1,11 +1,11 @@
 -- The shape of a message has one fault: the octets end too early.
-use Rattle.std.proofs.Common.{◌≡◌, ℕ, ◌<◌, Bool, true, false, cond, ltb, List, [], ◌∷◌, length, Option, Some, None, Result, Ok, Err, refl, sym, inl, inr}
-use Rattle.std.specs.Int.{Width, w16, byte_len, from_be_bytes}
+use Rattle.std.proofs.Common.{◌≡◌, ℕ, Bool, true, false, cond, ltb, List, [], ◌∷◌, length, Option, Some, None, Result, Ok, Err, inl, inr}
+use Rattle.std.specs.Int.{w16}
 use Rattle.gw_addr.specs.Reading.{◌>>=◌, octet_at, front_at, number_at}
 use Rattle.gw_addr.proofs.Reading.{bind_err}
 use Rattle.gw_npdu.specs.declared.fault.NpduFault.{NpduFault}
 use Rattle.gw_npdu.specs.declared.fault.NpduFault.TheVariants.{Short}
-use Rattle.gw_npdu.specs.Npdu.{Station, Destination, Message, Payload, Layout, is_set, place_at, named_at, hops_at, message_at, payload_at, layout_at}
+use Rattle.gw_npdu.specs.Npdu.{Station, is_set, place_at, named_at, hops_at, message_at, payload_at, layout_at}
 
 -- a reading that fails by Short alone
 pub record IsShort {A : Type 0} (r : Result A NpduFault) : Type 0 where
@@ -19,10 +19,12 @@ err_short r is = record { only = λ fault e. cc }
 
 bind_short : {A B : Type 0} (r : Result A NpduFault) (f : A → Result B NpduFault) → IsShort r → ((x : A) → IsShort (f x)) → IsShort (r >>= f)
 bind_short r f first later =
-    record { only = λ fault e. elim (bind_err r f fault e) [
-      | inl failed ↦ first.only fault failed
-      | inr went ↦ (later went.0).only fault went.2
-    ] }
+    record {
+      only = λ fault e. elim (bind_err r f fault e) [
+        | inl failed ↦ first.only fault failed
+        | inr went ↦ (later went.0).only fault went.2
+      ];
+    }
 
 test_short : {A : Type 0} (b : Bool) (x y : Result A NpduFault) → IsShort x → IsShort y → IsShort (cond b x y)
 test_short true x y hx hy = hx

@@ -1,15 +1,14 @@
 -- The octets are at least as many as the named fields have exactly where their shape is read.
-use Rattle.std.proofs.Common.{◌≡◌, ℕ, ◌+◌, ◌<◌, ◌≤◌, Bool, true, false, cond, ltb, List, [], ◌∷◌, length, get_or, drop, take, Option, Some, None, Result, Ok, Err, refl, sym, ap, subst, ◌∙◌, arith, inl, inr}
+use Rattle.std.proofs.Common.{◌≡◌, ℕ, ◌+◌, ◌<◌, ◌≤◌, Bool, true, false, cond, ltb, List, [], ◌∷◌, length, get_or, drop, take, Option, Some, None, Ok, Err, refl, sym, ap, subst, ◌∙◌, arith, inl, inr}
 use Rattle.std.specs.Prelude.{is_some}
 use Rattle.std.specs.Int.{w16, from_be_bytes}
-use Rattle.std.specs.Int.RustNames.{bit_and}
 use Rattle.std.proofs.lemmas.Bool.{ltb-true, ltb-false}
 use Rattle.std.proofs.lemmas.List.{drop-drop, get_or-drop, length-drop}
-use Rattle.gw_addr.specs.Reading.{◌>>=◌, octet_at, front_at, number_at}
+use Rattle.gw_addr.specs.Reading.{octet_at, front_at, number_at}
 use Rattle.gw_addr.proofs.Reading.{bind_ok, bind_err, chosen, guard_ok, guard_err, ok_is}
 use Rattle.gw_npdu.specs.declared.fault.NpduFault.{NpduFault}
 use Rattle.gw_npdu.specs.declared.fault.NpduFault.TheVariants.{Short}
-use Rattle.gw_npdu.specs.Npdu.{Station, Destination, Message, Payload, Layout, message, is_set, place_size, source_start, hops_start, payload_start, named_size, place_at, named_at, hops_at, message_at, payload_at, layout_at}
+use Rattle.gw_npdu.specs.Npdu.{Station, Destination, Message, Payload, Layout, message, is_set, place_size, named_size, place_at, named_at, hops_at, message_at, payload_at, layout_at}
 use Rattle.gw_npdu.proofs.Shape.{layout_of, payload_read, source_read, bound_read, parts_read, control_read}
 
 -- The rest is what stands from this place on.

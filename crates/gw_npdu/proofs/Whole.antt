@@ -1,8 +1,8 @@
 -- Octets are read as a message exactly where they are one, and each fault says what is wrong with them.
-use Rattle.std.proofs.Common.{◌≡◌, ℕ, ◌≤◌, Bool, true, false, cond, eqb, List, Result, Ok, Err, refl, sym, ap, subst, ◌∙◌, inl, inr, ◌⊎◌, arith}
-use Rattle.std.specs.Prelude.{◌↔◌, ◌≢◌, IfOk, IsOkAnd, IsErrOf}
+use Rattle.std.proofs.Common.{◌≡◌, ℕ, false, cond, eqb, List, Result, Ok, Err, refl, ap, subst, ◌∙◌, inl, inr, ◌⊎◌, arith}
+use Rattle.std.specs.Prelude.{◌↔◌, IfOk, IsOkAnd, IsErrOf}
 use Rattle.std.proofs.lemmas.Bool.{eqb-true, eqb-false, ne_eqb}
-use Rattle.gw_addr.specs.Reading.{◌>>=◌, Gives, AreOctets}
+use Rattle.gw_addr.specs.Reading.{Gives, AreOctets}
 use Rattle.gw_addr.proofs.Reading.{bind_ok, bind_err, chosen}
 use Rattle.gw_npdu.specs.declared.fault.NpduFault.{NpduFault}
 use Rattle.gw_npdu.specs.declared.fault.NpduFault.TheVariants.{Short, Version, Address}
@@ -64,9 +64,9 @@ short_to octets fits e =
     elim (npdu_err octets Short fits e) [
       | inl early ↦ size_err octets Short early
       | inr later ↦ elim (chosen (eqb later.0.version 1) (fields_of later.0.fields) (Err Version) (Err Short) later.2) [
-          | inl first ↦ absurd (let fault = (fields_err later.0.fields Short first.1).0 in cc)
-          | inr other ↦ absurd (let never = other.1 in cc)
-        ]
+        | inl first ↦ absurd (let fault = (fields_err later.0.fields Short first.1).0 in cc)
+        | inr other ↦ absurd (let never = other.1 in cc)
+      ]
     ]
 
 short_from : (octets : List ℕ) → EndsEarly octets → npdu_at octets ≡ Err Short
@@ -85,9 +85,9 @@ version_to octets fits e =
     elim (npdu_err octets Version fits e) [
       | inl early ↦ absurd (let fault = (layout_short octets).only Version early in cc)
       | inr later ↦ elim (chosen (eqb later.0.version 1) (fields_of later.0.fields) (Err Version) (Err Version) later.2) [
-          | inl first ↦ absurd (let fault = (fields_err later.0.fields Version first.1).0 in cc)
-          | inr other ↦ (later.0.version, later.0.fields, later.1, eqb-false later.0.version 1 other.0)
-        ]
+        | inl first ↦ absurd (let fault = (fields_err later.0.fields Version first.1).0 in cc)
+        | inr other ↦ (later.0.version, later.0.fields, later.1, eqb-false later.0.version 1 other.0)
+      ]
     ]
 
 version_from : (octets : List ℕ) → IsOfOtherVersion octets → npdu_at octets ≡ Err Version
@@ -99,9 +99,9 @@ address_to octets fits e =
     elim (npdu_err octets Address fits e) [
       | inl early ↦ absurd (let fault = (layout_short octets).only Address early in cc)
       | inr later ↦ elim (chosen (eqb later.0.version 1) (fields_of later.0.fields) (Err Version) (Err Address) later.2) [
-          | inl first ↦ (later.0.fields, rw (← eqb-true _ _ first.0) later.1, (fields_err later.0.fields Address first.1).1)
-          | inr other ↦ absurd (let never = other.1 in cc)
-        ]
+        | inl first ↦ (later.0.fields, rw (← eqb-true _ _ first.0) later.1, (fields_err later.0.fields Address first.1).1)
+        | inr other ↦ absurd (let never = other.1 in cc)
+      ]
     ]
 
 address_from : (octets : List ℕ) → IsBadlyAddressed octets → npdu_at octets ≡ Err Address

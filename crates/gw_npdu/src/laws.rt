@@ -9,14 +9,12 @@ use crate::station::{Destination, Station};
 /// What `encode` writes, `decode` reads to the same fields: the spelling of valid fields is read as them.
 pub fn read_again()
     ensures { (f : Fields) → IsValid f → npdu_at (spelling f) ≡ Ok f }
-{
-}
+{}
 
 /// Octets are one message at most.
 pub fn one_message()
     ensures { (octets : List ℕ) (f g : Fields) → IsNpdu octets f → IsNpdu octets g → f ≡ g }
-{
-}
+{}
 
 /// Each value of the type can be sent: its fields are valid, so what `encode` writes of it is read again.
 pub fn valid(npdu: &Npdu<'_>)

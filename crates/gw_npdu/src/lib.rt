@@ -3,8 +3,8 @@
 
 mod control;
 mod fault;
-mod layout;
 pub mod laws;
+mod layout;
 mod message;
 mod npdu;
 mod onward;

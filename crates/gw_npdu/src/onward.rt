@@ -24,7 +24,12 @@ pub struct Onward<'a> {
 /// many they are. Version, reply expected, priority and the kind of payload stay.
 ///
 /// The faults are those of [`EncodeFault`]: `TooLong` where the header and `n` octets are over 1497 together.
-pub fn relay_header(npdu: &Npdu<'_>, how: &Onward<'_>, n: usize, out: &mut Vec<u8>) -> Result<(), EncodeFault>
+pub fn relay_header(
+    npdu: &Npdu<'_>,
+    how: &Onward<'_>,
+    n: usize,
+    out: &mut Vec<u8>,
+) -> Result<(), EncodeFault>
     ensures ok { OnOk result (out.new.items ≡ out.old.items ++ header (onward (onward_view how.now) (view npdu.now))) }
     ensures too_long { IsErrOf result EncodeFault.TooLong ↔ (MAX_LEN < length (header (onward (onward_view how.now) (view npdu.now))) + n) }
     ensures err { OnErr result (out.new.items ≡ out.old.items) }
@@ -46,11 +51,25 @@ fn next<'a>(npdu: &Npdu<'a>, how: &Onward<'a>) -> Npdu<'a>
     ensures { view result ≡ onward (onward_view how.now) (view npdu.now) }
 {
     let destination = match npdu.destination {
-        Some(Destination { network, address, hops }) if how.keeps_destination => {
-            Some(Destination { network, address, hops: hops.saturating_sub(1) })
+        Some(
+            Destination {
+                network,
+                address,
+                hops,
+            },
+        ) if how.keeps_destination => {
+            Some(Destination {
+                network,
+                address,
+                hops: hops.saturating_sub(1),
+            })
         }
         _ => None,
     };
     let source = Some(npdu.source.unwrap_or(how.source));
-    Npdu { destination, source, ..*npdu }
+    Npdu {
+        destination,
+        source,
+        ..*npdu
+    }
 }

@@ -69,7 +69,10 @@ fn named(is_named: bool, octets: &[u8]) -> Result<(Option<Place<'_>>, &[u8]), Np
 
 /// The hop count of a destination, where there is one.
 #[tactic(auto, unfolding(crate::specs::Npdu::hops_at))]
-fn hops<'a>(bound: Option<Place<'a>>, octets: &'a [u8]) -> Result<(Option<Bound<'a>>, &'a [u8]), NpduFault>
+fn hops<'a>(
+    bound: Option<Place<'a>>,
+    octets: &'a [u8],
+) -> Result<(Option<Bound<'a>>, &'a [u8]), NpduFault>
     ensures { Gives (λ x. (option_map bound_view x.0, x.1.now)) result (hops_at (option_map place_view bound.entry) octets.now) }
 {
     let Some(place) = bound else {
@@ -86,10 +89,18 @@ fn message(octets: &[u8]) -> Result<NetMessage<'_>, NpduFault>
 {
     let (kind, rest) = octet(octets)?;
     if kind < 128 {
-        return Ok(NetMessage { kind, vendor: None, octets: rest });
+        return Ok(NetMessage {
+            kind,
+            vendor: None,
+            octets: rest,
+        });
     }
     let (vendor, rest) = number(rest)?;
-    Ok(NetMessage { kind, vendor: Some(vendor), octets: rest })
+    Ok(NetMessage {
+        kind,
+        vendor: Some(vendor),
+        octets: rest,
+    })
 }
 
 /// The payload, of all the octets.
@@ -128,7 +139,14 @@ fn layout(octets: &[u8]) -> Result<Layout<'_>, NpduFault>
     let (destination, rest) = hops(bound, rest)?;
     let payload = payload(control.contains(Control::MESSAGE), rest)?;
     let reply_expected = control.contains(Control::REPLY_EXPECTED);
-    Ok(Layout { version, destination, source, reply_expected, priority: priority(control), payload })
+    Ok(Layout {
+        version,
+        destination,
+        source,
+        reply_expected,
+        priority: priority(control),
+        payload,
+    })
 }
 
 /// The destination, where it can be meant.
@@ -139,11 +157,18 @@ fn destination_of<'a>(bound: Option<Bound<'a>>) -> Result<Option<Destination<'a>
     let Some(bound) = bound else {
         return Ok(None);
     };
-    let Bound { place: Place { network, address }, hops } = bound;
+    let Bound {
+        place: Place { network, address },
+        hops,
+    } = bound;
     if network == 0 || network == Destination::EVERY_NETWORK && !address.is_empty() {
         return Err(NpduFault::Address);
     }
-    Ok(Some(Destination { network, address, hops }))
+    Ok(Some(Destination {
+        network,
+        address,
+        hops,
+    }))
 }
 
 /// The source, where it can be meant.
@@ -167,8 +192,19 @@ fn fields<'a>(layout: Layout<'a>) -> Result<Npdu<'a>, NpduFault>
 {
     let destination = destination_of(layout.destination)?;
     let source = source_of(layout.source)?;
-    let Layout { reply_expected, priority, payload, .. } = layout;
-    Ok(Npdu { destination, source, reply_expected, priority, payload })
+    let Layout {
+        reply_expected,
+        priority,
+        payload,
+        ..
+    } = layout;
+    Ok(Npdu {
+        destination,
+        source,
+        reply_expected,
+        priority,
+        payload,
+    })
 }
 
 /// The message that the octets are, or the first fault by number.

@@ -65,7 +65,9 @@ impl Npdu<'_> {
         ensures len { result ≡ length (header (view self.now)) }
         ensures most { result ≤ 522 }
     {
-        2 + destination_len(&self.destination) + source_len(&self.source) + payload_len(&self.payload)
+        2 + destination_len(&self.destination)
+            + source_len(&self.source)
+            + payload_len(&self.payload)
     }
 }
 
@@ -115,7 +117,10 @@ fn put_place(out: &mut Vec<u8>, network: u16, address: &[u8]) -> Result<(), Allo
     out.extend_from_slice(address)
 }
 
-fn put_destination(out: &mut Vec<u8>, destination: &Option<Destination<'_>>) -> Result<(), AllocError>
+fn put_destination(
+    out: &mut Vec<u8>,
+    destination: &Option<Destination<'_>>,
+) -> Result<(), AllocError>
     ensures ok { OnOk result (out.new.items ≡ out.old.items ++ destination_part (option_map destination_view destination.now)) }
     ensures front { Keeps out.old.items out.new.items }
 {

@@ -18,5 +18,5 @@ returns c = record {
     priority = priority_of-below c.args.npdu.now.priority;
     payload = c.payload_valid.ensures;
   };
-  addressed = λ bad. elim bad [ | inl destination ↦ c.destination_valid.ensures.good destination | inr source ↦ c.source_valid.ensures.good source ];
+  addressed = λ bad. elim bad [ inl destination ↦ c.destination_valid.ensures.good destination | inr source ↦ c.source_valid.ensures.good source ];
 }

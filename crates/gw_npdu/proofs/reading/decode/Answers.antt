@@ -1,5 +1,4 @@
 use Rattle.std.proofs.Common.{arith}
-use Rattle.gw_addr.specs.Reading.{AreOctets}
 use Rattle.gw_npdu.proofs.Whole.{is_found, is_only, is_short, is_version, is_address}
 use Rattle.gw_npdu.proofs.reading.decode.Goals as goal
 
