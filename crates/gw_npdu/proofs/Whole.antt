@@ -1,5 +1,5 @@
 -- Octets are read as a message exactly where they are one, and each fault says what is wrong with them.
-use Rattle.std.proofs.Common.{◌≡◌, ℕ, false, cond, eqb, List, Result, Ok, Err, refl, ap, subst, ◌∙◌, inl, inr, ◌⊎◌, arith}
+use Rattle.std.proofs.Common.{◌≡◌, ◌++◌, ℕ, false, cond, eqb, List, Result, Ok, Err, refl, ap, subst, ◌∙◌, inl, inr, ◌⊎◌, arith}
 use Rattle.std.specs.Prelude.{◌↔◌, IfOk, IsOkAnd, IsErrOf}
 use Rattle.std.proofs.lemmas.Bool.{eqb-true, eqb-false, ne_eqb}
 use Rattle.gw_addr.specs.Reading.{Gives, AreOctets}
@@ -7,7 +7,7 @@ use Rattle.gw_addr.proofs.Reading.{bind_ok, bind_err, chosen}
 use Rattle.gw_npdu.specs.declared.fault.NpduFault.{NpduFault}
 use Rattle.gw_npdu.specs.declared.fault.NpduFault.TheVariants.{Short, Version, Address}
 use Rattle.gw_npdu.specs.declared.npdu.Npdu.{Npdu}
-use Rattle.gw_npdu.specs.Npdu.{Fields, Layout, IsLaidOut, IsNpdu, IsValid, HasBadAddress, EndsEarly, IsOfOtherVersion, IsBadlyAddressed, spelling, layout_at, fields_of, npdu_at, view}
+use Rattle.gw_npdu.specs.Npdu.{Fields, Layout, IsLaidOut, IsNpdu, IsValid, Onward, onward, header, payload_octets, HasBadAddress, EndsEarly, IsOfOtherVersion, IsBadlyAddressed, spelling, layout_at, fields_of, npdu_at, view}
 use Rattle.gw_npdu.proofs.Shape.{layout_takes, layout_again}
 use Rattle.gw_npdu.proofs.Short.{layout_short}
 use Rattle.gw_npdu.proofs.Size.{size_ok, size_err}
@@ -46,6 +46,10 @@ read_once octets f g is_f is_g =
 pub spelled_again : (f : Fields) → IsValid f → npdu_at (spelling f) ≡ Ok f
 spelled_again f valid =
     npdu_again (spelling f) f (record { laid_out = record { reserved = 0; is_reserved = (false, false, refl); parts = refl; fits = valid.fits }; addressed = valid.addressed })
+
+-- the same of the fields for the next hop
+pub next_again : (f : Fields) (o : Onward) (g : Fields) → g ≡ onward o f → IsValid g → npdu_at (header (onward o f) ++ payload_octets f.payload) ≡ Ok (onward o f)
+next_again f o g same valid = spelled_again (onward o f) (subst (λ (x : Fields). IsValid x) same valid)
 
 -- ---- the faults
 

@@ -1,9 +1,13 @@
-//! Laws of the definitions that the contracts cite. The functions do nothing: their contracts are the laws.
+//! Laws of the definitions that the contracts cite. The functions change nothing and answer nothing: their contracts
+//! are the laws.
 
-ghost use Rattle.std.specs.Prelude.{◌≡◌, ◌<◌, ◌^◌, ℕ, List, length, Ok, IfSome, IsSomeAnd, option_map};
-ghost use Rattle.gw_npdu.specs.Npdu.{Fields, IsNpdu, IsValid, IsBadDestination, IsBadSource, FitsPayload, spelling, npdu_at, view, destination_view, station_view, payload_view};
+ghost use Rattle.std.specs.Prelude.{◌≡◌, ◌<◌, ◌^◌, ◌++◌, ℕ, List, length, Ok, IfSome, IsSomeAnd, option_map};
+ghost use Rattle.gw_npdu.specs.Npdu.{Fields, IsNpdu, IsValid, spelling, npdu_at, header, payload_octets};
+ghost use Rattle.gw_npdu.specs.Npdu.{IsBadDestination, IsBadSource, FitsPayload, onward, onward_view};
+ghost use Rattle.gw_npdu.specs.Npdu.{view, destination_view, station_view, payload_view};
 
 use crate::npdu::{Npdu, Payload};
+use crate::onward::{Onward, next};
 use crate::station::{Destination, Station};
 
 /// What `encode` writes, `decode` reads to the same fields: the spelling of valid fields is read as them.
@@ -25,8 +29,23 @@ pub fn valid(npdu: &Npdu<'_>)
     payload_valid(&npdu.payload);
 }
 
+/// What a router sends on is read as the fields for the next hop: the header of `relay_header`, and the payload's own
+/// octets behind it.
+pub fn read_at_next_hop(npdu: &Npdu<'_>, how: &Onward<'_>)
+    ensures {
+        let next = onward (onward_view how.now) (view npdu.now) in
+        npdu_at (header next ++ payload_octets (view npdu.now).payload) ≡ Ok next
+    }
+{
+    let next = next(npdu, how);
+    valid(&next);
+}
+
 fn destination_valid(destination: &Option<Destination<'_>>)
-    ensures fits { IfSome (option_map destination_view destination.now) (λ d. (d.network < 2 ^ 16) × (length d.address < 2 ^ 8) × (d.hops < 2 ^ 8)) }
+    ensures fits {
+        IfSome (option_map destination_view destination.now)
+            (λ d. (d.network < 2 ^ 16) × (length d.address < 2 ^ 8) × (d.hops < 2 ^ 8))
+    }
     ensures good { ¬ IsSomeAnd (option_map destination_view destination.now) IsBadDestination }
 {
     if let Some(destination) = destination {
@@ -36,7 +55,10 @@ fn destination_valid(destination: &Option<Destination<'_>>)
 }
 
 fn source_valid(source: &Option<Station<'_>>)
-    ensures fits { IfSome (option_map station_view source.now) (λ s. (s.network < 2 ^ 16) × (length s.address < 2 ^ 8)) }
+    ensures fits {
+        IfSome (option_map station_view source.now)
+            (λ s. (s.network < 2 ^ 16) × (length s.address < 2 ^ 8))
+    }
     ensures good { ¬ IsSomeAnd (option_map station_view source.now) IsBadSource }
 {
     if let Some(source) = source {

@@ -3,6 +3,14 @@
 ghost use Rattle.std.specs.Prelude.{◌≡◌, is_some, nat_le};
 
 /// A message between routers, in place of an APDU.
+///
+/// ```text
+/// +------+------+------+--  --+
+/// | type |   vendor    |  ..  |
+/// +------+------+------+--  --+
+/// ```
+///
+/// The vendor stands behind a type from 80 hexadecimal on, and behind no other.
 #[derive(Clone, Copy, Debug, PartialEq, Eq)]
 pub struct NetMessage<'a> {
     /// The message type.

@@ -16,7 +16,7 @@ pub enum Priority {
     LifeSafety,
 }
 
-/// What a message carries.
+/// What a message carries, behind all other parts.
 #[derive(Clone, Copy, Debug, PartialEq, Eq)]
 pub enum Payload<'a> {
     /// An APDU of the application layer.
@@ -25,7 +25,18 @@ pub enum Payload<'a> {
     Message(NetMessage<'a>),
 }
 
-/// A message of the network layer.
+/// A message of the network layer (NPDU).
+///
+/// ```text
+/// +------+---------+--  --+--  --+------+------+--------+--  --+
+/// |  01  | control | DNET | SNET | hops | type | vendor |      |
+/// |      |         | DLEN | SLEN |      |      |        |      |
+/// |      |         | DADR | SADR |      |      |        |      |
+/// +------+---------+--  --+--  --+------+------+--------+--  --+
+/// ```
+///
+/// The version, the control octet, the destination and the source where the control octet names them, the hop count
+/// of the destination, and the payload. Each number has its high octet first.
 #[derive(Clone, Copy, Debug, PartialEq, Eq)]
 pub struct Npdu<'a> {
     /// Whom the message is bound for. None: a station of the network that it is on.

@@ -30,8 +30,14 @@ pub fn relay_header(
     n: usize,
     out: &mut Vec<u8>,
 ) -> Result<(), EncodeFault>
-    ensures ok { OnOk result (out.new.items ≡ out.old.items ++ header (onward (onward_view how.now) (view npdu.now))) }
-    ensures too_long { IsErrOf result EncodeFault.TooLong ↔ (MAX_LEN < length (header (onward (onward_view how.now) (view npdu.now))) + n) }
+    ensures ok {
+        let next = onward (onward_view how.now) (view npdu.now) in
+        OnOk result (out.new.items ≡ out.old.items ++ header next)
+    }
+    ensures too_long {
+        let next = onward (onward_view how.now) (view npdu.now) in
+        IsErrOf result EncodeFault.TooLong ↔ (MAX_LEN < length (header next) + n)
+    }
     ensures err { OnErr result (out.new.items ≡ out.old.items) }
 {
     let next = next(npdu, how);
@@ -47,7 +53,7 @@ pub fn relay_header(
 }
 
 /// The fields for the next hop.
-fn next<'a>(npdu: &Npdu<'a>, how: &Onward<'a>) -> Npdu<'a>
+pub fn next<'a>(npdu: &Npdu<'a>, how: &Onward<'a>) -> Npdu<'a>
     ensures { view result ≡ onward (onward_view how.now) (view npdu.now) }
 {
     let destination = match npdu.destination {

@@ -3,7 +3,11 @@
 ghost use Rattle.std.specs.Prelude.{◌≡◌, ℕ, ◌<◌, ◌↔◌, IfOk, IsOkAnd, IsErrOf, length, option_map};
 ghost use Rattle.std.specs.Int.{w16};
 ghost use Rattle.gw_addr.specs.Reading.{Gives, octet_at, number_at, front_at};
-ghost use Rattle.gw_npdu.specs.Npdu.{Fields, place_at, named_at, hops_at, message_at, payload_at, layout_at, fields_of, destination_of, source_of, npdu_at, view, IsNpdu, EndsEarly, IsOfOtherVersion, IsBadlyAddressed, message_view, payload_view, destination_view, station_view, priority_of};
+ghost use Rattle.gw_npdu.specs.Npdu.{Fields, IsNpdu, EndsEarly, IsOfOtherVersion, IsBadlyAddressed};
+ghost use Rattle.gw_npdu.specs.Npdu.{place_at, named_at, hops_at, message_at, payload_at, layout_at};
+ghost use Rattle.gw_npdu.specs.Npdu.{destination_of, source_of, fields_of, npdu_at};
+ghost use Rattle.gw_npdu.specs.Npdu.{view, destination_view, station_view, message_view, payload_view};
+ghost use Rattle.gw_npdu.specs.Npdu.{priority_of};
 ghost use Rattle.std.specs.Int.RustNames.{bit_and};
 ghost use Rattle.gw_npdu.specs.Layout.{place_view, bound_view, layout_view, raw_fields};
 
@@ -73,7 +77,10 @@ fn hops<'a>(
     bound: Option<Place<'a>>,
     octets: &'a [u8],
 ) -> Result<(Option<Bound<'a>>, &'a [u8]), NpduFault>
-    ensures { Gives (λ x. (option_map bound_view x.0, x.1.now)) result (hops_at (option_map place_view bound.entry) octets.now) }
+    ensures {
+        let place = option_map place_view bound.entry in
+        Gives (λ x. (option_map bound_view x.0, x.1.now)) result (hops_at place octets.now)
+    }
 {
     let Some(place) = bound else {
         return Ok((None, octets));
@@ -219,18 +226,10 @@ fn whole(octets: &[u8]) -> Result<Npdu<'_>, NpduFault>
     fields(layout)
 }
 
-/// Reads the octets as one message, all of them.
+/// Reads the octets as one message, all of them (ISO 16484-5, clause 6.2).
 ///
-/// The parts that the control octet names stand in this order, each number with its high octet first:
-///
-/// ```text
-/// +------+---------+------+------+------+--  --+------+------+------+--  --+------+------+--------+---  ---+
-/// |  01  | control |    DNET     | DLEN |  DADR |    SNET     | SLEN |  SADR | hops | type | vendor | octets |
-/// +------+---------+------+------+------+--  --+------+------+------+--  --+------+------+--------+---  ---+
-/// ```
-///
-/// The address parts and the octets of the payload are slices of `octets`. Faults are judged in this order:
-/// `Short` over the whole shape, then `Version`, then `Address` (ISO 16484-5, clause 6.2).
+/// The addresses and the octets of the payload are slices of `octets`. Reserved bits are ignored. Faults are judged
+/// in the order of their numbers: `Short` over the whole shape, then `Version`, then `Address`.
 pub fn decode(octets: &[u8]) -> Result<Npdu<'_>, NpduFault>
     // What is read is what the octets are.
     ensures found { IfOk result (λ n. IsNpdu octets.now (view n)) }

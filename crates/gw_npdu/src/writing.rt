@@ -1,8 +1,11 @@
 //! Writing a message of the network layer: the one canonical spelling, by clause 6.2.
 
-ghost use Rattle.std.specs.Prelude.{◌≡◌, ◌+◌, ◌<◌, ◌≤◌, ◌↔◌, ◌++◌, [], ◌∷◌, length, OnOk, OnErr, IsErrOf, option_map};
+ghost use Rattle.std.specs.Prelude.{◌≡◌, ◌+◌, ◌<◌, ◌≤◌, ◌↔◌, ◌++◌, length, option_map};
+ghost use Rattle.std.specs.Prelude.{OnOk, OnErr, IsErrOf};
 ghost use Rattle.gw_addr.specs.Reading.{Keeps};
-ghost use Rattle.gw_npdu.specs.Npdu.{place, destination_part, source_part, hops_part, payload_part, payload_octets, header, control, spelling, view, destination_view, station_view, payload_view, priority_of};
+ghost use Rattle.gw_npdu.specs.Npdu.{control, place, destination_part, source_part, hops_part};
+ghost use Rattle.gw_npdu.specs.Npdu.{payload_part, payload_octets, header, spelling};
+ghost use Rattle.gw_npdu.specs.Npdu.{view, destination_view, station_view, payload_view, priority_of};
 
 use crate::control::Control;
 use crate::fault::EncodeFault;
@@ -73,7 +76,10 @@ impl Npdu<'_> {
 
 /// The octets of DNET, DLEN, DADR and the hop count.
 fn destination_len(destination: &Option<Destination<'_>>) -> usize
-    ensures len { result ≡ length (destination_part (option_map destination_view destination.now)) + length (hops_part (option_map destination_view destination.now)) }
+    ensures len {
+        let d = option_map destination_view destination.now in
+        result ≡ length (destination_part d) + length (hops_part d)
+    }
     ensures most { result ≤ 259 }
 {
     match destination {
@@ -121,7 +127,10 @@ fn put_destination(
     out: &mut Vec<u8>,
     destination: &Option<Destination<'_>>,
 ) -> Result<(), AllocError>
-    ensures ok { OnOk result (out.new.items ≡ out.old.items ++ destination_part (option_map destination_view destination.now)) }
+    ensures ok {
+        let d = option_map destination_view destination.now in
+        OnOk result (out.new.items ≡ out.old.items ++ destination_part d)
+    }
     ensures front { Keeps out.old.items out.new.items }
 {
     match destination {
@@ -131,7 +140,10 @@ fn put_destination(
 }
 
 fn put_source(out: &mut Vec<u8>, source: &Option<Station<'_>>) -> Result<(), AllocError>
-    ensures ok { OnOk result (out.new.items ≡ out.old.items ++ source_part (option_map station_view source.now)) }
+    ensures ok {
+        let s = option_map station_view source.now in
+        OnOk result (out.new.items ≡ out.old.items ++ source_part s)
+    }
     ensures front { Keeps out.old.items out.new.items }
 {
     match source {
@@ -141,7 +153,10 @@ fn put_source(out: &mut Vec<u8>, source: &Option<Station<'_>>) -> Result<(), All
 }
 
 fn put_hops(out: &mut Vec<u8>, destination: &Option<Destination<'_>>) -> Result<(), AllocError>
-    ensures ok { OnOk result (out.new.items ≡ out.old.items ++ hops_part (option_map destination_view destination.now)) }
+    ensures ok {
+        let d = option_map destination_view destination.now in
+        OnOk result (out.new.items ≡ out.old.items ++ hops_part d)
+    }
     ensures front { Keeps out.old.items out.new.items }
 {
     if let Some(destination) = destination {
