@@ -32,20 +32,16 @@ pub fn valid(npdu: &Npdu<'_>)
 /// What a router sends on is read as the fields for the next hop: the header of `relay_header`, and the payload's own
 /// octets behind it.
 pub fn read_at_next_hop(npdu: &Npdu<'_>, how: &Onward<'_>)
-    ensures {
-        let next = onward (onward_view how.now) (view npdu.now) in
-        npdu_at (header next ++ payload_octets (view npdu.now).payload) ≡ Ok next
-    }
+    ensures { let next = onward (onward_view how.now) (view npdu.now) in
+        npdu_at (header next ++ payload_octets (view npdu.now).payload) ≡ Ok next }
 {
     let next = next(npdu, how);
     valid(&next);
 }
 
 fn destination_valid(destination: &Option<Destination<'_>>)
-    ensures fits {
-        IfSome (option_map destination_view destination.now)
-            (λ d. (d.network < 2 ^ 16) × (length d.address < 2 ^ 8) × (d.hops < 2 ^ 8))
-    }
+    ensures fits { IfSome (option_map destination_view destination.now)
+        (λ d. (d.network < 2 ^ 16) × (length d.address < 2 ^ 8) × (d.hops < 2 ^ 8)) }
     ensures good { ¬ IsSomeAnd (option_map destination_view destination.now) IsBadDestination }
 {
     if let Some(destination) = destination {
@@ -55,10 +51,8 @@ fn destination_valid(destination: &Option<Destination<'_>>)
 }
 
 fn source_valid(source: &Option<Station<'_>>)
-    ensures fits {
-        IfSome (option_map station_view source.now)
-            (λ s. (s.network < 2 ^ 16) × (length s.address < 2 ^ 8))
-    }
+    ensures fits { IfSome (option_map station_view source.now)
+        (λ s. (s.network < 2 ^ 16) × (length s.address < 2 ^ 8)) }
     ensures good { ¬ IsSomeAnd (option_map station_view source.now) IsBadSource }
 {
     if let Some(source) = source {

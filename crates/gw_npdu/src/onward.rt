@@ -30,14 +30,10 @@ pub fn relay_header(
     n: usize,
     out: &mut Vec<u8>,
 ) -> Result<(), EncodeFault>
-    ensures ok {
-        let next = onward (onward_view how.now) (view npdu.now) in
-        OnOk result (out.new.items ≡ out.old.items ++ header next)
-    }
-    ensures too_long {
-        let next = onward (onward_view how.now) (view npdu.now) in
-        IsErrOf result EncodeFault.TooLong ↔ (MAX_LEN < length (header next) + n)
-    }
+    ensures ok { let next = onward (onward_view how.now) (view npdu.now) in
+        OnOk result (out.new.items ≡ out.old.items ++ header next) }
+    ensures too_long { let next = onward (onward_view how.now) (view npdu.now) in
+        IsErrOf result EncodeFault.TooLong ↔ (MAX_LEN < length (header next) + n) }
     ensures err { OnErr result (out.new.items ≡ out.old.items) }
 {
     let next = next(npdu, how);

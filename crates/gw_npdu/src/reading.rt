@@ -77,10 +77,8 @@ fn hops<'a>(
     bound: Option<Place<'a>>,
     octets: &'a [u8],
 ) -> Result<(Option<Bound<'a>>, &'a [u8]), NpduFault>
-    ensures {
-        let place = option_map place_view bound.entry in
-        Gives (λ x. (option_map bound_view x.0, x.1.now)) result (hops_at place octets.now)
-    }
+    ensures { let place = option_map place_view bound.entry in
+        Gives (λ x. (option_map bound_view x.0, x.1.now)) result (hops_at place octets.now) }
 {
     let Some(place) = bound else {
         return Ok((None, octets));

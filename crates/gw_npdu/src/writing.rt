@@ -76,10 +76,8 @@ impl Npdu<'_> {
 
 /// The octets of DNET, DLEN, DADR and the hop count.
 fn destination_len(destination: &Option<Destination<'_>>) -> usize
-    ensures len {
-        let d = option_map destination_view destination.now in
-        result ≡ length (destination_part d) + length (hops_part d)
-    }
+    ensures len { let d = option_map destination_view destination.now in
+        result ≡ length (destination_part d) + length (hops_part d) }
     ensures most { result ≤ 259 }
 {
     match destination {
@@ -127,10 +125,8 @@ fn put_destination(
     out: &mut Vec<u8>,
     destination: &Option<Destination<'_>>,
 ) -> Result<(), AllocError>
-    ensures ok {
-        let d = option_map destination_view destination.now in
-        OnOk result (out.new.items ≡ out.old.items ++ destination_part d)
-    }
+    ensures ok { let d = option_map destination_view destination.now in
+        OnOk result (out.new.items ≡ out.old.items ++ destination_part d) }
     ensures front { Keeps out.old.items out.new.items }
 {
     match destination {
@@ -140,10 +136,8 @@ fn put_destination(
 }
 
 fn put_source(out: &mut Vec<u8>, source: &Option<Station<'_>>) -> Result<(), AllocError>
-    ensures ok {
-        let s = option_map station_view source.now in
-        OnOk result (out.new.items ≡ out.old.items ++ source_part s)
-    }
+    ensures ok { let s = option_map station_view source.now in
+        OnOk result (out.new.items ≡ out.old.items ++ source_part s) }
     ensures front { Keeps out.old.items out.new.items }
 {
     match source {
@@ -153,10 +147,8 @@ fn put_source(out: &mut Vec<u8>, source: &Option<Station<'_>>) -> Result<(), All
 }
 
 fn put_hops(out: &mut Vec<u8>, destination: &Option<Destination<'_>>) -> Result<(), AllocError>
-    ensures ok {
-        let d = option_map destination_view destination.now in
-        OnOk result (out.new.items ≡ out.old.items ++ hops_part d)
-    }
+    ensures ok { let d = option_map destination_view destination.now in
+        OnOk result (out.new.items ≡ out.old.items ++ hops_part d) }
     ensures front { Keeps out.old.items out.new.items }
 {
     if let Some(destination) = destination {
