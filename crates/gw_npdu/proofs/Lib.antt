@@ -1,0 +1,7 @@
+pub mod Octet
+pub mod Parts
+pub mod Shape
+pub mod Judged
+pub mod Short
+pub mod Size
+pub mod Whole

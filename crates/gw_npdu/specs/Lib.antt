@@ -1,0 +1,2 @@
+pub mod Npdu
+pub mod Layout

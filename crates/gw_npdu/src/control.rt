@@ -1,0 +1,51 @@
+//! The control octet, of clause 6.2.2.
+
+ghost use Rattle.std.specs.Prelude.{⊤, ◌≡◌, [], ◌∷◌, codes};
+
+use bitflags::{Flag, Flags, bitflag_items};
+
+/// The control octet: which parts stand in a message, and how urgent it is.
+///
+/// ```text
+///   7   6   5   4   3   2   1   0
+/// +---+---+---+---+---+---+---+---+
+/// | M | - | D | - | S | R | prior.|
+/// +---+---+---+---+---+---+---+---+
+/// ```
+///
+/// M: a message between routers in place of an APDU. D: DNET, DLEN, DADR and the hop count. S: SNET, SLEN and
+/// SADR. R: the sender waits for an answer. Bits 6 and 4 are reserved: ignored on reading, zero on writing.
+#[derive(Clone, Copy, PartialEq, Eq, Debug)]
+pub struct Control(pub u8);
+
+bitflag_items! {
+    impl Control: u8 {
+        const MESSAGE = 0x80;
+        const DESTINATION = 0x20;
+        const SOURCE = 0x08;
+        const REPLY_EXPECTED = 0x04;
+        const PRIORITY = 0x03;
+    }
+}
+
+impl Flags for Control {
+    type Bits = u8;
+
+    ghost exact = { ⊤ };
+
+    ghost table = { (codes "MESSAGE", 128) ∷ (codes "DESTINATION", 32) ∷ (codes "SOURCE", 8) ∷ (codes "REPLY_EXPECTED", 4) ∷ (codes "PRIORITY", 3) ∷ [] };
+
+    ghost set_of = { λ c. c.0 };
+
+    fn flags<'a>() -> &'a [Flag<Control>] {
+        Control::FLAGS
+    }
+
+    fn bits(&self) -> u8 {
+        self.0
+    }
+
+    fn from_bits_retain(bits: u8) -> Control {
+        Control(bits)
+    }
+}

@@ -1,0 +1,77 @@
+//! What a router changes of a message for the next hop, by clause 6.5.4.
+
+ghost use Rattle.std.specs.Prelude.{◌≡◌, ◌+◌, ◌<◌, ◌↔◌, ◌++◌, length, OnOk, OnErr, IsErrOf};
+ghost use Rattle.gw_npdu.specs.Npdu.{header, onward, onward_view, view};
+
+use crate::fault::EncodeFault;
+use crate::npdu::Npdu;
+use crate::station::{Destination, Station};
+use crate::writing::{MAX_LEN, put_header};
+
+/// How a message goes on.
+#[derive(Clone, Copy, Debug, PartialEq, Eq)]
+pub struct Onward<'a> {
+    /// Whether the destination stays, with one hop less. It is taken away on the destination's own network.
+    pub keeps_destination: bool,
+    /// The station that the message comes from where it names no source.
+    pub source: Station<'a>,
+}
+
+/// Appends the header of a message for the next hop, before `n` more octets.
+///
+/// The header is everything in front of the payload's own octets ([`Payload::octets`](crate::Payload::octets)), with
+/// the type and the vendor of a message between routers. A router writes it and then those octets, so `n` is how
+/// many they are. Version, reply expected, priority and the kind of payload stay.
+///
+/// The faults are those of [`EncodeFault`]: `TooLong` where the header and `n` octets are over 1497 together.
+pub fn relay_header(
+    npdu: &Npdu<'_>,
+    how: &Onward<'_>,
+    n: usize,
+    out: &mut Vec<u8>,
+) -> Result<(), EncodeFault>
+    ensures ok { let next = onward (onward_view how.now) (view npdu.now) in
+        OnOk result (out.new.items ≡ out.old.items ++ header next) }
+    ensures too_long { let next = onward (onward_view how.now) (view npdu.now) in
+        IsErrOf result EncodeFault.TooLong ↔ (MAX_LEN < length (header next) + n) }
+    ensures err { OnErr result (out.new.items ≡ out.old.items) }
+{
+    let next = next(npdu, how);
+    if n > MAX_LEN - next.header_len() {
+        return Err(EncodeFault::TooLong);
+    }
+    let before = out.len();
+    let Ok(()) = put_header(out, &next) else {
+        out.truncate(before);
+        return Err(EncodeFault::Memory);
+    };
+    Ok(())
+}
+
+/// The fields for the next hop.
+pub fn next<'a>(npdu: &Npdu<'a>, how: &Onward<'a>) -> Npdu<'a>
+    ensures { view result ≡ onward (onward_view how.now) (view npdu.now) }
+{
+    let destination = match npdu.destination {
+        Some(
+            Destination {
+                network,
+                address,
+                hops,
+            },
+        ) if how.keeps_destination => {
+            Some(Destination {
+                network,
+                address,
+                hops: hops.saturating_sub(1),
+            })
+        }
+        _ => None,
+    };
+    let source = Some(npdu.source.unwrap_or(how.source));
+    Npdu {
+        destination,
+        source,
+        ..*npdu
+    }
+}
