@@ -1,1 +1,4 @@
 pub mod Reading
+pub mod Address
+pub mod Station
+pub mod Padded

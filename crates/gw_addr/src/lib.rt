@@ -1,15 +1,19 @@
-//! Addresses.
+//! Addresses of BACnet/IP and of BACnet networks (Annex J.1.2, clauses 6.1 and 6.3), and, in `specs/`, the common ground of all
+//! codecs above.
 #![tactic(auto)]
 
-ghost use Rattle.std.specs.Prelude.{◌≡◌, length};
-ghost use Rattle.gw_addr.specs.Reading.{Gives, octet_at};
+mod bip;
+mod fault;
+mod network;
+mod station;
 
-#[derive(Debug, Clone, Copy)]
-pub enum F { Short, Long }
+pub use bip::{BipAddr, bip_from_slice};
+pub use fault::{OctetsFault, TextFault};
+pub use network::NetNum;
+pub use station::{Mac, Source};
 
-pub fn octet(octets: &[u8]) -> Result<(u8, &[u8]), F>
-    ensures { Gives (λ x. (x.0, x.1.now)) result (octet_at F.Short octets.now) }
-{
-    let (first, rest) = octets.split_first().ok_or(F::Short)?;
-    Ok((*first, rest))
-}
+
+
+
+#[cfg(test)]
+mod tests;
