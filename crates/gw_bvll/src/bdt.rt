@@ -3,6 +3,7 @@
 ghost use Rattle.std.specs.Prelude.{◌≡◌, ◌≢◌, ◌↔◌, ◌%◌, [], length, IsTrue, IsNone, IfSome};
 ghost use Rattle.std.specs.List.{flat_map};
 ghost use Rattle.std.specs.Iterator.{YieldsFirst, item_count};
+ghost use Rattle.gw_addr.specs.Reading.{AreOctets};
 
 use gw_addr::BipAddr;
 
@@ -53,6 +54,7 @@ impl BdtEntry {
 pub struct BdtEntries<'a> {
     octets: &'a [u8],
     ghost whole: { length octets.now % 10 ≡ 0 },
+    ghost octets_fit: { AreOctets octets.now },
 }
 
 impl<'a> BdtEntries<'a> {

@@ -21,8 +21,8 @@ fn body_len(message: &Bvll<'_>) -> usize
         Bvll::WriteBdt(entries) | Bvll::ReadBdtAck(entries) => entries.as_octets().len(),
         Bvll::ReadFdtAck(entries) => entries.as_octets().len(),
         Bvll::ReadBdt | Bvll::ReadFdt => 0,
-        Bvll::Delete(_) => 6,
-        Bvll::Forwarded { npdu, .. } => 6 + npdu.len(),
+        Bvll::Delete(address) => address.to_octets().len(),
+        Bvll::Forwarded { originator, npdu } => originator.to_octets().len() + npdu.len(),
         Bvll::Distribute(npdu) | Bvll::OriginalUnicast(npdu) | Bvll::OriginalBroadcast(npdu) => {
             npdu.len()
         }
