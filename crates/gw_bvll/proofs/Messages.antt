@@ -1,5 +1,5 @@
 -- What is read is spelled so, what is spelled so is read, and each fault is what its words say of the octets.
-use Rattle.std.proofs.Common.{◌≡◌, ◌≢◌, ◌⊎◌, inl, inr, ℕ, zero, suc, ◌+◌, ◌-◌, ◌*◌, ◌%◌, ◌^◌, ◌<◌, ◌≤◌, Bool, true, false, cond, eqb, ltb, List, [], ◌∷◌, ◌++◌, length, take, drop, get_or, Result, Ok, Err, refl, sym, ap, ap₂, subst, ◌∙◌, append_assoc, arith}
+use Rattle.std.proofs.Common.{◌≡◌, ◌≢◌, ◌⊎◌, ◌↔◌, inl, inr, ℕ, zero, suc, ◌+◌, ◌-◌, ◌*◌, ◌%◌, ◌^◌, ◌<◌, ◌≤◌, Bool, true, false, cond, eqb, ltb, List, [], ◌∷◌, ◌++◌, length, take, drop, get_or, Result, Ok, Err, refl, sym, ap, ap₂, subst, ◌∙◌, append_assoc, arith}
 use Rattle.std.specs.List.{flat_map, AllByRecursion}
 use Rattle.std.specs.Int.{w16, from_be_bytes, to_be_bytes}
 use Rattle.std.proofs.lemmas.Bool.{eqb-true, eqb-false, eq-eqb, ne_eqb, le-ltb, lt-ltb, cases_lt, cases_eq}
@@ -7,7 +7,7 @@ use Rattle.std.proofs.lemmas.List.{length-append, length-take, length-drop, nil_
 use Rattle.gw_addr.specs.declared.bip.BipAddr.{BipAddr}
 use Rattle.gw_addr.specs.Address.{octets_of, IsAddress}
 use Rattle.gw_addr.specs.Reading.{◌>>=◌, AreOctets, front_at, number_at}
-use Rattle.gw_addr.proofs.Reading.{AreOctets-take, AreOctets-drop, front_again, number_again, wide16}
+use Rattle.gw_addr.proofs.Reading.{AreOctets-take, AreOctets-drop, ok_is, front_again, number_again, wide16}
 use Rattle.gw_bvll.specs.declared.fault.BvllFault.{BvllFault}
 use Rattle.gw_bvll.specs.declared.fault.BvllFault.TheVariants as faults
 use Rattle.gw_bvll.specs.declared.function.Function.{Function}
@@ -363,3 +363,58 @@ bvll_again m valid =
     let told : told_length (spelling m) ≡ length (spelling m) = wide16.again n (omega (arith, valid.size)) ∙ sym size in
     let framed : IsFramed (spelling m) = record { marked = record { whole = omega arith; marker = refl }; size = told } in
     named_reads (spelling m) (function_of m) framed refl ∙ body_again m valid.fields
+
+-- two messages with one spelling are one
+pub spelling_tells : (m n : Message) → IsValid m → IsValid n → spelling m ≡ spelling n → m ≡ n
+spelling_tells m n valid valid' same = ok_is {F = BvllFault} m n (sym (bvll_again m valid) ∙ ap bvll_at same ∙ bvll_again n valid')
+
+-- what is read is spelled so
+pub bvll_takes : (octets : List ℕ) → AreOctets octets → (m : Message) → bvll_at octets ≡ Ok m → IsValid m × (octets ≡ spelling m)
+bvll_takes octets fits m e =
+    elim (outcome octets fits) [
+      | unmarked h ↦ let refused = lacks_marker octets h in absurd cc
+      | other_sized h ↦ let refused = lacks_length octets h in absurd cc
+      | unnamed h ↦ let refused = lacks_function octets h in absurd cc
+      | unfit h ↦ let refused = lacks_body octets fits h in absurd cc
+      | whole n reads spelled valid ↦
+          let same : n ≡ m = ok_is {F = BvllFault} n m (sym reads ∙ e) in
+          subst (λ (x : Message). IsValid x × (octets ≡ spelling x)) same (valid, spelled)
+    ]
+
+-- ---- each fault, by its words
+
+pub marker_is : (octets : List ℕ) → AreOctets octets → (bvll_at octets ≡ Err faults.Marker) ↔ LacksMarker octets
+marker_is octets fits = (λ e. elim (outcome octets fits) [
+  | unmarked h ↦ h
+  | other_sized h ↦ let refused = lacks_length octets h in absurd cc
+  | unnamed h ↦ let refused = lacks_function octets h in absurd cc
+  | unfit h ↦ let refused = lacks_body octets fits h in absurd cc
+  | whole n reads spelled valid ↦ absurd cc
+], lacks_marker octets)
+
+pub length_is : (octets : List ℕ) → AreOctets octets → (bvll_at octets ≡ Err faults.Length) ↔ LacksLength octets
+length_is octets fits = (λ e. elim (outcome octets fits) [
+  | unmarked h ↦ let refused = lacks_marker octets h in absurd cc
+  | other_sized h ↦ h
+  | unnamed h ↦ let refused = lacks_function octets h in absurd cc
+  | unfit h ↦ let refused = lacks_body octets fits h in absurd cc
+  | whole n reads spelled valid ↦ absurd cc
+], lacks_length octets)
+
+pub function_is : (octets : List ℕ) → AreOctets octets → (bvll_at octets ≡ Err faults.Function) ↔ LacksFunction octets
+function_is octets fits = (λ e. elim (outcome octets fits) [
+  | unmarked h ↦ let refused = lacks_marker octets h in absurd cc
+  | other_sized h ↦ let refused = lacks_length octets h in absurd cc
+  | unnamed h ↦ h
+  | unfit h ↦ let refused = lacks_body octets fits h in absurd cc
+  | whole n reads spelled valid ↦ absurd cc
+], lacks_function octets)
+
+pub body_is : (octets : List ℕ) → AreOctets octets → (bvll_at octets ≡ Err faults.Body) ↔ LacksBody octets
+body_is octets fits = (λ e. elim (outcome octets fits) [
+  | unmarked h ↦ let refused = lacks_marker octets h in absurd cc
+  | other_sized h ↦ let refused = lacks_length octets h in absurd cc
+  | unnamed h ↦ let refused = lacks_function octets h in absurd cc
+  | unfit h ↦ h
+  | whole n reads spelled valid ↦ absurd cc
+], lacks_body octets fits)

@@ -1,10 +1,11 @@
 //! Reading a message from a datagram (Annex J.2).
 
-ghost use Rattle.std.specs.Prelude.{◌≡◌, length};
+ghost use Rattle.std.specs.Prelude.{◌≡◌, ◌↔◌, length, IfOk, IsOkAnd};
 ghost use Rattle.std.specs.Int.{w16};
 ghost use Rattle.gw_addr.specs.Reading.{Gives, number_at, front_at};
 ghost use Rattle.gw_bvll.specs.Entries.{bdt_entries, fdt_entries, bdt_of, fdt_of};
-ghost use Rattle.gw_bvll.specs.Bvll.{view, ended, number_body, address_at, address_body, entries_body, body_at, bvll_at};
+ghost use Rattle.gw_bvll.specs.Bvll.{Message, view, spelling, IsValid, ended, number_body, address_at, address_body, entries_body, body_at, bvll_at};
+ghost use Rattle.gw_bvll.specs.Shape.{LacksMarker, LacksLength, LacksFunction, LacksBody};
 
 use crate::bdt::BdtEntries;
 use crate::fault::BvllFault;
@@ -130,8 +131,21 @@ fn message_at(octets: &[u8]) -> Result<Bvll<'_>, BvllFault>
     message_of(function, body)
 }
 
-/// Reads a message from the octets of a datagram, all of them (Annex J.2).
+/// Reads a message from the octets of a datagram, all of them (Annex J.2). It takes no memory: NPDUs and tables are lent from the
+/// datagram. The faults are judged in the order `Length` for fewer than four octets, `Marker`, `Length`, `Function`, `Body`.
 pub fn decode(octets: &[u8]) -> Result<Bvll<'_>, BvllFault>
+    // What is read is spelled so, each octet of it.
+    ensures found { IfOk result (λ message. IsValid (view message) × (octets.now ≡ spelling (view message))) }
+    // What is spelled so is read.
+    ensures only { (m : Message) → IsValid m → octets.now ≡ spelling m → IsOkAnd result (λ message. view message ≡ m) }
+
+    // Which fault it is, said of the octets.
+    ensures marker { (result ≡ Err BvllFault.Marker) ↔ LacksMarker octets.now }
+    ensures size { (result ≡ Err BvllFault.Length) ↔ LacksLength octets.now }
+    ensures function { (result ≡ Err BvllFault.Function) ↔ LacksFunction octets.now }
+    ensures body { (result ≡ Err BvllFault.Body) ↔ LacksBody octets.now }
+
+    // The same as a function of the octets.
     ensures exact { Gives view result (bvll_at octets.now) }
 {
     message_at(octets)

@@ -1,6 +1,7 @@
 //! Writing a message into a datagram (Annex J.2).
 
-ghost use Rattle.std.specs.Prelude.{◌≡◌, ◌++◌, ◌+◌, ◌∷◌, [], ◌<◌, ◌≤◌, ◌↔◌, ◌^◌, length, OnOk, OnErr};
+ghost use Rattle.std.specs.Prelude.{◌≡◌, ◌++◌, ◌+◌, ◌∷◌, [], ◌<◌, ◌≤◌, ◌↔◌, ◌^◌, length, vec_len, IsOk, OnOk, OnErr};
+ghost use Rattle.std.specs.Vec.{vec_capacity};
 ghost use Rattle.std.specs.Int.{w16, to_be_bytes};
 ghost use Rattle.gw_addr.specs.Reading.{Keeps};
 ghost use Rattle.gw_bvll.specs.Bvll.{view, body_of, octet_of, function_of, spelling};
@@ -32,6 +33,7 @@ fn body_len(message: &Bvll<'_>) -> usize
 fn put_body(message: &Bvll<'_>, out: &mut Vec<u8>) -> Result<(), AllocError>
     ensures ok { OnOk result (out.new.items ≡ out.old.items ++ body_of (view message.now)) }
     ensures front { Keeps out.old.items out.new.items }
+    ensures room { vec_len out.old + length (body_of (view message.now)) ≤ vec_capacity out.old → IsOk result }
 {
     match message {
         Bvll::Result(code) => out.extend_from_slice(&code.0.to_be_bytes()),
@@ -56,6 +58,8 @@ fn put_body(message: &Bvll<'_>, out: &mut Vec<u8>) -> Result<(), AllocError>
 pub fn encode(message: &Bvll<'_>, out: &mut Vec<u8>) -> Result<(), EncodeFault>
     ensures ok { OnOk result (out.new.items ≡ out.old.items ++ spelling (view message.now)) }
     ensures too_long { (result ≡ Err EncodeFault.TooLong) ↔ (1507 < length (spelling (view message.now))) }
+    // Memory only where the buffer had no room for the message.
+    ensures memory { result ≡ Err EncodeFault.Memory → vec_capacity out.old < vec_len out.old + length (spelling (view message.now)) }
     ensures err { OnErr result (out.new.items ≡ out.old.items) }
 {
     let body = body_len(message);
@@ -73,6 +77,7 @@ pub fn encode(message: &Bvll<'_>, out: &mut Vec<u8>) -> Result<(), EncodeFault>
 fn put_message(message: &Bvll<'_>, len: u16, out: &mut Vec<u8>) -> Result<(), AllocError>
     ensures ok { OnOk result (out.new.items ≡ out.old.items ++ (0x81 ∷ octet_of (function_of (view message.now)) ∷ to_be_bytes w16 len ++ body_of (view message.now))) }
     ensures front { Keeps out.old.items out.new.items }
+    ensures room { vec_len out.old + (4 + length (body_of (view message.now))) ≤ vec_capacity out.old → IsOk result }
 {
     let [high, low] = len.to_be_bytes();
     out.extend_from_slice(&[0x81, message.function().octet(), high, low])?;
