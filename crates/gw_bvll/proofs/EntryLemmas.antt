@@ -202,3 +202,18 @@ reads_fdt = record {
   again = λ x fits. fdt_again x.address.ip x.address.udp x.time_to_live x.remaining fits.address.four fits.address.udp fits.time_to_live fits.remaining;
   len = λ x fits. ap length (append_assoc (octets_of x.address) (to_be_bytes w16 x.time_to_live) (to_be_bytes w16 x.remaining)) ∙ length-append (octets_of x.address) (to_be_bytes w16 x.time_to_live ++ to_be_bytes w16 x.remaining) ∙ ap (λ (n : ℕ). n + 4) (length-address x.address fits.address);
 }
+
+-- ---- what the clauses of one entry and of a list of entries say
+
+pub entry_found : {A : Type 0} (spelling : A → List ℕ) (entry : List ℕ → A) (IsEntry : A → Type 0) → ReadsTen spelling entry IsEntry → (ten : List ℕ) → length ten ≡ 10 → AreOctets ten → (x : A) → x ≡ entry ten → IsEntry x × (ten ≡ spelling x)
+entry_found spelling entry IsEntry reads ten len fits x e = (subst IsEntry (sym e) (reads.fits ten len fits), sym (reads.back ten len fits) ∙ ap spelling (sym e))
+
+pub entry_only : {A : Type 0} (spelling : A → List ℕ) (entry : List ℕ → A) (IsEntry : A → Type 0) → ReadsTen spelling entry IsEntry → (ten : List ℕ) (x : A) → x ≡ entry ten → (y : A) → IsEntry y → ten ≡ spelling y → x ≡ y
+entry_only spelling entry IsEntry reads ten x e y fits spelled = e ∙ ap entry spelled ∙ reads.again y fits
+
+-- what entries spell has a length in tens
+pub entries_whole : {A : Type 0} (spelling : A → List ℕ) (entry : List ℕ → A) (IsEntry : A → Type 0) → ReadsTen spelling entry IsEntry → (octets : List ℕ) → (xs : List A) → AllByRecursion IsEntry xs → octets ≡ flat_map spelling xs → length octets % 10 ≡ 0
+entries_whole spelling entry IsEntry reads octets xs fits spelled = omega (arith, ap length spelled, entries-len spelling entry IsEntry reads xs fits)
+
+pub entries_only : {A : Type 0} (spelling : A → List ℕ) (entry : List ℕ → A) (IsEntry : A → Type 0) → ReadsTen spelling entry IsEntry → (octets : List ℕ) → (xs : List A) → AllByRecursion IsEntry xs → octets ≡ flat_map spelling xs → map entry (tens octets) ≡ xs
+entries_only spelling entry IsEntry reads octets xs fits spelled = ap (λ (o : List ℕ). map entry (tens o)) spelled ∙ entries-again spelling entry IsEntry reads xs fits

@@ -1,11 +1,12 @@
 //! The entries of a broadcast distribution table (Annex J.2.2), as Write-BDT and Read-BDT-Ack carry them.
 
-ghost use Rattle.std.specs.Prelude.{◌≡◌, ◌≢◌, ◌↔◌, ◌%◌, [], length, IsTrue, IsNone, IfSome};
-ghost use Rattle.std.specs.List.{flat_map};
+ghost use Rattle.std.specs.Prelude.{◌≡◌, ◌≢◌, ◌↔◌, ◌%◌, [], length, List, IsTrue, IsNone, IfSome, IsSomeAnd};
+ghost use Rattle.std.specs.List.{flat_map, AllByRecursion};
 ghost use Rattle.std.specs.Iterator.{YieldsFirst, item_count};
 ghost use Rattle.gw_addr.specs.Reading.{AreOctets};
 
 use gw_addr::BipAddr;
+
 
 /// An entry of a broadcast distribution table: a broadcast manager, and the mask by which broadcasts are sent on to it.
 ///
@@ -23,10 +24,18 @@ pub struct BdtEntry {
 }
 
 impl BdtEntry {
-    ghost use Rattle.gw_bvll.specs.Entries.{bdt_entry, bdt_octets};
+    ghost use Rattle.gw_bvll.specs.Entries.{bdt_entry, bdt_octets, IsBdtEntry};
 
     /// The entry that ten octets spell.
     pub fn from_octets(octets: &[u8; 10]) -> BdtEntry
+        ensures found { IsBdtEntry result × (octets.now ≡ bdt_octets result) }
+        ensures only { (entry : BdtEntry) → IsBdtEntry entry → octets.now ≡ bdt_octets entry → result ≡ entry }
+        ensures exact { result ≡ bdt_entry octets.now }
+    {
+        BdtEntry::entry_of(octets)
+    }
+
+    fn entry_of(octets: &[u8; 10]) -> BdtEntry
         ensures { result ≡ bdt_entry octets.now }
     {
         let [a, b, c, d, high, low, mask0, mask1, mask2, mask3] = *octets;
@@ -58,12 +67,14 @@ pub struct BdtEntries<'a> {
 }
 
 impl<'a> BdtEntries<'a> {
-    ghost use Rattle.gw_bvll.specs.Entries.{bdt_entries, bdt_octets, bdt_of, bdt_left};
+    ghost use Rattle.gw_bvll.specs.Entries.{bdt_entries, bdt_octets, bdt_of, bdt_left, IsBdtEntry};
 
     /// The entries that octets spell, ten octets each. None where the octets are no multiple of ten.
     pub fn from_octets(octets: &'a [u8]) -> Option<BdtEntries<'a>>
+        ensures found { IfSome result (λ entries. octets.now ≡ flat_map bdt_octets (bdt_of entries)) }
+        ensures only { (entries : List BdtEntry) → AllByRecursion IsBdtEntry entries → octets.now ≡ flat_map bdt_octets entries → IsSomeAnd result (λ lent. bdt_of lent ≡ entries) }
         ensures none { IsNone result ↔ (length octets.now % 10 ≢ 0) }
-        ensures some { IfSome result (λ entries. bdt_of entries ≡ bdt_entries octets.now) }
+        ensures exact { IfSome result (λ entries. bdt_of entries ≡ bdt_entries octets.now) }
     {
         if octets.len() % 10 != 0 {
             return None;
@@ -73,7 +84,8 @@ impl<'a> BdtEntries<'a> {
 
     /// The octets of the entries, one after another.
     pub fn as_octets(&self) -> &'a [u8]
-        ensures { result.now ≡ flat_map bdt_octets (bdt_of self.now) }
+        ensures spelled { result.now ≡ flat_map bdt_octets (bdt_of self.now) }
+        ensures fit { AllByRecursion IsBdtEntry (bdt_of self.now) }
     {
         self.octets
     }

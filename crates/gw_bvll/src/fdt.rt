@@ -1,11 +1,12 @@
 //! The entries of a foreign device table (Annex J.2.8), as Read-FDT-Ack carries them.
 
-ghost use Rattle.std.specs.Prelude.{◌≡◌, ◌≢◌, ◌↔◌, ◌%◌, [], length, IsTrue, IsNone, IfSome};
-ghost use Rattle.std.specs.List.{flat_map};
+ghost use Rattle.std.specs.Prelude.{◌≡◌, ◌≢◌, ◌↔◌, ◌%◌, [], length, List, IsTrue, IsNone, IfSome, IsSomeAnd};
+ghost use Rattle.std.specs.List.{flat_map, AllByRecursion};
 ghost use Rattle.std.specs.Iterator.{YieldsFirst, item_count};
 ghost use Rattle.gw_addr.specs.Reading.{AreOctets};
 
 use gw_addr::BipAddr;
+
 
 /// An entry of a foreign device table: a registered device, and for how long it stays registered.
 ///
@@ -26,10 +27,18 @@ pub struct FdtEntry {
 }
 
 impl FdtEntry {
-    ghost use Rattle.gw_bvll.specs.Entries.{fdt_entry, fdt_octets};
+    ghost use Rattle.gw_bvll.specs.Entries.{fdt_entry, fdt_octets, IsFdtEntry};
 
     /// The entry that ten octets spell.
     pub fn from_octets(octets: &[u8; 10]) -> FdtEntry
+        ensures found { IsFdtEntry result × (octets.now ≡ fdt_octets result) }
+        ensures only { (entry : FdtEntry) → IsFdtEntry entry → octets.now ≡ fdt_octets entry → result ≡ entry }
+        ensures exact { result ≡ fdt_entry octets.now }
+    {
+        FdtEntry::entry_of(octets)
+    }
+
+    fn entry_of(octets: &[u8; 10]) -> FdtEntry
         ensures { result ≡ fdt_entry octets.now }
     {
         let [a, b, c, d, high, low, live_high, live_low, left_high, left_low] = *octets;
@@ -63,12 +72,14 @@ pub struct FdtEntries<'a> {
 }
 
 impl<'a> FdtEntries<'a> {
-    ghost use Rattle.gw_bvll.specs.Entries.{fdt_entries, fdt_octets, fdt_of, fdt_left};
+    ghost use Rattle.gw_bvll.specs.Entries.{fdt_entries, fdt_octets, fdt_of, fdt_left, IsFdtEntry};
 
     /// The entries that octets spell, ten octets each. None where the octets are no multiple of ten.
     pub fn from_octets(octets: &'a [u8]) -> Option<FdtEntries<'a>>
+        ensures found { IfSome result (λ entries. octets.now ≡ flat_map fdt_octets (fdt_of entries)) }
+        ensures only { (entries : List FdtEntry) → AllByRecursion IsFdtEntry entries → octets.now ≡ flat_map fdt_octets entries → IsSomeAnd result (λ lent. fdt_of lent ≡ entries) }
         ensures none { IsNone result ↔ (length octets.now % 10 ≢ 0) }
-        ensures some { IfSome result (λ entries. fdt_of entries ≡ fdt_entries octets.now) }
+        ensures exact { IfSome result (λ entries. fdt_of entries ≡ fdt_entries octets.now) }
     {
         if octets.len() % 10 != 0 {
             return None;
@@ -78,7 +89,8 @@ impl<'a> FdtEntries<'a> {
 
     /// The octets of the entries, one after another.
     pub fn as_octets(&self) -> &'a [u8]
-        ensures { result.now ≡ flat_map fdt_octets (fdt_of self.now) }
+        ensures spelled { result.now ≡ flat_map fdt_octets (fdt_of self.now) }
+        ensures fit { AllByRecursion IsFdtEntry (fdt_of self.now) }
     {
         self.octets
     }

@@ -9,7 +9,7 @@ returns-clause-steps c =
     let cases = c.in_ok-first.ensures.cases in
     let long : 10 ≤ length octets = omega (arith, cases) in
     let step = ap (map fdt_entry) (tens-step octets long) in
-    rw (step, c.from_octets.ensures, cases.0, cases.1) refl
+    rw (step, c.from_octets.ensures.exact, cases.0, cases.1) refl
 
 pub returns-clause-goes : goal.returns-clause-goes
 returns-clause-goes c =
