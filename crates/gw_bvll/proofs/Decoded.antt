@@ -5,16 +5,16 @@ use Rattle.gw_addr.specs.Reading.{AreOctets, Gives}
 use Rattle.gw_addr.proofs.Reading.{ok_is}
 use Rattle.gw_bvll.specs.declared.fault.BvllFault.{BvllFault}
 use Rattle.gw_bvll.specs.declared.message.Bvll.{Bvll}
-use Rattle.gw_bvll.specs.Bvll.{Message, view, spelling, IsValid, bvll_at}
+use Rattle.gw_bvll.specs.Bvll.{Message, view, IsBvll, bvll_at}
 use Rattle.gw_bvll.proofs.Messages.{bvll_takes, bvll_again}
 
-pub is_found : (octets : List ℕ) (r : Result Bvll BvllFault) → AreOctets octets → Gives view r (bvll_at octets) → IfOk r (λ m. IsValid (view m) × (octets ≡ spelling (view m)))
-is_found octets (Ok m) fits given = bvll_takes octets fits (view m) given
+pub is_found : (octets : List ℕ) (r : Result Bvll BvllFault) → AreOctets octets → Gives view r (bvll_at octets) → IfOk r (λ m. IsBvll octets (view m))
+is_found octets (Ok m) fits given = let taken = bvll_takes octets fits (view m) given in record { valid = taken.0; spelled = taken.1 }
 is_found octets (Err fault) fits given = tt
 
-pub is_only : (octets : List ℕ) (r : Result Bvll BvllFault) → Gives view r (bvll_at octets) → (m : Message) → IsValid m → octets ≡ spelling m → IsOkAnd r (λ found. view found ≡ m)
-is_only octets (Ok found) given m valid spelled = ok_is {F = BvllFault} (view found) m (sym given ∙ ap bvll_at spelled ∙ bvll_again m valid)
-is_only octets (Err fault) given m valid spelled = let again = ap bvll_at spelled ∙ bvll_again m valid in absurd cc
+pub is_only : (octets : List ℕ) (r : Result Bvll BvllFault) → Gives view r (bvll_at octets) → (m : Message) → IsBvll octets m → IsOkAnd r (λ found. view found ≡ m)
+is_only octets (Ok found) given m is = ok_is {F = BvllFault} (view found) m (sym given ∙ ap bvll_at is.spelled ∙ bvll_again m is.valid)
+is_only octets (Err fault) given m is = let again = ap bvll_at is.spelled ∙ bvll_again m is.valid in absurd cc
 
 -- a fault is answered exactly where the reading is that fault
 pub is_fault : (octets : List ℕ) (r : Result Bvll BvllFault) (fault : BvllFault) (P : Type 0) → Gives view r (bvll_at octets) → (bvll_at octets ≡ Err fault) ↔ P → (r ≡ Err fault) ↔ P

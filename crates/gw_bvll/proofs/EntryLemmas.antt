@@ -10,7 +10,7 @@ use Rattle.gw_addr.specs.declared.bip.BipAddr.{BipAddr}
 use Rattle.gw_addr.specs.Address.{octets_of, IsAddress}
 use Rattle.gw_bvll.specs.declared.bdt.BdtEntry.{BdtEntry}
 use Rattle.gw_bvll.specs.declared.fdt.FdtEntry.{FdtEntry}
-use Rattle.gw_bvll.specs.Entries.{tens, bdt_octets, fdt_octets, bdt_entry, fdt_entry, bdt_entries, fdt_entries, IsBdtEntry, IsFdtEntry}
+use Rattle.gw_bvll.specs.Entries.{tens, bdt_octets, fdt_octets, bdt_entry, fdt_entry, IsBdtEntry, IsFdtEntry}
 
 -- ---- parts of ten octets
 
@@ -157,26 +157,26 @@ bdt_made ip udp mask = record { address = record { ip = ip; udp = udp }; mask = 
 bdt_again : (ip mask : List ℕ) (udp : ℕ) → length ip ≡ 4 → length mask ≡ 4 → udp < 2 ^ 16 → bdt_entry ((ip ++ to_be_bytes w16 udp) ++ mask) ≡ bdt_made ip udp mask
 bdt_again ip mask udp ip_four mask_four lt =
     of_four (λ (i : List ℕ). bdt_entry ((i ++ to_be_bytes w16 udp) ++ mask) ≡ bdt_made i udp mask) (λ a b c d.
-      of_four (λ (m : List ℕ). bdt_entry ((a ∷ b ∷ c ∷ d ∷ [] ++ to_be_bytes w16 udp) ++ m) ≡ bdt_made (a ∷ b ∷ c ∷ d ∷ []) udp m) (λ e f g h.
-        ap (λ (u : ℕ). bdt_made (a ∷ b ∷ c ∷ d ∷ []) u (e ∷ f ∷ g ∷ h ∷ [])) (wide16.again udp lt)) mask mask_four) ip ip_four
+    of_four (λ (m : List ℕ). bdt_entry ((a ∷ b ∷ c ∷ d ∷ [] ++ to_be_bytes w16 udp) ++ m) ≡ bdt_made (a ∷ b ∷ c ∷ d ∷ []) udp m) (λ e f g h.
+    ap (λ (u : ℕ). bdt_made (a ∷ b ∷ c ∷ d ∷ []) u (e ∷ f ∷ g ∷ h ∷ [])) (wide16.again udp lt)) mask mask_four) ip ip_four
 
 -- an address and two times, as an entry
 abbrev fdt_made : List ℕ → ℕ → ℕ → ℕ → FdtEntry
 fdt_made ip udp time_to_live remaining = record { address = record { ip = ip; udp = udp }; time_to_live = time_to_live; remaining = remaining }
 
 fdt_again : (ip : List ℕ) (udp time_to_live remaining : ℕ) → length ip ≡ 4 → udp < 2 ^ 16 → time_to_live < 2 ^ 16 → remaining < 2 ^ 16
-  → fdt_entry ((ip ++ to_be_bytes w16 udp) ++ to_be_bytes w16 time_to_live ++ to_be_bytes w16 remaining) ≡ fdt_made ip udp time_to_live remaining
+    → fdt_entry ((ip ++ to_be_bytes w16 udp) ++ to_be_bytes w16 time_to_live ++ to_be_bytes w16 remaining) ≡ fdt_made ip udp time_to_live remaining
 fdt_again ip udp time_to_live remaining ip_four lt lt' lt'' =
     of_four (λ (i : List ℕ). fdt_entry ((i ++ to_be_bytes w16 udp) ++ to_be_bytes w16 time_to_live ++ to_be_bytes w16 remaining) ≡ fdt_made i udp time_to_live remaining) (λ a b c d.
-      let back : ℕ → ℕ = λ n. from_be_bytes w16 (to_be_bytes w16 n) in
-      ap (λ (u : ℕ). fdt_made (a ∷ b ∷ c ∷ d ∷ []) u (back time_to_live) (back remaining)) (wide16.again udp lt)
-      ∙ ap (λ (u : ℕ). fdt_made (a ∷ b ∷ c ∷ d ∷ []) udp u (back remaining)) (wide16.again time_to_live lt')
-      ∙ ap (λ (u : ℕ). fdt_made (a ∷ b ∷ c ∷ d ∷ []) udp time_to_live u) (wide16.again remaining lt'')) ip ip_four
+    let back : ℕ → ℕ = λ n. from_be_bytes w16 (to_be_bytes w16 n) in
+    ap (λ (u : ℕ). fdt_made (a ∷ b ∷ c ∷ d ∷ []) u (back time_to_live) (back remaining)) (wide16.again udp lt)
+    ∙ ap (λ (u : ℕ). fdt_made (a ∷ b ∷ c ∷ d ∷ []) udp u (back remaining)) (wide16.again time_to_live lt')
+    ∙ ap (λ (u : ℕ). fdt_made (a ∷ b ∷ c ∷ d ∷ []) udp time_to_live u) (wide16.again remaining lt'')) ip ip_four
 
 pub reads_bdt : ReadsTen bdt_octets bdt_entry IsBdtEntry
 reads_bdt = record {
   back = λ ten len octets. of_ten (λ (t : List ℕ). AreOctets t → bdt_octets (bdt_entry t) ≡ t) (λ a b c d e f g h i j fits.
-    ap (λ (udp : List ℕ). (a ∷ b ∷ c ∷ d ∷ [] ++ udp) ++ (g ∷ h ∷ i ∷ j ∷ [])) (wide16.back (e ∷ f ∷ []) refl (AreOctets-take 2 (e ∷ f ∷ g ∷ h ∷ i ∷ j ∷ []) (AreOctets-drop 4 (a ∷ b ∷ c ∷ d ∷ e ∷ f ∷ g ∷ h ∷ i ∷ j ∷ []) fits)))) ten len octets;
+      ap (λ (udp : List ℕ). (a ∷ b ∷ c ∷ d ∷ [] ++ udp) ++ (g ∷ h ∷ i ∷ j ∷ [])) (wide16.back (e ∷ f ∷ []) refl (AreOctets-take 2 (e ∷ f ∷ g ∷ h ∷ i ∷ j ∷ []) (AreOctets-drop 4 (a ∷ b ∷ c ∷ d ∷ e ∷ f ∷ g ∷ h ∷ i ∷ j ∷ []) fits)))) ten len octets;
   fits = λ ten len octets. record {
     address = address-fits ten len octets (bdt_entry ten).address refl refl;
     four = omega (arith, length-take 4 (drop 6 ten), length-drop 6 ten);
@@ -189,11 +189,11 @@ reads_bdt = record {
 pub reads_fdt : ReadsTen fdt_octets fdt_entry IsFdtEntry
 reads_fdt = record {
   back = λ ten len octets. of_ten (λ (t : List ℕ). AreOctets t → fdt_octets (fdt_entry t) ≡ t) (λ a b c d e f g h i j fits.
-    let cells : List ℕ = a ∷ b ∷ c ∷ d ∷ e ∷ f ∷ g ∷ h ∷ i ∷ j ∷ [] in
-    let udp = wide16.back (e ∷ f ∷ []) refl (AreOctets-take 2 (drop 4 cells) (AreOctets-drop 4 cells fits)) in
-    let time_to_live = wide16.back (g ∷ h ∷ []) refl (AreOctets-take 2 (drop 6 cells) (AreOctets-drop 6 cells fits)) in
-    let remaining = wide16.back (i ∷ j ∷ []) refl (AreOctets-take 2 (drop 8 cells) (AreOctets-drop 8 cells fits)) in
-    ap₂ (λ (x : List ℕ) (y : List ℕ). (a ∷ b ∷ c ∷ d ∷ [] ++ x) ++ y) udp (ap₂ ◌++◌ time_to_live remaining)) ten len octets;
+      let cells : List ℕ = a ∷ b ∷ c ∷ d ∷ e ∷ f ∷ g ∷ h ∷ i ∷ j ∷ [] in
+      let udp = wide16.back (e ∷ f ∷ []) refl (AreOctets-take 2 (drop 4 cells) (AreOctets-drop 4 cells fits)) in
+      let time_to_live = wide16.back (g ∷ h ∷ []) refl (AreOctets-take 2 (drop 6 cells) (AreOctets-drop 6 cells fits)) in
+      let remaining = wide16.back (i ∷ j ∷ []) refl (AreOctets-take 2 (drop 8 cells) (AreOctets-drop 8 cells fits)) in
+      ap₂ (λ (x : List ℕ) (y : List ℕ). (a ∷ b ∷ c ∷ d ∷ [] ++ x) ++ y) udp (ap₂ ◌++◌ time_to_live remaining)) ten len octets;
   fits = λ ten len octets. record {
     address = address-fits ten len octets (fdt_entry ten).address refl refl;
     time_to_live = wide16.below (take 2 (drop 6 ten)) (AreOctets-take 2 (drop 6 ten) (AreOctets-drop 6 ten octets));

@@ -1,21 +1,21 @@
 -- What is read is spelled so, what is spelled so is read, and each fault is what its words say of the octets.
-use Rattle.std.proofs.Common.{◌≡◌, ◌≢◌, ◌⊎◌, ◌↔◌, inl, inr, ℕ, zero, suc, ◌+◌, ◌-◌, ◌*◌, ◌%◌, ◌^◌, ◌<◌, ◌≤◌, Bool, true, false, cond, eqb, ltb, List, [], ◌∷◌, ◌++◌, length, take, drop, get_or, Result, Ok, Err, refl, sym, ap, ap₂, subst, ◌∙◌, append_assoc, arith}
-use Rattle.std.specs.List.{flat_map, AllByRecursion}
+use Rattle.std.proofs.Common.{◌≡◌, ◌≢◌, ◌⊎◌, ◌↔◌, inl, inr, ℕ, zero, suc, ◌+◌, ◌%◌, ◌^◌, ◌<◌, ◌≤◌, false, ltb, List, [], ◌∷◌, ◌++◌, length, take, drop, get_or, Ok, Err, refl, sym, ap, ap₂, subst, ◌∙◌, append_assoc, arith}
+use Rattle.std.specs.List.{flat_map}
 use Rattle.std.specs.Int.{w16, from_be_bytes, to_be_bytes}
-use Rattle.std.proofs.lemmas.Bool.{eqb-true, eqb-false, eq-eqb, ne_eqb, le-ltb, lt-ltb, cases_lt, cases_eq}
-use Rattle.std.proofs.lemmas.List.{length-append, length-take, length-drop, nil_from_length, take-append-drop, take_all, append-nil}
+use Rattle.std.proofs.lemmas.Bool.{eq-eqb, ne_eqb, le-ltb, lt-ltb, cases_lt, cases_eq}
+use Rattle.std.proofs.lemmas.List.{length-take, length-drop, nil_from_length, take-append-drop, take_all, append-nil}
 use Rattle.gw_addr.specs.declared.bip.BipAddr.{BipAddr}
 use Rattle.gw_addr.specs.Address.{octets_of, IsAddress}
-use Rattle.gw_addr.specs.Reading.{◌>>=◌, AreOctets, front_at, number_at}
+use Rattle.gw_addr.specs.Reading.{◌>>=◌, AreOctets, front_at}
 use Rattle.gw_addr.proofs.Reading.{AreOctets-take, AreOctets-drop, ok_is, front_again, number_again, wide16}
 use Rattle.gw_bvll.specs.declared.fault.BvllFault.{BvllFault}
 use Rattle.gw_bvll.specs.declared.fault.BvllFault.TheVariants as faults
 use Rattle.gw_bvll.specs.declared.function.Function.{Function}
 use Rattle.gw_bvll.specs.declared.function.Function.TheVariants as functions
 use Rattle.gw_bvll.specs.Entries.{bdt_octets, fdt_octets, bdt_entry, fdt_entry, bdt_entries, fdt_entries, IsBdtEntry, IsFdtEntry}
-use Rattle.gw_bvll.specs.Bvll.{Message, result_code, write_bdt, read_bdt, read_bdt_ack, forwarded, register, read_fdt, read_fdt_ack, delete, distribute, original_unicast, original_broadcast, octet_of, function_of, body_of, spelling, HasFields, IsValid, function_at, ended, number_body, address_at, address_body, entries_body, body_at, bvll_at}
+use Rattle.gw_bvll.specs.Bvll.{Message, result_code, write_bdt, read_bdt, read_bdt_ack, forwarded, register, read_fdt, read_fdt_ack, delete, distribute, original_unicast, original_broadcast, octet_of, function_of, body_of, spelling, HasFields, IsValid, function_at, number_body, address_at, address_body, body_at, bvll_at}
 use Rattle.gw_bvll.specs.Shape.{told_length, IsMarked, IsFramed, FitsFunction, LacksMarker, LacksLength, LacksFunction, LacksBody}
-use Rattle.gw_bvll.proofs.EntryLemmas.{entries-back, entries-fit, entries-again, entries-len, reads_bdt, reads_fdt, length-address}
+use Rattle.gw_bvll.proofs.EntryLemmas.{entries-back, entries-fit, entries-again, entries-len, reads_bdt, reads_fdt}
 
 -- ---- the parts of a body
 
@@ -84,7 +84,7 @@ unfolding address_at
 address_again a rest fits =
     let regrouped : octets_of a ++ rest ≡ a.ip ++ (to_be_bytes w16 a.udp ++ rest) = append_assoc a.ip (to_be_bytes w16 a.udp) rest in
     let ip : front_at faults.Body 4 (a.ip ++ (to_be_bytes w16 a.udp ++ rest)) ≡ Ok (a.ip, to_be_bytes w16 a.udp ++ rest) =
-      subst (λ (n : ℕ). front_at faults.Body n (a.ip ++ (to_be_bytes w16 a.udp ++ rest)) ≡ Ok (a.ip, to_be_bytes w16 a.udp ++ rest)) fits.four (front_again faults.Body a.ip (to_be_bytes w16 a.udp ++ rest)) in
+    subst (λ (n : ℕ). front_at faults.Body n (a.ip ++ (to_be_bytes w16 a.udp ++ rest)) ≡ Ok (a.ip, to_be_bytes w16 a.udp ++ rest)) fits.four (front_again faults.Body a.ip (to_be_bytes w16 a.udp ++ rest)) in
     ap address_at regrouped ∙ rw (ip, number_again faults.Body w16 (2 ^ 16) wide16 a.udp rest fits.udp) refl
 
 -- six octets alone are an address
@@ -309,7 +309,7 @@ framed_back (marker ∷ function ∷ high ∷ low ∷ rest) m fits h named body 
     let size : from_be_bytes w16 (high ∷ low ∷ []) ≡ 4 + length (body_of m) = omega (arith, h.size, ap length body) in
     let told : to_be_bytes w16 (4 + length (body_of m)) ≡ high ∷ low ∷ [] = ap (to_be_bytes w16) (sym size) ∙ wide16.back (high ∷ low ∷ []) refl (AreOctets-take 2 (high ∷ low ∷ rest) (AreOctets-drop 2 (marker ∷ function ∷ high ∷ low ∷ rest) fits)) in
     let header : 0x81 ∷ octet_of (function_of m) ∷ to_be_bytes w16 (4 + length (body_of m)) ≡ marker ∷ function ∷ high ∷ low ∷ [] =
-      ap₂ (λ (x : ℕ) (y : ℕ). x ∷ y ∷ to_be_bytes w16 (4 + length (body_of m))) (sym h.marked.marker) (sym named) ∙ ap (λ (x : List ℕ). marker ∷ function ∷ x) told in
+    ap₂ (λ (x : ℕ) (y : ℕ). x ∷ y ∷ to_be_bytes w16 (4 + length (body_of m))) (sym h.marked.marker) (sym named) ∙ ap (λ (x : List ℕ). marker ∷ function ∷ x) told in
     sym (ap₂ ◌++◌ header body)
 
 -- what octets are
@@ -384,37 +384,49 @@ bvll_takes octets fits m e =
 -- ---- each fault, by its words
 
 pub marker_is : (octets : List ℕ) → AreOctets octets → (bvll_at octets ≡ Err faults.Marker) ↔ LacksMarker octets
-marker_is octets fits = (λ e. elim (outcome octets fits) [
-  | unmarked h ↦ h
-  | other_sized h ↦ let refused = lacks_length octets h in absurd cc
-  | unnamed h ↦ let refused = lacks_function octets h in absurd cc
-  | unfit h ↦ let refused = lacks_body octets fits h in absurd cc
-  | whole n reads spelled valid ↦ absurd cc
-], lacks_marker octets)
+marker_is octets fits = (
+  λ e. elim (outcome octets fits) [
+    | unmarked h ↦ h
+    | other_sized h ↦ let refused = lacks_length octets h in absurd cc
+    | unnamed h ↦ let refused = lacks_function octets h in absurd cc
+    | unfit h ↦ let refused = lacks_body octets fits h in absurd cc
+    | whole n reads spelled valid ↦ absurd cc
+  ],
+  lacks_marker octets,
+)
 
 pub length_is : (octets : List ℕ) → AreOctets octets → (bvll_at octets ≡ Err faults.Length) ↔ LacksLength octets
-length_is octets fits = (λ e. elim (outcome octets fits) [
-  | unmarked h ↦ let refused = lacks_marker octets h in absurd cc
-  | other_sized h ↦ h
-  | unnamed h ↦ let refused = lacks_function octets h in absurd cc
-  | unfit h ↦ let refused = lacks_body octets fits h in absurd cc
-  | whole n reads spelled valid ↦ absurd cc
-], lacks_length octets)
+length_is octets fits = (
+  λ e. elim (outcome octets fits) [
+    | unmarked h ↦ let refused = lacks_marker octets h in absurd cc
+    | other_sized h ↦ h
+    | unnamed h ↦ let refused = lacks_function octets h in absurd cc
+    | unfit h ↦ let refused = lacks_body octets fits h in absurd cc
+    | whole n reads spelled valid ↦ absurd cc
+  ],
+  lacks_length octets,
+)
 
 pub function_is : (octets : List ℕ) → AreOctets octets → (bvll_at octets ≡ Err faults.Function) ↔ LacksFunction octets
-function_is octets fits = (λ e. elim (outcome octets fits) [
-  | unmarked h ↦ let refused = lacks_marker octets h in absurd cc
-  | other_sized h ↦ let refused = lacks_length octets h in absurd cc
-  | unnamed h ↦ h
-  | unfit h ↦ let refused = lacks_body octets fits h in absurd cc
-  | whole n reads spelled valid ↦ absurd cc
-], lacks_function octets)
+function_is octets fits = (
+  λ e. elim (outcome octets fits) [
+    | unmarked h ↦ let refused = lacks_marker octets h in absurd cc
+    | other_sized h ↦ let refused = lacks_length octets h in absurd cc
+    | unnamed h ↦ h
+    | unfit h ↦ let refused = lacks_body octets fits h in absurd cc
+    | whole n reads spelled valid ↦ absurd cc
+  ],
+  lacks_function octets,
+)
 
 pub body_is : (octets : List ℕ) → AreOctets octets → (bvll_at octets ≡ Err faults.Body) ↔ LacksBody octets
-body_is octets fits = (λ e. elim (outcome octets fits) [
-  | unmarked h ↦ let refused = lacks_marker octets h in absurd cc
-  | other_sized h ↦ let refused = lacks_length octets h in absurd cc
-  | unnamed h ↦ let refused = lacks_function octets h in absurd cc
-  | unfit h ↦ h
-  | whole n reads spelled valid ↦ absurd cc
-], lacks_body octets fits)
+body_is octets fits = (
+  λ e. elim (outcome octets fits) [
+    | unmarked h ↦ let refused = lacks_marker octets h in absurd cc
+    | other_sized h ↦ let refused = lacks_length octets h in absurd cc
+    | unnamed h ↦ let refused = lacks_function octets h in absurd cc
+    | unfit h ↦ h
+    | whole n reads spelled valid ↦ absurd cc
+  ],
+  lacks_body octets fits,
+)

@@ -117,12 +117,40 @@ pub record IsValid (message : Message) : Type 0 where
   pub fields : HasFields message
   pub size : length (spelling message) < 2 ^ 16
 
+-- the octets are a message with these fields
+pub record IsBvll (octets : List ℕ) (message : Message) : Type 0 where
+  pub valid : IsValid message
+  pub spelled : octets ≡ spelling message
+
+-- ---- the codes of a result (Annex J.2.1)
+
+abbrev pub success : ℕ
+success = 0x0000
+
+abbrev pub write_bdt_nak : ℕ
+write_bdt_nak = 0x0010
+
+abbrev pub read_bdt_nak : ℕ
+read_bdt_nak = 0x0020
+
+abbrev pub register_nak : ℕ
+register_nak = 0x0030
+
+abbrev pub read_fdt_nak : ℕ
+read_fdt_nak = 0x0040
+
+abbrev pub delete_nak : ℕ
+delete_nak = 0x0050
+
+abbrev pub distribute_nak : ℕ
+distribute_nak = 0x0060
+
 -- ---- octets read as a message
 
 -- the functions in the order of their octets, from 00
 abbrev pub all_functions : List Function
 all_functions = functions.Result ∷ functions.WriteBdt ∷ functions.ReadBdt ∷ functions.ReadBdtAck ∷ functions.Forwarded ∷ functions.Register
-  ∷ functions.ReadFdt ∷ functions.ReadFdtAck ∷ functions.Delete ∷ functions.Distribute ∷ functions.OriginalUnicast ∷ functions.OriginalBroadcast ∷ []
+    ∷ functions.ReadFdt ∷ functions.ReadFdtAck ∷ functions.Delete ∷ functions.Distribute ∷ functions.OriginalUnicast ∷ functions.OriginalBroadcast ∷ []
 
 -- the function of an octet
 abbrev pub function_at : ℕ → Result Function BvllFault
@@ -188,7 +216,7 @@ body_at functions.OriginalBroadcast body = Ok (original_broadcast body)
 -- the function, and last the body.
 unfoldable pub bvll_at : List ℕ → Result Message BvllFault
 bvll_at (marker ∷ function ∷ high ∷ low ∷ body) =
-  if marker == 0x81 then
+    if marker == 0x81 then
     (if from_be_bytes w16 (high ∷ low ∷ []) == 4 + length body then (function_at function >>= λ kind. body_at kind body) else Err faults.Length)
-  else Err faults.Marker
+    else Err faults.Marker
 bvll_at _ = Err faults.Length

@@ -1,5 +1,5 @@
 -- What is wrong with octets that are no message (Annex J.2), said of the octets themselves.
-use Rattle.std.specs.Prelude.{◌≡◌, ◌≢◌, ◌⊎◌, ℕ, ◌%◌, ◌<◌, ◌≤◌, List, [], ◌∷◌, length, take, drop, slice_index}
+use Rattle.std.specs.Prelude.{◌≡◌, ◌≢◌, ◌⊎◌, ℕ, ◌%◌, ◌<◌, ◌≤◌, List, length, take, drop, slice_index}
 use Rattle.std.specs.Int.{w16, from_be_bytes}
 use Rattle.gw_bvll.specs.declared.function.Function.{Function}
 use Rattle.gw_bvll.specs.declared.function.Function.TheVariants as functions

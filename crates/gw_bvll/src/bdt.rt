@@ -7,7 +7,6 @@ ghost use Rattle.gw_addr.specs.Reading.{AreOctets};
 
 use gw_addr::BipAddr;
 
-
 /// An entry of a broadcast distribution table: a broadcast manager, and the mask by which broadcasts are sent on to it.
 ///
 /// ```text
@@ -35,6 +34,7 @@ impl BdtEntry {
         BdtEntry::entry_of(octets)
     }
 
+    /// The same, from its reading alone.
     fn entry_of(octets: &[u8; 10]) -> BdtEntry
         ensures { result ≡ bdt_entry octets.now }
     {
@@ -87,7 +87,7 @@ impl<'a> BdtEntries<'a> {
         ensures spelled { result.now ≡ flat_map bdt_octets (bdt_of self.now) }
         ensures fit { AllByRecursion IsBdtEntry (bdt_of self.now) }
     {
-        self.octets
+        &self.octets[..]
     }
 
     /// How many entries there are.

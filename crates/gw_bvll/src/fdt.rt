@@ -7,7 +7,6 @@ ghost use Rattle.gw_addr.specs.Reading.{AreOctets};
 
 use gw_addr::BipAddr;
 
-
 /// An entry of a foreign device table: a registered device, and for how long it stays registered.
 ///
 /// ```text
@@ -38,10 +37,22 @@ impl FdtEntry {
         FdtEntry::entry_of(octets)
     }
 
+    /// The same, from its reading alone.
     fn entry_of(octets: &[u8; 10]) -> FdtEntry
         ensures { result ≡ fdt_entry octets.now }
     {
-        let [a, b, c, d, high, low, live_high, live_low, left_high, left_low] = *octets;
+        let [
+            a,
+            b,
+            c,
+            d,
+            high,
+            low,
+            live_high,
+            live_low,
+            left_high,
+            left_low,
+        ] = *octets;
         FdtEntry {
             address: BipAddr {
                 ip: [a, b, c, d],
@@ -59,7 +70,9 @@ impl FdtEntry {
         let [a, b, c, d, high, low] = self.address.to_octets();
         let [live_high, live_low] = self.time_to_live.to_be_bytes();
         let [left_high, left_low] = self.remaining.to_be_bytes();
-        [a, b, c, d, high, low, live_high, live_low, left_high, left_low]
+        [
+            a, b, c, d, high, low, live_high, live_low, left_high, left_low,
+        ]
     }
 }
 
@@ -92,7 +105,7 @@ impl<'a> FdtEntries<'a> {
         ensures spelled { result.now ≡ flat_map fdt_octets (fdt_of self.now) }
         ensures fit { AllByRecursion IsFdtEntry (fdt_of self.now) }
     {
-        self.octets
+        &self.octets[..]
     }
 
     /// How many entries there are.

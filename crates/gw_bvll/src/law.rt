@@ -7,5 +7,4 @@ ghost use Rattle.gw_bvll.specs.Bvll.{Message, spelling, IsValid, bvll_at};
 pub fn laws()
     ensures again { (m : Message) → IsValid m → bvll_at (spelling m) ≡ Ok m }
     ensures unique { (m n : Message) → IsValid m → IsValid n → spelling m ≡ spelling n → m ≡ n }
-{
-}
+{}

@@ -18,3 +18,6 @@ pub use law::laws;
 pub use message::{Bvll, ResultCode};
 pub use reading::decode;
 pub use writing::encode;
+
+#[cfg(test)]
+mod tests;

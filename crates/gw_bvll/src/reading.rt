@@ -4,7 +4,7 @@ ghost use Rattle.std.specs.Prelude.{◌≡◌, ◌↔◌, length, IfOk, IsOkAnd}
 ghost use Rattle.std.specs.Int.{w16};
 ghost use Rattle.gw_addr.specs.Reading.{Gives, number_at, front_at};
 ghost use Rattle.gw_bvll.specs.Entries.{bdt_entries, fdt_entries, bdt_of, fdt_of};
-ghost use Rattle.gw_bvll.specs.Bvll.{Message, view, spelling, IsValid, ended, number_body, address_at, address_body, entries_body, body_at, bvll_at};
+ghost use Rattle.gw_bvll.specs.Bvll.{Message, view, IsBvll, ended, number_body, address_at, address_body, entries_body, body_at, bvll_at};
 ghost use Rattle.gw_bvll.specs.Shape.{LacksMarker, LacksLength, LacksFunction, LacksBody};
 
 use crate::bdt::BdtEntries;
@@ -17,6 +17,7 @@ use gw_addr::BipAddr;
 /// The first octet of each message: BVLL for BACnet/IP (Annex J.2).
 const MARKER: u8 = 0x81;
 
+/// A number of two octets, and what stands behind it.
 fn number(octets: &[u8]) -> Result<(u16, &[u8]), BvllFault>
     ensures { Gives (λ x. (x.0, x.1.now)) result (number_at BvllFault.Body w16 octets.now) }
 {
@@ -27,6 +28,7 @@ fn number(octets: &[u8]) -> Result<(u16, &[u8]), BvllFault>
     Ok((u16::from_be_bytes([front[0], front[1]]), rest))
 }
 
+/// Four octets, and what stands behind them.
 fn four_octets(octets: &[u8]) -> Result<([u8; 4], &[u8]), BvllFault>
     ensures { Gives (λ x. (x.0, x.1.now)) result (front_at BvllFault.Body 4 octets.now) }
 {
@@ -34,6 +36,7 @@ fn four_octets(octets: &[u8]) -> Result<([u8; 4], &[u8]), BvllFault>
     Ok((*front, rest))
 }
 
+/// A body that is a number of two octets.
 #[tactic(auto, unfolding(crate::specs::Bvll::number_body))]
 fn whole_number(body: &[u8]) -> Result<u16, BvllFault>
     ensures { Gives (λ x. x) result (number_body body.now) }
@@ -45,6 +48,7 @@ fn whole_number(body: &[u8]) -> Result<u16, BvllFault>
     Ok(number)
 }
 
+/// An address, and what stands behind it.
 #[tactic(auto, unfolding(crate::specs::Bvll::address_at))]
 fn front_address(body: &[u8]) -> Result<(BipAddr, &[u8]), BvllFault>
     ensures { Gives (λ x. (x.0, x.1.now)) result (address_at body.now) }
@@ -54,6 +58,7 @@ fn front_address(body: &[u8]) -> Result<(BipAddr, &[u8]), BvllFault>
     Ok((BipAddr { ip, udp }, rest))
 }
 
+/// A body that is an address.
 #[tactic(auto, unfolding(crate::specs::Bvll::address_body))]
 fn whole_address(body: &[u8]) -> Result<BipAddr, BvllFault>
     ensures { Gives (λ x. x) result (address_body body.now) }
@@ -65,18 +70,21 @@ fn whole_address(body: &[u8]) -> Result<BipAddr, BvllFault>
     Ok(address)
 }
 
+/// A body of entries of a broadcast distribution table.
 fn read_bdt_entries(body: &[u8]) -> Result<BdtEntries<'_>, BvllFault>
     ensures { Gives bdt_of result (entries_body bdt_entries body.now) }
 {
     BdtEntries::from_octets(body).ok_or(BvllFault::Body)
 }
 
+/// A body of entries of a foreign device table.
 fn read_fdt_entries(body: &[u8]) -> Result<FdtEntries<'_>, BvllFault>
     ensures { Gives fdt_of result (entries_body fdt_entries body.now) }
 {
     FdtEntries::from_octets(body).ok_or(BvllFault::Body)
 }
 
+/// The message, where it has no body.
 fn without_body<'a>(message: Bvll<'a>, body: &[u8]) -> Result<Bvll<'a>, BvllFault>
     ensures { Gives view result (ended (view message.entry) body.now) }
 {
@@ -87,6 +95,7 @@ fn without_body<'a>(message: Bvll<'a>, body: &[u8]) -> Result<Bvll<'a>, BvllFaul
     }
 }
 
+/// The message of a function, from its body.
 #[tactic(auto, unfolding(crate::specs::Bvll::body_at))]
 fn message_of(function: Function, body: &[u8]) -> Result<Bvll<'_>, BvllFault>
     ensures { Gives view result (body_at function body.now) }
@@ -113,6 +122,7 @@ fn message_of(function: Function, body: &[u8]) -> Result<Bvll<'_>, BvllFault>
     }
 }
 
+/// The message that the octets are, with the faults in their order.
 #[tactic(auto, unfolding(crate::specs::Bvll::bvll_at))]
 fn message_at(octets: &[u8]) -> Result<Bvll<'_>, BvllFault>
     ensures { Gives view result (bvll_at octets.now) }
@@ -135,9 +145,9 @@ fn message_at(octets: &[u8]) -> Result<Bvll<'_>, BvllFault>
 /// datagram. The faults are judged in the order `Length` for fewer than four octets, `Marker`, `Length`, `Function`, `Body`.
 pub fn decode(octets: &[u8]) -> Result<Bvll<'_>, BvllFault>
     // What is read is spelled so, each octet of it.
-    ensures found { IfOk result (λ message. IsValid (view message) × (octets.now ≡ spelling (view message))) }
+    ensures found { IfOk result (λ message. IsBvll octets.now (view message)) }
     // What is spelled so is read.
-    ensures only { (m : Message) → IsValid m → octets.now ≡ spelling m → IsOkAnd result (λ message. view message ≡ m) }
+    ensures only { (m : Message) → IsBvll octets.now m → IsOkAnd result (λ message. view message ≡ m) }
 
     // Which fault it is, said of the octets.
     ensures marker { (result ≡ Err BvllFault.Marker) ↔ LacksMarker octets.now }

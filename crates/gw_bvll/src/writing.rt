@@ -10,7 +10,7 @@ use crate::fault::EncodeFault;
 use crate::message::Bvll;
 use std::alloc::AllocError;
 
-/// The most octets that a message may have, as an Ethernet frame carries them.
+/// The most octets of a message: an NPDU of 1497 octets behind the ten of a Forwarded-NPDU.
 const LIMIT: usize = 1507;
 
 /// How many octets the body of the message has.
@@ -30,6 +30,7 @@ fn body_len(message: &Bvll<'_>) -> usize
     }
 }
 
+/// Appends what stands behind the header.
 fn put_body(message: &Bvll<'_>, out: &mut Vec<u8>) -> Result<(), AllocError>
     ensures ok { OnOk result (out.new.items ≡ out.old.items ++ body_of (view message.now)) }
     ensures front { Keeps out.old.items out.new.items }
@@ -54,7 +55,19 @@ fn put_body(message: &Bvll<'_>, out: &mut Vec<u8>) -> Result<(), AllocError>
     }
 }
 
-/// Appends the octets of a message (Annex J.2). After a fault the buffer is as it was.
+/// Appends the header, with the length of the whole message, and the body.
+fn put_message(message: &Bvll<'_>, len: u16, out: &mut Vec<u8>) -> Result<(), AllocError>
+    ensures ok { OnOk result (out.new.items ≡ out.old.items ++ (0x81 ∷ octet_of (function_of (view message.now)) ∷ to_be_bytes w16 len ++ body_of (view message.now))) }
+    ensures front { Keeps out.old.items out.new.items }
+    ensures room { vec_len out.old + (4 + length (body_of (view message.now))) ≤ vec_capacity out.old → IsOk result }
+{
+    let [high, low] = len.to_be_bytes();
+    out.extend_from_slice(&[0x81, message.function().octet(), high, low])?;
+    put_body(message, out)
+}
+
+/// Appends the octets of a message (Annex J.2). `TooLong` where they would be over 1507, and `Memory` where a growth of the buffer was
+/// refused. After a fault the buffer is as it was.
 pub fn encode(message: &Bvll<'_>, out: &mut Vec<u8>) -> Result<(), EncodeFault>
     ensures ok { OnOk result (out.new.items ≡ out.old.items ++ spelling (view message.now)) }
     ensures too_long { (result ≡ Err EncodeFault.TooLong) ↔ (1507 < length (spelling (view message.now))) }
@@ -72,14 +85,4 @@ pub fn encode(message: &Bvll<'_>, out: &mut Vec<u8>) -> Result<(), EncodeFault>
         return Err(EncodeFault::Memory);
     }
     Ok(())
-}
-
-fn put_message(message: &Bvll<'_>, len: u16, out: &mut Vec<u8>) -> Result<(), AllocError>
-    ensures ok { OnOk result (out.new.items ≡ out.old.items ++ (0x81 ∷ octet_of (function_of (view message.now)) ∷ to_be_bytes w16 len ++ body_of (view message.now))) }
-    ensures front { Keeps out.old.items out.new.items }
-    ensures room { vec_len out.old + (4 + length (body_of (view message.now))) ≤ vec_capacity out.old → IsOk result }
-{
-    let [high, low] = len.to_be_bytes();
-    out.extend_from_slice(&[0x81, message.function().octet(), high, low])?;
-    put_body(message, out)
 }

@@ -1,4 +1,4 @@
-use Rattle.std.proofs.Common.{arith, ◌<◌, ℕ, slice_index_or}
+use Rattle.std.proofs.Common.{arith}
 use Rattle.gw_addr.specs.Reading.{AreOctets}
 use Rattle.gw_bvll.specs.declared.fault.BvllFault.TheVariants.{Marker, Length, Function, Body}
 use Rattle.gw_bvll.specs.Shape.{LacksMarker, LacksLength, LacksFunction, LacksBody}

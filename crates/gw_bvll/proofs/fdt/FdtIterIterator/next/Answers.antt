@@ -1,5 +1,5 @@
-use Rattle.std.proofs.Common.{take, drop, length, map, ◌≡◌, ◌≤◌, refl, ap, arith, rules}
-use Rattle.gw_bvll.specs.Entries.{tens, fdt_entry, fdt_left}
+use Rattle.std.proofs.Common.{length, map, ◌≤◌, refl, ap, arith, rules}
+use Rattle.gw_bvll.specs.Entries.{fdt_entry}
 use Rattle.gw_bvll.proofs.EntryLemmas.{tens-step}
 use Rattle.gw_bvll.proofs.fdt.FdtIterIterator.next.Goals as goal
 
