@@ -1,5 +1,5 @@
 -- BACnet/IP addresses (Annex J.1.2).
-use Rattle.std.specs.Prelude.{◌≡◌, ℕ, ◌+◌, ◌*◌, ◌^◌, ◌<◌, List, [], ◌∷◌, ◌++◌, length, take, drop, slice_index, Result, Ok, Err, Bool, true, false, ◌==◌, nat_le, ◌&&◌, if◌then◌else◌}
+use Rattle.std.specs.Prelude.{◌≡◌, ℕ, ◌+◌, ◌*◌, ◌^◌, ◌<◌, List, [], ◌∷◌, ◌++◌, length, take, drop, slice_index, Result, Ok, Err, Bool, false, ◌==◌, nat_le, ◌&&◌, if◌then◌else◌}
 use Rattle.std.specs.Int.{w16, from_be_bytes, to_be_bytes}
 use Rattle.std.specs.Fmt.{decimal}
 use Rattle.gw_addr.specs.declared.bip.BipAddr.{BipAddr}
@@ -29,7 +29,7 @@ big_endian (octet ∷ octets) = octet * 256 ^ length octets + big_endian octets
 -- `a.b.c.d:port`
 abbrev pub text_of : BipAddr → List ℕ
 text_of a =
-  decimal (slice_index a.ip 0) ++ 46 ∷ (decimal (slice_index a.ip 1) ++ 46 ∷ (decimal (slice_index a.ip 2) ++ 46 ∷ (decimal (slice_index a.ip 3) ++ 58 ∷ decimal a.udp)))
+    decimal (slice_index a.ip 0) ++ 46 ∷ (decimal (slice_index a.ip 1) ++ 46 ∷ (decimal (slice_index a.ip 2) ++ 46 ∷ (decimal (slice_index a.ip 3) ++ 58 ∷ decimal a.udp)))
 
 -- a digit other than 0 stands first, or 0 alone
 abbrev pub begins_canonical_of : List ℕ → Bool

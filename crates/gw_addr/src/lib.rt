@@ -5,15 +5,14 @@
 mod bip;
 mod fault;
 mod network;
+mod one_to_one;
 mod station;
 
 pub use bip::{BipAddr, bip_from_slice};
 pub use fault::{OctetsFault, TextFault};
 pub use network::NetNum;
+pub use one_to_one::laws;
 pub use station::{Mac, Source};
-
-
-
 
 #[cfg(test)]
 mod tests;

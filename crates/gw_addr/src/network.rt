@@ -1,6 +1,7 @@
 //! Network numbers (clause 6.1): 1 to 65534. 0 is no network, and 65535 stands for all of them.
 
-ghost use Rattle.std.specs.Prelude.{◌≡◌, ◌≤◌};
+ghost use Rattle.std.specs.Prelude.{◌≡◌, ◌≤◌, Some};
+ghost use Rattle.std.specs.Fmt.{decimal};
 ghost use Rattle.gw_addr.specs.Station.{network_of};
 
 use std::fmt;
@@ -43,5 +44,14 @@ impl NetNum {
         ensures high { result ≤ 65534 }
     {
         self.number
+    }
+}
+
+impl fmt::Display for NetNum {
+    ghost output = { λ n. Some (decimal n) };
+
+    fn fmt<W: fmt::Write>(&self, f: &mut fmt::Formatter<W>) -> fmt::Result {
+        let number = self.number;
+        write!(f, "{number}")
     }
 }

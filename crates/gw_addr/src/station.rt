@@ -1,7 +1,8 @@
 //! The addresses of stations (clauses 6.2.2 and 6.3): a network, and 1 to 255 octets on it.
 
-ghost use Rattle.std.specs.Prelude.{◌≡◌, ◌≤◌, ◌-◌, ◌++◌, length, replicate};
-ghost use Rattle.gw_addr.specs.Station.{station_of, key_of};
+ghost use Rattle.std.specs.Prelude.{◌≡◌, ◌<◌, ◌≤◌, ◌-◌, ◌++◌, length, replicate, Some};
+ghost use Rattle.std.specs.List.{flat_map};
+ghost use Rattle.gw_addr.specs.Station.{station_of, key_of, digit_of, two_digits};
 
 use crate::network::NetNum;
 use std::fmt;
@@ -58,9 +59,37 @@ impl Mac {
         ensures { result ≡ key_of self.now }
     {
         match self.as_slice() {
-            [a, b, c, d, high, low] => Some(u64::from_be_bytes([0, 0, *a, *b, *c, *d, *high, *low])),
+            [a, b, c, d, high, low] => Some(u64::from_be_bytes([
+                0, 0, *a, *b, *c, *d, *high, *low,
+            ])),
             _ => None,
         }
+    }
+}
+
+impl fmt::Display for Mac {
+    ghost output = { λ octets. Some (flat_map two_digits octets) };
+
+    fn fmt<W: fmt::Write>(&self, f: &mut fmt::Formatter<W>) -> fmt::Result {
+        for octet in self.as_slice() {
+            let high = upper_digit(octet >> 4);
+            let low = upper_digit(octet & 15);
+            write!(f, "{high}{low}")?;
+        }
+        Ok(())
+    }
+}
+
+/// The digit of a number below 16, in upper case.
+fn upper_digit(number: u8) -> char
+    requires { number < 16 }
+    ensures value { result ≡ digit_of number }
+    ensures ascii { result < 128 }
+{
+    if number < 10 {
+        char::from(b'0' + number)
+    } else {
+        char::from(b'A' + (number - 10))
     }
 }
 

@@ -4,7 +4,13 @@ use std::test::*;
 #[test]
 fn octets_of_an_address(rt: HostRuntime) -> Result<(), Fail> {
     let address = bip_from_slice(&[0xC0, 0xA8, 0x01, 0x05, 0xBA, 0xC0])?;
-    assert_eq!(rt; address, BipAddr { ip: [192, 168, 1, 5], udp: 47808 });
+    assert_eq!(rt;
+        address,
+        BipAddr {
+            ip: [192, 168, 1, 5],
+            udp: 47808
+        }
+    );
     assert_eq!(rt; address.to_octets(), [0xC0, 0xA8, 0x01, 0x05, 0xBA, 0xC0]);
     assert_eq!(rt; address.key48(), 0xC0A8_0105_BAC0);
     assert!(rt; bip_from_slice(&[0xC0, 0xA8, 0x01, 0x05, 0xBA]).is_err());
@@ -15,11 +21,26 @@ fn octets_of_an_address(rt: HostRuntime) -> Result<(), Fail> {
 #[test]
 fn texts_of_an_address(rt: HostRuntime) -> Result<(), Fail> {
     let address = BipAddr::parse("192.168.1.5:47808")?;
-    assert_eq!(rt; address, BipAddr { ip: [192, 168, 1, 5], udp: 47808 });
+    assert_eq!(rt;
+        address,
+        BipAddr {
+            ip: [192, 168, 1, 5],
+            udp: 47808
+        }
+    );
     let text = address.to_string(rt.alloc())?;
     assert_eq!(rt; text.as_str(), "192.168.1.5:47808");
-    assert_eq!(rt; BipAddr::parse("0.0.0.0:0")?, BipAddr { ip: [0; 4], udp: 0 });
-    assert_eq!(rt; BipAddr::parse("255.255.255.255:65535")?, BipAddr { ip: [255; 4], udp: 65535 });
+    assert_eq!(rt;
+        BipAddr::parse("0.0.0.0:0")?,
+        BipAddr { ip: [0; 4], udp: 0 }
+    );
+    assert_eq!(rt;
+        BipAddr::parse("255.255.255.255:65535")?,
+        BipAddr {
+            ip: [255; 4],
+            udp: 65535
+        }
+    );
     Ok(())
 }
 

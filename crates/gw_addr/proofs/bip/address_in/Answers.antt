@@ -1,4 +1,4 @@
-use Rattle.std.proofs.Common.{◌≡◌, ◌++◌, ◌∷◌, get_or, Some, ap, sym, ◌∙◌}
+use Rattle.std.proofs.Common.{◌≡◌, ◌++◌, ◌∷◌, get_or, Some, ap}
 use Rattle.std.specs.Fmt.{decimal}
 use Rattle.gw_addr.proofs.Address.{address_of_parts}
 use Rattle.gw_addr.proofs.bip.address_in.Goals as goal
