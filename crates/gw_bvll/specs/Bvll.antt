@@ -10,8 +10,8 @@ use Rattle.gw_bvll.specs.declared.fault.BvllFault.{BvllFault}
 use Rattle.gw_bvll.specs.declared.fault.BvllFault.TheVariants as faults
 use Rattle.gw_bvll.specs.declared.function.Function.{Function}
 use Rattle.gw_bvll.specs.declared.function.Function.TheVariants as functions
-pub use Rattle.gw_bvll.specs.declared.bdt.BdtEntry.{BdtEntry}
-pub use Rattle.gw_bvll.specs.declared.fdt.FdtEntry.{FdtEntry}
+use Rattle.gw_bvll.specs.declared.bdt.BdtEntry.{BdtEntry}
+use Rattle.gw_bvll.specs.declared.fdt.FdtEntry.{FdtEntry}
 use Rattle.gw_bvll.specs.declared.message.Bvll.{Bvll}
 use Rattle.gw_bvll.specs.declared.message.Bvll.TheVariants as bvll
 use Rattle.gw_bvll.specs.Entries.{bdt_octets, fdt_octets, bdt_entries, fdt_entries, bdt_of, fdt_of, IsBdtEntry, IsFdtEntry}

@@ -50,7 +50,8 @@ impl BdtEntry {
 
     /// The ten octets of the entry.
     pub fn to_octets(self) -> [u8; 10]
-        ensures { result ≡ bdt_octets self }
+        ensures spelled { result ≡ bdt_octets self }
+        ensures fits { IsBdtEntry self }
     {
         let [a, b, c, d, high, low] = self.address.to_octets();
         let [mask0, mask1, mask2, mask3] = self.mask;

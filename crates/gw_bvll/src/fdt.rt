@@ -65,7 +65,8 @@ impl FdtEntry {
 
     /// The ten octets of the entry.
     pub fn to_octets(self) -> [u8; 10]
-        ensures { result ≡ fdt_octets self }
+        ensures spelled { result ≡ fdt_octets self }
+        ensures fits { IsFdtEntry self }
     {
         let [a, b, c, d, high, low] = self.address.to_octets();
         let [live_high, live_low] = self.time_to_live.to_be_bytes();

@@ -112,6 +112,11 @@ fn cuts_and_faults(rt: HostRuntime) {
         );
     }
     let short = Err(BvllFault::Length);
+    for told in [0x15, 0x17] {
+        let mut frame = UNICAST;
+        frame[3] = told;
+        assert_eq!(rt; decode(&frame), short, "at {told}");
+    }
     assert_eq!(rt; decode(&[0x82, 0x0C, 0x00]), short);
     assert_eq!(rt; decode(&[0x82, 0x0C, 0x00, 0x05]), Err(BvllFault::Marker));
     assert_eq!(rt; decode(&[0x81, 0x0C, 0x00, 0x05]), short);
