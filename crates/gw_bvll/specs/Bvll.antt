@@ -1,5 +1,5 @@
 -- The messages of the BACnet virtual link layer (Annex J.2): their fields, their octets, and how octets are read as a message.
-use Rattle.std.specs.Prelude.{◌≡◌, ℕ, ◌+◌, ◌%◌, ◌^◌, ◌<◌, List, [], ◌∷◌, ◌++◌, length, Result, Ok, Err, ◌==◌, if◌then◌else◌, slice_get}
+use Rattle.std.specs.Prelude.{◌≡◌, ℕ, ◌+◌, ◌%◌, ◌^◌, ◌<◌, List, [], ◌∷◌, ◌++◌, length, Result, Ok, Err, ◌==◌, if◌then◌else◌, Bool, true, false, ⊤, slice_get}
 use Rattle.std.specs.Option.{ok_or}
 use Rattle.std.specs.List.{flat_map, AllByRecursion}
 use Rattle.std.specs.Int.{w16, from_be_bytes, to_be_bytes}
@@ -124,24 +124,31 @@ pub record IsBvll (octets : List ℕ) (message : Message) : Type 0 where
 
 -- ---- the codes of a result (Annex J.2.1)
 
+-- done as asked
 abbrev pub success : ℕ
 success = 0x0000
 
+-- Write-BDT was refused
 abbrev pub write_bdt_nak : ℕ
 write_bdt_nak = 0x0010
 
+-- Read-BDT was refused
 abbrev pub read_bdt_nak : ℕ
 read_bdt_nak = 0x0020
 
+-- Register-Foreign-Device was refused
 abbrev pub register_nak : ℕ
 register_nak = 0x0030
 
+-- Read-FDT was refused
 abbrev pub read_fdt_nak : ℕ
 read_fdt_nak = 0x0040
 
+-- Delete-FDT-Entry was refused
 abbrev pub delete_nak : ℕ
 delete_nak = 0x0050
 
+-- Distribute-Broadcast-To-Network was refused
 abbrev pub distribute_nak : ℕ
 distribute_nak = 0x0060
 
@@ -212,11 +219,17 @@ body_at functions.Distribute body = Ok (distribute body)
 body_at functions.OriginalUnicast body = Ok (original_unicast body)
 body_at functions.OriginalBroadcast body = Ok (original_broadcast body)
 
+-- a test that the octets must pass
+abbrev pub judged : Bool → BvllFault → Result ⊤ BvllFault
+judged true fault = Ok tt
+judged false fault = Err fault
+
 -- The message that octets are. The faults are judged in the order of the header: fewer than four octets, the marker, the length,
 -- the function, and last the body.
 unfoldable pub bvll_at : List ℕ → Result Message BvllFault
-bvll_at (marker ∷ function ∷ high ∷ low ∷ body) =
-    if marker == 0x81 then
-    (if from_be_bytes w16 (high ∷ low ∷ []) == 4 + length body then (function_at function >>= λ kind. body_at kind body) else Err faults.Length)
-    else Err faults.Marker
+bvll_at (marker ∷ function ∷ high ∷ low ∷ body) = do
+  marked ← judged (marker == 0x81) faults.Marker
+  sized ← judged (from_be_bytes w16 (high ∷ low ∷ []) == 4 + length body) faults.Length
+  kind ← function_at function
+  body_at kind body
 bvll_at _ = Err faults.Length

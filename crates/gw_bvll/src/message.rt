@@ -7,6 +7,9 @@ use crate::fdt::FdtEntries;
 use crate::function::Function;
 use gw_addr::BipAddr;
 
+/// The first octet of each message: BVLL for BACnet/IP.
+pub(crate) const MARKER: u8 = 0x81;
+
 /// The code of a BVLC-Result (Annex J.2.1). Each number of two octets is one; the named ones are those of the standard.
 #[derive(Clone, Copy, Debug, PartialEq, Eq)]
 pub struct ResultCode(pub u16);

@@ -11,11 +11,8 @@ use crate::bdt::BdtEntries;
 use crate::fault::BvllFault;
 use crate::fdt::FdtEntries;
 use crate::function::Function;
-use crate::message::{Bvll, ResultCode};
+use crate::message::{Bvll, MARKER, ResultCode};
 use gw_addr::BipAddr;
-
-/// The first octet of each message: BVLL for BACnet/IP (Annex J.2).
-const MARKER: u8 = 0x81;
 
 /// A number of two octets, and what stands behind it.
 fn number(octets: &[u8]) -> Result<(u16, &[u8]), BvllFault>

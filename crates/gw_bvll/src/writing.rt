@@ -7,7 +7,7 @@ ghost use Rattle.gw_addr.specs.Reading.{Keeps};
 ghost use Rattle.gw_bvll.specs.Bvll.{view, body_of, octet_of, function_of, spelling};
 
 use crate::fault::EncodeFault;
-use crate::message::Bvll;
+use crate::message::{Bvll, MARKER};
 use std::alloc::AllocError;
 
 /// The most octets of a message: an NPDU of 1497 octets behind the ten of a Forwarded-NPDU.
@@ -62,7 +62,7 @@ fn put_message(message: &Bvll<'_>, len: u16, out: &mut Vec<u8>) -> Result<(), Al
     ensures room { vec_len out.old + (4 + length (body_of (view message.now))) ≤ vec_capacity out.old → IsOk result }
 {
     let [high, low] = len.to_be_bytes();
-    out.extend_from_slice(&[0x81, message.function().octet(), high, low])?;
+    out.extend_from_slice(&[MARKER, message.function().octet(), high, low])?;
     put_body(message, out)
 }
 
