@@ -1,0 +1,4 @@
+pub mod Fields
+pub mod First
+pub mod Limits
+pub mod Matching

@@ -1,0 +1,5 @@
+use Rattle.gw_rules.proofs.Limits.{counts_iff, order_iff}
+use Rattle.gw_rules.proofs.laws.limits.Goals as goal
+
+pub returns : goal.returns
+returns c = record { counts = counts_iff; order = order_iff }

@@ -1,0 +1,17 @@
+-- The numbers of the ten fields, which are this project's own.
+use Rattle.std.specs.Prelude.{ℕ}
+use Rattle.gw_rules.specs.declared.field.FieldName.{FieldName}
+use Rattle.gw_rules.specs.declared.field.FieldName.TheVariants.{Operation, Port, SourceNetwork, SourceKey, DestinationNetwork, Service, ObjectType, Instance, Property, Priority}
+
+-- the number of a field
+abbrev pub field_number : FieldName → ℕ
+field_number Operation = 1
+field_number Port = 2
+field_number SourceNetwork = 3
+field_number SourceKey = 4
+field_number DestinationNetwork = 5
+field_number Service = 6
+field_number ObjectType = 7
+field_number Instance = 8
+field_number Property = 9
+field_number Priority = 10

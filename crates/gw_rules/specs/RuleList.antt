@@ -1,0 +1,56 @@
+-- The first rule that matches, whether the policy allows an ask, and the limits of a rule list.
+use Rattle.std.specs.Prelude.{◌≡◌, ℕ, ◌+◌, ◌-◌, ◌≤◌, ◌<◌, Bool, false, ◌&&◌, nat_le, IsTrue, List, length, Option, Some, slice_get, position, All}
+use Rattle.std.specs.List.{list_all}
+use Rattle.std.specs.Option.{option_map, option_map_or}
+use Rattle.gw_rules.specs.declared.ask.Ask.{Ask}
+use Rattle.gw_rules.specs.declared.rule.Rule.{Rule}
+use Rattle.gw_rules.specs.declared.rule_list.TheConstants.{MAX_RULES}
+use Rattle.gw_rules.specs.Rule.{matches, Matches, HasFewRanges, has_few_ranges, HasOrderedRanges, has_ordered_ranges}
+
+-- the number of the first rule that matches an ask, counted from 1, or none
+unfoldable pub first : List Rule → Ask → Option ℕ
+first rules ask = option_map (λ place. place + 1) (position (λ rule. matches rule ask) rules)
+
+-- a number of one of the rules
+abbrev pub IsNumberOf : List Rule → ℕ → Type 0
+IsNumberOf rules number = (1 ≤ number) × (number ≤ length rules)
+
+-- the rule of a number says allow
+abbrev pub allows_at : List Rule → ℕ → Bool
+allows_at rules number = option_map_or (λ rule. rule.allow) (slice_get rules (number - 1)) false
+
+-- a policy allows an ask where there is a first rule that matches, and it says allow
+unfoldable pub allows : List Rule → Ask → Bool
+allows rules ask = option_map_or (allows_at rules) (first rules ask) false
+
+-- a rule has a number, its place in the list counted from 1
+pub record HasNumber (rules : List Rule) (number : ℕ) (rule : Rule) : Type 0 where
+  pub counted : 1 ≤ number
+  pub there : slice_get rules (number - 1) ≡ Some rule
+
+-- the rule of this number matches the ask, and no rule of a lower number does: what `first` answers, in words
+pub record IsFirst (rules : List Rule) (ask : Ask) (number : ℕ) : Type 0 where
+  pub rule : Rule
+  pub numbered : HasNumber rules number rule
+  pub matching : Matches rule ask
+  pub least : (lower : ℕ) (other : Rule) → lower < number → HasNumber rules lower other → ¬ Matches other ask
+
+-- there is a first rule that matches, and it says allow: what `allows` answers, in words
+abbrev pub Allows : List Rule → Ask → Type 0
+Allows rules ask = (number : ℕ) × (deciding : IsFirst rules ask number) × IsTrue deciding.rule.allow
+
+-- at most 512 rules, and each with at most four ranges for a field
+abbrev pub keeps_counts : List Rule → Bool
+keeps_counts rules = nat_le (length rules) MAX_RULES && list_all has_few_ranges rules
+
+-- no range has its low end above its high end
+abbrev pub keeps_order : List Rule → Bool
+keeps_order rules = list_all has_ordered_ranges rules
+
+-- the limits of counts, in words
+abbrev pub KeepsCounts : List Rule → Type 0
+KeepsCounts rules = (length rules ≤ MAX_RULES) × All HasFewRanges rules
+
+-- the limits of ends, in words
+abbrev pub KeepsOrder : List Rule → Type 0
+KeepsOrder rules = All HasOrderedRanges rules

@@ -1,0 +1,34 @@
+//! What any judge of a policy answers, however it keeps the policy.
+ghost use Rattle.std.specs.Prelude.{◌≡◌, List, IfSome};
+ghost use Rattle.gw_rules.specs.declared.rule.Rule.{Rule};
+ghost use Rattle.gw_rules.specs.RuleList.{IsNumberOf, allows, first};
+
+use crate::{Ask, RuleList};
+
+/// A judge of asks by the first rule that matches. It may keep the rules in another form than a
+/// list, so a relation says for which lists its answers are right.
+pub trait Judge {
+    /// The judge answers as this list of rules does.
+    ghost StandsFor: { Self → List Rule → Type 0 };
+
+    /// The number of the first rule that matches the ask, counted from 1, or none.
+    fn first(&self, ask: &Ask) -> Option<u16>
+        ensures first { (rules : List Rule) → StandsFor self.now rules → result ≡ first rules ask.now }
+        ensures within { (rules : List Rule) → StandsFor self.now rules → IfSome result (IsNumberOf rules) };
+
+    /// Whether there is a first rule that matches the ask, and it says allow.
+    fn allows(&self, ask: &Ask) -> bool
+        ensures { (rules : List Rule) → StandsFor self.now rules → result ≡ allows rules ask.now };
+}
+
+impl Judge for RuleList {
+    ghost StandsFor = { λ list rules. list ≡ rules };
+
+    fn first(&self, ask: &Ask) -> Option<u16> {
+        RuleList::first(self, ask)
+    }
+
+    fn allows(&self, ask: &Ask) -> bool {
+        RuleList::allows(self, ask)
+    }
+}

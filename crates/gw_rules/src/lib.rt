@@ -1,0 +1,32 @@
+//! Rules under which the gateway forwards, distributes and serves: what is asked, which rules there
+//! are, the first rule that matches, and what any judge of a rule list answers.
+//!
+//! The rules are this project's own. The values that they name are those of ISO 16484-5: network
+//! numbers and network messages of clause 6, services and PDU types of clause 20, objects and
+//! properties of clauses 12 and 15, priorities of clause 19, BVLL functions of Annex J.
+#![tactic(auto)]
+
+mod ask;
+mod fault;
+mod field;
+mod judge;
+pub mod laws;
+mod name;
+mod operation;
+mod range;
+mod ranges;
+mod rule;
+mod rule_list;
+#[cfg(test)]
+mod tests;
+
+pub use ask::Ask;
+pub use fault::RuleFault;
+pub use field::FieldName;
+pub use judge::Judge;
+pub use name::RuleName;
+pub use operation::Operation;
+pub use range::Range;
+pub use ranges::Ranges;
+pub use rule::{MAX_RANGES, Rule};
+pub use rule_list::{MAX_RULES, RuleList};

@@ -1,0 +1,111 @@
+//! A policy: rules in order, of which the first that matches an ask decides.
+ghost use Rattle.std.specs.Prelude.{◌≡◌, ◌<◌, ◌↔◌, ◌&&◌, IsTrue, IsFalse, IsOk, IfOk, IfSome, IsErrOf, [], false, length, position};
+ghost use Rattle.std.specs.List.{list_all};
+ghost use Rattle.gw_rules.specs.Rule.{has_few_ranges, matches};
+ghost use Rattle.gw_rules.specs.RuleList.{IsNumberOf, KeepsCounts, KeepsOrder, allows, first, keeps_counts, keeps_order};
+
+use crate::{Ask, Rule, RuleFault};
+use std::marker::Model;
+
+/// How many rules a [`RuleList`] may have.
+pub const MAX_RULES: usize = 512;
+
+/// A policy: at most 512 rules in order, each with at most four ranges for a field, none of which
+/// has its low end above its high end. The first rule that matches an ask decides; where none does,
+/// the ask is denied. Contracts see the list of the rules.
+#[derive(Debug, Drop)]
+pub struct RuleList {
+    rules: Vec<Rule>,
+}
+
+impl Model for RuleList {
+    ghost use Rattle.std.specs.Prelude.{◌&&◌, IsTrue, List};
+    ghost use Rattle.gw_rules.specs.declared.rule.Rule.{Rule};
+    ghost use Rattle.gw_rules.specs.RuleList.{keeps_counts, keeps_order};
+
+    ghost Value = { List Rule };
+
+    ghost view = { λ a. a.rules.items };
+
+    ghost invariant = { λ a. IsTrue (keeps_counts a.rules.items && keeps_order a.rules.items) };
+}
+
+impl RuleList {
+    /// The policy of these rules in their order. It takes no memory, so it never answers `Memory`.
+    ///
+    /// `TooMany` where there are more than 512 rules, or one has more than four ranges for a field;
+    /// else `Range` where a range's low end is above its high end. The rules are dropped then.
+    pub fn new(rules: Vec<Rule>) -> Result<Self, RuleFault>
+        ensures list { IfOk result (λ list. list ≡ rules.items) }
+        ensures accepted { IsOk result ↔ IsTrue (keeps_counts rules.items && keeps_order rules.items) }
+        ensures too_many { IsErrOf result RuleFault.TooMany ↔ IsFalse (keeps_counts rules.items) }
+        ensures range { IsErrOf result RuleFault.Range ↔
+            (IsTrue (keeps_counts rules.items) × IsFalse (keeps_order rules.items)) }
+    {
+        if !are_few(&rules) {
+            return Err(RuleFault::TooMany);
+        }
+        if !are_ordered(&rules) {
+            return Err(RuleFault::Range);
+        }
+        Ok(RuleList { rules })
+    }
+
+    /// The rules in order.
+    pub fn rules(&self) -> &[Rule]
+        ensures rules { result.now ≡ self.now }
+        ensures counts { KeepsCounts self.now }
+        ensures order { KeepsOrder self.now }
+    {
+        self.rules.as_slice()
+    }
+
+    /// The number of the first rule that matches the ask, counted from 1, or none.
+    #[tactic(auto, unfolding(crate::specs::RuleList::first))]
+    pub fn first(&self, ask: &Ask) -> Option<u16>
+        ensures first { result ≡ first self.now ask.now }
+        ensures within { IfSome result (IsNumberOf self.now) }
+    {
+        match place_of(&self.rules, ask) {
+            Some(place) => Some(place as u16 + 1),
+            None => None,
+        }
+    }
+
+    /// Whether there is a first rule that matches the ask, and it says allow.
+    #[tactic(auto, unfolding(crate::specs::RuleList::allows))]
+    pub fn allows(&self, ask: &Ask) -> bool
+        ensures allows { result ≡ allows self.now ask.now }
+        ensures no_rules { self.now ≡ [] → result ≡ false }
+    {
+        match self.first(ask) {
+            Some(number) => self.rules[usize::from(number) - 1].allow,
+            None => false,
+        }
+    }
+}
+
+fn place_of(rules: &[Rule], ask: &Ask) -> Option<usize>
+    ensures place { result ≡ position (λ rule. matches rule ask.now) rules.now }
+    ensures within { IfSome result (λ place. place < length rules.now) }
+{
+    rules.iter().position(|rule| rule.matches(ask))
+}
+
+fn are_few(rules: &[Rule]) -> bool
+    ensures { result ≡ keeps_counts rules.now }
+{
+    rules.len() <= MAX_RULES && have_few_ranges(rules)
+}
+
+fn have_few_ranges(rules: &[Rule]) -> bool
+    ensures { result ≡ list_all has_few_ranges rules.now }
+{
+    rules.iter().all(|rule| rule.has_few_ranges())
+}
+
+fn are_ordered(rules: &[Rule]) -> bool
+    ensures { result ≡ keeps_order rules.now }
+{
+    rules.iter().all(|rule| rule.has_ordered_ranges())
+}

@@ -1,0 +1,5 @@
+pub mod Kind
+pub mod Tag
+pub mod Object
+pub mod Value
+pub mod Laws

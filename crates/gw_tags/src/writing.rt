@@ -1,0 +1,86 @@
+//! Writing a tag behind what a buffer has (clause 20.2.1).
+
+ghost use Rattle.std.specs.Prelude.{◌≡◌, ◌<◌, ◌+◌, ◌*◌, ◌++◌, OnOk, OnErr};
+ghost use Rattle.gw_addr.specs.Reading.{Keeps};
+ghost use Rattle.gw_tags.specs.Tag.{tag_view, class_of, low_of, length_octets, shortest_length, canonical};
+
+use crate::tag::{Kind, Tag};
+use std::alloc::AllocError;
+
+fn low_bits(kind: Kind) -> u8
+    ensures below { result < 8 }
+    ensures value { result ≡ low_of kind (shortest_length kind) }
+{
+    match kind {
+        Kind::Length(length) if length < 5 => length as u8,
+        Kind::Length(_) => 5,
+        Kind::Opening => 6,
+        Kind::Closing => 7,
+    }
+}
+
+fn put_length(out: &mut Vec<u8>, kind: Kind) -> Result<(), AllocError>
+    ensures ok { OnOk result (out.new.items ≡ out.old.items ++ length_octets kind (shortest_length kind)) }
+    ensures front { Keeps out.old.items out.new.items }
+{
+    match kind {
+        Kind::Length(length) if length < 5 => {}
+        Kind::Length(length) if length < 254 => out.push(length as u8)?,
+        Kind::Length(length) if length < 0x1_0000 => {
+            out.push(254)?;
+            out.extend_from_slice(&(length as u16).to_be_bytes())?;
+        }
+        Kind::Length(length) => {
+            out.push(255)?;
+            out.extend_from_slice(&length.to_be_bytes())?;
+        }
+        Kind::Opening | Kind::Closing => {}
+    }
+    Ok(())
+}
+
+fn class_bit(context: bool) -> u8
+    ensures { result ≡ class_of context }
+{
+    if context { 0x08 } else { 0 }
+}
+
+#[tactic(auto, using(crate::proofs::Octets::first_octet_joins))]
+fn first_octet(high: u8, context: bool, low: u8) -> u8
+    requires high { high < 16 }
+    requires low { low < 8 }
+    ensures { result ≡ 16 * high + class_of context + low }
+{
+    high << 4 | class_bit(context) | low
+}
+
+fn put_tag(out: &mut Vec<u8>, tag: Tag) -> Result<(), AllocError>
+    ensures ok { OnOk result (out.new.items ≡ out.old.items ++ canonical (tag_view tag)) }
+    ensures front { Keeps out.old.items out.new.items }
+{
+    let low = low_bits(tag.kind);
+    if tag.number < 15 {
+        out.push(first_octet(tag.number, tag.context, low))?;
+    } else {
+        out.extend_from_slice(&[first_octet(15, tag.context, low), tag.number])?;
+    }
+    put_length(out, tag.kind)
+}
+
+/// Appends the one spelling of the tag that has the fewest octets. The buffer keeps what it had, and is
+/// unchanged after an error.
+///
+/// # Errors
+///
+/// 1 Memory, where the buffer can't grow.
+pub fn write_tag(out: &mut Vec<u8>, tag: Tag) -> Result<(), AllocError>
+    ensures ok { OnOk result (out.new.items ≡ out.old.items ++ canonical (tag_view tag)) }
+    ensures err { OnErr result (out.new.items ≡ out.old.items) }
+{
+    let len = out.len();
+    let written = put_tag(out, tag);
+    if written.is_err() {
+        out.truncate(len);
+    }
+    written
+}
