@@ -1,0 +1,70 @@
+-- The worked examples, computed.
+use Rattle.std.specs.Prelude.{⊤}
+use Rattle.std.proofs.Common.{◌≡◌, refl}
+use Rattle.gw_bvll.specs.Bvll.{number_body, address_at, address_body, body_at, bvll_at}
+use Rattle.gw_npdu.specs.Npdu.{place_at, named_at, hops_at, message_at, payload_at, layout_at, destination_of, source_of, fields_of, npdu_at}
+use Rattle.gw_tags.specs.Object.{object_octets, object_of}
+use Rattle.gw_tags.specs.Tag.{tag_number_at, length_at, kind_at, header_at, tag_at}
+use Rattle.gw_tags.specs.Value.{value_text}
+use Rattle.gw_rules.specs.Rule.{matches}
+use Rattle.gw_rules.specs.RuleList.{first, allows}
+use Rattle.gw_core.specs.Arrival.{comes_in, frame_in, npdu_in, is_direct, arrived_on, arrived}
+use Rattle.gw_core.specs.Asks.{message_of, apdu_for, named_object, read_ask, asked_by, asked_on, asked, device_asks, asks}
+use Rattle.gw_core.specs.Denied.{rule_name, denials_from, denials_at}
+use Rattle.gw_core.specs.Effects.{within, unicast, reply_sends, device_sends, sends, effects_at, passes_end}
+use Rattle.gw_core.specs.History.{acts_of}
+use Rattle.gw_core.specs.Read.{tagged, content_at, object_at, number_of, property_at, index_at, read_at}
+use Rattle.gw_core.specs.Read as Read
+use Rattle.gw_core.specs.Reply.{binary_value, property_of, property_value, answer, context, read_ack, read_error, reply_apdu, reply_npdu}
+use Rattle.gw_core.specs.Examples.{ReadIsAnswered, HiddenReadIsDenied, LocalReadIsUnheard, HiddenObjectIsUntold, UnknownObjectIsTold, EachCutIsDropped, WrongLengthsAreDropped, RoutedReadIsAnswered, CountsEnd}
+
+-- all that a frame runs through
+unfoldable frames : ⊤
+unfolding number_body address_at address_body body_at bvll_at place_at named_at hops_at message_at payload_at layout_at destination_of source_of fields_of npdu_at comes_in frame_in npdu_in is_direct arrived_on arrived
+frames = tt
+
+-- all that a read runs through
+unfoldable reads : ⊤
+unfolding object_octets object_of tag_number_at length_at kind_at header_at tag_at value_text tagged content_at object_at number_of property_at index_at Read.body_at read_at binary_value property_of property_value answer context read_ack read_error reply_apdu reply_npdu
+reads = tt
+
+-- all that an event runs through
+unfoldable steps : ⊤
+unfolding matches first allows message_of apdu_for named_object read_ask asked_by asked_on asked device_asks asks rule_name denials_from denials_at within unicast reply_sends device_sends sends effects_at passes_end acts_of
+steps = tt
+
+pub read_is_answered : ReadIsAnswered
+unfolding frames reads steps
+read_is_answered = refl
+
+pub hidden_read_is_denied : HiddenReadIsDenied
+unfolding frames reads steps
+hidden_read_is_denied = refl
+
+pub local_read_is_unheard : LocalReadIsUnheard
+unfolding frames reads steps
+local_read_is_unheard = refl
+
+pub hidden_object_is_untold : HiddenObjectIsUntold
+unfolding frames reads steps
+hidden_object_is_untold = refl
+
+pub unknown_object_is_told : UnknownObjectIsTold
+unfolding frames reads steps
+unknown_object_is_told = refl
+
+pub each_cut_is_dropped : EachCutIsDropped
+unfolding frames reads steps
+each_cut_is_dropped = refl
+
+pub wrong_lengths_are_dropped : WrongLengthsAreDropped
+unfolding frames reads steps
+wrong_lengths_are_dropped = (refl, refl)
+
+pub routed_read_is_answered : RoutedReadIsAnswered
+unfolding frames reads steps
+routed_read_is_answered = refl
+
+pub counts_end : CountsEnd
+unfolding frames reads steps
+counts_end = (refl, refl, refl)

@@ -1,0 +1,4 @@
+pub mod EffectLaws
+pub mod HistoryLaws
+pub mod ExampleRuns
+pub mod LogLaws

@@ -1,0 +1,15 @@
+pub mod Device
+pub mod Configured
+pub mod Standing
+pub mod Claim
+pub mod Read
+pub mod Reply
+pub mod Arrival
+pub mod Asks
+pub mod Denied
+pub mod Effects
+pub mod History
+pub mod View
+pub mod Setting
+pub mod Examples
+pub mod Laws

@@ -1,0 +1,14 @@
+//! Why an event isn't taken.
+
+use thiserror::Error;
+
+/// Why an event isn't taken. The gateway is then as it was.
+#[derive(Clone, Copy, Debug, PartialEq, Eq, Error)]
+pub enum StepFault {
+    /// 1: a growth was refused.
+    #[error("out of memory")]
+    Memory,
+    /// 2: the count of ticks or the number of the last denial would pass 2^63.
+    #[error("count at its end")]
+    CountEnd,
+}

@@ -1,0 +1,33 @@
+//! The gateway: one event in, its sends and denials out.
+//!
+//! What an event does is defined in `specs/`, and each answer of a [`Gateway`] is proved to be that, for every history of events.
+#![tactic(auto)]
+
+mod answered;
+mod arrival;
+mod asked;
+mod config;
+mod dropped;
+mod effects;
+mod event;
+mod fault;
+mod gateway;
+mod law;
+mod octets;
+mod read;
+mod reply;
+mod setting;
+mod whole_run;
+
+pub use config::{BinaryValue, Config, DeviceConfig, Port};
+pub use effects::{Denial, Denials, Effects, Sending, Sends};
+pub use event::{Counts, Event};
+pub use fault::StepFault;
+pub use gateway::Gateway;
+pub use law::{counts, worked_examples};
+pub use octets::Octets;
+pub use setting::setting_s;
+pub use whole_run::run;
+
+#[cfg(test)]
+mod tests;

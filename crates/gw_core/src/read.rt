@@ -1,0 +1,132 @@
+//! ReadProperty requests (clauses 15.5 and 20.1.2), as far as the device hears them today.
+
+ghost use Rattle.std.specs.Prelude.{◌≡◌, ◌==◌, List, ℕ, IfOk, Err, Ok};
+ghost use Rattle.gw_addr.specs.Reading.{Gives, front_at};
+ghost use Rattle.gw_tags.specs.Tag.{tag_view};
+ghost use Rattle.gw_core.specs.Read.{tagged, content_at, object_at, number_of, property_at, index_at, body_at, read_at, read_of};
+
+use crate::dropped::Dropped;
+use gw_tags::{Kind, ObjectId, Tag, read_tag};
+
+/// A ReadProperty request.
+#[derive(Clone, Copy, Debug)]
+pub struct Read {
+    /// The invoke id, which the answer repeats.
+    pub invoke: u8,
+    /// The object.
+    pub object: ObjectId,
+    /// The property, at most 4194303.
+    pub property: u32,
+    /// The array index.
+    pub index: Option<u32>,
+}
+
+#[tactic(auto, unfolding(crate::specs::Read::tagged))]
+fn is_tagged(number: u8, tag: Tag) -> bool
+    ensures { result ≡ tagged number (tag_view tag) }
+{
+    tag.context && tag.number == number
+}
+
+/// The content of the context tag of this number, and the octets behind it.
+#[tactic(auto, unfolding(crate::specs::Read::content_at))]
+fn content(number: u8, octets: &[u8]) -> Result<(&[u8], &[u8]), Dropped>
+    ensures { Gives (λ x. (x.0.now, x.1.now)) result (content_at number octets.now) }
+{
+    let Ok(header) = read_tag(octets) else {
+        return Err(Dropped::Silently);
+    };
+    if !is_tagged(number, header.tag) {
+        return Err(Dropped::Silently);
+    }
+    match header.tag.kind {
+        Kind::Length(len) => front(len as usize, header.rest),
+        Kind::Opening | Kind::Closing => Err(Dropped::Silently),
+    }
+}
+
+fn front(count: usize, octets: &[u8]) -> Result<(&[u8], &[u8]), Dropped>
+    ensures { Gives (λ x. (x.0.now, x.1.now)) result (front_at Dropped.Silently count octets.now) }
+{
+    if octets.len() < count {
+        return Err(Dropped::Silently);
+    }
+    Ok(octets.split_at(count))
+}
+
+#[tactic(auto, unfolding(crate::specs::Read::object_at))]
+fn object(octets: &[u8]) -> Result<([u8; 4], &[u8]), Dropped>
+    ensures { Gives (λ x. (x.0, x.1.now)) result (object_at octets.now) }
+{
+    let (content, rest) = content(0, octets)?;
+    let [a, b, c, d] = content else {
+        return Err(Dropped::Silently);
+    };
+    Ok(([*a, *b, *c, *d], rest))
+}
+
+#[tactic(auto, unfolding(crate::specs::Read::number_of))]
+fn number(content: &[u8]) -> Result<u32, Dropped>
+    ensures { Gives (λ n. n) result (number_of content.now) }
+{
+    match content {
+        [a] => Ok(u32::from(*a)),
+        [a, b] => Ok(u32::from_be_bytes([0, 0, *a, *b])),
+        [a, b, c] => Ok(u32::from_be_bytes([0, *a, *b, *c])),
+        [a, b, c, d] => Ok(u32::from_be_bytes([*a, *b, *c, *d])),
+        _ => Err(Dropped::Silently),
+    }
+}
+
+#[tactic(auto, unfolding(crate::specs::Read::property_at))]
+fn property(octets: &[u8]) -> Result<(u32, &[u8]), Dropped>
+    ensures { Gives (λ x. (x.0, x.1.now)) result (property_at octets.now) }
+{
+    let (content, rest) = content(1, octets)?;
+    let property = number(content)?;
+    if property > 4_194_303 {
+        return Err(Dropped::Silently);
+    }
+    Ok((property, rest))
+}
+
+#[tactic(auto, unfolding(crate::specs::Read::index_at))]
+fn index(octets: &[u8]) -> Result<Option<u32>, Dropped>
+    ensures { Gives (λ n. n) result (index_at octets.now) }
+{
+    if octets.is_empty() {
+        return Ok(None);
+    }
+    let (content, rest) = content(2, octets)?;
+    let index = number(content)?;
+    if !rest.is_empty() {
+        return Err(Dropped::Silently);
+    }
+    Ok(Some(index))
+}
+
+#[tactic(auto, unfolding(crate::specs::Read::body_at))]
+fn body(invoke: u8, octets: &[u8]) -> Result<Read, Dropped>
+    ensures { Gives read_of result (body_at invoke octets.now) }
+{
+    let (object, rest) = object(octets)?;
+    let (property, rest) = property(rest)?;
+    let index = index(rest)?;
+    Ok(Read {
+        invoke,
+        object: ObjectId::from_octets(object),
+        property,
+        index,
+    })
+}
+
+/// Reads a ReadProperty request.
+#[tactic(auto, unfolding(crate::specs::Read::read_at))]
+pub fn read_request(apdu: &[u8]) -> Result<Read, Dropped>
+    ensures { Gives read_of result (read_at apdu.now) }
+{
+    match apdu {
+        [first, _, invoke, 12, octets @ ..] if *first < 8 => body(*invoke, octets),
+        _ => Err(Dropped::Silently),
+    }
+}
