@@ -242,3 +242,31 @@ fn a_run_over_a_list(rt: HostRuntime) -> Result<(), Fail> {
     assert_eq!(rt; seen, 2);
     Ok(())
 }
+
+/// With each growth refused in turn (`rt try --test --fail-alloc N`) this still passes: a refused datagram isn't taken, and the same
+/// datagram then does what it does.
+#[test]
+fn a_refused_growth_leaves_the_gateway(rt: HostRuntime) -> Result<(), Fail> {
+    let Ok(config) = setting_s(rt.alloc()) else {
+        return Ok(());
+    };
+    let mut gateway = Gateway::new(rt.alloc(), config, Counts::default())?;
+    assert!(rt; gateway.ports() > 0);
+    let datagram = [
+        0x81, 0x0A, 0x00, 0x16, 0x01, 0x24, 0x00, 0x64, 0x01, 0x01, 0xFF, 0x00, 0x05, 0x08, 0x0C,
+        0x0C, 0x01, 0x40, 0x00, 0x02, 0x19, 0x55,
+    ];
+    let given = match gateway.step(rt.alloc(), 1, node(5), &datagram) {
+        Ok(given) => given,
+        Err(fault) => {
+            assert_eq!(rt; fault, StepFault::Memory);
+            gateway.step(rt.alloc(), 1, node(5), &datagram)?
+        }
+    };
+    assert_eq!(rt; given.sends.as_slice().len(), 1);
+    assert_eq!(rt; given.denials.len(), 1);
+    for denial in given.denials.as_slice() {
+        assert_eq!(rt; denial.number, 1);
+    }
+    Ok(())
+}
