@@ -17,7 +17,7 @@ pub use function::Function;
 pub use law::laws;
 pub use message::{Bvll, ResultCode};
 pub use reading::decode;
-pub use writing::encode;
+pub use writing::{MAX_LEN, encode};
 
 #[cfg(test)]
 mod tests;

@@ -11,7 +11,7 @@ use crate::message::{Bvll, MARKER};
 use std::alloc::AllocError;
 
 /// The most octets of a message: an NPDU of 1497 octets behind the ten of a Forwarded-NPDU.
-const LIMIT: usize = 1507;
+pub const MAX_LEN: usize = 1507;
 
 /// How many octets the body of the message has.
 fn body_len(message: &Bvll<'_>) -> usize
@@ -70,13 +70,13 @@ fn put_message(message: &Bvll<'_>, len: u16, out: &mut Vec<u8>) -> Result<(), Al
 /// refused. After a fault the buffer is as it was.
 pub fn encode(message: &Bvll<'_>, out: &mut Vec<u8>) -> Result<(), EncodeFault>
     ensures ok { OnOk result (out.new.items ≡ out.old.items ++ spelling (view message.now)) }
-    ensures too_long { (result ≡ Err EncodeFault.TooLong) ↔ (1507 < length (spelling (view message.now))) }
+    ensures too_long { (result ≡ Err EncodeFault.TooLong) ↔ (MAX_LEN < length (spelling (view message.now))) }
     // Memory only where the buffer had no room for the message.
     ensures memory { result ≡ Err EncodeFault.Memory → vec_capacity out.old < vec_len out.old + length (spelling (view message.now)) }
     ensures err { OnErr result (out.new.items ≡ out.old.items) }
 {
     let body = body_len(message);
-    if body > LIMIT - 4 {
+    if body > MAX_LEN - 4 {
         return Err(EncodeFault::TooLong);
     }
     let start = out.len();
