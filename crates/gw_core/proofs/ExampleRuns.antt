@@ -1,6 +1,6 @@
 -- The worked examples, computed.
 use Rattle.std.specs.Prelude.{⊤}
-use Rattle.std.proofs.Common.{◌≡◌, refl}
+use Rattle.std.proofs.Common.{refl}
 use Rattle.gw_bvll.specs.Bvll.{number_body, address_at, address_body, body_at, bvll_at}
 use Rattle.gw_npdu.specs.Npdu.{place_at, named_at, hops_at, message_at, payload_at, layout_at, destination_of, source_of, fields_of, npdu_at}
 use Rattle.gw_tags.specs.Object.{object_octets, object_of}

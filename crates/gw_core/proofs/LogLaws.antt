@@ -1,15 +1,13 @@
 -- What the folds of a history count.
-use Rattle.std.proofs.Common.{◌≡◌, ℕ, zero, suc, ◌+◌, Bool, true, false, cond, List, [], ◌∷◌, ◌++◌, length, map, Result, Ok, Err, refl, sym, ap, ◌∙◌, add-zero, zero-add, arith, length-append}
+use Rattle.std.proofs.Common.{◌≡◌, ℕ, zero, suc, ◌+◌, cond, List, [], ◌∷◌, ◌++◌, length, map, Result, Ok, Err, refl, sym, ap, ◌∙◌, add-zero, zero-add, arith, length-append}
 use Rattle.std.proofs.lemmas.List.{map-append}
 use Rattle.std.specs.Prelude.{count_by}
-use Rattle.std.specs.List.{flat_map, fold}
-use Rattle.std.proofs.lemmas.List.Concat.{flat_map-cons}
+use Rattle.std.specs.List.{fold}
 use Rattle.gw_addr.specs.declared.station.Source.{Source}
 use Rattle.gw_rules.specs.declared.ask.Ask.{Ask}
 use Rattle.gw_rules.specs.declared.rule.Rule.{Rule}
 use Rattle.gw_core.specs.declared.dropped.Dropped.{Dropped}
 use Rattle.gw_core.specs.declared.effects.Denial.{Denial}
-use Rattle.gw_core.specs.declared.effects.Effects.{Effects}
 use Rattle.gw_core.specs.declared.event.Counts.{Counts}
 use Rattle.gw_core.specs.declared.event.Event.{Event}
 use Rattle.gw_core.specs.declared.event.Event.TheVariants.{Datagram, Tick}
@@ -18,7 +16,7 @@ use Rattle.gw_core.specs.Asks.{asks, message_of}
 use Rattle.gw_core.specs.Configured.{Configured}
 use Rattle.gw_core.specs.Standing.{Standing}
 use Rattle.gw_core.specs.Denied.{denied, denials_from, denials_of, denials_at}
-use Rattle.gw_core.specs.Effects.{effects_at, ticks_of}
+use Rattle.gw_core.specs.Effects.{effects_at}
 use Rattle.gw_core.specs.History.{acts_of, standing, run_after, taken}
 use Rattle.gw_core.specs.Laws.{is_tick, log, numbers_from, TicksAreCounted, DenialsAreCounted, LogIsNumbered}
 

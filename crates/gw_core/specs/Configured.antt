@@ -1,5 +1,5 @@
 -- What a gateway is configured with.
-use Rattle.std.specs.Prelude.{ℕ, List}
+use Rattle.std.specs.Prelude.{List}
 use Rattle.gw_core.specs.declared.config.Port.{Port}
 use Rattle.gw_core.specs.Device.{Device}
 use Rattle.gw_core.specs.declared.config.BinaryValue.{BinaryValue}

@@ -1,5 +1,5 @@
 -- What the policy denies of what an event asks, and the record of it.
-use Rattle.std.specs.Prelude.{ℕ, ◌+◌, ◌-◌, Bool, List, [], ◌∷◌, Option, Result, Ok, Err, codes, filter, not, slice_get}
+use Rattle.std.specs.Prelude.{ℕ, ◌+◌, ◌-◌, List, [], ◌∷◌, Result, Ok, Err, codes, filter, not, slice_get}
 use Rattle.std.specs.Option.{option_map_or}
 use Rattle.gw_addr.specs.declared.station.Source.{Source}
 use Rattle.gw_rules.specs.declared.ask.Ask.{Ask}

@@ -1,5 +1,5 @@
 -- A ReadProperty request (clauses 15.5 and 20.1.2), as far as the device hears one today.
-use Rattle.std.specs.Prelude.{◌≡◌, ℕ, ◌<◌, ◌≤◌, Bool, List, [], ◌∷◌, length, take, drop, Option, Some, None, Result, Ok, Err, nat_lt, nat_le, ◌==◌, ◌&&◌, if◌then◌else◌}
+use Rattle.std.specs.Prelude.{ℕ, Bool, List, [], ◌∷◌, length, Option, Some, None, Result, Ok, Err, nat_lt, nat_le, ◌==◌, ◌&&◌, if◌then◌else◌}
 use Rattle.gw_addr.specs.Address.{big_endian}
 use Rattle.gw_addr.specs.Reading.{◌>>=◌, front_at}
 use Rattle.gw_tags.specs.declared.tag.Kind.{Kind}

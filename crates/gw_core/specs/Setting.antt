@@ -1,13 +1,11 @@
 -- The built-in configuration, with which the worked examples are run.
-use Rattle.std.specs.Prelude.{ℕ, Bool, true, false, List, [], ◌∷◌, codes}
+use Rattle.std.specs.Prelude.{ℕ, true, false, [], ◌∷◌, codes}
 use Rattle.gw_addr.specs.declared.bip.BipAddr.{BipAddr}
 use Rattle.gw_rules.specs.declared.field.FieldName.TheVariants.{Operation, ObjectType, Instance, Property}
 use Rattle.gw_rules.specs.declared.range.Range.{Range}
 use Rattle.gw_rules.specs.declared.rule.Rule.{Rule}
 use Rattle.gw_rules.specs.Rule.{rule_without_fields, with_range}
 use Rattle.gw_core.specs.declared.config.Port.{Port}
-use Rattle.gw_core.specs.declared.config.BinaryValue.{BinaryValue}
-use Rattle.gw_core.specs.Device.{Device}
 use Rattle.gw_core.specs.Configured.{Configured}
 
 -- 192.168.net.host, at the UDP port of BACnet/IP

@@ -17,9 +17,9 @@ use gw_bvll::Bvll;
 use gw_npdu::{Npdu, Station};
 
 /// The longest datagram that is heard, in octets.
-const LONGEST_DATAGRAM: usize = 1507;
+const LONGEST_DATAGRAM: usize = gw_bvll::MAX_LEN;
 /// The longest NPDU that is heard, in octets.
-const LONGEST_NPDU: usize = 1497;
+const LONGEST_NPDU: usize = gw_npdu::MAX_LEN;
 
 /// A message of the network layer that is heard.
 #[derive(Clone, Copy, Debug)]

@@ -1,4 +1,4 @@
-use Rattle.std.proofs.Common.{◌≡◌, ◌+◌, ◌<◌, ◌++◌, ◌∷◌, [], List, length, take, drop, get_or, sym, ap, ◌∙◌, refl, arith, Ok, Err}
+use Rattle.std.proofs.Common.{◌≡◌, ◌+◌, ◌<◌, ◌++◌, [], List, length, take, drop, sym, ap, ◌∙◌, refl, arith}
 use Rattle.std.proofs.lemmas.List.{append-nil}
 use Rattle.std.proofs.Math.ListN.{drop_of_length-le}
 use Rattle.gw_core.specs.declared.event.Event.{Event}

@@ -1,8 +1,7 @@
-use Rattle.std.proofs.Common.{◌≡◌, Ok, Err, sym, ap, ◌∙◌}
-use Rattle.gw_core.specs.declared.dropped.Dropped.{Dropped}
+use Rattle.std.proofs.Common.{◌≡◌, Ok, Err, sym, ◌∙◌}
 use Rattle.gw_core.specs.declared.dropped.Dropped.TheVariants.{Silently}
-use Rattle.gw_core.specs.Arrival.{Arrived, arrived}
-use Rattle.gw_core.specs.Asks.{Asked, asked_by}
+use Rattle.gw_core.specs.Arrival.{arrived}
+use Rattle.gw_core.specs.Asks.{asked_by}
 use Rattle.gw_core.specs.Effects.{reply_sends}
 use Rattle.gw_core.specs.View.{arrived_view, asked_view}
 use Rattle.gw_core.proofs.EffectLaws.{silently, nothing_is, effects_are, effects_at-dropped, effects_at-unasked, effects_at-asked}

@@ -1,5 +1,4 @@
-use Rattle.std.proofs.Common.{◌≡◌, ℕ, ◌+◌, ◌-◌, ◌^◌, ◌<◌, ◌≤◌, [], ◌∷◌, length, Ok, Err, sym, ap, ◌∙◌, refl, arith, false}
-use Rattle.gw_core.specs.declared.dropped.Dropped.TheVariants.{Silently}
+use Rattle.std.proofs.Common.{◌≡◌, ◌+◌, ◌^◌, ◌<◌, ◌≤◌, length, ap, ◌∙◌, arith}
 use Rattle.gw_core.specs.declared.event.Event.TheVariants.{Datagram}
 use Rattle.gw_core.proofs.EffectLaws.{effects_at-dropped, passes_end-within, passes_end-denials, denials_of_effects}
 use Rattle.gw_core.proofs.HistoryLaws.{stands_next, moves_denials}

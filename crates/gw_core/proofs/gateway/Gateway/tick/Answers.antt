@@ -1,4 +1,4 @@
-use Rattle.std.proofs.Common.{◌≡◌, ℕ, ◌+◌, ◌-◌, ◌^◌, ◌<◌, ◌≤◌, ◌≢◌, true, false, [], ◌∷◌, length, sym, ap, ◌∙◌, refl, arith}
+use Rattle.std.proofs.Common.{◌≡◌, ◌+◌, ◌^◌, ◌<◌, ◌≤◌, true, false, refl, arith}
 use Rattle.gw_core.specs.declared.event.Event.TheVariants.{Tick}
 use Rattle.gw_core.specs.Effects.{passes_end}
 use Rattle.gw_core.proofs.EffectLaws.{passes_end-within, passes_end-ticks, no_denials_at_tick}
