@@ -97,3 +97,35 @@ impl Model for Config {
 
     ghost invariant = { λ c. (1 ≤ length c.ports.items) × (length c.ports.items ≤ 8) };
 }
+
+impl Config {
+    ghost use Rattle.std.specs.Prelude.{◌≡◌};
+
+    /// The gateway's own device.
+    pub fn device(&self) -> DeviceConfig
+        ensures { result ≡ self.now.device }
+    {
+        self.device
+    }
+
+    /// The ports in order, 1 to 8 of them: the first is port 1.
+    pub fn ports(&self) -> &[Port]
+        ensures { result.now ≡ self.now.ports }
+    {
+        self.ports.as_slice()
+    }
+
+    /// The objects in order.
+    pub fn objects(&self) -> &[BinaryValue]
+        ensures { result.now ≡ self.now.objects }
+    {
+        self.objects.as_slice()
+    }
+
+    /// The policy.
+    pub fn rules(&self) -> &RuleList
+        ensures { result.now ≡ self.now.rules }
+    {
+        &self.rules
+    }
+}

@@ -40,7 +40,7 @@ impl Model for Gateway {
 
     ghost view = { λ g. record { ports = g.ports.items; device = g.device; objects = g.objects.items; rules = g.rules; ticks = g.counts.ticks; denials = g.counts.denials } };
 
-    ghost invariant = { λ g. (g.counts.ticks ≤ 2 ^ 63) × (g.counts.denials ≤ 2 ^ 63) × (length g.ports.items ≤ 8) };
+    ghost invariant = { λ g. (g.counts.ticks ≤ 2 ^ 63) × (g.counts.denials ≤ 2 ^ 63) × (1 ≤ length g.ports.items) × (length g.ports.items ≤ 8) };
 }
 
 impl Gateway {
@@ -73,6 +73,7 @@ impl Gateway {
     /// How many ports there are, 1 to 8.
     pub fn ports(&self) -> u8
         ensures count { result ≡ length self.now.ports }
+        ensures least { 1 ≤ result }
         ensures most { result ≤ 8 }
     {
         self.ports.len() as u8
