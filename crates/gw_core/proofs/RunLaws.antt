@@ -1,0 +1,206 @@
+-- A run goes on by one event, line by line.
+use Rattle.std.proofs.Common.{◌≡◌, ◌⊎◌, inl, inr, ℕ, zero, suc, ◌+◌, List, [], ◌∷◌, ◌++◌, length, take, drop, Option, Some, None, Result, Ok, Err, Bool, true, false, refl, sym, ap, subst, ◌∙◌, arith, append_assoc}
+use Rattle.std.specs.Prelude.{IsSomeAnd, IsErrOf}
+use Rattle.std.specs.List.{flat_map}
+use Rattle.std.proofs.lemmas.List.{append-nil, take_at, drop_at, length-append}
+use Rattle.std.proofs.lemmas.List.Concat.{flat_map-cons}
+use Rattle.std.proofs.lemmas.Grind.{flat_map-append}
+use Rattle.gw_core.specs.declared.event.Event.{Event}
+use Rattle.gw_core.specs.declared.event.Counts.{Counts}
+use Rattle.gw_core.specs.declared.effects.Effects.{Effects}
+use Rattle.gw_core.specs.declared.replaying.RunFault.{RunFault}
+use Rattle.gw_core.specs.declared.replaying.RunFault.TheVariants.{Read, Line, Write, Memory, CountEnd}
+use Rattle.gw_core.specs.Configured.{Configured}
+use Rattle.gw_core.specs.Standing.{Standing}
+use Rattle.gw_core.specs.Effects.{effects_at}
+use Rattle.gw_core.specs.History.{run, run_after, taken, effects, next, Stands, standing}
+use Rattle.gw_core.specs.Script.{lines_of, IsLine, AreLines}
+use Rattle.gw_core.specs.Shown.{shown, shown_effects}
+use Rattle.gw_core.specs.Replay.{no_counts, run_text, FirstLines, RunsWhole, RunsToLine, RunsPart, RunsFront}
+use Rattle.gw_core.specs.Underway.{Took, NoEvent, Cut, Turned}
+use Rattle.gw_core.proofs.HistoryLaws.{stands_next}
+
+pub run_more : (c : Configured) (k : Counts) (h l : List Event) (e : Event) → run_after c k h (l ++ e ∷ []) ≡ run_after c k h l ++ effects c k (taken h l) e ∷ []
+unfolding run_after taken
+run_more c k h [] e = refl
+run_more c k h (x ∷ l) e = ap (λ (r : List Effects). effects c k h x ∷ r) (run_more c k (x ∷ h) l e)
+
+pub taken_more : (h l : List Event) (e : Event) → taken h (l ++ e ∷ []) ≡ e ∷ taken h l
+unfolding taken
+taken_more h [] e = refl
+taken_more h (x ∷ l) e = taken_more (x ∷ h) l e
+
+shown_one : (x : Effects) → shown (x ∷ []) ≡ shown_effects x
+shown_one x = flat_map-cons shown_effects x [] ∙ append-nil (shown_effects x)
+
+pub run_text_more : (c : Configured) (l : List Event) (e : Event) → run_text c (l ++ e ∷ []) ≡ run_text c l ++ shown_effects (effects c no_counts (taken [] l) e)
+run_text_more c l e =
+    ap shown (run_more c no_counts [] l e) ∙ flat_map-append shown_effects (run c no_counts l) (effects c no_counts (taken [] l) e ∷ [])
+    ∙ ap (λ (t : List ℕ). run_text c l ++ t) (shown_one (effects c no_counts (taken [] l) e))
+
+pub are_more : (ports : ℕ) (lines : List (List ℕ)) (events : List Event) (line : List ℕ) (e : Event) → AreLines ports lines events → IsLine ports line e → AreLines ports (lines ++ line ∷ []) (events ++ e ∷ [])
+are_more ports [] [] line e are is = (is, tt)
+are_more ports [] (x ∷ events) line e are is = absurd are
+are_more ports (l ∷ lines) [] line e are is = absurd are
+are_more ports (l ∷ lines) (x ∷ events) line e are is = (are.0, are_more ports lines events line e are.1 is)
+
+pub are_length : (ports : ℕ) (lines : List (List ℕ)) (events : List Event) → AreLines ports lines events → length lines ≡ length events
+are_length ports [] [] are = refl
+are_length ports [] (x ∷ events) are = absurd are
+are_length ports (l ∷ lines) [] are = absurd are
+are_length ports (l ∷ lines) (x ∷ events) are = ap suc (are_length ports lines events are.1)
+
+-- how far a replay has come: these lines are done, which write these events, and this text is left
+pub record Progress (c : Configured) (script before : List ℕ) (n : ℕ) (w : Standing) (text written : Option (List ℕ)) : Type 0 where
+  pub events : List Event
+  pub done : List (List ℕ)
+  pub left : List ℕ
+  pub are : AreLines (length c.ports) done events
+  pub lines : lines_of script ≡ done ++ lines_of left
+  pub text_is : text ≡ Some left
+  pub written_is : written ≡ Some (before ++ run_text c events)
+  pub stands : Stands w c no_counts (taken [] events)
+  pub number : n ≡ length events + 1
+
+-- what a turn says of what it began with
+abbrev pub Turns : ℕ → Standing → Standing → Option (List ℕ) → Option (List ℕ) → Option (List ℕ) → Option (List ℕ) → Result Bool RunFault → Type 0
+Turns n w moved text left written after r = (t b : List ℕ) → text ≡ Some t → written ≡ Some b → Turned n w moved t left b after r
+
+first_lines : (c : Configured) (script : List ℕ) (done others : List (List ℕ)) (events : List Event) → AreLines (length c.ports) done events → lines_of script ≡ done ++ others → FirstLines c script events
+first_lines c script done others events are lines =
+    let front : take (length events) (lines_of script) ≡ done = ap (take (length events)) lines ∙ take_at done others (length events) (are_length (length c.ports) done events are) in
+    subst (λ (l : List (List ℕ)). AreLines (length c.ports) l events) (sym front) are
+
+other_lines : (c : Configured) (script : List ℕ) (done others : List (List ℕ)) (events : List Event) → AreLines (length c.ports) done events → lines_of script ≡ done ++ others → drop (length events) (lines_of script) ≡ others
+other_lines c script done others events are lines = ap (drop (length events)) lines ∙ drop_at done others (length events) (are_length (length c.ports) done events are)
+
+same_ports : (c : Configured) (w : Standing) (h : List Event) → Stands w c no_counts h → length w.ports ≡ length c.ports
+same_ports c w h stands = ap (λ (x : Standing). length x.ports) stands
+
+on_ports : (c : Configured) (w : Standing) (h : List Event) (line : List ℕ) (e : Event) → Stands w c no_counts h → IsLine (length w.ports) line e → IsLine (length c.ports) line e
+on_ports c w h line e stands is = subst (λ (p : ℕ). IsLine p line e) (same_ports c w h stands) is
+
+text_after : (c : Configured) (w : Standing) (before : List ℕ) (events : List Event) (e : Event) → Stands w c no_counts (taken [] events)
+    → (before ++ run_text c events) ++ shown_effects (effects_at w e) ≡ before ++ run_text c (events ++ e ∷ [])
+text_after c w before events e stands =
+    append_assoc before (run_text c events) (shown_effects (effects_at w e))
+    ∙ ap (λ (x : Standing). before ++ (run_text c events ++ shown_effects (effects_at x e))) stands
+    ∙ ap (λ (t : List ℕ). before ++ t) (sym (run_text_more c events e))
+
+pub begins : (c : Configured) (script before : List ℕ) (w : Standing) (text written : Option (List ℕ)) → text ≡ Some script → written ≡ Some before → Stands w c no_counts [] → Progress c script before 1 w text written
+unfolding taken run_after
+begins c script before w text written known held stands = record {
+  events = [];
+  done = [];
+  left = script;
+  are = tt;
+  lines = refl;
+  text_is = known;
+  written_is = held ∙ ap (λ (t : List ℕ). Some t) (sym (append-nil before));
+  stands = stands;
+  number = refl;
+}
+
+pub goes_on : (c : Configured) (script before : List ℕ) (n : ℕ) (w moved : Standing) (text left written after : Option (List ℕ))
+    → Progress c script before n w text written → Turns n w moved text left written after (Ok true) → Progress c script before (n + 1) moved left after
+goes_on c script before n w moved text left written after p turns =
+    let took = turns p.left (before ++ run_text c p.events) p.text_is p.written_is in
+    let done_lines : lines_of script ≡ (p.done ++ took.line ∷ []) ++ lines_of took.rest =
+    p.lines ∙ ap (λ (l : List (List ℕ)). p.done ++ l) took.lines ∙ sym (append_assoc p.done (took.line ∷ []) (lines_of took.rest)) in
+    let stood : Stands moved c no_counts (taken [] (p.events ++ took.event ∷ [])) =
+    stands_next w moved c no_counts (taken [] p.events) took.event took.moves p.stands ∙ ap (standing c no_counts) (sym (taken_more [] p.events took.event)) in
+    let is = on_ports c w (taken [] p.events) took.line took.event p.stands took.writes in
+    record {
+      events = p.events ++ took.event ∷ [];
+      done = p.done ++ took.line ∷ [];
+      left = took.rest;
+      are = are_more (length c.ports) p.done p.events took.line took.event p.are is;
+      lines = done_lines;
+      text_is = took.remains;
+      written_is = took.appended ∙ ap (λ (t : List ℕ). Some t) (text_after c w before p.events took.event p.stands);
+      stands = stood;
+      number = omega (arith, p.number, length-append p.events (took.event ∷ []));
+    }
+
+known : (P : List ℕ → Type 0) (o : Option (List ℕ)) (t : List ℕ) → o ≡ Some t → P t → IsSomeAnd o P
+known P None t e h = absurd cc
+known P (Some x) t e h =
+    let same : t ≡ x = cc in
+    subst P same h
+
+pub ends_whole : (c : Configured) (script before : List ℕ) (n : ℕ) (w moved : Standing) (text left written after : Option (List ℕ))
+    → Progress c script before n w text written → Turns n w moved text left written after (Ok false) → IsSomeAnd after (RunsWhole c script before)
+ends_whole c script before n w moved text left written after p turns =
+    let said = turns p.left (before ++ run_text c p.events) p.text_is p.written_is in
+    let all : lines_of script ≡ p.done = p.lines ∙ ap (λ (l : List (List ℕ)). p.done ++ l) said.0 ∙ append-nil p.done in
+    known (RunsWhole c script before) after (before ++ run_text c p.events) said.1
+    (record { events = p.events; lines = subst (λ (l : List (List ℕ)). AreLines (length c.ports) l p.events) (sym all) p.are; text = refl })
+
+pub ends_part : (c : Configured) (script before : List ℕ) (n : ℕ) (w : Standing) (text written : Option (List ℕ))
+    → Progress c script before n w text written → IsSomeAnd written (RunsPart c script before)
+ends_part c script before n w text written p =
+    known (RunsPart c script before) written (before ++ run_text c p.events) p.written_is
+    (record { events = p.events; lines = first_lines c script p.done (lines_of p.left) p.events p.are p.lines; text = refl })
+
+-- a fault that leaves what was written as it was
+abbrev pub Stops : RunFault → Type 0
+Stops Read = Unit {0}
+Stops Memory = Unit {0}
+Stops CountEnd = Unit {0}
+Stops Write = ⊥
+Stops (Line m) = ⊥
+
+same_text : (n : ℕ) (w moved : Standing) (t : List ℕ) (left : Option (List ℕ)) (b : List ℕ) (after : Option (List ℕ)) (fault : RunFault) → Stops fault → Turned n w moved t left b after (Err fault) → after ≡ Some b
+same_text n w moved t left b after Read stops said = said
+same_text n w moved t left b after Memory stops said = said
+same_text n w moved t left b after CountEnd stops said = said
+same_text n w moved t left b after Write stops said = absurd stops
+same_text n w moved t left b after (Line m) stops said = absurd stops
+
+pub stops_part : (c : Configured) (script before : List ℕ) (n : ℕ) (w moved : Standing) (text left written after : Option (List ℕ)) (fault : RunFault)
+    → Stops fault → Progress c script before n w text written → Turns n w moved text left written after (Err fault) → IsSomeAnd after (RunsPart c script before)
+stops_part c script before n w moved text left written after fault stops p turns =
+    let said = turns p.left (before ++ run_text c p.events) p.text_is p.written_is in
+    known (RunsPart c script before) after (before ++ run_text c p.events) (same_text n w moved p.left left (before ++ run_text c p.events) after fault stops said)
+    (record { events = p.events; lines = first_lines c script p.done (lines_of p.left) p.events p.are p.lines; text = refl })
+
+pub ends_at_line : (c : Configured) (script before : List ℕ) (n : ℕ) (w moved : Standing) (text left written after : Option (List ℕ)) (m : ℕ)
+    → Progress c script before n w text written → Turns n w moved text left written after (Err (Line m)) → IsSomeAnd after (RunsToLine m c script before)
+ends_at_line c script before n w moved text left written after m p turns =
+    let said = turns p.left (before ++ run_text c p.events) p.text_is p.written_is in
+    let none = said.1 in
+    known (RunsToLine m c script before) after (before ++ run_text c p.events) said.2 (record {
+      events = p.events;
+      number = said.0 ∙ p.number;
+      lines = first_lines c script p.done (lines_of p.left) p.events p.are p.lines;
+      line = none.line;
+      rest = none.others;
+      stands = other_lines c script p.done (lines_of p.left) p.events p.are p.lines ∙ none.lines;
+      no_event = λ e is. none.no_event e (subst (λ (q : ℕ). IsLine q none.line e) (sym (same_ports c w (taken [] p.events) p.stands)) is);
+      text = refl;
+    })
+
+pub ends_at_write : (c : Configured) (script before : List ℕ) (n : ℕ) (w moved : Standing) (text left written after : Option (List ℕ))
+    → Progress c script before n w text written → Turns n w moved text left written after (Err Write) → IsSomeAnd after (RunsFront c script before)
+ends_at_write c script before n w moved text left written after p turns =
+    let cut = turns p.left (before ++ run_text c p.events) p.text_is p.written_is in
+    let so_far = before ++ run_text c p.events in
+    let is = on_ports c w (taken [] p.events) cut.line cut.event p.stands cut.writes in
+    let lines : lines_of script ≡ (p.done ++ cut.line ∷ []) ++ cut.others =
+    p.lines ∙ ap (λ (l : List (List ℕ)). p.done ++ l) cut.lines ∙ sym (append_assoc p.done (cut.line ∷ []) cut.others) in
+    let whole : (so_far ++ cut.front) ++ cut.unwritten ≡ before ++ run_text c (p.events ++ cut.event ∷ []) =
+    append_assoc so_far cut.front cut.unwritten ∙ ap (λ (t : List ℕ). so_far ++ t) (sym cut.parts) ∙ text_after c w before p.events cut.event p.stands in
+    known (RunsFront c script before) after (so_far ++ cut.front) cut.appended (record {
+      events = p.events ++ cut.event ∷ [];
+      lines = first_lines c script (p.done ++ cut.line ∷ []) cut.others (p.events ++ cut.event ∷ []) (are_more (length c.ports) p.done p.events cut.line cut.event p.are is) lines;
+      unwritten = cut.unwritten;
+      text = whole;
+    })
+
+pub fault_is : {T : Type 0} (fault other : RunFault) → IsErrOf {T = T} {E = RunFault} (Err fault) other → fault ≡ other
+fault_is fault other e = cc
+
+pub stops : {T : Type 0} (fault : RunFault) → IsErrOf {T = T} {E = RunFault} (Err fault) Read ⊎ IsErrOf {T = T} {E = RunFault} (Err fault) Memory ⊎ IsErrOf {T = T} {E = RunFault} (Err fault) CountEnd → Stops fault
+stops {T} fault (inl e) = subst Stops (sym (fault_is {T = T} fault Read e)) tt
+stops {T} fault (inr (inl e)) = subst Stops (sym (fault_is {T = T} fault Memory e)) tt
+stops {T} fault (inr (inr e)) = subst Stops (sym (fault_is {T = T} fault CountEnd e)) tt

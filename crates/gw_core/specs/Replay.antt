@@ -1,0 +1,55 @@
+-- What a replay writes: the text of the run of a script's events, as far as the script and its run go.
+use Rattle.std.specs.Prelude.{◌≡◌, ℕ, ◌+◌, List, [], ◌∷◌, ◌++◌, length, take, drop, Option, Some, IsSomeAnd}
+use Rattle.gw_core.specs.declared.event.Counts.{Counts}
+use Rattle.gw_core.specs.declared.event.Event.{Event}
+use Rattle.gw_core.specs.Configured.{Configured}
+use Rattle.gw_core.specs.History.{run}
+use Rattle.gw_core.specs.Script.{lines_of, IsLine, AreLines}
+use Rattle.gw_core.specs.Shown.{shown}
+
+-- a gateway that nothing came to
+abbrev pub no_counts : Counts
+no_counts = record { ticks = 0; denials = 0 }
+
+-- the text of the run of these events, from a fresh gateway
+abbrev pub run_text : Configured → List Event → List ℕ
+run_text c events = shown (run c no_counts events)
+
+-- these events are the first lines of the script
+abbrev pub FirstLines : Configured → List ℕ → List Event → Type 0
+FirstLines c script events = AreLines (length c.ports) (take (length events) (lines_of script)) events
+
+-- every line of the script writes an event, and what was written is the text of their run
+pub record RunsWhole (c : Configured) (script before after : List ℕ) : Type 0 where
+  pub events : List Event
+  pub lines : AreLines (length c.ports) (lines_of script) events
+  pub text : after ≡ before ++ run_text c events
+
+-- the lines before this one, which is counted from 1, write events, this line writes none, and what was written is the text of their run
+pub record RunsToLine (n : ℕ) (c : Configured) (script before after : List ℕ) : Type 0 where
+  pub events : List Event
+  pub number : n ≡ length events + 1
+  pub lines : FirstLines c script events
+  pub line : List ℕ
+  pub rest : List (List ℕ)
+  pub stands : drop (length events) (lines_of script) ≡ line ∷ rest
+  pub no_event : (e : Event) → ¬ (IsLine (length c.ports) line e)
+  pub text : after ≡ before ++ run_text c events
+
+-- some first lines write events, and what was written is the text of their run, whole
+pub record RunsPart (c : Configured) (script before after : List ℕ) : Type 0 where
+  pub events : List Event
+  pub lines : FirstLines c script events
+  pub text : after ≡ before ++ run_text c events
+
+-- some first lines write events, and what was written is a front of the text of their run
+pub record RunsFront (c : Configured) (script before after : List ℕ) : Type 0 where
+  pub events : List Event
+  pub lines : FirstLines c script events
+  pub unwritten : List ℕ
+  pub text : after ++ unwritten ≡ before ++ run_text c events
+
+-- Where the octets of the reader and those that the writer holds are known, they are so known after the replay, and this is said of
+-- the script, of what was written before and of what is written then.
+abbrev pub Told : Option (List ℕ) → Option (List ℕ) → Option (List ℕ) → (List ℕ → List ℕ → List ℕ → Type 0) → Type 0
+Told read held holds said = (script before : List ℕ) → read ≡ Some script → held ≡ Some before → IsSomeAnd holds (said script before)
