@@ -1,0 +1,81 @@
+-- What a replay leaves written, from what the run and the flush behind it leave.
+use Rattle.std.proofs.Common.{◌≡◌, ◌∙◌, ◌⊎◌, inl, inr, refl, sym, ap, subst, rules, true, false, Bool, ℕ, ◌++◌, List, Result, Ok, Err, Option, Some, None, [], ◌∷◌, length, take, IsSomeAnd, IfErr, OnOk, IsErrOf}
+use Rattle.std.specs.Io.KnownBytes.{Keeps}
+use Rattle.gw_core.specs.declared.replaying.RunFault.{RunFault}
+use Rattle.gw_core.specs.declared.replaying.RunFault.TheVariants as run
+use Rattle.gw_core.specs.declared.event.Event.{Event}
+use Rattle.gw_core.specs.Replay.{FirstLines, RunsFront, RunsPart, RunsToLine, RunsWhole, Told}
+use Rattle.gw_core.specs.Script.{AreLines, lines_of}
+use Rattle.gw_core.specs.Configured.{Configured}
+use Rattle.gw_core.specs.History.{run_after}
+use Rattle.gw_core.specs.Setting.{setting}
+use Rattle.bacgw.specs.Played.{Plays}
+use Rattle.bacgw.specs.Told.{fault_of, first_fault}
+
+-- what a run of this configuration alone leaves written
+abbrev pub Leaves : Configured → List ℕ → List ℕ → Result (Unit {0}) RunFault → List ℕ → Type 0
+Leaves c script before (Ok done) after = RunsWhole c script before after
+Leaves c script before (Err (run.Line n)) after = RunsToLine n c script before after
+Leaves c script before (Err run.Read) after = RunsPart c script before after
+Leaves c script before (Err run.Write) after = RunsFront c script before after
+Leaves c script before (Err run.Memory) after = RunsPart c script before after
+Leaves c script before (Err run.CountEnd) after = RunsPart c script before after
+
+-- the four clauses of a run as one
+pub run_leaves : (c : Configured) (read held holds : Option (List ℕ)) (r : Result (Unit {0}) RunFault)
+    → OnOk r (Told read held holds (RunsWhole c))
+    → ((n : ℕ) → IsErrOf r (run.Line n) → Told read held holds (RunsToLine n c))
+    → (IsErrOf r run.Write → Told read held holds (RunsFront c))
+    → ((IsErrOf r run.Read ⊎ IsErrOf r run.Memory ⊎ IsErrOf r run.CountEnd) → Told read held holds (RunsPart c))
+    → Told read held holds (λ script before. Leaves c script before r)
+run_leaves c read held holds (Ok done) whole line front part = whole
+run_leaves c read held holds (Err (run.Line n)) whole line front part = line n refl
+run_leaves c read held holds (Err run.Read) whole line front part = part (inl refl)
+run_leaves c read held holds (Err run.Write) whole line front part = front refl
+run_leaves c read held holds (Err run.Memory) whole line front part = part (inr (inl refl))
+run_leaves c read held holds (Err run.CountEnd) whole line front part = part (inr (inr refl))
+
+-- what holds of known bytes holds where they are kept
+pub kept : (P : List ℕ → Type 0) (held now : Option (List ℕ)) → Keeps held now → IsSomeAnd held P → IsSomeAnd now P
+kept P None now keeps holds = absurd holds
+kept P (Some xs) None keeps holds = absurd keeps
+kept P (Some xs) (Some ys) keeps holds = subst P (sym keeps) holds
+
+-- a fact of known bytes that follows from another
+pub weaker : (P Q : List ℕ → Type 0) (held : Option (List ℕ)) → ((bytes : List ℕ) → P bytes → Q bytes) → IsSomeAnd held P → IsSomeAnd held Q
+weaker P Q None follows holds = absurd holds
+weaker P Q (Some bytes) follows holds = follows bytes holds
+
+-- all the lines are the first lines
+all_are_first : (ports : ℕ) (lines : List (List ℕ)) (events : List Event) → AreLines ports lines events → AreLines ports (take (length events) lines) events
+all_are_first ports [] [] are = tt
+all_are_first ports [] (e ∷ events) are = absurd are
+all_are_first ports (line ∷ lines) [] are = absurd are
+all_are_first ports (line ∷ lines) (e ∷ events) are = (are.0, all_are_first ports lines events are.1)
+
+nothing_more : (xs : List ℕ) → xs ++ [] ≡ xs
+nothing_more xs = search rules
+
+-- a whole run that isn't flushed leaves a front of its text
+whole_is_front : (script before after : List ℕ) → RunsWhole setting script before after → RunsFront setting script before after
+whole_is_front script before after whole = record {
+  events = whole.events;
+  lines = all_are_first (length setting.ports) (lines_of script) whole.events whole.lines;
+  unwritten = [];
+  text = nothing_more after ∙ whole.text;
+}
+
+-- the flush changes nothing of what is left written, and its failure is told behind a run without a fault
+pub flushed_plays : (script before after : List ℕ) (r : Result (Unit {0}) RunFault) (is_flushed : Bool) → Leaves setting script before r after → Plays script before (first_fault r is_flushed) after
+flushed_plays script before after (Ok done) true leaves = leaves
+flushed_plays script before after (Ok done) false leaves = whole_is_front script before after leaves
+flushed_plays script before after (Err (run.Line n)) flushed leaves = leaves
+flushed_plays script before after (Err run.Read) flushed leaves = leaves
+flushed_plays script before after (Err run.Write) flushed leaves = leaves
+flushed_plays script before after (Err run.Memory) flushed leaves = leaves
+flushed_plays script before after (Err run.CountEnd) flushed leaves = leaves
+
+-- before the first event nothing is written
+pub nothing_plays : (script before : List ℕ) → RunsPart setting script before before
+unfolding run_after
+nothing_plays script before = record { events = []; lines = tt; text = sym (nothing_more before) }

@@ -1,0 +1,48 @@
+-- What the program tells of a fault: the line on standard error, and the exit status.
+use Rattle.std.specs.Prelude.{ℕ, Bool, true, false, List, [], ◌∷◌, ◌++◌, codes, decimal, Result, Ok, Err}
+use Rattle.bacgw.specs.declared.fault.Fault.{Fault}
+use Rattle.bacgw.specs.declared.fault.Fault.TheVariants as fault
+use Rattle.gw_core.specs.declared.replaying.RunFault.{RunFault}
+use Rattle.gw_core.specs.declared.replaying.RunFault.TheVariants as run
+
+-- the line on standard error, without its line feed
+abbrev pub text_of : Fault → List ℕ
+text_of fault.CommandLine = codes "bacgw: bad command line"
+text_of (fault.Line n) = codes "bacgw: line " ++ decimal n
+text_of fault.Read = codes "bacgw: read failed"
+text_of fault.Write = codes "bacgw: write failed"
+text_of fault.Memory = codes "bacgw: out of memory"
+text_of fault.CountEnd = codes "bacgw: count at its end"
+
+-- 2 where what the program was given is wrong, 1 where what it stands on failed
+abbrev pub status_of : Fault → ℕ
+status_of fault.CommandLine = 2
+status_of (fault.Line n) = 2
+status_of fault.Read = 1
+status_of fault.Write = 1
+status_of fault.Memory = 1
+status_of fault.CountEnd = 1
+
+-- the fault of a run, as the program tells it
+abbrev pub fault_of : RunFault → Fault
+fault_of run.Read = fault.Read
+fault_of (run.Line n) = fault.Line n
+fault_of run.Write = fault.Write
+fault_of run.Memory = fault.Memory
+fault_of run.CountEnd = fault.CountEnd
+
+-- the first fault of a run and of the flush behind it
+abbrev pub first_fault : Result (Unit {0}) RunFault → Bool → Result (Unit {0}) Fault
+first_fault (Ok done) true = Ok done
+first_fault (Ok done) false = Err fault.Write
+first_fault (Err of_run) flushed = Err (fault_of of_run)
+
+-- what standard error is given: nothing, or the fault's line and a line feed
+abbrev pub told : Result (Unit {0}) Fault → List ℕ
+told (Ok done) = []
+told (Err of_program) = text_of of_program ++ 10 ∷ []
+
+-- the exit status: 0, or the fault's
+abbrev pub status_after : Result (Unit {0}) Fault → ℕ
+status_after (Ok done) = 0
+status_after (Err of_program) = status_of of_program

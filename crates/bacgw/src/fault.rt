@@ -1,0 +1,90 @@
+//! Why the program ends without success: the line that it tells, and its exit status.
+
+ghost use Rattle.std.specs.Prelude.{◌≡◌, ◌≢◌, Some};
+ghost use Rattle.bacgw.specs.Told.{fault_of, status_of, text_of};
+ghost use Rattle.bacgw.specs.declared.fault.Fault.TheVariants.{CommandLine, Memory};
+
+use gw_core::RunFault;
+use std::alloc::AllocError;
+use std::error::Error;
+use std::fmt;
+use std::io::ErrorKind;
+
+/// Why the program ends without success. `Display` gives the line that is told on standard error, without its line feed.
+#[derive(Clone, Copy, Debug, PartialEq, Eq)]
+pub enum Fault {
+    /// The words that the program was called with are none that it takes.
+    CommandLine,
+    /// Line `n` of the script, counted from 1, is no event.
+    Line(u64),
+    /// A read of standard input failed.
+    Read,
+    /// A write to standard output failed.
+    Write,
+    /// A growth was refused.
+    Memory,
+    /// The count of ticks or the number of the last denial is at its end.
+    CountEnd,
+}
+
+impl Fault {
+    /// The fault where the words can't be had: `Memory`, or else a word that is no UTF-8.
+    pub fn of_words(kind: ErrorKind) -> Fault
+        ensures memory { kind ≡ ErrorKind.OutOfMemory → result ≡ Memory }
+        ensures other { kind ≢ ErrorKind.OutOfMemory → result ≡ CommandLine }
+    {
+        match kind {
+            ErrorKind::OutOfMemory => Fault::Memory,
+            _ => Fault::CommandLine,
+        }
+    }
+
+    /// The exit status: 2 where what the program was given is wrong, and 1 where what it stands on failed.
+    pub fn status(self) -> u8
+        ensures { result ≡ status_of self }
+    {
+        match self {
+            Fault::CommandLine | Fault::Line(_) => 2,
+            Fault::Read | Fault::Write | Fault::Memory | Fault::CountEnd => 1,
+        }
+    }
+}
+
+impl fmt::Display for Fault {
+    ghost output = { λ fault. Some (text_of fault) };
+
+    fn fmt<W: fmt::Write>(&self, f: &mut fmt::Formatter<W>) -> fmt::Result {
+        match self {
+            Fault::CommandLine => f.write_str("bacgw: bad command line"),
+            Fault::Line(number) => write!(f, "bacgw: line {number}"),
+            Fault::Read => f.write_str("bacgw: read failed"),
+            Fault::Write => f.write_str("bacgw: write failed"),
+            Fault::Memory => f.write_str("bacgw: out of memory"),
+            Fault::CountEnd => f.write_str("bacgw: count at its end"),
+        }
+    }
+}
+
+impl Error for Fault {}
+
+impl From<RunFault> for Fault {
+    ghost from_gives = { λ run fault. fault ≡ fault_of run };
+
+    fn from(run: RunFault) -> Fault {
+        match run {
+            RunFault::Read => Fault::Read,
+            RunFault::Line(number) => Fault::Line(number),
+            RunFault::Write => Fault::Write,
+            RunFault::Memory => Fault::Memory,
+            RunFault::CountEnd => Fault::CountEnd,
+        }
+    }
+}
+
+impl From<AllocError> for Fault {
+    ghost from_gives = { λ _ fault. fault ≡ Memory };
+
+    fn from(_refused: AllocError) -> Fault {
+        Fault::Memory
+    }
+}

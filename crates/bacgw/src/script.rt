@@ -1,0 +1,39 @@
+//! A script of events, played against the built-in configuration.
+
+ghost use Rattle.std.specs.Prelude.{◌≡◌, [], OnOk};
+ghost use Rattle.std.specs.Io.Buffered.{writer_buffer, writer_contents};
+ghost use Rattle.gw_core.specs.Replay.{Told};
+ghost use Rattle.bacgw.specs.Played.{Plays};
+ghost use Rattle.bacgw.specs.Told.{first_fault};
+
+use crate::fault::Fault;
+use gw_core::RunFault;
+use std::alloc::Global;
+use std::io::{BufWriter, Read, Write};
+
+/// The first fault of a run and of the flush behind it.
+fn first_fault(run: Result<(), RunFault>, is_flushed: bool) -> Result<(), Fault>
+    ensures { result ≡ first_fault run is_flushed }
+{
+    match run {
+        Ok(()) if is_flushed => Ok(()),
+        Ok(()) => Err(Fault::Write),
+        Err(fault) => Err(Fault::from(fault)),
+    }
+}
+
+/// Plays the script that `reader` has left against the built-in configuration. What was written is flushed at every outcome. Faults:
+/// those of the run, `Write` also where the flush alone fails, and `Memory` where the configuration can't be held.
+pub fn replay<R: Read, W: Write + Drop>(
+    alloc: Global,
+    reader: &mut R,
+    writer: &mut BufWriter<W>,
+) -> Result<(), Fault>
+    ensures plays { Told (R.remaining reader.old) (writer_contents W.contents writer.old) (writer_contents W.contents writer.new) (λ script before. Plays script before result) }
+    ensures flushed { OnOk result (writer_buffer writer.new ≡ []) }
+{
+    let config = gw_core::setting_s(alloc)?;
+    let run = gw_core::replay(alloc, config, reader, writer);
+    let is_flushed = writer.flush().is_ok();
+    first_fault(run, is_flushed)
+}

@@ -1,0 +1,230 @@
+//! Words, faults and scripts, and what the program makes of them.
+
+use crate::command_line::{Choice, choice_of};
+use crate::ending::{exit_code, tell};
+use crate::fault::Fault;
+use crate::script::replay;
+use std::alloc::{AllocError, Global};
+use std::io;
+use std::io::{BufWriter, ErrorKind, Read, Write};
+use std::process::ExitCode;
+use std::test::*;
+
+/// The words of a call, the program's name first.
+fn called(alloc: Global, words: &[&str]) -> Result<Vec<String>, AllocError> {
+    let mut called = Vec::new(alloc);
+    called.push(String::from_str(alloc, "bacgw")?)?;
+    for word in words {
+        called.push(String::from_str(alloc, word)?)?;
+    }
+    Ok(called)
+}
+
+#[test]
+fn takes_replay_alone(rt: HostRuntime) -> Result<(), Fail> {
+    let words = called(rt.alloc(), &["replay"])?;
+    let choice = choice_of(rt.alloc(), words.as_slice());
+    assert!(rt; matches!(&choice, Ok(Choice::Replay)));
+    Ok(())
+}
+
+#[test]
+fn refuses_other_words(rt: HostRuntime) -> Result<(), Fail> {
+    let cases: [&[&str]; 12] = [
+        &[],
+        &["run"],
+        &["rep"],
+        &["REPLAY"],
+        &["replay", "replay"],
+        &["replay", "run"],
+        &["replay", "--config", "file"],
+        &["--config", "file", "replay"],
+        &["replay", "-v"],
+        &["replay", ""],
+        &["--", "replay"],
+        &["--version"],
+    ];
+    for words in cases {
+        let called = called(rt.alloc(), words)?;
+        let choice = choice_of(rt.alloc(), called.as_slice());
+        assert!(rt; matches!(&choice, Err(Fault::CommandLine)), "{words:?}");
+    }
+    Ok(())
+}
+
+/// The text that is printed for help.
+const HELP: &str = "A gateway of BACnet/IP
+
+Usage: bacgw <COMMAND>
+
+Commands:
+  replay  Plays the events of standard input and prints what the gateway gives for each
+  help    Print this message or the help of the given subcommand(s)
+
+Options:
+  -h, --help  Print help
+";
+
+/// The text that is printed for help on `replay`.
+const REPLAY_HELP: &str = "Plays the events of standard input and prints what the gateway gives for each
+
+Usage: bacgw replay
+
+Options:
+  -h, --help  Print help
+";
+
+#[test]
+fn helps(rt: HostRuntime) -> Result<(), Fail> {
+    let cases: [(&[&str], &str); 5] = [
+        (&["--help"], HELP),
+        (&["-h"], HELP),
+        (&["help"], HELP),
+        (&["replay", "--help"], REPLAY_HELP),
+        (&["help", "replay"], REPLAY_HELP),
+    ];
+    for (words, text) in cases {
+        let called = called(rt.alloc(), words)?;
+        match choice_of(rt.alloc(), called.as_slice()) {
+            Ok(Choice::Help(help)) => assert_eq!(rt; help.as_str(), text, "{words:?}"),
+            _ => panic!(rt; "no help at {words:?}"),
+        }
+    }
+    Ok(())
+}
+
+#[test]
+fn tells_faults(rt: HostRuntime) -> Result<(), Fail> {
+    let cases: [(Result<(), Fault>, &[u8], u8); 8] = [
+        (Ok(()), b"", 0),
+        (Err(Fault::of_words(ErrorKind::InvalidData)), b"bacgw: bad command line\n", 2),
+        (Err(Fault::Line(1)), b"bacgw: line 1\n", 2),
+        (Err(Fault::Line(u64::MAX)), b"bacgw: line 18446744073709551615\n", 2),
+        (Err(Fault::Read), b"bacgw: read failed\n", 1),
+        (Err(Fault::Write), b"bacgw: write failed\n", 1),
+        (Err(Fault::of_words(ErrorKind::OutOfMemory)), b"bacgw: out of memory\n", 1),
+        (Err(Fault::CountEnd), b"bacgw: count at its end\n", 1),
+    ];
+    for (outcome, text, status) in cases {
+        let mut errors = Vec::new(rt.alloc());
+        tell(outcome, &mut errors)?;
+        assert_eq!(rt; errors.as_slice(), text);
+        assert!(rt; exit_code(outcome) == ExitCode::from(status));
+    }
+    Ok(())
+}
+
+/// The read of Binary Value 1, a tick, and a line that is no event.
+const SCRIPT: &[u8] =
+    b"1 192.168.1.5:47808 810A0016012400640101FF0005070C0C014000011955\ntick\ntock\n";
+
+/// What the read and the tick give.
+const TEXT: &[u8] =
+    b"send 1 192.168.1.5:47808 810A001801080064010130070C0C0140000119553E91003F\nend\nend\n";
+
+/// Takes so many octets and then fails, and may fail at a flush.
+#[derive(Drop)]
+struct Narrow {
+    held: Vec<u8>,
+    left: usize,
+    flushes: bool,
+}
+
+impl Write for Narrow {
+    fn write(&mut self, buf: &[u8]) -> io::Result<usize> {
+        let count = buf.len().min(self.left);
+        if count == 0 || self.held.extend_from_slice(&buf[..count]).is_err() {
+            return Err(ErrorKind::Other.into());
+        }
+        self.left -= count;
+        Ok(count)
+    }
+
+    fn flush(&mut self) -> io::Result<()> {
+        if self.flushes {
+            Ok(())
+        } else {
+            Err(ErrorKind::Other.into())
+        }
+    }
+}
+
+/// A reader that fails.
+#[derive(Drop)]
+struct Broken;
+
+impl Read for Broken {
+    fn read(&mut self, _buf: &mut [u8]) -> io::Result<usize> {
+        Err(ErrorKind::Other.into())
+    }
+}
+
+/// Plays a script to a writer that takes so many octets, behind a buffer of so many. It gives what the writer holds, too.
+fn played(
+    alloc: Global,
+    mut script: &[u8],
+    capacity: usize,
+    left: usize,
+    flushes: bool,
+) -> Result<(Result<(), Fault>, Vec<u8>), Fail> {
+    let narrow = Narrow {
+        held: Vec::new(alloc),
+        left,
+        flushes,
+    };
+    let mut writer = BufWriter::with_capacity(alloc, capacity, narrow)?;
+    let outcome = replay(alloc, &mut script, &mut writer);
+    let (narrow, _unwritten) = writer.into_parts();
+    let Narrow {
+        held,
+        left: _,
+        flushes: _,
+    } = narrow;
+    Ok((outcome, held))
+}
+
+#[test]
+fn flushes_what_was_written(rt: HostRuntime) -> Result<(), Fail> {
+    let whole = &SCRIPT[..SCRIPT.len() - 5];
+    for capacity in [0, 16, 4096] {
+        let (outcome, held) = played(rt.alloc(), whole, capacity, 1000, true)?;
+        assert!(rt; outcome == Ok(()));
+        assert_eq!(rt; held.as_slice(), TEXT);
+        let (outcome, held) = played(rt.alloc(), SCRIPT, capacity, 1000, true)?;
+        assert!(rt; outcome == Err(Fault::Line(3)));
+        assert_eq!(rt; held.as_slice(), TEXT);
+    }
+    Ok(())
+}
+
+#[test]
+fn tells_the_first_of_two_faults(rt: HostRuntime) -> Result<(), Fail> {
+    let whole = &SCRIPT[..SCRIPT.len() - 5];
+    let (outcome, _) = played(rt.alloc(), whole, 4096, 1000, false)?;
+    assert!(rt; outcome == Err(Fault::Write));
+    let (outcome, _) = played(rt.alloc(), SCRIPT, 4096, 1000, false)?;
+    assert!(rt; outcome == Err(Fault::Line(3)));
+    Ok(())
+}
+
+#[test]
+fn writes_a_front_before_a_write_fault(rt: HostRuntime) -> Result<(), Fail> {
+    let whole = &SCRIPT[..SCRIPT.len() - 5];
+    for capacity in [0, 16, 4096] {
+        for left in 0..TEXT.len() {
+            let (outcome, held) = played(rt.alloc(), whole, capacity, left, true)?;
+            assert!(rt; outcome == Err(Fault::Write), "after {left}");
+            assert!(rt; held.as_slice() == &TEXT[..left], "after {left}");
+        }
+    }
+    Ok(())
+}
+
+#[test]
+fn tells_of_a_failed_read(rt: HostRuntime) -> Result<(), Fail> {
+    let mut writer = BufWriter::new(rt.alloc(), Vec::new(rt.alloc()))?;
+    let outcome = replay(rt.alloc(), &mut Broken, &mut writer);
+    assert!(rt; outcome == Err(Fault::Read));
+    assert!(rt; writer.get_ref().is_empty());
+    Ok(())
+}
