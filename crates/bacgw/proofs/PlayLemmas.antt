@@ -4,7 +4,7 @@ use Rattle.std.specs.Io.KnownBytes.{Keeps}
 use Rattle.gw_core.specs.declared.replaying.RunFault.{RunFault}
 use Rattle.gw_core.specs.declared.replaying.RunFault.TheVariants as run
 use Rattle.gw_core.specs.declared.event.Event.{Event}
-use Rattle.gw_core.specs.Replay.{FirstLines, RunsFront, RunsPart, RunsToLine, RunsWhole, Told}
+use Rattle.gw_core.specs.Replay.{FirstLines, RunsFront, RunsPart, RunsToLine, RunsWhole, Told, run_text}
 use Rattle.gw_core.specs.Script.{AreLines, lines_of}
 use Rattle.gw_core.specs.Configured.{Configured}
 use Rattle.gw_core.specs.History.{run_after}
@@ -61,8 +61,10 @@ whole_is_front : (script before after : List ℕ) → RunsWhole setting script b
 whole_is_front script before after whole = record {
   events = whole.events;
   lines = all_are_first (length setting.ports) (lines_of script) whole.events whole.lines;
+  front = run_text setting whole.events;
   unwritten = [];
-  text = nothing_more after ∙ whole.text;
+  parts = sym (nothing_more (run_text setting whole.events));
+  text = whole.text;
 }
 
 -- the flush changes nothing of what is left written, and its failure is told behind a run without a fault

@@ -188,13 +188,13 @@ ends_at_write c script before n w moved text left written after p turns =
     let is = on_ports c w (taken [] p.events) cut.line cut.event p.stands cut.writes in
     let lines : lines_of script ≡ (p.done ++ cut.line ∷ []) ++ cut.others =
     p.lines ∙ ap (λ (l : List (List ℕ)). p.done ++ l) cut.lines ∙ sym (append_assoc p.done (cut.line ∷ []) cut.others) in
-    let whole : (so_far ++ cut.front) ++ cut.unwritten ≡ before ++ run_text c (p.events ++ cut.event ∷ []) =
-    append_assoc so_far cut.front cut.unwritten ∙ ap (λ (t : List ℕ). so_far ++ t) (sym cut.parts) ∙ text_after c w before p.events cut.event p.stands in
     known (RunsFront c script before) after (so_far ++ cut.front) cut.appended (record {
       events = p.events ++ cut.event ∷ [];
       lines = first_lines c script (p.done ++ cut.line ∷ []) cut.others (p.events ++ cut.event ∷ []) (are_more (length c.ports) p.done p.events cut.line cut.event p.are is) lines;
+      front = run_text c p.events ++ cut.front;
       unwritten = cut.unwritten;
-      text = whole;
+      parts = sym (text_after c w [] p.events cut.event p.stands) ∙ ap (λ (t : List ℕ). run_text c p.events ++ t) cut.parts ∙ sym (append_assoc (run_text c p.events) cut.front cut.unwritten);
+      text = append_assoc before (run_text c p.events) cut.front;
     })
 
 pub fault_is : {T : Type 0} (fault other : RunFault) → IsErrOf {T = T} {E = RunFault} (Err fault) other → fault ≡ other

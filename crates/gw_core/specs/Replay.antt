@@ -46,8 +46,10 @@ pub record RunsPart (c : Configured) (script before after : List ℕ) : Type 0 w
 pub record RunsFront (c : Configured) (script before after : List ℕ) : Type 0 where
   pub events : List Event
   pub lines : FirstLines c script events
+  pub front : List ℕ
   pub unwritten : List ℕ
-  pub text : after ++ unwritten ≡ before ++ run_text c events
+  pub parts : run_text c events ≡ front ++ unwritten
+  pub text : after ≡ before ++ front
 
 -- Where the octets of the reader and those that the writer holds are known, they are so known after the replay, and this is said of
 -- the script, of what was written before and of what is written then.
