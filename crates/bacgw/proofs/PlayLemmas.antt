@@ -1,16 +1,16 @@
 -- What a replay leaves written, from what the run and the flush behind it leave.
-use Rattle.std.proofs.Common.{◌≡◌, ◌∙◌, ◌⊎◌, inl, inr, refl, sym, ap, subst, rules, true, false, Bool, ℕ, ◌++◌, List, Result, Ok, Err, Option, Some, None, [], ◌∷◌, length, take, IsSomeAnd, IfErr, OnOk, IsErrOf}
+use Rattle.std.proofs.Common.{◌≡◌, ◌∙◌, ◌⊎◌, inl, inr, refl, sym, subst, rules, true, false, Bool, ℕ, ◌++◌, List, Result, Ok, Err, Option, Some, None, [], ◌∷◌, length, take, IsSomeAnd, OnOk, IsErrOf}
 use Rattle.std.specs.Io.KnownBytes.{Keeps}
 use Rattle.gw_core.specs.declared.replaying.RunFault.{RunFault}
 use Rattle.gw_core.specs.declared.replaying.RunFault.TheVariants as run
 use Rattle.gw_core.specs.declared.event.Event.{Event}
-use Rattle.gw_core.specs.Replay.{FirstLines, RunsFront, RunsPart, RunsToLine, RunsWhole, Told, run_text}
+use Rattle.gw_core.specs.Replay.{RunsFront, RunsPart, RunsToEnd, RunsToLine, RunsWhole, Told, run_text}
 use Rattle.gw_core.specs.Script.{AreLines, lines_of}
 use Rattle.gw_core.specs.Configured.{Configured}
 use Rattle.gw_core.specs.History.{run_after}
 use Rattle.gw_core.specs.Setting.{setting}
 use Rattle.bacgw.specs.Played.{Plays}
-use Rattle.bacgw.specs.Told.{fault_of, first_fault}
+use Rattle.bacgw.specs.Told.{first_fault}
 
 -- what a run of this configuration alone leaves written
 abbrev pub Leaves : Configured → List ℕ → List ℕ → Result (Unit {0}) RunFault → List ℕ → Type 0
@@ -19,21 +19,22 @@ Leaves c script before (Err (run.Line n)) after = RunsToLine n c script before a
 Leaves c script before (Err run.Read) after = RunsPart c script before after
 Leaves c script before (Err run.Write) after = RunsFront c script before after
 Leaves c script before (Err run.Memory) after = RunsPart c script before after
-Leaves c script before (Err run.CountEnd) after = RunsPart c script before after
+Leaves c script before (Err run.CountEnd) after = RunsToEnd c script before after
 
--- the four clauses of a run as one
+-- the clauses of a run as one
 pub run_leaves : (c : Configured) (read held holds : Option (List ℕ)) (r : Result (Unit {0}) RunFault)
     → OnOk r (Told read held holds (RunsWhole c))
     → ((n : ℕ) → IsErrOf r (run.Line n) → Told read held holds (RunsToLine n c))
     → (IsErrOf r run.Write → Told read held holds (RunsFront c))
-    → ((IsErrOf r run.Read ⊎ IsErrOf r run.Memory ⊎ IsErrOf r run.CountEnd) → Told read held holds (RunsPart c))
+    → (IsErrOf r run.CountEnd → Told read held holds (RunsToEnd c))
+    → ((IsErrOf r run.Read ⊎ IsErrOf r run.Memory) → Told read held holds (RunsPart c))
     → Told read held holds (λ script before. Leaves c script before r)
-run_leaves c read held holds (Ok done) whole line front part = whole
-run_leaves c read held holds (Err (run.Line n)) whole line front part = line n refl
-run_leaves c read held holds (Err run.Read) whole line front part = part (inl refl)
-run_leaves c read held holds (Err run.Write) whole line front part = front refl
-run_leaves c read held holds (Err run.Memory) whole line front part = part (inr (inl refl))
-run_leaves c read held holds (Err run.CountEnd) whole line front part = part (inr (inr refl))
+run_leaves c read held holds (Ok done) whole line front count_end part = whole
+run_leaves c read held holds (Err (run.Line n)) whole line front count_end part = line n refl
+run_leaves c read held holds (Err run.Read) whole line front count_end part = part (inl refl)
+run_leaves c read held holds (Err run.Write) whole line front count_end part = front refl
+run_leaves c read held holds (Err run.Memory) whole line front count_end part = part (inr refl)
+run_leaves c read held holds (Err run.CountEnd) whole line front count_end part = count_end refl
 
 -- what holds of known bytes holds where they are kept
 pub kept : (P : List ℕ → Type 0) (held now : Option (List ℕ)) → Keeps held now → IsSomeAnd held P → IsSomeAnd now P

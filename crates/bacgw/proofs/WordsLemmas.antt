@@ -1,6 +1,6 @@
 -- What the program makes of words, from what a parse of them gives.
 use Rattle.std.proofs.Common.{◌≡◌, ◌≢◌, ◌∙◌, ◌⊎◌, inl, inr, refl, sym, ap, subst, rules, true, ℕ, List, Result, Ok, Err, codes, [], ◌∷◌}
-use Rattle.clap.specs.Words.{App, FailsBy, HasKind, IsAmong, Kinds, Text, fault_of, is_simple_and_free, kind_of}
+use Rattle.clap.specs.Words.{IsAmong, Kinds, fault_of, is_simple_and_free}
 use Rattle.clap.specs.declared.error.kind.ErrorKind.{ErrorKind}
 use Rattle.clap.specs.declared.error.kind.ErrorKind.TheVariants as parse
 use Rattle.clap.proofs.OnLiterals.{clap_on_literals}

@@ -1,6 +1,6 @@
 -- What a replay leaves written, at each outcome: over the definitions of `gw_core`, at the built-in configuration.
 use Rattle.std.specs.Prelude.{ℕ, List, Result, Ok, Err}
-use Rattle.gw_core.specs.Replay.{RunsFront, RunsPart, RunsToLine, RunsWhole}
+use Rattle.gw_core.specs.Replay.{RunsFront, RunsPart, RunsToEnd, RunsToLine, RunsWhole}
 use Rattle.gw_core.specs.Setting.{setting}
 use Rattle.bacgw.specs.declared.fault.Fault.{Fault}
 use Rattle.bacgw.specs.declared.fault.Fault.TheVariants as fault
@@ -13,4 +13,4 @@ Plays script before (Err (fault.Line n)) after = RunsToLine n setting script bef
 Plays script before (Err fault.Read) after = RunsPart setting script before after
 Plays script before (Err fault.Write) after = RunsFront setting script before after
 Plays script before (Err fault.Memory) after = RunsPart setting script before after
-Plays script before (Err fault.CountEnd) after = RunsPart setting script before after
+Plays script before (Err fault.CountEnd) after = RunsToEnd setting script before after

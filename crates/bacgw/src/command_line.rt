@@ -23,8 +23,9 @@ pub enum Choice {
 fn make_commands<'a>(alloc: Global) -> Result<Command<'a>, AllocError>
     ensures { IfOk result (λ command. app_of command ≡ commands) }
 {
-    let replay = Command::new(alloc, "replay")
-        .about("Plays the events of standard input and prints what the gateway gives for each");
+    let replay = Command::new(alloc, "replay").about(
+        "Plays the events of standard input and prints what the gateway gives for each",
+    );
     Command::new(alloc, "bacgw")
         .about("A gateway of BACnet/IP")
         .subcommand_required(true)

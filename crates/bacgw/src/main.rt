@@ -13,16 +13,16 @@ mod tests;
 
 use command_line::Choice;
 use fault::Fault;
-use std::env;
-use std::io;
 use std::io::BufWriter;
 use std::process::ExitCode;
+use std::rt::Env;
+use std::{env, io};
 
 /// How many octets of output are gathered before they are written.
 const OUTPUT_OCTETS: usize = 65536;
 
 /// The words that the program was called with, its name first.
-fn words(rt: &HostRuntime) -> Result<Vec<String>, Fault> {
+fn words(rt: &(impl Env + AllocGlobal)) -> Result<Vec<String>, Fault> {
     match env::args(rt) {
         Ok(words) => Ok(words.collect(rt.alloc())?),
         Err(error) => Err(Fault::of_words(error.kind())),
@@ -30,7 +30,7 @@ fn words(rt: &HostRuntime) -> Result<Vec<String>, Fault> {
 }
 
 /// Plays the script on standard input.
-fn replay(rt: &HostRuntime) -> Result<(), Fault> {
+fn replay(rt: &(impl Input + Print + AllocGlobal)) -> Result<(), Fault> {
     let alloc = rt.alloc();
     let mut reader = rt.reader();
     match BufWriter::with_capacity(alloc, OUTPUT_OCTETS, io::writer(rt)) {
@@ -40,7 +40,7 @@ fn replay(rt: &HostRuntime) -> Result<(), Fault> {
 }
 
 /// Does what the words ask for.
-fn run(rt: &HostRuntime) -> Result<(), Fault> {
+fn run(rt: &(impl Env + Input + Print + AllocGlobal)) -> Result<(), Fault> {
     let words = words(rt)?;
     match command_line::choice_of(rt.alloc(), words.as_slice())? {
         Choice::Replay => replay(rt),

@@ -66,7 +66,8 @@ Options:
 ";
 
 /// The text that is printed for help on `replay`.
-const REPLAY_HELP: &str = "Plays the events of standard input and prints what the gateway gives for each
+const REPLAY_HELP: &str =
+    "Plays the events of standard input and prints what the gateway gives for each
 
 Usage: bacgw replay
 
@@ -97,12 +98,24 @@ fn helps(rt: HostRuntime) -> Result<(), Fail> {
 fn tells_faults(rt: HostRuntime) -> Result<(), Fail> {
     let cases: [(Result<(), Fault>, &[u8], u8); 8] = [
         (Ok(()), b"", 0),
-        (Err(Fault::of_words(ErrorKind::InvalidData)), b"bacgw: bad command line\n", 2),
+        (
+            Err(Fault::of_words(ErrorKind::InvalidData)),
+            b"bacgw: bad command line\n",
+            2,
+        ),
         (Err(Fault::Line(1)), b"bacgw: line 1\n", 2),
-        (Err(Fault::Line(u64::MAX)), b"bacgw: line 18446744073709551615\n", 2),
+        (
+            Err(Fault::Line(u64::MAX)),
+            b"bacgw: line 18446744073709551615\n",
+            2,
+        ),
         (Err(Fault::Read), b"bacgw: read failed\n", 1),
         (Err(Fault::Write), b"bacgw: write failed\n", 1),
-        (Err(Fault::of_words(ErrorKind::OutOfMemory)), b"bacgw: out of memory\n", 1),
+        (
+            Err(Fault::of_words(ErrorKind::OutOfMemory)),
+            b"bacgw: out of memory\n",
+            1,
+        ),
         (Err(Fault::CountEnd), b"bacgw: count at its end\n", 1),
     ];
     for (outcome, text, status) in cases {

@@ -1,6 +1,6 @@
 -- Texts that lack a character.
-use Rattle.std.proofs.Common.{◌≡◌, ◌≢◌, ℕ, zero, suc, ◌+◌, ◌-◌, ◌^◌, ◌<◌, ◌≤◌, Bool, true, false, ◌==◌, List, [], ◌∷◌, ◌++◌, length, get_or, take, drop, Option, Some, None, refl, sym, ap, ◌∙◌, arith, eq-eqb}
-use Rattle.std.proofs.lemmas.List.{get_or-take, length-take-le, length-append, length-drop, take-append-drop}
+use Rattle.std.proofs.Common.{◌≡◌, ◌≢◌, ℕ, zero, suc, ◌+◌, ◌-◌, ◌^◌, ◌<◌, List, [], ◌∷◌, ◌++◌, length, get_or, take, drop, Option, Some, None, refl, sym, ap, ◌∙◌, arith, eq-eqb}
+use Rattle.std.proofs.lemmas.List.{get_or-take, length-take-le, length-drop, take-append-drop}
 use Rattle.std.proofs.Math.Seq.{drop-cons, take-length}
 use Rattle.std.proofs.lemmas.Bool.Decides.{nat_tests}
 use Rattle.std.proofs.lemmas.Fmt.{IsAscii-decimal}
@@ -9,7 +9,7 @@ use Rattle.std.proofs.lemmas.Str.Ascii.{IsAscii-cons}
 use Rattle.std.specs.Str.{IsAscii, IsUtf8}
 use Rattle.std.specs.Char.{IsAsciiDigit}
 use Rattle.std.specs.Fmt.{decimal}
-use Rattle.memchr.specs.Find.{Nowhere, NoneBefore, Passes, IsFirstByte, is_byte}
+use Rattle.memchr.specs.Find.{IsFirstByte, is_byte}
 use Rattle.gw_addr.specs.declared.bip.BipAddr.{BipAddr}
 use Rattle.gw_addr.specs.Address.{IsAddress, text_of}
 use Rattle.gw_addr.proofs.Decimal.{not_in_decimal}
@@ -76,11 +76,13 @@ small_octet a is i = omega (arith, is.octets i)
 -- no address has a space in its text
 pub address_lacks : (a : BipAddr) → IsAddress a → Lacks 32 (text_of a)
 address_lacks a is =
-    let port = number_lacks a.udp (omega (arith, is.udp)) in
-    let fourth = part_lacks (get_or a.ip 3 0) 58 (decimal a.udp) (small_octet a is 3) (omega arith) port in
-    let third = part_lacks (get_or a.ip 2 0) 46 _ (small_octet a is 2) (omega arith) fourth in
-    let second = part_lacks (get_or a.ip 1 0) 46 _ (small_octet a is 1) (omega arith) third in
-    part_lacks (get_or a.ip 0 0) 46 _ (small_octet a is 0) (omega arith) second
+    let ends = decimal (get_or a.ip 3 0) ++ 58 ∷ decimal a.udp in
+    let later = decimal (get_or a.ip 2 0) ++ 46 ∷ ends in
+    let most = decimal (get_or a.ip 1 0) ++ 46 ∷ later in
+    let fourth : Lacks 32 ends = part_lacks (get_or a.ip 3 0) 58 (decimal a.udp) (small_octet a is 3) (omega arith) (number_lacks a.udp (omega (arith, is.udp))) in
+    let third : Lacks 32 later = part_lacks (get_or a.ip 2 0) 46 ends (small_octet a is 2) (omega arith) fourth in
+    let second : Lacks 32 most = part_lacks (get_or a.ip 1 0) 46 later (small_octet a is 1) (omega arith) third in
+    part_lacks (get_or a.ip 0 0) 46 most (small_octet a is 0) (omega arith) second
 
 part_ascii : (n c : ℕ) (rest : List ℕ) → n < 2 ^ 64 → c < 128 → IsAscii rest → IsAscii (decimal n ++ c ∷ rest)
 part_ascii n c rest small low ascii =
@@ -89,11 +91,13 @@ part_ascii n c rest small low ascii =
 -- the text of an address is of ASCII characters, and so of UTF-8
 pub address_utf8 : (a : BipAddr) → IsAddress a → IsUtf8 (text_of a)
 address_utf8 a is =
-    let port = IsAscii-decimal a.udp (omega (arith, is.udp)) in
-    let fourth = part_ascii (get_or a.ip 3 0) 58 (decimal a.udp) (small_octet a is 3) (omega arith) port in
-    let third = part_ascii (get_or a.ip 2 0) 46 _ (small_octet a is 2) (omega arith) fourth in
-    let second = part_ascii (get_or a.ip 1 0) 46 _ (small_octet a is 1) (omega arith) third in
-    IsUtf8-from_ascii (text_of a) (part_ascii (get_or a.ip 0 0) 46 _ (small_octet a is 0) (omega arith) second)
+    let ends = decimal (get_or a.ip 3 0) ++ 58 ∷ decimal a.udp in
+    let later = decimal (get_or a.ip 2 0) ++ 46 ∷ ends in
+    let most = decimal (get_or a.ip 1 0) ++ 46 ∷ later in
+    let fourth : IsAscii ends = part_ascii (get_or a.ip 3 0) 58 (decimal a.udp) (small_octet a is 3) (omega arith) (IsAscii-decimal a.udp (omega (arith, is.udp))) in
+    let third : IsAscii later = part_ascii (get_or a.ip 2 0) 46 ends (small_octet a is 2) (omega arith) fourth in
+    let second : IsAscii most = part_ascii (get_or a.ip 1 0) 46 later (small_octet a is 1) (omega arith) third in
+    IsUtf8-from_ascii (text_of a) (part_ascii (get_or a.ip 0 0) 46 most (small_octet a is 0) (omega arith) second)
 
 -- all that stands behind the first characters
 pub tail_whole : (n : ℕ) (xs : List ℕ) → take (length xs - n) (drop n xs) ≡ drop n xs

@@ -1,7 +1,6 @@
 -- A run goes on by one event, line by line.
-use Rattle.std.proofs.Common.{◌≡◌, ◌⊎◌, inl, inr, ℕ, zero, suc, ◌+◌, List, [], ◌∷◌, ◌++◌, length, take, drop, Option, Some, None, Result, Ok, Err, Bool, true, false, refl, sym, ap, subst, ◌∙◌, arith, append_assoc}
+use Rattle.std.proofs.Common.{◌≡◌, ◌⊎◌, inl, inr, ℕ, suc, ◌+◌, List, [], ◌∷◌, ◌++◌, length, take, drop, Option, Some, None, Result, Ok, Err, Bool, true, false, refl, sym, ap, subst, ◌∙◌, arith, append_assoc}
 use Rattle.std.specs.Prelude.{IsSomeAnd, IsErrOf}
-use Rattle.std.specs.List.{flat_map}
 use Rattle.std.proofs.lemmas.List.{append-nil, take_at, drop_at, length-append}
 use Rattle.std.proofs.lemmas.List.Concat.{flat_map-cons}
 use Rattle.std.proofs.lemmas.Grind.{flat_map-append}
@@ -12,12 +11,12 @@ use Rattle.gw_core.specs.declared.replaying.RunFault.{RunFault}
 use Rattle.gw_core.specs.declared.replaying.RunFault.TheVariants.{Read, Line, Write, Memory, CountEnd}
 use Rattle.gw_core.specs.Configured.{Configured}
 use Rattle.gw_core.specs.Standing.{Standing}
-use Rattle.gw_core.specs.Effects.{effects_at}
-use Rattle.gw_core.specs.History.{run, run_after, taken, effects, next, Stands, standing}
+use Rattle.gw_core.specs.Effects.{effects_at, passes_end}
+use Rattle.gw_core.specs.History.{run, run_after, taken, effects, Stands, standing}
 use Rattle.gw_core.specs.Script.{lines_of, IsLine, AreLines}
 use Rattle.gw_core.specs.Shown.{shown, shown_effects}
-use Rattle.gw_core.specs.Replay.{no_counts, run_text, FirstLines, RunsWhole, RunsToLine, RunsPart, RunsFront}
-use Rattle.gw_core.specs.Underway.{Took, NoEvent, Cut, Turned}
+use Rattle.gw_core.specs.Replay.{no_counts, run_text, FirstLines, RunsWhole, RunsToLine, RunsToEnd, RunsPart, RunsFront}
+use Rattle.gw_core.specs.Underway.{Turned}
 use Rattle.gw_core.proofs.HistoryLaws.{stands_next}
 
 pub run_more : (c : Configured) (k : Counts) (h l : List Event) (e : Event) → run_after c k h (l ++ e ∷ []) ≡ run_after c k h l ++ effects c k (taken h l) e ∷ []
@@ -146,14 +145,14 @@ ends_part c script before n w text written p =
 abbrev pub Stops : RunFault → Type 0
 Stops Read = Unit {0}
 Stops Memory = Unit {0}
-Stops CountEnd = Unit {0}
+Stops CountEnd = ⊥
 Stops Write = ⊥
 Stops (Line m) = ⊥
 
 same_text : (n : ℕ) (w moved : Standing) (t : List ℕ) (left : Option (List ℕ)) (b : List ℕ) (after : Option (List ℕ)) (fault : RunFault) → Stops fault → Turned n w moved t left b after (Err fault) → after ≡ Some b
 same_text n w moved t left b after Read stops said = said
 same_text n w moved t left b after Memory stops said = said
-same_text n w moved t left b after CountEnd stops said = said
+same_text n w moved t left b after CountEnd stops said = absurd stops
 same_text n w moved t left b after Write stops said = absurd stops
 same_text n w moved t left b after (Line m) stops said = absurd stops
 
@@ -180,6 +179,23 @@ ends_at_line c script before n w moved text left written after m p turns =
       text = refl;
     })
 
+pub ends_at_end : (c : Configured) (script before : List ℕ) (n : ℕ) (w moved : Standing) (text left written after : Option (List ℕ))
+    → Progress c script before n w text written → Turns n w moved text left written after (Err CountEnd) → IsSomeAnd after (RunsToEnd c script before)
+ends_at_end c script before n w moved text left written after p turns =
+    let said = turns p.left (before ++ run_text c p.events) p.text_is p.written_is in
+    let past = said.0 in
+    known (RunsToEnd c script before) after (before ++ run_text c p.events) said.1 (record {
+      events = p.events;
+      lines = first_lines c script p.done (lines_of p.left) p.events p.are p.lines;
+      line = past.line;
+      rest = past.others;
+      stands = other_lines c script p.done (lines_of p.left) p.events p.are p.lines ∙ past.lines;
+      event = past.event;
+      writes = on_ports c w (taken [] p.events) past.line past.event p.stands past.writes;
+      passes = ap (λ (x : Standing). passes_end x past.event) (sym p.stands) ∙ past.passes;
+      text = refl;
+    })
+
 pub ends_at_write : (c : Configured) (script before : List ℕ) (n : ℕ) (w moved : Standing) (text left written after : Option (List ℕ))
     → Progress c script before n w text written → Turns n w moved text left written after (Err Write) → IsSomeAnd after (RunsFront c script before)
 ends_at_write c script before n w moved text left written after p turns =
@@ -200,7 +216,6 @@ ends_at_write c script before n w moved text left written after p turns =
 pub fault_is : {T : Type 0} (fault other : RunFault) → IsErrOf {T = T} {E = RunFault} (Err fault) other → fault ≡ other
 fault_is fault other e = cc
 
-pub stops : {T : Type 0} (fault : RunFault) → IsErrOf {T = T} {E = RunFault} (Err fault) Read ⊎ IsErrOf {T = T} {E = RunFault} (Err fault) Memory ⊎ IsErrOf {T = T} {E = RunFault} (Err fault) CountEnd → Stops fault
+pub stops : {T : Type 0} (fault : RunFault) → IsErrOf {T = T} {E = RunFault} (Err fault) Read ⊎ IsErrOf {T = T} {E = RunFault} (Err fault) Memory → Stops fault
 stops {T} fault (inl e) = subst Stops (sym (fault_is {T = T} fault Read e)) tt
-stops {T} fault (inr (inl e)) = subst Stops (sym (fault_is {T = T} fault Memory e)) tt
-stops {T} fault (inr (inr e)) = subst Stops (sym (fault_is {T = T} fault CountEnd e)) tt
+stops {T} fault (inr e) = subst Stops (sym (fault_is {T = T} fault Memory e)) tt

@@ -1,5 +1,5 @@
 -- The lines and the events of a script are the only ones.
-use Rattle.std.proofs.Common.{◌≡◌, ℕ, ◌+◌, ◌≤◌, List, [], ◌∷◌, ◌++◌, length, drop, get_or, codes, Result, Ok, Err, ◌⊎◌, inl, inr, refl, sym, ap, subst, ◌∙◌, arith, append_assoc}
+use Rattle.std.proofs.Common.{◌≡◌, ℕ, ◌+◌, ◌≤◌, List, [], ◌∷◌, ◌++◌, length, drop, get_or, codes, Ok, inl, inr, refl, sym, ap, subst, ◌∙◌, arith, append_assoc}
 use Rattle.std.specs.List.{AllByRecursion, flat_map}
 use Rattle.std.proofs.lemmas.List.Concat.{flat_map-cons}
 use Rattle.hex.specs.Hex.{decode_of}
@@ -9,7 +9,7 @@ use Rattle.gw_addr.specs.Address.{text_of}
 use Rattle.gw_addr.proofs.Address.{same_texts}
 use Rattle.gw_core.specs.declared.event.Event.{Event}
 use Rattle.gw_core.specs.declared.event.Event.TheVariants.{Datagram, Tick}
-use Rattle.gw_core.specs.Script.{lines_of, Lacks, IsLine, AreLines, Writes, WritesDatagram, WritesOctets}
+use Rattle.gw_core.specs.Script.{lines_of, Lacks, IsLine, AreLines, Writes, WritesOctets}
 use Rattle.gw_core.proofs.Lacking.{same_split, address_lacks}
 use Rattle.gw_core.proofs.LineLaws.{lines_of-line, lines_of-last, lines_of-nil}
 
@@ -22,10 +22,11 @@ same_octets text octets others (inl h) (inr k) = absurd (no_digits others (sym (
 same_octets text octets others (inr h) (inl k) = absurd (no_digits octets (sym (ap decode_of k.0) ∙ h.1))
 same_octets text octets others (inr h) (inr k) = decode_of-same text octets others h.1 k.1
 
+not_a_space : ◌≡◌ {A = ℕ} 105 32 → ⊥
+not_a_space e = cc
+
 tick_is_no_datagram : (port : ℕ) (rest : List ℕ) → codes "tick" ≡ (48 + port) ∷ 32 ∷ rest → ⊥
-tick_is_no_datagram port rest e =
-    let second : 105 ≡ 32 = ap (λ (l : List ℕ). get_or l 1 0) e in
-    cc
+tick_is_no_datagram port rest e = not_a_space (ap (λ (l : List ℕ). get_or l 1 0) e)
 
 same_datagram : (port other : ℕ) (from sender : BipAddr) (octets others : List ℕ) → port ≡ other → from ≡ sender → octets ≡ others → Datagram port from octets ≡ Datagram other sender others
 same_datagram port other from sender octets others p f o = cc

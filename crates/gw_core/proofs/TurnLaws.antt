@@ -1,8 +1,12 @@
 -- What is known of the text that is left and of what was written.
-use Rattle.std.proofs.Common.{◌≡◌, ℕ, List, [], ◌∷◌, ◌++◌, length, Option, Some, None, refl, sym, ap, subst, ◌∙◌}
+use Rattle.std.proofs.Common.{◌≡◌, ℕ, List, [], ◌++◌, Option, Some, None, Err, ◌⊎◌, inl, inr, refl, sym, ap, subst, ◌∙◌}
 use Rattle.std.specs.Prelude.{IfSome}
 use Rattle.gw_core.specs.declared.event.Event.{Event}
+use Rattle.gw_core.specs.declared.replaying.RunFault.{RunFault}
+use Rattle.gw_core.specs.declared.replaying.RunFault.TheVariants.{Memory, CountEnd}
+use Rattle.gw_core.specs.Standing.{Standing}
 use Rattle.gw_core.specs.Script.{IsLine}
+use Rattle.gw_core.specs.Underway.{PassesEnd, Turned}
 use Rattle.std.specs.Io.KnownBytes.{Keeps, Appends, prepend_known}
 
 -- text that is known stays known: what the reader has left stands behind what is held
@@ -37,3 +41,11 @@ same_line p q a b e ports lines is =
 
 pub nothing_held : (held : List ℕ) (known : Option (List ℕ)) (script : List ℕ) → held ≡ [] → known ≡ Some script → prepend_known held known ≡ Some script
 nothing_held held known script none e = ap (λ (h : List ℕ). prepend_known h known) none ∙ ap (prepend_known []) e
+
+-- an event that isn't taken leaves what was written as it was
+pub not_taken : (n : ℕ) (w moved : Standing) (text : List ℕ) (left : Option (List ℕ)) (before : List ℕ) (after : Option (List ℕ)) (fault : RunFault) (passes : Type 0)
+    → (fault ≡ Memory) ⊎ ((fault ≡ CountEnd) × passes) → (passes → PassesEnd w text) → after ≡ Some before → Turned n w moved text left before after (Err fault)
+not_taken n w moved text left before after fault passes (inl e) past held =
+    subst (λ (f : RunFault). Turned n w moved text left before after (Err f)) (sym e) held
+not_taken n w moved text left before after fault passes (inr h) past held =
+    subst (λ (f : RunFault). Turned n w moved text left before after (Err f)) (sym h.0) (past h.1, held)

@@ -1,9 +1,10 @@
 -- What a replay writes: the text of the run of a script's events, as far as the script and its run go.
-use Rattle.std.specs.Prelude.{◌≡◌, ℕ, ◌+◌, List, [], ◌∷◌, ◌++◌, length, take, drop, Option, Some, IsSomeAnd}
+use Rattle.std.specs.Prelude.{◌≡◌, ℕ, ◌+◌, List, [], ◌∷◌, ◌++◌, length, take, drop, true, Option, Some, IsSomeAnd}
 use Rattle.gw_core.specs.declared.event.Counts.{Counts}
 use Rattle.gw_core.specs.declared.event.Event.{Event}
 use Rattle.gw_core.specs.Configured.{Configured}
-use Rattle.gw_core.specs.History.{run}
+use Rattle.gw_core.specs.Effects.{passes_end}
+use Rattle.gw_core.specs.History.{run, standing, taken}
 use Rattle.gw_core.specs.Script.{lines_of, IsLine, AreLines}
 use Rattle.gw_core.specs.Shown.{shown}
 
@@ -40,6 +41,19 @@ pub record RunsToLine (n : ℕ) (c : Configured) (script before after : List ℕ
 pub record RunsPart (c : Configured) (script before after : List ℕ) : Type 0 where
   pub events : List Event
   pub lines : FirstLines c script events
+  pub text : after ≡ before ++ run_text c events
+
+-- some first lines write events, the line behind them writes one that would pass the end of a count, and what was written is the text of
+-- the run of those before
+pub record RunsToEnd (c : Configured) (script before after : List ℕ) : Type 0 where
+  pub events : List Event
+  pub lines : FirstLines c script events
+  pub line : List ℕ
+  pub rest : List (List ℕ)
+  pub stands : drop (length events) (lines_of script) ≡ line ∷ rest
+  pub event : Event
+  pub writes : IsLine (length c.ports) line event
+  pub passes : passes_end (standing c no_counts (taken [] events)) event ≡ true
   pub text : after ≡ before ++ run_text c events
 
 -- some first lines write events, and what was written is a front of the text of their run

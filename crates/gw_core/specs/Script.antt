@@ -1,5 +1,5 @@
 -- A script: the text of a list of events, a line for each.
-use Rattle.std.specs.Prelude.{◌≡◌, ◌≢◌, ℕ, ◌+◌, ◌<◌, ◌≤◌, slice_index, List, [], ◌∷◌, ◌++◌, length, codes, Result, Ok, ⊤, ◌==◌, ◌⊎◌, if◌then◌else◌}
+use Rattle.std.specs.Prelude.{◌≡◌, ◌≢◌, ℕ, ◌+◌, ◌<◌, ◌≤◌, slice_index, List, [], ◌∷◌, ◌++◌, length, codes, Ok, ⊤, ◌==◌, ◌⊎◌, if◌then◌else◌}
 use Rattle.hex.specs.Hex.{decode_of}
 use Rattle.gw_addr.specs.declared.bip.BipAddr.{BipAddr}
 use Rattle.gw_addr.specs.Address.{IsAddress, text_of}

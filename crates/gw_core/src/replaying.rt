@@ -1,14 +1,14 @@
 //! The replay of a script: its events one by one through a fresh gateway, and the text of what they do.
 
-ghost use Rattle.std.specs.Prelude.{◌≡◌, ℕ, List, length, ◌⊎◌, Some, OnOk, IfErr, IfOk, IsErrOf};
+ghost use Rattle.std.specs.Prelude.{◌≡◌, ℕ, List, length, ◌⊎◌, Some, OnOk, IfErr, IfOk, IsErrOf, true};
 ghost use Rattle.std.specs.Io.KnownBytes.{prepend_known};
-ghost use Rattle.gw_core.specs.Effects.{effects_at};
+ghost use Rattle.gw_core.specs.Effects.{effects_at, passes_end};
 ghost use Rattle.gw_core.specs.History.{next};
 ghost use Rattle.gw_core.specs.Ahead.{held};
 ghost use Rattle.gw_core.specs.Parsed.{event_of, IsOn};
 ghost use Rattle.gw_core.specs.Shown.{shown_effects};
-ghost use Rattle.gw_core.specs.Replay.{Told, RunsWhole, RunsToLine, RunsPart, RunsFront};
-ghost use Rattle.gw_core.specs.Underway.{Turned, fault_of};
+ghost use Rattle.gw_core.specs.Replay.{Told, RunsWhole, RunsToLine, RunsToEnd, RunsPart, RunsFront};
+ghost use Rattle.gw_core.specs.Underway.{Turned};
 
 use crate::ahead::{Ahead, Piece};
 use crate::config::Config;
@@ -43,17 +43,6 @@ pub enum RunFault {
     CountEnd,
 }
 
-impl From<StepFault> for RunFault {
-    ghost from_gives = { λ fault run_fault. run_fault ≡ fault_of fault };
-
-    fn from(fault: StepFault) -> Self {
-        match fault {
-            StepFault::Memory => RunFault::Memory,
-            StepFault::CountEnd => RunFault::CountEnd,
-        }
-    }
-}
-
 /// A replay under way: what it keeps from line to line.
 #[derive(Debug, Drop)]
 struct Underway {
@@ -63,19 +52,39 @@ struct Underway {
     shown: Vec<u8>,
 }
 
-/// Runs the events of a script through a fresh gateway of this configuration, and writes what each of them does before it reads on.
+/// Runs the events of a script through a fresh gateway of this configuration, whose counts start at 0, and writes what each of them does
+/// before it takes up the next line. The writer isn't flushed.
+///
+/// A line is `tick`, or the number of a port, whom a datagram comes from and its octets, and ends with a line feed, which the last may
+/// lack. It has at most 4096 octets without it.
+///
+/// ```text
+/// tick
+/// 1 192.168.1.5:47808 810A0016012400640101FF0005070C0C014000011955
+/// 1 192.168.1.5:47808 -
+/// ```
+///
+/// For each event there is a line for each of its sends, and then `end`.
+///
+/// ```text
+/// send 1 192.168.1.5:47808 810A001801080064010130070C0C0140000119553E91003F
+/// end
+/// ```
 pub fn replay<R: Read, W: Write>(
     alloc: Global,
     config: Config,
     reader: &mut R,
     writer: &mut W,
 ) -> Result<(), RunFault>
-    // Of a reader and a writer whose octets are known: the text of the run of the whole script, of the lines before the first that writes no event,
+    // What is written then, where the octets of the reader and the writer are known: the text of the run of the whole script,
     ensures whole { OnOk result (Told (R.remaining reader.old) (W.contents writer.old) (W.contents writer.new) (RunsWhole config)) }
+    // of the lines before one that writes no event,
     ensures line { (n : ℕ) → IsErrOf result (RunFault.Line n) → Told (R.remaining reader.old) (W.contents writer.old) (W.contents writer.new) (RunsToLine n config) }
-    // or of some first lines: a front of it where a write failed, and else whole.
+    // of the lines before one whose event would pass the end of a count,
+    ensures count_end { IsErrOf result RunFault.CountEnd → Told (R.remaining reader.old) (W.contents writer.old) (W.contents writer.new) (RunsToEnd config) }
+    // or of some first lines, of which a failed write may leave a front.
     ensures front { IsErrOf result RunFault.Write → Told (R.remaining reader.old) (W.contents writer.old) (W.contents writer.new) (RunsFront config) }
-    ensures part { (IsErrOf result RunFault.Read ⊎ IsErrOf result RunFault.Memory ⊎ IsErrOf result RunFault.CountEnd) → Told (R.remaining reader.old) (W.contents writer.old) (W.contents writer.new) (RunsPart config) }
+    ensures part { (IsErrOf result RunFault.Read ⊎ IsErrOf result RunFault.Memory) → Told (R.remaining reader.old) (W.contents writer.old) (W.contents writer.new) (RunsPart config) }
 {
     let counts = Counts {
         ticks: 0,
@@ -121,13 +130,16 @@ impl Underway {
         let Some(parsed) = parse_line(self.gateway.ports(), line, &mut self.octets) else {
             return Err(RunFault::Line(number));
         };
-        show_event(
+        match show_event(
             alloc,
             &mut self.gateway,
             parsed,
             &self.octets,
             &mut self.shown,
-        )?;
+        ) {
+            Ok(()) => {}
+            Err(fault) => return Err(fault),
+        }
         let Ok(()) = write_whole(writer, &self.shown) else {
             return Err(RunFault::Write);
         };
@@ -147,9 +159,13 @@ fn show_event(
     requires { IsOn (length gateway.old.ports) parsed }
     ensures text { OnOk result (shown.new.items ≡ shown_effects (effects_at gateway.old (event_of octets.now parsed))) }
     ensures moved { OnOk result (gateway.new ≡ next gateway.old (event_of octets.now parsed)) }
-    ensures fault { IfErr result (λ fault. (fault ≡ RunFault.Memory) ⊎ (fault ≡ RunFault.CountEnd)) }
+    ensures fault { IfErr result (λ fault. (fault ≡ RunFault.Memory) ⊎ ((fault ≡ RunFault.CountEnd) × (passes_end gateway.old (event_of octets.now parsed) ≡ true))) }
 {
-    let effects = take_event(alloc, gateway, parsed, octets)?;
+    let effects = match take_event(alloc, gateway, parsed, octets) {
+        Ok(effects) => effects,
+        Err(StepFault::Memory) => return Err(RunFault::Memory),
+        Err(StepFault::CountEnd) => return Err(RunFault::CountEnd),
+    };
     shown.clear();
     let Ok(()) = show_effects(shown, &effects) else {
         return Err(RunFault::Memory);
@@ -167,12 +183,13 @@ fn take_event(
     requires { IsOn (length gateway.old.ports) parsed }
     ensures given { IfOk result (λ given. given ≡ effects_at gateway.old (event_of octets.now parsed)) }
     ensures moved { OnOk result (gateway.new ≡ next gateway.old (event_of octets.now parsed)) }
+    ensures count_end { IsErrOf result StepFault.CountEnd → passes_end gateway.old (event_of octets.now parsed) ≡ true }
 {
     match parsed {
-        Parsed::Tick => {
-            gateway.tick()?;
-            Ok(Effects::none(alloc))
-        }
+        Parsed::Tick => match gateway.tick() {
+            Ok(()) => Ok(Effects::none(alloc)),
+            Err(fault) => Err(fault),
+        },
         Parsed::Datagram { port, from, len } => gateway.step(alloc, port, from, &octets[..len]),
     }
 }

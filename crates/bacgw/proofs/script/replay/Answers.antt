@@ -1,4 +1,4 @@
-use Rattle.std.proofs.Common.{◌≡◌, sym, subst, rules, ℕ, List, Option, Result, Some, Ok, Err, IsSomeAnd}
+use Rattle.std.proofs.Common.{◌≡◌, sym, subst, rules, ℕ, List, Option, Result, Err, IsSomeAnd}
 use Rattle.std.specs.Io.Buffered.{writer_contents}
 use Rattle.gw_core.specs.Configured.{Configured}
 use Rattle.gw_core.specs.Replay.{RunsPart}
@@ -21,12 +21,12 @@ returns-clause-plays g c = λ script before remains holds.
     let contents = writer_contents g.W.Write.contents in
     let run = c.replay-run in
     let leaves : IsSomeAnd (contents run.new.writer) (Leaves c.in_ok-config.config script before run.result) =
-        run_leaves c.in_ok-config.config (g.R.Read.remaining c.args.reader.now) (contents c.args.writer.now) (contents run.new.writer) run.result
-        run.ensures.whole run.ensures.line run.ensures.front run.ensures.part script before remains holds in
+    run_leaves c.in_ok-config.config (g.R.Read.remaining c.args.reader.now) (contents c.args.writer.now) (contents run.new.writer) run.result
+    run.ensures.whole run.ensures.line run.ensures.front run.ensures.count_end run.ensures.part script before remains holds in
     let leaves_at_setting : IsSomeAnd (contents run.new.writer) (Leaves setting script before run.result) =
-        subst (λ (config : Configured). IsSomeAnd (contents run.new.writer) (Leaves config script before run.result)) c.in_ok-config.ensures leaves in
+    subst (λ (config : Configured). IsSomeAnd (contents run.new.writer) (Leaves config script before run.result)) c.in_ok-config.ensures leaves in
     let plays : IsSomeAnd (contents run.new.writer) (Plays script before (first_fault run.result c.is_ok-is_flushed.result)) =
-        weaker (Leaves setting script before run.result) (Plays script before (first_fault run.result c.is_ok-is_flushed.result)) (contents run.new.writer)
-        (λ bytes held. flushed_plays script before bytes run.result c.is_ok-is_flushed.result held) leaves_at_setting in
+    weaker (Leaves setting script before run.result) (Plays script before (first_fault run.result c.is_ok-is_flushed.result)) (contents run.new.writer)
+    (λ bytes held. flushed_plays script before bytes run.result c.is_ok-is_flushed.result held) leaves_at_setting in
     subst (λ (r : Result (Unit {0}) Fault). IsSomeAnd (contents c.flush.new.self) (Plays script before r)) (sym c.first_fault.ensures)
     (kept (Plays script before (first_fault run.result c.is_ok-is_flushed.result)) (contents run.new.writer) (contents c.flush.new.self) c.flush.ensures.bytes plays)

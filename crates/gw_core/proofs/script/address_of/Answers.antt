@@ -1,4 +1,4 @@
-use Rattle.std.proofs.Common.{◌≡◌, sym, subst}
+use Rattle.std.proofs.Common.{sym, subst}
 use Rattle.std.specs.Str.{IsUtf8}
 use Rattle.gw_core.proofs.Lacking.{address_utf8}
 use Rattle.gw_core.proofs.script.address_of.Goals as goal

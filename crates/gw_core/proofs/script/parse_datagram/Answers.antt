@@ -1,4 +1,4 @@
-use Rattle.std.proofs.Common.{◌≡◌, ◌++◌, ◌∷◌, [], ◌+◌, ◌-◌, List, ℕ, length, take, drop, refl, sym, ap, ◌∙◌, subst}
+use Rattle.std.proofs.Common.{◌≡◌, ◌++◌, ◌∷◌, ◌-◌, List, ℕ, length, take, drop, refl, sym, ap, ◌∙◌, subst}
 use Rattle.gw_addr.specs.Address.{text_of}
 use Rattle.gw_core.specs.Script.{Lacks, WritesOctets}
 use Rattle.gw_core.proofs.Lacking.{has_not_lacks, same_split, address_lacks, tail_whole, none_some}

@@ -1,4 +1,4 @@
-use Rattle.std.proofs.Common.{◌≡◌, ◌++◌, ◌-◌, List, ℕ, length, take, drop, sym, ap, ◌∙◌}
+use Rattle.std.proofs.Common.{◌++◌, List, ℕ, take, sym, ap, ◌∙◌}
 use Rattle.gw_core.proofs.Lacking.{tail_whole}
 use Rattle.gw_core.proofs.Pieces.{appends_along, parts_along}
 use Rattle.gw_core.proofs.written.write_whole.Goals as goal

@@ -1,4 +1,4 @@
-use Rattle.std.proofs.Common.{◌≡◌, ◌≤◌, ◌-◌, ◌++◌, List, ℕ, length, take, subst, sym, ap, ◌∙◌, arith}
+use Rattle.std.proofs.Common.{◌≡◌, ◌≤◌, ◌++◌, List, ℕ, length, take, subst, sym, arith}
 use Rattle.std.specs.Io.KnownBytes.{Keeps, prepend_known}
 use Rattle.gw_core.specs.Ahead.{held}
 use Rattle.gw_core.proofs.Holding.{grown, keeps_read}

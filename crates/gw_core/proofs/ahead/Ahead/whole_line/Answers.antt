@@ -1,4 +1,4 @@
-use Rattle.std.proofs.Common.{◌≡◌, ℕ, ◌<◌, List, length, Some, None, sym, ap, ◌∙◌, arith, subst}
+use Rattle.std.proofs.Common.{length, Some, None, ap, arith}
 use Rattle.memchr.specs.Find.{IsFirstByte, is_byte}
 use Rattle.gw_core.specs.Ahead.{held}
 use Rattle.gw_core.proofs.Lacking.{none_lacks}
