@@ -223,3 +223,47 @@ fn a_writer_that_is_narrow_or_fails(rt: HostRuntime) -> Result<(), Fail> {
     }
     Ok(())
 }
+
+/// Holds 128 octets, takes one a call, and needs no memory.
+#[derive(Drop)]
+struct Small {
+    held: [u8; 128],
+    len: usize,
+}
+
+impl Write for Small {
+    fn write(&mut self, buf: &[u8]) -> io::Result<usize> {
+        if buf.is_empty() || self.len >= 128 {
+            return Ok(0);
+        }
+        self.held[self.len] = buf[0];
+        self.len += 1;
+        Ok(1)
+    }
+
+    fn flush(&mut self) -> io::Result<()> {
+        Ok(())
+    }
+}
+
+/// Passes with ample memory, and also where any one growth is refused: no event is then written in part.
+#[test]
+fn a_refused_growth(rt: HostRuntime) -> Result<(), Fail> {
+    let Ok(config) = setting_s(rt.alloc()) else {
+        return Ok(());
+    };
+    let mut reader: &[u8] =
+        b"tick\n1 192.168.1.5:47808 810A0016012400640101FF0005070C0C014000011955\n";
+    let mut writer = Small {
+        held: [0; 128],
+        len: 0,
+    };
+    let got = replay(rt.alloc(), config, &mut reader, &mut writer);
+    if got == Ok(()) {
+        assert_eq!(rt; writer.len, 4 + ANSWER.len());
+    } else {
+        assert_eq!(rt; got, Err(RunFault::Memory));
+        assert!(rt; writer.len == 0 || writer.len == 4);
+    }
+    Ok(())
+}
