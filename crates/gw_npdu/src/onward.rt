@@ -1,6 +1,7 @@
 //! What a router changes of a message for the next hop, by clause 6.5.4.
 
-ghost use Rattle.std.specs.Prelude.{◌≡◌, ◌+◌, ◌<◌, ◌↔◌, ◌++◌, length, OnOk, OnErr, IsErrOf};
+ghost use Rattle.std.specs.Prelude.{◌≡◌, ◌+◌, ◌<◌, ◌↔◌, ◌++◌, length, vec_len, OnOk, OnErr, IsErrOf};
+ghost use Rattle.std.specs.Vec.{vec_capacity};
 ghost use Rattle.gw_npdu.specs.Npdu.{header, onward, onward_view, view};
 
 use crate::fault::EncodeFault;
@@ -34,6 +35,9 @@ pub fn relay_header(
         OnOk result (out.new.items ≡ out.old.items ++ header next) }
     ensures too_long { let next = onward (onward_view how.now) (view npdu.now) in
         IsErrOf result EncodeFault.TooLong ↔ (MAX_LEN < length (header next) + n) }
+    // Memory only where the buffer had no room for the header.
+    ensures memory { let next = onward (onward_view how.now) (view npdu.now) in
+        IsErrOf result EncodeFault.Memory → vec_capacity out.old < vec_len out.old + length (header next) }
     ensures err { OnErr result (out.new.items ≡ out.old.items) }
 {
     let next = next(npdu, how);

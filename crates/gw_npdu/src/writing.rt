@@ -1,7 +1,8 @@
 //! Writing a message of the network layer: the one canonical spelling, by clause 6.2.
 
 ghost use Rattle.std.specs.Prelude.{◌≡◌, ◌+◌, ◌<◌, ◌≤◌, ◌↔◌, ◌++◌, length, option_map};
-ghost use Rattle.std.specs.Prelude.{OnOk, OnErr, IsErrOf};
+ghost use Rattle.std.specs.Prelude.{vec_len, IsOk, OnOk, OnErr, IsErrOf};
+ghost use Rattle.std.specs.Vec.{vec_capacity};
 ghost use Rattle.gw_addr.specs.Reading.{Keeps};
 ghost use Rattle.gw_npdu.specs.Npdu.{control, place, destination_part, source_part, hops_part};
 ghost use Rattle.gw_npdu.specs.Npdu.{payload_part, payload_octets, header, spelling};
@@ -115,6 +116,8 @@ fn put_place(out: &mut Vec<u8>, network: u16, address: &[u8]) -> Result<(), Allo
     requires { length address.now < 256 }
     ensures ok { OnOk result (out.new.items ≡ out.old.items ++ place network address.now) }
     ensures front { Keeps out.old.items out.new.items }
+    ensures capacity { vec_capacity out.old ≤ vec_capacity out.new }
+    ensures room { vec_len out.old + length (place network address.now) ≤ vec_capacity out.old → IsOk result }
 {
     out.extend_from_slice(&network.to_be_bytes())?;
     out.push(address.len() as u8)?;
@@ -128,6 +131,9 @@ fn put_destination(
     ensures ok { let d = option_map destination_view destination.now in
         OnOk result (out.new.items ≡ out.old.items ++ destination_part d) }
     ensures front { Keeps out.old.items out.new.items }
+    ensures capacity { vec_capacity out.old ≤ vec_capacity out.new }
+    ensures room { let d = option_map destination_view destination.now in
+        vec_len out.old + length (destination_part d) ≤ vec_capacity out.old → IsOk result }
 {
     match destination {
         None => Ok(()),
@@ -139,6 +145,9 @@ fn put_source(out: &mut Vec<u8>, source: &Option<Station<'_>>) -> Result<(), All
     ensures ok { let s = option_map station_view source.now in
         OnOk result (out.new.items ≡ out.old.items ++ source_part s) }
     ensures front { Keeps out.old.items out.new.items }
+    ensures capacity { vec_capacity out.old ≤ vec_capacity out.new }
+    ensures room { let s = option_map station_view source.now in
+        vec_len out.old + length (source_part s) ≤ vec_capacity out.old → IsOk result }
 {
     match source {
         None => Ok(()),
@@ -150,6 +159,9 @@ fn put_hops(out: &mut Vec<u8>, destination: &Option<Destination<'_>>) -> Result<
     ensures ok { let d = option_map destination_view destination.now in
         OnOk result (out.new.items ≡ out.old.items ++ hops_part d) }
     ensures front { Keeps out.old.items out.new.items }
+    ensures capacity { vec_capacity out.old ≤ vec_capacity out.new }
+    ensures room { let d = option_map destination_view destination.now in
+        vec_len out.old + length (hops_part d) ≤ vec_capacity out.old → IsOk result }
 {
     if let Some(destination) = destination {
         out.push(destination.hops)?;
@@ -160,6 +172,8 @@ fn put_hops(out: &mut Vec<u8>, destination: &Option<Destination<'_>>) -> Result<
 fn put_payload_part(out: &mut Vec<u8>, payload: &Payload<'_>) -> Result<(), AllocError>
     ensures ok { OnOk result (out.new.items ≡ out.old.items ++ payload_part (payload_view payload.now)) }
     ensures front { Keeps out.old.items out.new.items }
+    ensures capacity { vec_capacity out.old ≤ vec_capacity out.new }
+    ensures room { vec_len out.old + length (payload_part (payload_view payload.now)) ≤ vec_capacity out.old → IsOk result }
 {
     let Payload::Message(message) = payload else {
         return Ok(());
@@ -171,14 +185,28 @@ fn put_payload_part(out: &mut Vec<u8>, payload: &Payload<'_>) -> Result<(), Allo
     Ok(())
 }
 
+/// DNET, DLEN and DADR, then SNET, SLEN and SADR.
+fn put_places(out: &mut Vec<u8>, npdu: &Npdu<'_>) -> Result<(), AllocError>
+    ensures ok { let f = view npdu.now in
+        OnOk result (out.new.items ≡ out.old.items ++ (destination_part f.destination ++ source_part f.source)) }
+    ensures front { Keeps out.old.items out.new.items }
+    ensures capacity { vec_capacity out.old ≤ vec_capacity out.new }
+    ensures room { let f = view npdu.now in
+        vec_len out.old + length (destination_part f.destination ++ source_part f.source) ≤ vec_capacity out.old → IsOk result }
+{
+    put_destination(out, &npdu.destination)?;
+    put_source(out, &npdu.source)
+}
+
 /// Everything in front of the payload's own octets.
 pub fn put_header(out: &mut Vec<u8>, npdu: &Npdu<'_>) -> Result<(), AllocError>
     ensures ok { OnOk result (out.new.items ≡ out.old.items ++ header (view npdu.now)) }
     ensures front { Keeps out.old.items out.new.items }
+    ensures capacity { vec_capacity out.old ≤ vec_capacity out.new }
+    ensures room { vec_len out.old + length (header (view npdu.now)) ≤ vec_capacity out.old → IsOk result }
 {
     out.extend_from_slice(&[1, npdu.control().bits()])?;
-    put_destination(out, &npdu.destination)?;
-    put_source(out, &npdu.source)?;
+    put_places(out, npdu)?;
     put_hops(out, &npdu.destination)?;
     put_payload_part(out, &npdu.payload)
 }
@@ -186,6 +214,7 @@ pub fn put_header(out: &mut Vec<u8>, npdu: &Npdu<'_>) -> Result<(), AllocError>
 fn put(out: &mut Vec<u8>, npdu: &Npdu<'_>) -> Result<(), AllocError>
     ensures ok { OnOk result (out.new.items ≡ out.old.items ++ spelling (view npdu.now)) }
     ensures front { Keeps out.old.items out.new.items }
+    ensures room { vec_len out.old + length (spelling (view npdu.now)) ≤ vec_capacity out.old → IsOk result }
 {
     put_header(out, npdu)?;
     out.extend_from_slice(npdu.payload.octets())
@@ -197,6 +226,8 @@ fn put(out: &mut Vec<u8>, npdu: &Npdu<'_>) -> Result<(), AllocError>
 pub fn encode(npdu: &Npdu<'_>, out: &mut Vec<u8>) -> Result<(), EncodeFault>
     ensures ok { OnOk result (out.new.items ≡ out.old.items ++ spelling (view npdu.now)) }
     ensures too_long { IsErrOf result EncodeFault.TooLong ↔ (MAX_LEN < length (spelling (view npdu.now))) }
+    // Memory only where the buffer had no room for the message.
+    ensures memory { IsErrOf result EncodeFault.Memory → vec_capacity out.old < vec_len out.old + length (spelling (view npdu.now)) }
     ensures err { OnErr result (out.new.items ≡ out.old.items) }
 {
     if npdu.payload.octets().len() > MAX_LEN - npdu.header_len() {

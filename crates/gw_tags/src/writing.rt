@@ -1,6 +1,7 @@
 //! Writing a tag behind what a buffer has (clause 20.2.1).
 
-ghost use Rattle.std.specs.Prelude.{◌≡◌, ◌<◌, ◌+◌, ◌*◌, ◌++◌, OnOk, OnErr};
+ghost use Rattle.std.specs.Prelude.{◌≡◌, ◌<◌, ◌≤◌, ◌+◌, ◌*◌, ◌++◌, length, vec_len, IsOk, IsErr, OnOk, OnErr};
+ghost use Rattle.std.specs.Vec.{vec_capacity};
 ghost use Rattle.gw_addr.specs.Reading.{Keeps};
 ghost use Rattle.gw_tags.specs.Tag.{tag_view, class_of, low_of, length_octets, shortest_length, canonical};
 
@@ -22,6 +23,8 @@ fn low_bits(kind: Kind) -> u8
 fn put_length(out: &mut Vec<u8>, kind: Kind) -> Result<(), AllocError>
     ensures ok { OnOk result (out.new.items ≡ out.old.items ++ length_octets kind (shortest_length kind)) }
     ensures front { Keeps out.old.items out.new.items }
+    ensures capacity { vec_capacity out.old ≤ vec_capacity out.new }
+    ensures room { vec_len out.old + length (length_octets kind (shortest_length kind)) ≤ vec_capacity out.old → IsOk result }
 {
     match kind {
         Kind::Length(length) if length < 5 => {}
@@ -54,9 +57,12 @@ fn first_octet(high: u8, context: bool, low: u8) -> u8
     high << 4 | class_bit(context) | low
 }
 
-fn put_tag(out: &mut Vec<u8>, tag: Tag) -> Result<(), AllocError>
+/// Appends the shortest spelling of the tag. After an `Err` a front of it may stand there.
+pub fn put_tag(out: &mut Vec<u8>, tag: Tag) -> Result<(), AllocError>
     ensures ok { OnOk result (out.new.items ≡ out.old.items ++ canonical (tag_view tag)) }
     ensures front { Keeps out.old.items out.new.items }
+    ensures capacity { vec_capacity out.old ≤ vec_capacity out.new }
+    ensures room { vec_len out.old + length (canonical (tag_view tag)) ≤ vec_capacity out.old → IsOk result }
 {
     let low = low_bits(tag.kind);
     if tag.number < 15 {
@@ -75,6 +81,8 @@ fn put_tag(out: &mut Vec<u8>, tag: Tag) -> Result<(), AllocError>
 /// 1 Memory, where the buffer can't grow.
 pub fn write_tag(out: &mut Vec<u8>, tag: Tag) -> Result<(), AllocError>
     ensures ok { OnOk result (out.new.items ≡ out.old.items ++ canonical (tag_view tag)) }
+    // Memory only where the buffer had no room for the tag.
+    ensures memory { IsErr result → vec_capacity out.old < vec_len out.old + length (canonical (tag_view tag)) }
     ensures err { OnErr result (out.new.items ≡ out.old.items) }
 {
     let len = out.len();
