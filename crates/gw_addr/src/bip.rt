@@ -15,7 +15,7 @@ use std::fmt;
 /// |   IPv4 address    |   port  |
 /// +----+----+----+----+----+----+
 /// ```
-#[derive(Clone, Copy, Debug, PartialEq, Eq)]
+#[derive(Clone, Copy, Debug, PartialEq, Eq, PartialOrd, Ord, Hash)]
 pub struct BipAddr {
     /// The four octets of the IPv4 address, from left to right as they are written.
     pub ip: [u8; 4],

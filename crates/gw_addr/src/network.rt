@@ -8,7 +8,7 @@ use std::fmt;
 use std::marker::Model;
 
 /// The number of a network, 1 to 65534 (clause 6.1).
-#[derive(Clone, Copy, Debug, PartialEq, Eq)]
+#[derive(Clone, Copy, Debug, PartialEq, Eq, PartialOrd, Ord, Hash)]
 pub struct NetNum {
     number: u16,
 }
