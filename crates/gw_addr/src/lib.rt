@@ -13,6 +13,3 @@ pub use fault::{OctetsFault, TextFault};
 pub use network::NetNum;
 pub use one_to_one::laws;
 pub use station::{Mac, Source};
-
-#[cfg(test)]
-mod tests;
