@@ -1,4 +1,9 @@
-use super::*;
+//! The messages of the network layer: octets from outside, faults, headers for the next hop, and a refused growth.
+
+use gw_npdu::{
+    Destination, EncodeFault, NetMessage, Npdu, NpduFault, Onward, Payload, Priority, Station,
+    decode, encode, relay_header,
+};
 use std::test::*;
 
 /// A read of a station behind a router: DNET 100, station 01, from station 07 of network 500, hop count 254.
