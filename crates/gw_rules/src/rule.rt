@@ -1,8 +1,9 @@
 //! A rule: the ranges by which it picks asks, and what it says of those that it matches.
-ghost use Rattle.std.specs.Prelude.{◌≡◌, IfOk, IsOkUnless};
+ghost use Rattle.std.specs.Prelude.{◌≡◌, [], IfOk, IsOkUnless};
+ghost use Rattle.gw_rules.specs.Fields.{in_each};
 ghost use Rattle.gw_rules.specs.Rule.{has_few_ranges, has_ordered_ranges, matches, ranges_of, rule_without_fields, with_range};
 
-use crate::{Ask, FieldName, Range, Ranges, RuleFault, RuleName};
+use crate::{Ask, FieldName, Fields, Range, Ranges, RuleFault, RuleName};
 use std::alloc::Global;
 
 /// How many ranges a rule in a [`RuleList`](crate::RuleList) may have for one field.
@@ -18,26 +19,8 @@ pub struct Rule {
     pub name: RuleName,
     /// Whether an ask is allowed whose first matching rule this is.
     pub allow: bool,
-    /// The operations, by [`Operation`](crate::Operation)'s numbers.
-    pub operation: Ranges,
-    /// The ports on which the datagram came, from 1.
-    pub port: Ranges,
-    /// The networks of the stations that are said to have sent it.
-    pub source_network: Ranges,
-    /// The addresses of six octets of these stations, as numbers of 48 bits.
-    pub source_key: Ranges,
-    /// The networks to which it goes.
-    pub destination_network: Ranges,
-    /// The services, numbered as [`FieldName::Service`] says.
-    pub service: Ranges,
-    /// The types of the object.
-    pub object_type: Ranges,
-    /// The instances of the object.
-    pub instance: Ranges,
-    /// The properties.
-    pub property: Ranges,
-    /// The priorities of a write.
-    pub priority: Ranges,
+    /// The ranges for each field.
+    pub ranges: Fields<Ranges>,
 }
 
 impl Rule {
@@ -50,16 +33,7 @@ impl Rule {
         Ok(Rule {
             name: RuleName::new(alloc, name)?,
             allow,
-            operation: Ranges::new(alloc),
-            port: Ranges::new(alloc),
-            source_network: Ranges::new(alloc),
-            source_key: Ranges::new(alloc),
-            destination_network: Ranges::new(alloc),
-            service: Ranges::new(alloc),
-            object_type: Ranges::new(alloc),
-            instance: Ranges::new(alloc),
-            property: Ranges::new(alloc),
-            priority: Ranges::new(alloc),
+            ranges: no_ranges(alloc),
         })
     }
 
@@ -70,16 +44,16 @@ impl Rule {
         ensures memory { IsOkUnless result RuleFault.Memory }
     {
         match field {
-            FieldName::Operation => self.operation.push(range)?,
-            FieldName::Port => self.port.push(range)?,
-            FieldName::SourceNetwork => self.source_network.push(range)?,
-            FieldName::SourceKey => self.source_key.push(range)?,
-            FieldName::DestinationNetwork => self.destination_network.push(range)?,
-            FieldName::Service => self.service.push(range)?,
-            FieldName::ObjectType => self.object_type.push(range)?,
-            FieldName::Instance => self.instance.push(range)?,
-            FieldName::Property => self.property.push(range)?,
-            FieldName::Priority => self.priority.push(range)?,
+            FieldName::Operation => self.ranges.operation.push(range)?,
+            FieldName::Port => self.ranges.port.push(range)?,
+            FieldName::SourceNetwork => self.ranges.source_network.push(range)?,
+            FieldName::SourceKey => self.ranges.source_key.push(range)?,
+            FieldName::DestinationNetwork => self.ranges.destination_network.push(range)?,
+            FieldName::Service => self.ranges.service.push(range)?,
+            FieldName::ObjectType => self.ranges.object_type.push(range)?,
+            FieldName::Instance => self.ranges.instance.push(range)?,
+            FieldName::Property => self.ranges.property.push(range)?,
+            FieldName::Priority => self.ranges.priority.push(range)?,
         }
         Ok(self)
     }
@@ -88,18 +62,7 @@ impl Rule {
     pub fn ranges(&self, field: FieldName) -> &Ranges
         ensures { result.now ≡ ranges_of field self.now }
     {
-        match field {
-            FieldName::Operation => &self.operation,
-            FieldName::Port => &self.port,
-            FieldName::SourceNetwork => &self.source_network,
-            FieldName::SourceKey => &self.source_key,
-            FieldName::DestinationNetwork => &self.destination_network,
-            FieldName::Service => &self.service,
-            FieldName::ObjectType => &self.object_type,
-            FieldName::Instance => &self.instance,
-            FieldName::Property => &self.property,
-            FieldName::Priority => &self.priority,
-        }
+        self.ranges.get(field)
     }
 
     /// Whether the rule matches the ask.
@@ -107,47 +70,48 @@ impl Rule {
     pub fn matches(&self, ask: &Ask) -> bool
         ensures { result ≡ matches self.now ask.now }
     {
-        self.operation.admits(ask.operation)
-            && self.port.admits(ask.port)
-            && self.source_network.admits(ask.source_network)
-            && self.source_key.admits(ask.source_key)
-            && self.destination_network.admits(ask.destination_network)
-            && self.service.admits(ask.service)
-            && self.object_type.admits(ask.object_type)
-            && self.instance.admits(ask.instance)
-            && self.property.admits(ask.property)
-            && self.priority.admits(ask.priority)
+        let ranges = &self.ranges;
+        ranges.operation.admits(ask.operation)
+            && ranges.port.admits(ask.port)
+            && ranges.source_network.admits(ask.source_network)
+            && ranges.source_key.admits(ask.source_key)
+            && ranges.destination_network.admits(ask.destination_network)
+            && ranges.service.admits(ask.service)
+            && ranges.object_type.admits(ask.object_type)
+            && ranges.instance.admits(ask.instance)
+            && ranges.property.admits(ask.property)
+            && ranges.priority.admits(ask.priority)
     }
 
     /// Whether the rule has at most four ranges for each field.
     pub(crate) fn has_few_ranges(&self) -> bool
         ensures { result ≡ has_few_ranges self.now }
     {
-        self.operation.len() <= MAX_RANGES
-            && self.port.len() <= MAX_RANGES
-            && self.source_network.len() <= MAX_RANGES
-            && self.source_key.len() <= MAX_RANGES
-            && self.destination_network.len() <= MAX_RANGES
-            && self.service.len() <= MAX_RANGES
-            && self.object_type.len() <= MAX_RANGES
-            && self.instance.len() <= MAX_RANGES
-            && self.property.len() <= MAX_RANGES
-            && self.priority.len() <= MAX_RANGES
+        FieldName::ALL.iter().all(|field| self.ranges(*field).len() <= MAX_RANGES)
     }
 
     /// Whether no range of the rule has its low end above its high end.
     pub(crate) fn has_ordered_ranges(&self) -> bool
         ensures { result ≡ has_ordered_ranges self.now }
     {
-        self.operation.is_ordered()
-            && self.port.is_ordered()
-            && self.source_network.is_ordered()
-            && self.source_key.is_ordered()
-            && self.destination_network.is_ordered()
-            && self.service.is_ordered()
-            && self.object_type.is_ordered()
-            && self.instance.is_ordered()
-            && self.property.is_ordered()
-            && self.priority.is_ordered()
+        FieldName::ALL.iter().all(|field| self.ranges(*field).is_ordered())
+    }
+}
+
+/// No range for any field. It takes no memory.
+fn no_ranges(alloc: Global) -> Fields<Ranges>
+    ensures { result ≡ in_each [] }
+{
+    Fields {
+        operation: Ranges::new(alloc),
+        port: Ranges::new(alloc),
+        source_network: Ranges::new(alloc),
+        source_key: Ranges::new(alloc),
+        destination_network: Ranges::new(alloc),
+        service: Ranges::new(alloc),
+        object_type: Ranges::new(alloc),
+        instance: Ranges::new(alloc),
+        property: Ranges::new(alloc),
+        priority: Ranges::new(alloc),
     }
 }
