@@ -1,12 +1,9 @@
 -- What a policy decides and denies, said of its asks.
-use Rattle.std.proofs.Common.{◌≡◌, ◌≢◌, Bool, true, false, cond, List, [], ◌∷◌, ◌++◌, Option, ◌↔◌, refl, sym, ◌∙◌, ap, map, filter, not, get_or}
-use Rattle.std.specs.List.{All}
+use Rattle.std.proofs.Common.{◌≡◌, Bool, true, false, List, [], ◌∷◌, ◌++◌, Option, ◌↔◌, refl, ◌∙◌, ap, map, filter, not}
 use Rattle.std.specs.Prelude.{ℕ, if◌then◌else◌}
 use Rattle.std.proofs.lemmas.List.{map-append}
 use Rattle.std.proofs.lemmas.List.Elements.{filter-append}
-use Rattle.gw_rules.specs.declared.decision.Decision.{Decision}
 use Rattle.gw_rules.specs.declared.decision.Decision.TheVariants.{Allow, Deny}
-use Rattle.gw_rules.specs.declared.refusal.Refusal.{Refusal}
 use Rattle.gw_rules.specs.declared.rule.Rule.{Rule}
 use Rattle.gw_rules.specs.Ask.{Ask}
 use Rattle.gw_rules.specs.Authorizer.{denied_of, refusal}
@@ -39,6 +36,7 @@ decide_deny_iff rules ask by =
   where
     true_no_false : (b : Bool) → b ≡ true → b ≡ false → ⊥
     true_no_false b t f = cc
+
     no_true : (b : Bool) → ¬ (b ≡ true) → b ≡ false
     no_true true h = absurd (h refl)
     no_true false h = refl

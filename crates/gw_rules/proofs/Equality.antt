@@ -1,5 +1,5 @@
 -- What `==` computes of asks and of refusals holds exactly of what is the same.
-use Rattle.std.proofs.Common.{◌≡◌, ℕ, Bool, true, ◌&&◌, Option, Some, None, ◌↔◌, refl, sym, subst, ap, nat_eq}
+use Rattle.std.proofs.Common.{◌≡◌, ℕ, Bool, true, ◌&&◌, Option, Some, None, ◌↔◌, refl, subst, ap, nat_eq}
 use Rattle.std.specs.Option.{option_eq}
 use Rattle.std.proofs.lemmas.Bool.{and_parts, and_from, eqb-true, eq-eqb}
 use Rattle.gw_rules.specs.declared.refusal.Refusal.{Refusal}
@@ -42,16 +42,16 @@ same_ask_is a b t =
     let p8 = and_parts _ _ p7.1 in
     let p9 = and_parts _ _ p8.1 in
     joined a.operation a.port a.source_network a.source_key a.destination_network a.service a.object_type a.instance a.property a.priority b
-      (same_is a.operation b.operation p1.0)
-      (same_is a.port b.port p2.0)
-      (same_is a.source_network b.source_network p3.0)
-      (same_is a.source_key b.source_key p4.0)
-      (same_is a.destination_network b.destination_network p5.0)
-      (same_is a.service b.service p6.0)
-      (same_is a.object_type b.object_type p7.0)
-      (same_is a.instance b.instance p8.0)
-      (same_is a.property b.property p9.0)
-      (same_is a.priority b.priority p9.1)
+    (same_is a.operation b.operation p1.0)
+    (same_is a.port b.port p2.0)
+    (same_is a.source_network b.source_network p3.0)
+    (same_is a.source_key b.source_key p4.0)
+    (same_is a.destination_network b.destination_network p5.0)
+    (same_is a.service b.service p6.0)
+    (same_is a.object_type b.object_type p7.0)
+    (same_is a.instance b.instance p8.0)
+    (same_is a.property b.property p9.0)
+    (same_is a.priority b.priority p9.1)
 
 ask_is_same : (a : Ask) → same_ask a a ≡ true
 ask_is_same a =

@@ -1,5 +1,5 @@
 -- Numbers that tell apart what they stand for.
-use Rattle.std.proofs.Common.{◌≡◌, ℕ, ◌+◌, ◌<◌, arith, refl, ap}
+use Rattle.std.proofs.Common.{◌≡◌, ◌<◌, arith, ap}
 use Rattle.gw_rules.specs.declared.service.Service.{Service}
 use Rattle.gw_rules.specs.declared.service.Service.TheVariants.{Confirmed, Unconfirmed, NetworkMessage, BvllFunction, Pdu}
 use Rattle.gw_rules.specs.Service.{own_number, service_number}

@@ -1,5 +1,5 @@
 -- The eleven operations, each with its number and its name, which are this project's own.
-use Rattle.std.specs.Prelude.{ℕ, Bool, List, codes, nat_eq}
+use Rattle.std.specs.Prelude.{ℕ, List, codes}
 use Rattle.gw_rules.specs.declared.operation.Operation.{Operation}
 use Rattle.gw_rules.specs.declared.operation.Operation.TheVariants.{Cast, Route, Register, Delete, ReadTable, WriteTable, Learn, Network, Read, Write, List as Listing}
 

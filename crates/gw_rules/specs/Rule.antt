@@ -1,5 +1,5 @@
 -- What a rule says of each field, when it matches an ask, and the limits that it keeps.
-use Rattle.std.specs.Prelude.{ℕ, ◌≤◌, ◌<◌, Bool, ◌&&◌, List, [], ◌∷◌, ◌++◌, length, nat_le, All, Any}
+use Rattle.std.specs.Prelude.{ℕ, ◌≤◌, ◌<◌, Bool, List, [], ◌∷◌, ◌++◌, length, nat_le, All, Any}
 use Rattle.std.specs.List.{list_all}
 use Rattle.std.specs.Option.{IsSomeAnd}
 use Rattle.gw_rules.specs.Ask.{Ask}

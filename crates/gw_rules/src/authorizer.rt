@@ -4,7 +4,7 @@ ghost use Rattle.gw_rules.specs.declared.rule.Rule.{Rule};
 ghost use Rattle.gw_rules.specs.Authorizer.{denied_of};
 ghost use Rattle.gw_rules.specs.RuleList.{allows};
 
-use crate::{Ask, Decision, Judge, Refusal};
+use crate::{Ask, Decision, Judge, Refusal, Refusals};
 use std::alloc::{AllocError, Global};
 use std::marker::Model;
 
@@ -15,7 +15,7 @@ use std::marker::Model;
 #[derive(Drop)]
 pub struct Authorizer<'a, J> {
     judge: &'a J,
-    refusals: Vec<Refusal>,
+    refusals: Refusals,
 }
 
 impl<'a, J> Model for Authorizer<'a, J> {
@@ -23,7 +23,7 @@ impl<'a, J> Model for Authorizer<'a, J> {
 
     ghost Value = { AuthorizerState J };
 
-    ghost view = { λ a. record { judge = a.judge.now; denied = a.refusals.items } };
+    ghost view = { λ a. record { judge = a.judge.now; denied = a.refusals } };
 }
 
 impl<'a, J: Judge> Authorizer<'a, J> {
@@ -34,7 +34,7 @@ impl<'a, J: Judge> Authorizer<'a, J> {
     {
         Authorizer {
             judge,
-            refusals: Vec::new(alloc),
+            refusals: Refusals::new(alloc),
         }
     }
 
@@ -68,8 +68,8 @@ impl<'a, J: Judge> Authorizer<'a, J> {
     }
 
     /// The refusals in order, for keeps.
-    pub fn into_refusals(self) -> Vec<Refusal>
-        ensures { result.items ≡ self.entry.denied }
+    pub fn into_refusals(self) -> Refusals
+        ensures { result ≡ self.entry.denied }
     {
         self.refusals
     }

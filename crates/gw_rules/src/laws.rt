@@ -17,7 +17,7 @@ ghost use Rattle.gw_rules.specs.Rule.{Matches, matches};
 ghost use Rattle.gw_rules.specs.RuleList.{Allows, IsFirst, IsNumberOf, KeepsCounts, KeepsOrder, allows, decide, first, keeps_counts, keeps_order};
 ghost use Rattle.gw_rules.specs.Service.{own_number, service_number};
 
-use crate::{Ask, Decision, FieldName, Range, Refusal, MAX_RANGES, MAX_RULES, Operation};
+use crate::{Ask, Decision, FieldName, MAX_RANGES, MAX_RULES, Operation, Range, Refusal};
 
 /// A rule matches an ask exactly where, for every field that the rule names, the ask has that field
 /// and one of the rule's ranges holds its value.

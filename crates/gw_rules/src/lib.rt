@@ -34,7 +34,7 @@ pub use name::RuleName;
 pub use operation::Operation;
 pub use range::Range;
 pub use ranges::Ranges;
-pub use refusal::Refusal;
+pub use refusal::{Refusal, Refusals};
 pub use rule::{MAX_RANGES, Rule};
 pub use rule_list::{MAX_RULES, RuleList};
 pub use service::Service;

@@ -93,11 +93,17 @@ impl Operation {
 fn of_name(text: &str) -> Option<Operation>
     ensures { result ≡ find (λ o. pointwise nat_eq (operation_name o) text.now) Operation.ALL }
 {
-    Operation::ALL.iter().copied().find(|operation| operation.name() == text)
+    Operation::ALL
+        .iter()
+        .copied()
+        .find(|operation| operation.name() == text)
 }
 
 fn of_number(number: u64) -> Option<Operation>
     ensures { result ≡ find (λ o. operation_number o == number) Operation.ALL }
 {
-    Operation::ALL.iter().copied().find(|operation| operation.number() == number)
+    Operation::ALL
+        .iter()
+        .copied()
+        .find(|operation| operation.number() == number)
 }

@@ -1,10 +1,11 @@
 //! A rule: the ranges by which it picks asks, and what it says of those that it matches.
-ghost use Rattle.std.specs.Prelude.{◌≡◌, [], IfOk, IsOkUnless};
-ghost use Rattle.gw_rules.specs.Fields.{in_each};
+ghost use Rattle.std.specs.Prelude.{◌≡◌, [], ◌∷◌, ◌++◌, IfOk, IsOkUnless, OnOk};
+ghost use Rattle.gw_rules.specs.Fields.{in_each, value_of, with_value};
 ghost use Rattle.gw_rules.specs.Rule.{has_few_ranges, has_ordered_ranges, matches, ranges_of, rule_without_fields, with_range};
 
+use crate::ranges::{admit, are_ordered};
 use crate::{Ask, FieldName, Fields, Range, Ranges, RuleFault, RuleName};
-use std::alloc::Global;
+use std::alloc::{AllocError, Global};
 
 /// How many ranges a rule in a [`RuleList`](crate::RuleList) may have for one field.
 pub const MAX_RANGES: usize = 4;
@@ -43,18 +44,7 @@ impl Rule {
         ensures rule { IfOk result (λ rule. rule ≡ with_range field range self) }
         ensures memory { IsOkUnless result RuleFault.Memory }
     {
-        match field {
-            FieldName::Operation => self.ranges.operation.push(range)?,
-            FieldName::Port => self.ranges.port.push(range)?,
-            FieldName::SourceNetwork => self.ranges.source_network.push(range)?,
-            FieldName::SourceKey => self.ranges.source_key.push(range)?,
-            FieldName::DestinationNetwork => self.ranges.destination_network.push(range)?,
-            FieldName::Service => self.ranges.service.push(range)?,
-            FieldName::ObjectType => self.ranges.object_type.push(range)?,
-            FieldName::Instance => self.ranges.instance.push(range)?,
-            FieldName::Property => self.ranges.property.push(range)?,
-            FieldName::Priority => self.ranges.priority.push(range)?,
-        }
+        put(&mut self.ranges, field, range)?;
         Ok(self)
     }
 
@@ -71,30 +61,37 @@ impl Rule {
         ensures { result ≡ matches self.now ask.now }
     {
         let ranges = &self.ranges;
-        ranges.operation.admits(ask.operation)
-            && ranges.port.admits(ask.port)
-            && ranges.source_network.admits(ask.source_network)
-            && ranges.source_key.admits(ask.source_key)
-            && ranges.destination_network.admits(ask.destination_network)
-            && ranges.service.admits(ask.service)
-            && ranges.object_type.admits(ask.object_type)
-            && ranges.instance.admits(ask.instance)
-            && ranges.property.admits(ask.property)
-            && ranges.priority.admits(ask.priority)
+        admit(ranges.operation.as_slice(), ask.operation)
+            && admit(ranges.port.as_slice(), ask.port)
+            && admit(ranges.source_network.as_slice(), ask.source_network)
+            && admit(ranges.source_key.as_slice(), ask.source_key)
+            && admit(
+                ranges.destination_network.as_slice(),
+                ask.destination_network,
+            )
+            && admit(ranges.service.as_slice(), ask.service)
+            && admit(ranges.object_type.as_slice(), ask.object_type)
+            && admit(ranges.instance.as_slice(), ask.instance)
+            && admit(ranges.property.as_slice(), ask.property)
+            && admit(ranges.priority.as_slice(), ask.priority)
     }
 
     /// Whether the rule has at most four ranges for each field.
     pub(crate) fn has_few_ranges(&self) -> bool
         ensures { result ≡ has_few_ranges self.now }
     {
-        FieldName::ALL.iter().all(|field| self.ranges(*field).len() <= MAX_RANGES)
+        FieldName::ALL
+            .iter()
+            .all(|field| self.ranges(*field).len() <= MAX_RANGES)
     }
 
     /// Whether no range of the rule has its low end above its high end.
     pub(crate) fn has_ordered_ranges(&self) -> bool
         ensures { result ≡ has_ordered_ranges self.now }
     {
-        FieldName::ALL.iter().all(|field| self.ranges(*field).is_ordered())
+        FieldName::ALL
+            .iter()
+            .all(|field| are_ordered(self.ranges(*field).as_slice()))
     }
 }
 
@@ -113,5 +110,24 @@ fn no_ranges(alloc: Global) -> Fields<Ranges>
         instance: Ranges::new(alloc),
         property: Ranges::new(alloc),
         priority: Ranges::new(alloc),
+    }
+}
+
+/// Puts one more range for a field behind those that are there.
+fn put(ranges: &mut Fields<Ranges>, field: FieldName, range: Range) -> Result<(), AllocError>
+    ensures { OnOk result (ranges.new ≡
+        with_value field (value_of field ranges.old ++ range ∷ []) ranges.old) }
+{
+    match field {
+        FieldName::Operation => ranges.operation.push(range),
+        FieldName::Port => ranges.port.push(range),
+        FieldName::SourceNetwork => ranges.source_network.push(range),
+        FieldName::SourceKey => ranges.source_key.push(range),
+        FieldName::DestinationNetwork => ranges.destination_network.push(range),
+        FieldName::Service => ranges.service.push(range),
+        FieldName::ObjectType => ranges.object_type.push(range),
+        FieldName::Instance => ranges.instance.push(range),
+        FieldName::Property => ranges.property.push(range),
+        FieldName::Priority => ranges.priority.push(range),
     }
 }
