@@ -1,0 +1,128 @@
+//! The sixteen slots of a commandable property, and its default.
+ghost use Rattle.std.specs.Prelude.{◌≡◌, ◌↔◌, IsErr, IsErrOf, IsOk, IfErr, OnOk, OnErr, List, [], ◌∷◌, length, option_map};
+ghost use Rattle.gw_priority.specs.Commandable.{IsPriority, IsPresent, ChangesSlot, slot, present, empty, commanded, relinquished, defaulted};
+ghost use Rattle.gw_priority.specs.History.{Act, Command, Relinquish, SetDefault, IsStateAfter};
+
+use crate::{PriorityFault, RefusedCommand};
+use std::marker::Model;
+
+/// How many priorities there are: 1, the highest, to 16 (clause 19.2).
+pub const PRIORITIES: usize = 16;
+
+/// The lowest priority, which a write has that names none (clause 19.2).
+pub const LOWEST: u8 = 16;
+
+/// The priority of minimum on and off times (clause 19.2.3).
+pub const RESERVED: u8 = 6;
+
+/// The commands of one property: a slot for each priority from 1 to 16, which holds the value
+/// commanded there or is empty, and the default, Relinquish_Default (clause 19.2). Contracts see the
+/// slots and the default.
+#[derive(Debug, Drop)]
+pub struct PriorityArray<T> {
+    slots: [Option<T>; PRIORITIES],
+    default: T,
+}
+
+impl<T> Model for PriorityArray<T> {
+    ghost use Rattle.std.specs.Prelude.{◌≡◌, length};
+    ghost use Rattle.gw_priority.specs.Commandable.{Commandable};
+
+    ghost Value = { Commandable T };
+
+    ghost view = { λ a. record { slots = a.slots; default = a.default } };
+
+    ghost invariant = { λ a. length a.slots ≡ 16 };
+}
+
+impl<T> PriorityArray<T> {
+    /// Sixteen empty slots and this default.
+    pub fn new(default: T) -> Self
+        ensures empty { result ≡ empty default }
+        ensures stands { IsStateAfter default [] result }
+    {
+        PriorityArray {
+            slots: std::array::from_fn(|_| None),
+            default,
+        }
+    }
+
+    /// What was commanded at this priority, from 1 to 16, or `None` where the slot is empty.
+    pub fn slot(&self, priority: u8) -> Option<&T>
+        requires { IsPriority priority }
+        ensures slot { option_map (λ value. value.now) result ≡ slot priority self.now }
+        ensures sixteen { length self.now.slots ≡ PRIORITIES }
+    {
+        self.slots[usize::from(priority - 1)].as_ref()
+    }
+
+    /// The present value: the command of the least priority whose slot isn't empty, else the
+    /// default (clause 19.2).
+    pub fn present(&self) -> &T
+        ensures value { result.now ≡ present self.now }
+        ensures least { IsPresent self.now result.now }
+    {
+        for slot in &self.slots {
+            if let Some(value) = slot {
+                return value;
+            }
+        }
+        &self.default
+    }
+}
+
+impl<T: Drop> PriorityArray<T> {
+    /// Puts a value into the slot of this priority, from 1 to 16, in place of what was there.
+    /// `Reserved` where the priority is 6; then nothing changed, and the value is handed back.
+    pub fn command(&mut self, priority: u8, value: T) -> Result<(), RefusedCommand<T>>
+        requires { IsPriority priority }
+        ensures ok { OnOk result (self.new ≡ commanded priority value self.old) }
+        ensures slot { OnOk result (ChangesSlot self.old priority (Some value) self.new) }
+        ensures stands { OnOk result ((start : T) (history : List (Act T)) →
+            IsStateAfter start history self.old →
+            IsStateAfter start (Command priority value ∷ history) self.new) }
+        ensures err { OnErr result (self.new ≡ self.old) }
+        ensures reserved { IsErr result ↔ priority ≡ RESERVED }
+        ensures back { IfErr result (λ refused.
+            (refused.fault ≡ PriorityFault.Reserved) × (refused.value ≡ value)) }
+    {
+        if priority == RESERVED {
+            return Err(RefusedCommand {
+                fault: PriorityFault::Reserved,
+                value,
+            });
+        }
+        self.slots[usize::from(priority - 1)] = Some(value);
+        Ok(())
+    }
+
+    /// Empties the slot of this priority, from 1 to 16. `Reserved` where the priority is 6; then
+    /// nothing changed.
+    pub fn relinquish(&mut self, priority: u8) -> Result<(), PriorityFault>
+        requires { IsPriority priority }
+        ensures ok { OnOk result (self.new ≡ relinquished priority self.old) }
+        ensures slot { OnOk result (ChangesSlot self.old priority None self.new) }
+        ensures stands { OnOk result ((start : T) (history : List (Act T)) →
+            IsStateAfter start history self.old →
+            IsStateAfter start (Relinquish priority ∷ history) self.new) }
+        ensures err { OnErr result (self.new ≡ self.old) }
+        ensures reserved { IsErrOf result PriorityFault.Reserved ↔ priority ≡ RESERVED }
+    {
+        if priority == RESERVED {
+            return Err(PriorityFault::Reserved);
+        }
+        self.slots[usize::from(priority - 1)] = None;
+        Ok(())
+    }
+
+    /// Puts another default in the place of this one. The slots stay as they are.
+    pub fn set_default(&mut self, value: T)
+        ensures default { self.new ≡ defaulted value self.old }
+        ensures slots { self.new.slots ≡ self.old.slots }
+        ensures stands { (start : T) (history : List (Act T)) →
+            IsStateAfter start history self.old →
+            IsStateAfter start (SetDefault value ∷ history) self.new }
+    {
+        self.default = value;
+    }
+}
