@@ -1,13 +1,13 @@
 -- What one act more in a history changes in the slots.
-use Rattle.std.proofs.Common.{◌≡◌, ◌≢◌, ◌⊎◌, inl, inr, ℕ, ◌+◌, ◌-◌, ◌≤◌, ◌<◌, Bool, true, false, cond, List, [], ◌∷◌, ◌++◌, map, length, get_or, set, replicate, Option, Some, None, nat_eq, arith, refl, sym, ap, ◌∙◌}
+use Rattle.std.proofs.Common.{◌≡◌, ◌≢◌, ◌⊎◌, inl, inr, ℕ, ◌+◌, ◌-◌, ◌<◌, true, false, cond, List, ◌∷◌, map, length, get_or, set, replicate, Option, Some, None, arith, refl, sym, ap, ◌∙◌}
 use Rattle.std.specs.Prelude.{find}
 use Rattle.std.specs.List.{range_with_len}
 use Rattle.std.specs.Option.{option_and_then}
 use Rattle.std.proofs.lemmas.Bool.{cases_eq, eq-eqb, ne_eqb}
 use Rattle.std.proofs.lemmas.List.{ext_get_or, length-set, get_or-set_same, get_or-set_other, get_or-replicate}
 use Rattle.std.proofs.lemmas.List.FromFn.{length-map-range_with_len, get_or-map-range_with_len}
-use Rattle.gw_priority.specs.Commandable.{Commandable, IsPriority, slot, commanded, relinquished}
-use Rattle.gw_priority.specs.History.{Act, Command, Relinquish, SetDefault, is_at, value_of, slot_after, state_after, IsStateAfter}
+use Rattle.gw_priority.specs.Commandable.{Commandable, IsPriority, slot, with_slot}
+use Rattle.gw_priority.specs.History.{Act, Command, Relinquish, is_at, value_of, slot_after, state_after, IsStateAfter}
 
 module _ {A : Type 0} (f g : ℕ → A) (d : A) (n place : ℕ) (within : place < n) (others : (other : ℕ) → other ≢ place + 1 → g other ≡ f other) where
   long : (h : ℕ → A) → length (map h (range_with_len 1 n)) ≡ n
@@ -46,16 +46,16 @@ slots_next act history priority is there elsewhere =
     ∙ written (slot_after history) (slot_after (act ∷ history)) None 16 (priority - 1) (omega (arith, is.0, is.1)) (λ other ne. after_other act history other (elsewhere other (λ e. ne (e ∙ sym at))))
 
 -- a command after a history
-pub commanded_next : {A : Type 0} (start : A) (history : List (Act A)) (property : Commandable A) (priority : ℕ) (value : A) → IsPriority priority → IsStateAfter start history property → IsStateAfter start (Command priority value ∷ history) (commanded priority value property)
-commanded_next start history property priority value is after =
-    ap (commanded priority value) after
+pub command_next : {A : Type 0} (start : A) (history : List (Act A)) (property : Commandable A) (priority : ℕ) (value : A) → IsPriority priority → IsStateAfter start history property → IsStateAfter start (Command priority value ∷ history) (with_slot priority (Some value) property)
+command_next start history property priority value is after =
+    ap (with_slot priority (Some value)) after
     ∙ ap (λ slots. record { slots = slots; default = (state_after start history).default })
     (slots_next (Command priority value) history priority is (eq-eqb priority priority refl) (λ other ne. ne_eqb priority other (λ e. ne (sym e))))
 
 -- a relinquish after a history
-pub relinquished_next : {A : Type 0} (start : A) (history : List (Act A)) (property : Commandable A) (priority : ℕ) → IsPriority priority → IsStateAfter start history property → IsStateAfter start (Relinquish priority ∷ history) (relinquished priority property)
-relinquished_next start history property priority is after =
-    ap (relinquished priority) after
+pub relinquish_next : {A : Type 0} (start : A) (history : List (Act A)) (property : Commandable A) (priority : ℕ) → IsPriority priority → IsStateAfter start history property → IsStateAfter start (Relinquish priority ∷ history) (with_slot priority None property)
+relinquish_next start history property priority is after =
+    ap (with_slot priority None) after
     ∙ ap (λ slots. record { slots = slots; default = (state_after start history).default })
     (slots_next (Relinquish priority) history priority is (eq-eqb priority priority refl) (λ other ne. ne_eqb priority other (λ e. ne (sym e))))
 
@@ -65,3 +65,7 @@ all_empty slots long each =
     ext_get_or None slots (replicate 16 None) (long ∙ refl) (λ place lt.
         let below : place < 16 = omega (arith, long) in
         each place below ∙ sym (get_or-replicate 16 place None None below))
+
+-- the slot of a priority after a history
+pub slot_at : {A : Type 0} (start : A) (history : List (Act A)) (priority : ℕ) → IsPriority priority → slot priority (state_after start history) ≡ slot_after history priority
+slot_at start history priority is = get_or-map-range_with_len (slot_after history) 1 16 (priority - 1) priority None (omega (arith, is.0, is.1)) (omega (arith, is.0))

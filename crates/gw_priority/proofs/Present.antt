@@ -1,16 +1,16 @@
 -- The value that the slots give is that of the least priority whose slot isn't empty, and no other value is.
-use Rattle.std.proofs.Common.{◌≡◌, ◌⊎◌, inl, inr, ℕ, zero, suc, ◌+◌, ◌-◌, ◌≤◌, ◌<◌, List, [], ◌∷◌, length, get_or, drop, Option, Some, None, ◌↔◌, arith, refl, sym, ap, subst, ◌∙◌}
-use Rattle.gw_priority.specs.Commandable.{Commandable, IsPriority, IsLeast, IsPresent, slot, present, first_or}
+use Rattle.std.proofs.Common.{◌≡◌, ◌⊎◌, inl, inr, ℕ, zero, suc, ◌+◌, ◌-◌, ◌<◌, List, [], ◌∷◌, length, get_or, drop, Option, Some, None, ◌↔◌, arith, refl, sym, ap, subst, ◌∙◌}
+use Rattle.gw_priority.specs.Commandable.{Commandable, IsPresent, slot, present, first_or}
 
 -- the first value is that of the least place that isn't empty
 abbrev IsFirst : {A : Type 0} → List (Option A) → ℕ → A → Type 0
 IsFirst slots place value = (place < length slots) × (get_or slots place None ≡ Some value) × ((lesser : ℕ) → lesser < place → get_or slots lesser None ≡ None)
 
-abbrev AreEmpty : {A : Type 0} → List (Option A) → Type 0
-AreEmpty slots = (place : ℕ) → place < length slots → get_or slots place None ≡ None
+abbrev AreNone : {A : Type 0} → List (Option A) → Type 0
+AreNone slots = (place : ℕ) → place < length slots → get_or slots place None ≡ None
 
 abbrev Finds : {A : Type 0} → A → List (Option A) → A → Type 0
-Finds default slots value = ((place : ℕ) × IsFirst slots place value) ⊎ (AreEmpty slots × (value ≡ default))
+Finds default slots value = ((place : ℕ) × IsFirst slots place value) ⊎ (AreNone slots × (value ≡ default))
 
 -- one empty slot more in front
 later : {A : Type 0} (default : A) (slots : List (Option A)) (value : A) → Finds default slots value → Finds default (None ∷ slots) value
@@ -52,7 +52,7 @@ first_is default (Some first ∷ slots) (suc place) value there before = let nev
 first_is default (None ∷ slots) zero value there before = absurd (cc)
 first_is default (None ∷ slots) (suc place) value there before = first_is default slots place value there (λ lesser lt. before (suc lesser) (omega arith))
 
-none_is : {A : Type 0} (default : A) (slots : List (Option A)) → AreEmpty slots → first_or default slots ≡ default
+none_is : {A : Type 0} (default : A) (slots : List (Option A)) → AreNone slots → first_or default slots ≡ default
 none_is default [] empty = refl
 none_is default (Some first ∷ slots) empty = let never : get_or (Some first ∷ slots) 0 None ≡ None = empty 0 (omega arith) in absurd (cc)
 none_is default (None ∷ slots) empty = none_is default slots (λ place lt. empty (suc place) (omega arith))

@@ -1,8 +1,8 @@
 -- A commandable property (clause 19.2): its slots by priority, its default, and the value that is present.
-use Rattle.std.specs.Prelude.{◌≡◌, ◌≢◌, ◌⊎◌, ℕ, ◌-◌, ◌<◌, ◌≤◌, List, [], ◌∷◌, length, replicate, Option, Some, None, slice_index_or, slice_set}
+use Rattle.std.specs.Prelude.{◌≡◌, ◌≢◌, ◌⊎◌, ℕ, ◌-◌, ◌<◌, ◌≤◌, List, [], ◌∷◌, replicate, Option, Some, None, slice_index_or, slice_set}
 use Rattle.gw_priority.specs.declared.array.TheConstants.{PRIORITIES}
 
--- the slots, first that of priority 1, each with the value commanded there or empty, and the default
+-- the slots, that of priority 1 first, each with the value commanded there or empty, and the default
 pub record Commandable (A : Type 0) : Type 0 where
   pub slots : List (Option A)
   pub default : A
@@ -25,37 +25,41 @@ first_or default (None ∷ slots) = first_or default slots
 abbrev pub present : {A : Type 0} → Commandable A → A
 present property = first_or property.default property.slots
 
--- the priority's slot has this value, and every slot of a lesser number is empty
+-- every slot of a higher priority, that is of a lesser number, is empty
+abbrev pub AreEmptyBelow : {A : Type 0} → Commandable A → ℕ → Type 0
+AreEmptyBelow property priority =
+    (lesser : ℕ) → 1 ≤ lesser → lesser < priority → slot lesser property ≡ None
+
+-- this priority's slot holds the value, and it is the least priority whose slot isn't empty
 abbrev pub IsLeast : {A : Type 0} → Commandable A → ℕ → A → Type 0
 IsLeast property priority value =
-    IsPriority priority × (slot priority property ≡ Some value) × ((lesser : ℕ) → 1 ≤ lesser → lesser < priority → slot lesser property ≡ None)
+    IsPriority priority × (slot priority property ≡ Some value) × AreEmptyBelow property priority
+
+-- every slot is empty
+abbrev pub AreEmpty : {A : Type 0} → Commandable A → Type 0
+AreEmpty property = (priority : ℕ) → IsPriority priority → slot priority property ≡ None
 
 -- the present value, in words: that of the least priority whose slot isn't empty, else the default
 abbrev pub IsPresent : {A : Type 0} → Commandable A → A → Type 0
 IsPresent property value =
     ((priority : ℕ) × IsLeast property priority value)
-    ⊎ (((priority : ℕ) → IsPriority priority → slot priority property ≡ None) × (value ≡ property.default))
+    ⊎ (AreEmpty property × (value ≡ property.default))
 
 -- sixteen empty slots and a default
-abbrev pub empty : {A : Type 0} → A → Commandable A
-empty default = record { slots = replicate PRIORITIES None; default = default }
+abbrev pub no_command : {A : Type 0} → A → Commandable A
+no_command default = record { slots = replicate PRIORITIES None; default = default }
 
--- with a value in the slot of a priority
-abbrev pub commanded : {A : Type 0} → ℕ → A → Commandable A → Commandable A
-commanded priority value property =
-    record { slots = slice_set property.slots (priority - 1) (Some value); default = property.default }
-
--- with the slot of a priority empty
-abbrev pub relinquished : {A : Type 0} → ℕ → Commandable A → Commandable A
-relinquished priority property =
-    record { slots = slice_set property.slots (priority - 1) None; default = property.default }
+-- with this in the slot of a priority: a value, or nothing
+abbrev pub with_slot : {A : Type 0} → ℕ → Option A → Commandable A → Commandable A
+with_slot priority content property =
+    record { slots = slice_set property.slots (priority - 1) content; default = property.default }
 
 -- with another default
-abbrev pub defaulted : {A : Type 0} → A → Commandable A → Commandable A
-defaulted default property = record { slots = property.slots; default = default }
+abbrev pub with_default : {A : Type 0} → A → Commandable A → Commandable A
+with_default default property = record { slots = property.slots; default = default }
 
--- one slot has this now, and every other slot and the default are as they were
-pub record ChangesSlot {A : Type 0} (old : Commandable A) (priority : ℕ) (now : Option A) (new : Commandable A) : Type 0 where
-  pub this : slot priority new ≡ now
+-- in words: the slot of a priority has this now, every other slot and the default are as they were
+pub record ChangesSlot {A : Type 0} (old : Commandable A) (priority : ℕ) (content : Option A) (new : Commandable A) : Type 0 where
+  pub this : slot priority new ≡ content
   pub others : (other : ℕ) → IsPriority other → other ≢ priority → slot other new ≡ slot other old
   pub default : new.default ≡ old.default

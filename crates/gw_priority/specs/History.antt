@@ -1,10 +1,10 @@
--- What a history of commands says of the slots and the default. A history is a list of what was done, newest first.
-use Rattle.std.specs.Prelude.{◌≡◌, ℕ, Bool, false, ◌==◌, List, map, find, filter_map, slice_index_or, Option, Some, None, option_and_then}
+-- What a history says of the slots and the default. A history is the list of what was done, newest first.
+use Rattle.std.specs.Prelude.{◌≡◌, ℕ, Bool, false, ◌==◌, IsTrue, IsFalse, List, ◌∷◌, ◌++◌, map, find, filter_map, All, slice_index_or, Option, Some, None, option_and_then}
 use Rattle.std.specs.List.{range_with_len}
 use Rattle.gw_priority.specs.declared.array.TheConstants.{PRIORITIES}
 use Rattle.gw_priority.specs.Commandable.{Commandable}
 
--- what is done to a commandable property: a command at a priority, a relinquish at a priority, a new default
+-- what is done to a commandable property: a command at a priority, a relinquish at one, a new default
 pub data Act (A : Type 0) : Type 0 where
   Command : ℕ → A → Act A
   Relinquish : ℕ → Act A
@@ -28,7 +28,7 @@ default_of (Command _ _) = None
 default_of (Relinquish _) = None
 default_of (SetDefault value) = Some value
 
--- the slot of a priority: what the last act there commanded, empty where it was a relinquish or there was none
+-- a slot: the value of the last act at its priority, empty where that was a relinquish or there was none
 abbrev pub slot_after : {A : Type 0} → List (Act A) → ℕ → Option A
 slot_after history priority = option_and_then value_of (find (is_at priority) history)
 
@@ -36,10 +36,26 @@ slot_after history priority = option_and_then value_of (find (is_at priority) hi
 abbrev pub default_after : {A : Type 0} → A → List (Act A) → A
 default_after start history = slice_index_or (filter_map default_of history) 0 start
 
--- the property after a history
+-- the slots and the default after a history
 abbrev pub state_after : {A : Type 0} → A → List (Act A) → Commandable A
 state_after start history =
-    record { slots = map (slot_after history) (range_with_len 1 PRIORITIES); default = default_after start history }
+    record {
+      slots = map (slot_after history) (range_with_len 1 PRIORITIES);
+      default = default_after start history;
+    }
 
+-- these are the slots and the default after a history that began with a default
 abbrev pub IsStateAfter : {A : Type 0} → A → List (Act A) → Commandable A → Type 0
 IsStateAfter start history property = property ≡ state_after start history
+
+-- no act of the history is at this priority
+abbrev pub HasNoneAt : {A : Type 0} → ℕ → List (Act A) → Type 0
+HasNoneAt priority history = All (λ act. IsFalse (is_at priority act)) history
+
+-- the last act of the history at this priority: none that is newer is at it
+pub record IsLastAt {A : Type 0} (priority : ℕ) (history : List (Act A)) (act : Act A) : Type 0 where
+  pub newer : List (Act A)
+  pub older : List (Act A)
+  pub whole : history ≡ newer ++ act ∷ older
+  pub there : IsTrue (is_at priority act)
+  pub since : HasNoneAt priority newer

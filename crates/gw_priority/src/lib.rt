@@ -4,6 +4,7 @@
 
 mod array;
 mod fault;
+pub mod laws;
 
 pub use array::{LOWEST, PRIORITIES, PriorityArray, RESERVED};
 pub use fault::{PriorityFault, RefusedCommand};

@@ -1,6 +1,6 @@
-use Rattle.std.proofs.Common.{rules, ◌≡◌, ℕ, length, get_or, sym, ap, ◌∙◌, Some, None, arith}
+use Rattle.std.proofs.Common.{length, sym, ap, ◌∙◌, arith}
 use Rattle.std.proofs.lemmas.List.{drop_all}
-use Rattle.gw_priority.specs.Commandable.{present, first_or}
+use Rattle.gw_priority.specs.Commandable.{first_or}
 use Rattle.gw_priority.proofs.Present.{is_present, first_from}
 use Rattle.gw_priority.proofs.array.PriorityArray.present.Goals as goal
 
