@@ -27,8 +27,8 @@ module _ {A : Type 0} (f g : ℕ → A) (d : A) (n place : ℕ) (within : place 
   pub written : set (map f (range_with_len 1 n)) place (g (place + 1)) ≡ map g (range_with_len 1 n)
   written =
       ext_get_or d _ _ (length-set (map f (range_with_len 1 n)) place (g (place + 1)) ∙ long f ∙ sym (long g)) (λ k lt.
-          let below : k < n = omega (arith, length-set (map f (range_with_len 1 n)) place (g (place + 1)), long f) in
-          at_each k below (cases_eq k place) ∙ sym (get_or-map-range_with_len g 1 n k (k + 1) d below (omega arith)))
+      let below : k < n = omega (arith, length-set (map f (range_with_len 1 n)) place (g (place + 1)), long f) in
+      at_each k below (cases_eq k place) ∙ sym (get_or-map-range_with_len g 1 n k (k + 1) d below (omega arith)))
 
 -- a command or a relinquish is the last act at its priority
 pub after_same : {A : Type 0} (act : Act A) (history : List (Act A)) (priority : ℕ) → is_at priority act ≡ true → slot_after (act ∷ history) priority ≡ value_of act
@@ -63,8 +63,8 @@ relinquish_next start history property priority is after =
 pub all_empty : {A : Type 0} (slots : List (Option A)) → length slots ≡ 16 → ((place : ℕ) → place < 16 → get_or slots place None ≡ None) → slots ≡ replicate 16 None
 all_empty slots long each =
     ext_get_or None slots (replicate 16 None) (long ∙ refl) (λ place lt.
-        let below : place < 16 = omega (arith, long) in
-        each place below ∙ sym (get_or-replicate 16 place None None below))
+    let below : place < 16 = omega (arith, long) in
+    each place below ∙ sym (get_or-replicate 16 place None None below))
 
 -- the slot of a priority after a history
 pub slot_at : {A : Type 0} (start : A) (history : List (Act A)) (priority : ℕ) → IsPriority priority → slot priority (state_after start history) ≡ slot_after history priority

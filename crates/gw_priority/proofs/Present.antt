@@ -61,12 +61,12 @@ none_is default (None ∷ slots) empty = none_is default slots (λ place lt. emp
 is_only : {A : Type 0} (property : Commandable A) → length property.slots ≡ 16 → (value : A) → IsPresent property value → value ≡ present property
 is_only property long value (inl (priority, least)) =
     first_is property.default property.slots (priority - 1) value least.1 (λ lesser lt.
-        let back : lesser + 1 - 1 ≡ lesser = omega arith in
-        ap (λ i. get_or property.slots i None) (sym back) ∙ least.2 (lesser + 1) (omega arith) (omega (arith, least.0.0)))
+    let back : lesser + 1 - 1 ≡ lesser = omega arith in
+    ap (λ i. get_or property.slots i None) (sym back) ∙ least.2 (lesser + 1) (omega arith) (omega (arith, least.0.0)))
 is_only property long value (inr (empty, is)) =
     is ∙ sym (none_is property.default property.slots (λ place lt.
-        let back : place + 1 - 1 ≡ place = omega arith in
-        ap (λ i. get_or property.slots i None) (sym back) ∙ empty (place + 1) (omega arith, omega (arith, long))))
+    let back : place + 1 - 1 ≡ place = omega arith in
+    ap (λ i. get_or property.slots i None) (sym back) ∙ empty (place + 1) (omega arith, omega (arith, long))))
 
 -- the value that the slots give and the one of the words are one
 pub present_iff : {A : Type 0} (property : Commandable A) (value : A) → length property.slots ≡ 16 → (IsPresent property value ↔ (value ≡ present property))

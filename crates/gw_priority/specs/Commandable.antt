@@ -1,8 +1,8 @@
--- A commandable property (clause 19.2): its slots by priority, its default, and the value that is present.
+-- A commandable property (clause 19.2): slots by priority, a default, and the present value.
 use Rattle.std.specs.Prelude.{◌≡◌, ◌≢◌, ◌⊎◌, ℕ, ◌-◌, ◌<◌, ◌≤◌, List, [], ◌∷◌, replicate, Option, Some, None, slice_index_or, slice_set}
 use Rattle.gw_priority.specs.declared.array.TheConstants.{PRIORITIES}
 
--- the slots, that of priority 1 first, each with the value commanded there or empty, and the default
+-- the slots, that of priority 1 first, each with a value or empty, and the default
 pub record Commandable (A : Type 0) : Type 0 where
   pub slots : List (Option A)
   pub default : A
@@ -58,8 +58,9 @@ with_slot priority content property =
 abbrev pub with_default : {A : Type 0} → A → Commandable A → Commandable A
 with_default default property = record { slots = property.slots; default = default }
 
--- in words: the slot of a priority has this now, every other slot and the default are as they were
-pub record ChangesSlot {A : Type 0} (old : Commandable A) (priority : ℕ) (content : Option A) (new : Commandable A) : Type 0 where
+-- one slot has this content now; every other slot and the default are as they were
+pub record ChangesSlot {A : Type 0} (old : Commandable A) (priority : ℕ)
+    (content : Option A) (new : Commandable A) : Type 0 where
   pub this : slot priority new ≡ content
   pub others : (other : ℕ) → IsPriority other → other ≢ priority → slot other new ≡ slot other old
   pub default : new.default ≡ old.default

@@ -1,4 +1,4 @@
--- What a history says of the slots and the default. A history is the list of what was done, newest first.
+-- What a history, the list of what was done, newest first, says of the slots and the default.
 use Rattle.std.specs.Prelude.{◌≡◌, ℕ, Bool, false, ◌==◌, IsTrue, IsFalse, List, ◌∷◌, ◌++◌, map, find, filter_map, All, slice_index_or, Option, Some, None, option_and_then}
 use Rattle.std.specs.List.{range_with_len}
 use Rattle.gw_priority.specs.declared.array.TheConstants.{PRIORITIES}
@@ -28,7 +28,8 @@ default_of (Command _ _) = None
 default_of (Relinquish _) = None
 default_of (SetDefault value) = Some value
 
--- a slot: the value of the last act at its priority, empty where that was a relinquish or there was none
+-- a slot: the value that the last act at its priority commanded, empty where that was a relinquish
+-- or there was none
 abbrev pub slot_after : {A : Type 0} → List (Act A) → ℕ → Option A
 slot_after history priority = option_and_then value_of (find (is_at priority) history)
 
@@ -53,7 +54,8 @@ abbrev pub HasNoneAt : {A : Type 0} → ℕ → List (Act A) → Type 0
 HasNoneAt priority history = All (λ act. IsFalse (is_at priority act)) history
 
 -- the last act of the history at this priority: none that is newer is at it
-pub record IsLastAt {A : Type 0} (priority : ℕ) (history : List (Act A)) (act : Act A) : Type 0 where
+pub record IsLastAt {A : Type 0} (priority : ℕ) (history : List (Act A))
+    (act : Act A) : Type 0 where
   pub newer : List (Act A)
   pub older : List (Act A)
   pub whole : history ≡ newer ++ act ∷ older

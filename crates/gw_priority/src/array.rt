@@ -11,7 +11,7 @@ use std::marker::Model;
 pub const PRIORITIES: usize = 16;
 
 /// The lowest priority, that of a write which names none (clause 19.2).
-pub const LOWEST: u8 = 16;
+pub const LOWEST: u8 = PRIORITIES as u8;
 
 /// The priority of minimum on and off times (clause 19.2.3).
 pub const RESERVED: u8 = 6;

@@ -20,8 +20,8 @@ pub fn slots_after<T>()
         slot priority (state_after start history) ≡ slot_after history priority }
     ensures command { (history : List (Act T)) (priority : ℕ) (value : T) →
         (slot_after history priority ≡ Some value)
-            ↔ IsLastAt priority history (Command priority value) }
+        ↔ IsLastAt priority history (Command priority value) }
     ensures empty { (history : List (Act T)) (priority : ℕ) →
         (slot_after history priority ≡ None)
-            ↔ (IsLastAt priority history (Relinquish priority) ⊎ HasNoneAt priority history) }
+        ↔ (IsLastAt priority history (Relinquish priority) ⊎ HasNoneAt priority history) }
 {}

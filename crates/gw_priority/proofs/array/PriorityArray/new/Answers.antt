@@ -5,7 +5,7 @@ use Rattle.gw_priority.proofs.array.PriorityArray.new.Goals as goal
 pub returns-clause-slots : goal.returns-clause-slots
 returns-clause-slots g c =
     let each : (place : ℕ) → place < 16 → get_or c.from_fn.result place None ≡ None = λ place lt.
-        let call = (c.from_fn.ensures.items.at place None lt).2.met in search rules in
+    let call = (c.from_fn.ensures.items.at place None lt).2.met in search rules in
     ap (λ slots. record { slots = slots; default = c.args.default }) (all_empty c.from_fn.result c.from_fn.ensures.items.long each)
 
 pub returns-clause-stands : goal.returns-clause-stands
