@@ -20,7 +20,10 @@ fn the_highest_priority_decides(rt: HostRuntime) -> Result<(), Fail> {
     assert_eq!(rt; *mode.present(), 3);
     assert!(rt; mode.command(LOWEST, 2).is_ok());
     assert_eq!(rt; *mode.present(), 3);
-    assert_eq!(rt; contents(&mode), [0, 0, 0, 0, 0, 0, 0, 3, 0, 0, 0, 0, 0, 0, 0, 2]);
+    assert_eq!(rt;
+        contents(&mode),
+        [0, 0, 0, 0, 0, 0, 0, 3, 0, 0, 0, 0, 0, 0, 0, 2]
+    );
     assert!(rt; mode.relinquish(8).is_ok());
     assert_eq!(rt; *mode.present(), 2);
     assert!(rt; mode.relinquish(16).is_ok());
@@ -69,7 +72,10 @@ fn a_new_default_changes_no_slot(rt: HostRuntime) -> Result<(), Fail> {
     assert!(rt; mode.command(10, 3).is_ok());
     mode.set_default(2);
     assert_eq!(rt; *mode.present(), 3);
-    assert_eq!(rt; contents(&mode), [0, 0, 0, 0, 0, 0, 0, 0, 0, 3, 0, 0, 0, 0, 0, 0]);
+    assert_eq!(rt;
+        contents(&mode),
+        [0, 0, 0, 0, 0, 0, 0, 0, 0, 3, 0, 0, 0, 0, 0, 0]
+    );
     assert!(rt; mode.relinquish(10).is_ok());
     assert_eq!(rt; *mode.present(), 2);
     Ok(())
@@ -83,7 +89,10 @@ fn text(alloc: Global, text: &str) -> Result<String, AllocError> {
 fn texts_move_in_and_back_out(rt: HostRuntime) -> Result<(), Fail> {
     let mut note = PriorityArray::new(text(rt.alloc(), "hi")?);
     assert_eq!(rt; note.present().as_str(), "hi");
-    assert!(rt; note.command(9, text(rt.alloc(), "closed on Monday")?).is_ok());
+    assert!(rt;
+        note.command(9, text(rt.alloc(), "closed on Monday")?)
+            .is_ok()
+    );
     assert!(rt; note.command(9, text(rt.alloc(), "open")?).is_ok());
     assert_eq!(rt; note.present().as_str(), "open");
     match note.command(RESERVED, text(rt.alloc(), "mine")?) {
