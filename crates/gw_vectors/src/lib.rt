@@ -15,6 +15,8 @@ mod gateway;
 #[cfg(test)]
 mod npdu;
 #[cfg(test)]
+mod priority;
+#[cfg(test)]
 mod replay;
 #[cfg(test)]
 mod rules;
