@@ -1,1 +1,3 @@
 pub mod Learning
+pub mod Room
+pub mod Order

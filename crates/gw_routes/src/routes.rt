@@ -1,12 +1,13 @@
 //! The table of routes.
 ghost use Rattle.std.specs.Prelude.{◌≡◌, ◌+◌, ◌-◌, ◌≤◌, ◌<◌, ◌↔◌, ◌∷◌, ◌++◌, ◌&&◌};
-ghost use Rattle.std.specs.Prelude.{[], ℕ, List, length, nat_eq, position, count_by, not};
+ghost use Rattle.std.specs.Prelude.{[], ℕ, List, length, nat_eq, position, count_by, is_some, not, true, false, if◌then◌else◌};
 ghost use Rattle.std.specs.Prelude.{IsTrue, IsOk, IfOk, OnOk, OnErr, IsErrOf};
 ghost use Rattle.std.specs.Map.{keys_of};
 ghost use Rattle.std.specs.Option.{option_or};
-ghost use Rattle.indexmap.specs.IndexMap.{get, spare};
+ghost use Rattle.indexmap.specs.IndexMap.{get, spare, insert_entry, insert_all};
 ghost use Rattle.gw_routes.specs.declared.route.Route.{Route};
-ghost use Rattle.gw_routes.specs.Table.{are_distinct, table_of, is_new, growth, with_each};
+ghost use Rattle.gw_routes.specs.Table.{are_distinct, table_of, is_new, growth, with_each, with_granted};
+ghost use Rattle.gw_routes.specs.Internal.{places};
 ghost use Rattle.gw_routes.specs.Table.{direct_but, routed_but};
 
 use crate::fault::LearnFault;
@@ -102,18 +103,19 @@ impl Routes {
         if self.fixed.has(net) {
             return Err(LearnFault::Fixed);
         }
-        if !self.learned.contains_key(&net) && self.room() == 0 {
+        if !self.fixed.has_room(&self.learned, net) {
             return Err(LearnFault::Full);
         }
         self.learned.insert(net, Route { port, next })?;
         Ok(())
     }
 
-    /// How many routes more there may be.
-    fn room(&self) -> usize
-        ensures { result ≡ MAX_ROUTES - routes_held self.now }
+    /// How many routes more the networks may need.
+    fn growth(&self, nets: &[NetNum]) -> usize
+        ensures { result ≡ growth self.now nets.now }
     {
-        MAX_ROUTES - (self.fixed.configured.len() + self.learned.len())
+        let room = MAX_ROUTES - (self.fixed.configured.len() + self.learned.len());
+        self.fixed.new_among(&self.learned, nets).min(room)
     }
 
     pub fn learn_all(
@@ -128,7 +130,7 @@ impl Routes {
         ensures held { growth self.old nets.now ≡ 0 → IsOk result }
         ensures err { OnErr result (self.new ≡ self.old) }
     {
-        let needed = self.fixed.new_among(&self.learned, nets).min(self.room());
+        let needed = self.growth(nets);
         self.learned.reserve(needed)?;
         self.fixed.learn_each(&mut self.learned, nets, Route { port, next });
         Ok(())
@@ -158,7 +160,7 @@ impl Routes {
 }
 
 impl Fixed {
-    ghost use Rattle.gw_routes.specs.Table.{is_fixed, grants};
+    ghost use Rattle.gw_routes.specs.Table.{is_fixed, has_room};
 
     /// Whether the way of a network is fixed.
     fn has(&self, net: NetNum) -> bool
@@ -176,28 +178,55 @@ impl Fixed {
             .count()
     }
 
+    /// Whether there is room for a network.
+    fn has_room(&self, learned: &IndexMap<NetNum, Route>, net: NetNum) -> bool
+        ensures { result ≡ has_room (table_of self.now.direct.items self.now.configured.entries learned.now.entries) net }
+    {
+        learned.contains_key(&net) || self.configured.len() + learned.len() < MAX_ROUTES
+    }
+
     /// Learns each of the networks that may be learned, for which there is room.
     fn learn_each(&self, learned: &mut IndexMap<NetNum, Route>, nets: &[NetNum], route: Route)
-        requires few { length self.now.configured.entries + length learned.old.entries ≤ MAX_ROUTES }
+        requires few { length self.now.configured.entries + length learned.old.entries ≤ 512 }
         requires room { growth (table_of self.now.direct.items self.now.configured.entries learned.old.entries) nets.now ≤ spare learned.old }
-        ensures few { length self.now.configured.entries + length learned.new.entries ≤ MAX_ROUTES }
+        ensures few { length self.now.configured.entries + length learned.new.entries ≤ 512 }
         ensures rows { table_of self.now.direct.items self.now.configured.entries learned.new.entries
             ≡ with_each (table_of self.now.direct.items self.now.configured.entries learned.old.entries) nets.now route }
     {
         for net in nets {
-            if self.grants(learned, *net) {
-                learned.insert(*net, route).unwrap();
-            }
+            self.learn_one(learned, *net, route);
         }
     }
 
-    /// Whether a learning is granted.
-    fn grants(&self, learned: &IndexMap<NetNum, Route>, net: NetNum) -> bool
-        ensures { result ≡ grants (table_of self.now.direct.items self.now.configured.entries learned.now.entries) net }
+    /// Learns a network if it may be learned.
+    fn learn_one(&self, learned: &mut IndexMap<NetNum, Route>, net: NetNum, route: Route)
+        requires few { length self.now.configured.entries + length learned.old.entries ≤ 512 }
+        requires room { places (table_of self.now.direct.items self.now.configured.entries learned.old.entries) net ≤ spare learned.old }
+        ensures few { length self.now.configured.entries + length learned.new.entries ≤ 512 }
+        ensures room { spare learned.old ≤ spare learned.new + places (table_of self.now.direct.items self.now.configured.entries learned.old.entries) net }
+        ensures rows { table_of self.now.direct.items self.now.configured.entries learned.new.entries
+            ≡ with_granted (table_of self.now.direct.items self.now.configured.entries learned.old.entries) net route }
     {
-        !self.has(net)
-            && (learned.contains_key(&net)
-                || self.configured.len() + learned.len() < MAX_ROUTES)
+        if self.has(net) || !self.has_room(learned, net) {
+            return;
+        }
+        put(learned, net, route);
+    }
+}
+
+/// Gives a network a route: one that is learned keeps its place, and another goes last, where there is room.
+fn put(learned: &mut IndexMap<NetNum, Route>, net: NetNum, route: Route)
+    requires { is_some (get nat_eq learned.old net) ≡ false → 0 < spare learned.old }
+    ensures entries { learned.new.entries ≡ insert_entry nat_eq learned.old.entries net route }
+    ensures len { length learned.new.entries ≡ length learned.old.entries + (if is_some (get nat_eq learned.old net) then 0 else 1) }
+    ensures kept { is_some (get nat_eq learned.old net) ≡ true → spare learned.old ≤ spare learned.new }
+    ensures used { spare learned.old ≤ spare learned.new + 1 }
+{
+    match learned.get_index_of(&net) {
+        Some(place) => learned[place] = route,
+        None => {
+            learned.insert(net, route).unwrap();
+        },
     }
 }
 
@@ -206,8 +235,7 @@ fn in_order(
     alloc: Global,
     routes: &[(NetNum, Route)],
 ) -> Result<IndexMap<NetNum, Route>, AllocError>
-    requires { IsTrue (are_distinct (keys_of routes.now)) }
-    ensures entries { IfOk result (λ map. map.entries ≡ routes.now) }
+    ensures entries { IfOk result (λ map. map.entries ≡ insert_all nat_eq [] routes.now) }
     ensures none { routes.now ≡ [] → IsOk result }
 {
     let mut map = IndexMap::with_capacity(alloc, routes.len())?;
