@@ -14,7 +14,7 @@ use Rattle.gw_routes.specs.History.{History, with_network, networks_learned, las
 pub own : (n : ℕ) → nat_eq n n ≡ true
 own n = (Decides-eqb n n).1 refl
 
-equal_of : (n m : ℕ) → nat_eq n m ≡ true → n ≡ m
+pub equal_of : (n m : ℕ) → nat_eq n m ≡ true → n ≡ m
 equal_of n m e = (Decides-eqb n m).0 e
 
 module _ (h : History) (n : ℕ) (r : Route) where

@@ -1,8 +1,9 @@
 -- A routing table (clause 6): the networks that the gateway reaches itself, and the routes that others are reached by.
-use Rattle.std.specs.Prelude.{◌≡◌, ℕ, ◌+◌, ◌-◌, Bool, true, not, min, count_by, ◌&&◌, ◌||◌, ◌==◌, nat_eq, nat_le, nat_lt, if◌then◌else◌, List, [], ◌∷◌, ◌++◌, length, map, filter, take, drop, position, Option, Some, None, is_some}
+use Rattle.std.specs.Prelude.{◌≡◌, ℕ, ◌+◌, ◌-◌, ◌≤◌, ◌<◌, Bool, true, not, min, count_by, ◌&&◌, ◌||◌, ◌==◌, nat_eq, nat_le, nat_lt, if◌then◌else◌, List, [], ◌∷◌, ◌++◌, length, map, filter, take, drop, position, Option, Some, None, is_some}
 use Rattle.std.specs.List.{list_any}
 use Rattle.std.specs.Map.{lookup}
 use Rattle.std.specs.Option.{option_map_or}
+use Rattle.gw_addr.specs.declared.bip.BipAddr.{BipAddr}
 use Rattle.gw_addr.specs.Station.{network_of}
 use Rattle.indexmap.specs.IndexMap.{insert_entry}
 use Rattle.gw_routes.specs.declared.route.TheConstants.{EVERYWHERE}
@@ -52,6 +53,14 @@ network_way t net =
 abbrev pub way : Table → ℕ → Way
 way t net = if net == EVERYWHERE then Everywhere else option_map_or (network_way t) (network_of net) Unknown
 
+-- a way that is a port's has the number of a port, each of which has a network in the direct list
+abbrev pub IsWayOf : Table → Way → Type 0
+IsWayOf t (Port number) = (1 ≤ number) × (number < length t.direct)
+IsWayOf t Device = Unit {0}
+IsWayOf t (Router route) = Unit {0}
+IsWayOf t Everywhere = Unit {0}
+IsWayOf t Unknown = Unit {0}
+
 -- ---- what a port's network reaches through the gateway
 
 -- the direct networks but that of the port of this number
@@ -88,6 +97,14 @@ has_room t net = is_learned t net || nat_lt (routes_held t) MAX_ROUTES
 -- a learning of a network is granted
 abbrev pub grants : Table → ℕ → Bool
 grants t net = not (is_fixed t net) && has_room t net
+
+-- a learning of a network is refused because the table is full: 512 others have a route
+abbrev pub is_full_for : Table → ℕ → Bool
+is_full_for t net = not (is_fixed t net) && not (has_room t net)
+
+-- the route by a port and the next router
+abbrev pub route_by : ℕ → BipAddr → Route
+route_by port next = record { port = port; next = next }
 
 -- the table once a network was learned: one that was learned before keeps its place and takes the new route, another goes last
 abbrev pub with_learned : Table → ℕ → Route → Table

@@ -3,6 +3,7 @@
 #![tactic(auto)]
 
 mod fault;
+pub mod laws;
 mod route;
 mod routes;
 

@@ -1,17 +1,23 @@
 use Rattle.std.proofs.Common.{◌≡◌, ◌∙◌, ℕ, ◌+◌, List, ◌∷◌, drop, arith}
-use Rattle.gw_routes.specs.Table.{Table, table_of}
+use Rattle.gw_routes.specs.Table.{Table}
+use Rattle.gw_routes.specs.Internal.{table_with}
 use Rattle.gw_routes.proofs.Room.{first_left, room_left, rows_left}
 use Rattle.gw_routes.proofs.routes.Fixed.learn_each.Goals as goal
 
 pub loop-net-preserved : goal.loop-net-preserved
 loop-net-preserved c =
-    let t : Table = table_of c.args.self.now.direct.items c.args.self.now.configured.entries c.loop-net.learned.entries in
-    let u : Table = table_of c.args.self.now.direct.items c.args.self.now.configured.entries c.learn_one.new.learned.entries in
-    let nets : List ℕ = drop c.loop-net.net-index c.args.nets.now in
-    let left : List ℕ = drop (c.loop-net.net-index + 1) c.args.nets.now in
-    let first : nets ≡ c.net-item.result ∷ left = first_left c.args.nets.now c.loop-net.net-index c.net-item.result c.loop-net-test.true c.net-item.is in
+    let t : Table = table_with c.args.self.now c.loop-net.learned in
+    let u : Table = table_with c.args.self.now c.learn_one.new.learned in
+    let place : ℕ = c.loop-net.net-index in
+    let net : ℕ = c.net-item.result in
+    let nets : List ℕ = drop place c.args.nets.now in
+    let left : List ℕ = drop (place + 1) c.args.nets.now in
+    let first : nets ≡ net ∷ left =
+        first_left c.args.nets.now place net c.loop-net-test.true c.net-item.is in
+    let step = c.learn_one.ensures in
+    let room = room_left t u net c.args.route nets left first step.rows in
     record {
-      few = c.learn_one.ensures.few;
-      room = omega (arith, room_left t u c.net-item.result c.args.route nets left first c.learn_one.ensures.rows, c.learn_one.ensures.room, c.loop-net.invariant.room);
-      rows = rows_left t u c.net-item.result c.args.route nets left first c.learn_one.ensures.rows ∙ c.loop-net.invariant.rows;
+      limit = step.limit;
+      room = omega (arith, room, step.room, c.loop-net.invariant.room);
+      rows = rows_left t u net c.args.route nets left first step.rows ∙ c.loop-net.invariant.rows;
     }
