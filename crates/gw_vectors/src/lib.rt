@@ -17,6 +17,8 @@ mod npdu;
 #[cfg(test)]
 mod replay;
 #[cfg(test)]
+mod routes;
+#[cfg(test)]
 mod rules;
 #[cfg(test)]
 mod tags;
