@@ -19,6 +19,8 @@ mod priority;
 #[cfg(test)]
 mod replay;
 #[cfg(test)]
+mod routes;
+#[cfg(test)]
 mod rules;
 #[cfg(test)]
 mod tags;
