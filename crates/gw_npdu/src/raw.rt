@@ -5,7 +5,7 @@ ghost use Rattle.std.specs.Prelude.{◌<◌, ◌^◌, length};
 use crate::npdu::{Payload, Priority};
 
 /// A network and the address of a station there, whatever they are.
-#[derive(Clone, Copy, Debug)]
+#[derive(Clone, Copy)]
 pub struct RawAddress<'a> {
     pub network: u16,
     pub mac: &'a [u8],
@@ -14,14 +14,14 @@ pub struct RawAddress<'a> {
 }
 
 /// An address that a message is bound for, and the hop count.
-#[derive(Clone, Copy, Debug)]
+#[derive(Clone, Copy)]
 pub struct RawDestination<'a> {
     pub address: RawAddress<'a>,
     pub hops: u8,
 }
 
 /// A version, and the fields behind it.
-#[derive(Clone, Copy, Debug)]
+#[derive(Clone, Copy)]
 pub struct RawNpdu<'a> {
     pub version: u8,
     pub destination: Option<RawDestination<'a>>,
