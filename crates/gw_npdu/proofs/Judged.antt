@@ -4,7 +4,7 @@ use Rattle.std.proofs.Common.{Result, Ok, Err, refl, sym, ap, ◌∙◌, inl, in
 use Rattle.std.specs.Prelude.{IsSomeAnd}
 use Rattle.std.proofs.lemmas.Bool.{eqb-true, ltb-true, lt-ltb}
 use Rattle.gw_addr.specs.Reading.{◌>>=◌}
-use Rattle.gw_addr.proofs.Reading.{bind_ok, bind_err, guard_ok, guard_err, ok_is}
+use Rattle.gw_addr.proofs.Reading.{bind_ok, bind_err, guard_ok, guard_err, ok_is, both_true, either}
 use Rattle.gw_npdu.specs.declared.fault.NpduFault.{NpduFault}
 use Rattle.gw_npdu.specs.declared.fault.NpduFault.TheVariants as faults
 use Rattle.gw_npdu.specs.Numbers.{every_network}
@@ -16,10 +16,6 @@ or_true : (a b : Bool) → (a || b) ≡ true → (a ≡ true) ⊎ (b ≡ true)
 or_true true b e = inl refl
 or_true false b e = inr e
 
-and_true : (a b : Bool) → (a && b) ≡ true → (a ≡ true) × (b ≡ true)
-and_true true b e = (refl, e)
-and_true false b e = absurd cc
-
 -- ---- destinations
 
 bad_destination : (d : Destination) → is_bad_destination d ≡ true → IsBadDestination d
@@ -29,7 +25,7 @@ bad_destination d e =
     elim (or_true (eqb network 0) (eqb network every_network && few) e) [
       | inl none ↦ inl (eqb-true _ _ none)
       | inr every ↦
-          let both = and_true (eqb network every_network) few every in
+          let both = both_true (eqb network every_network) few every in
           inr (eqb-true _ _ both.0, ltb-true _ _ both.1)
     ]
 
@@ -114,11 +110,6 @@ fields_err f fault e =
         | inr last ↦ absurd (let never = last.2 in cc)
       ]
     ]
-
--- a reading gave a value or a fault
-pub either : {A F : Type 0} (r : Result A F) → ((x : A) × (r ≡ Ok x)) ⊎ ((e : F) × (r ≡ Err e))
-either (Ok x) = inl (x, refl)
-either (Err e) = inr (e, refl)
 
 pub fields_again : (f : Fields) → (HasBadAddress f → ⊥) → fields_of f ≡ Ok f
 fields_again f good =

@@ -1,21 +1,20 @@
 -- Octets are read as a message exactly where they are one, and each fault exactly where its own condition holds.
 use Rattle.std.proofs.Common.{◌≡◌, ◌++◌, ℕ, false, cond, eqb, List, Result, Ok, Err, refl, ap, subst, ◌∙◌}
 use Rattle.std.proofs.Common.{inl, inr, ◌⊎◌, arith}
-use Rattle.std.specs.Prelude.{◌↔◌, IfOk, IsOkAnd, IsErrOf}
+use Rattle.std.specs.Prelude.{◌↔◌}
 use Rattle.std.proofs.lemmas.Bool.{eqb-true, eqb-false, ne_eqb}
-use Rattle.gw_addr.specs.Reading.{Gives, AreOctets}
-use Rattle.gw_addr.proofs.Reading.{bind_ok, bind_err, chosen}
+use Rattle.gw_addr.specs.Reading.{AreOctets}
+use Rattle.gw_addr.proofs.Reading.{bind_ok, bind_err, chosen, either}
 use Rattle.gw_npdu.specs.declared.fault.NpduFault.{NpduFault}
 use Rattle.gw_npdu.specs.declared.fault.NpduFault.TheVariants as faults
-use Rattle.gw_npdu.specs.declared.npdu.Npdu.{Npdu}
 use Rattle.gw_npdu.specs.Numbers.{protocol_version}
 use Rattle.gw_npdu.specs.Npdu.{Fields, IsLaidOut, IsNpdu, IsValid, HasBadAddress, header, encoding, payload_octets}
-use Rattle.gw_npdu.specs.Npdu.{IsShort, IsBadVersion, IsBadAddress, view}
+use Rattle.gw_npdu.specs.Npdu.{IsShort, IsBadVersion, IsBadAddress}
 use Rattle.gw_npdu.specs.Onward.{Onward, onward}
 use Rattle.gw_npdu.specs.Reading.{RawNpdu, raw_at, fields_of, npdu_at}
 use Rattle.gw_npdu.proofs.Shape.{raw_takes, raw_again}
 use Rattle.gw_npdu.proofs.Short.{raw_short}
-use Rattle.gw_npdu.proofs.Judged.{fields_ok, fields_err, fields_again, fields_bad, either}
+use Rattle.gw_npdu.proofs.Judged.{fields_ok, fields_err, fields_again, fields_bad}
 
 abbrev judged : RawNpdu → Result Fields NpduFault
 judged raw = cond (eqb raw.version protocol_version) (fields_of raw.fields) (Err faults.Version)
@@ -138,23 +137,3 @@ version_is octets fits = (λ e. version_to octets fits e, λ other. version_from
 
 pub address_is : (octets : List ℕ) → AreOctets octets → (npdu_at octets ≡ Err faults.Address) ↔ IsBadAddress octets
 address_is octets fits = (λ e. address_to octets fits e, λ bad. address_from octets bad)
-
--- ---- what a function returned
-
-pub is_found : (octets : List ℕ) (r : Result Npdu NpduFault) → AreOctets octets → Gives view r (npdu_at octets) → IfOk r (λ n. IsNpdu octets (view n))
-is_found octets (Ok n) fits given = npdu_takes octets (view n) fits given
-is_found octets (Err e) fits given = tt
-
-pub is_only : (octets : List ℕ) (r : Result Npdu NpduFault) → Gives view r (npdu_at octets) → (f : Fields) → IsNpdu octets f → IsOkAnd r (λ n. view n ≡ f)
-is_only octets (Ok n) given f is = let again = npdu_again octets f is in cc
-is_only octets (Err e) given f is = absurd (let again = npdu_again octets f is in cc)
-
-fault_is : (octets : List ℕ) (r : Result Npdu NpduFault) (fault : NpduFault) → Gives view r (npdu_at octets) → (r ≡ Err fault) ↔ (npdu_at octets ≡ Err fault)
-fault_is octets (Ok n) fault given = (λ e. absurd cc, λ e. absurd cc)
-fault_is octets (Err e) fault given = (λ same. cc, λ same. cc)
-
--- a fault where its condition holds
-pub is_fault : {C : Type 0} (octets : List ℕ) (r : Result Npdu NpduFault) (fault : NpduFault) → Gives view r (npdu_at octets) → (npdu_at octets ≡ Err fault) ↔ C → IsErrOf r fault ↔ C
-is_fault octets r fault given is =
-    let same = fault_is octets r fault given in
-    (λ e. is.0 (same.0 e), λ c. same.1 (is.1 c))

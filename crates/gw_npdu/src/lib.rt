@@ -11,7 +11,6 @@ mod npdu;
 mod onward;
 mod raw;
 mod reading;
-mod shared;
 mod writing;
 
 pub use address::{AddressRef, Destination};

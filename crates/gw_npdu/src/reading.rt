@@ -19,8 +19,8 @@ use crate::fault::NpduFault;
 use crate::message::NetMessage;
 use crate::npdu::{Npdu, PROTOCOL_VERSION, Payload, Priority};
 use crate::raw::{RawAddress, RawDestination, RawNpdu};
-use crate::shared::{front, number, octet};
 use bitflags::Flags;
+use gw_addr::{front, number, octet};
 
 /// A network and the address of a station there.
 fn address(octets: &[u8]) -> Result<(RawAddress<'_>, &[u8]), NpduFault>

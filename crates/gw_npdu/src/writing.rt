@@ -15,8 +15,8 @@ use crate::control::Control;
 use crate::fault::EncodeFault;
 use crate::laws;
 use crate::npdu::{Npdu, PROTOCOL_VERSION, Payload};
-use crate::shared::{put_number, put_octet, put_slice};
 use bitflags::Flags;
+use gw_addr::{put_number, put_octet, put_slice};
 use std::alloc::AllocError;
 
 /// The most octets that a message of the network layer has on BACnet/IP (Annex J).
