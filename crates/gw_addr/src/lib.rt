@@ -23,6 +23,3 @@ pub use readers::{address, front, long_number, number, octet};
 pub use sequence::Sequence;
 pub use station::{Mac, Source};
 pub use writers::{put_long_number, put_number, put_octet, put_slice};
-
-#[cfg(test)]
-mod tests;

@@ -1,4 +1,6 @@
-use super::*;
+//! Addresses of BACnet/IP, network numbers and stations: octets and texts from outside.
+
+use gw_addr::{BipAddr, Mac, NetNum, Source, bip_from_slice};
 use std::test::*;
 
 #[test]

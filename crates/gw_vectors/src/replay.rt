@@ -1,8 +1,7 @@
 //! Scripts and what their replay writes, on the built-in configuration.
 
-use crate::{RunFault, replay, setting_s};
-use std::io;
-use std::io::{Read, Write};
+use crate::fakes::{Narrow, Slow, Small};
+use gw_core::{RunFault, replay, setting_s};
 use std::test::*;
 
 /// The read of Binary Value 1, and its answer.
@@ -10,60 +9,6 @@ const READ: &[u8] = b"1 192.168.1.5:47808 810A0016012400640101FF0005070C0C014000
 
 const ANSWER: &[u8] =
     b"send 1 192.168.1.5:47808 810A001801080064010130070C0C0140000119553E91003F\nend\n";
-
-/// Gives one octet a call, and fails at the call of this number, from 0.
-#[derive(Drop)]
-struct Slow {
-    bytes: &'static [u8],
-    fails: Option<u32>,
-}
-
-impl Read for Slow {
-    fn read(&mut self, buf: &mut [u8]) -> io::Result<usize> {
-        if self.fails == Some(0) {
-            return Err(io::ErrorKind::Other.into());
-        }
-        self.fails = self.fails.map(|n| n.saturating_sub(1));
-        if self.bytes.is_empty() || buf.is_empty() {
-            return Ok(0);
-        }
-        buf[0] = self.bytes[0];
-        self.bytes = &self.bytes[1..];
-        Ok(1)
-    }
-}
-
-/// Takes one octet a call, and from the call of this number on, from 0, fails or takes nothing.
-#[derive(Drop)]
-struct Narrow {
-    held: Vec<u8>,
-    left: usize,
-    takes_nothing: bool,
-}
-
-impl Write for Narrow {
-    fn write(&mut self, buf: &[u8]) -> io::Result<usize> {
-        if buf.is_empty() {
-            return Ok(0);
-        }
-        if self.left == 0 {
-            return if self.takes_nothing {
-                Ok(0)
-            } else {
-                Err(io::ErrorKind::Other.into())
-            };
-        }
-        self.left -= 1;
-        if self.held.push(buf[0]).is_err() {
-            return Err(io::ErrorKind::OutOfMemory.into());
-        }
-        Ok(1)
-    }
-
-    fn flush(&mut self) -> io::Result<()> {
-        Ok(())
-    }
-}
 
 #[test]
 fn scripts_and_their_text(rt: HostRuntime) -> Result<(), Fail> {
@@ -222,28 +167,6 @@ fn a_writer_that_is_narrow_or_fails(rt: HostRuntime) -> Result<(), Fail> {
         }
     }
     Ok(())
-}
-
-/// Holds 128 octets, takes one a call, and needs no memory.
-#[derive(Drop)]
-struct Small {
-    held: [u8; 128],
-    len: usize,
-}
-
-impl Write for Small {
-    fn write(&mut self, buf: &[u8]) -> io::Result<usize> {
-        if buf.is_empty() || self.len >= 128 {
-            return Ok(0);
-        }
-        self.held[self.len] = buf[0];
-        self.len += 1;
-        Ok(1)
-    }
-
-    fn flush(&mut self) -> io::Result<()> {
-        Ok(())
-    }
 }
 
 /// Passes with ample memory, and also where any one growth is refused: no event is then written in part.

@@ -1,8 +1,11 @@
+//! The messages of the virtual link layer: frames from outside, faults, and a refused growth.
 ghost use Rattle.std.specs.Prelude.{◌≡◌, IfOk};
 ghost use Rattle.gw_bvll.specs.Entries.{bdt_of};
 
-use super::*;
 use gw_addr::BipAddr;
+use gw_bvll::{
+    BdtEntries, BdtEntry, Bvll, BvllFault, EncodeFault, FdtEntries, ResultCode, decode, encode,
+};
 use std::alloc::{AllocError, Global};
 use std::test::*;
 

@@ -1,9 +1,9 @@
-//! The worked example, the limits at their ends, and each public function once.
+//! Rules: the worked example, the limits at their ends, and each public function once.
 ghost use Rattle.std.specs.Prelude.{◌≡◌, List, if◌then◌else◌};
 ghost use Rattle.gw_rules.specs.declared.rule.Rule.{Rule};
 ghost use Rattle.gw_rules.specs.RuleList.{allows, first};
 
-use crate::{
+use gw_rules::{
     Ask, FieldName, Judge, Operation, Range, Ranges, Rule, RuleFault, RuleList, RuleName, laws,
 };
 use std::alloc::Global;

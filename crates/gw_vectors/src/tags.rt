@@ -1,6 +1,7 @@
+//! Tags, object identifiers and values: octets from outside, and a refused growth.
 ghost use Rattle.std.specs.Prelude.{◌<◌};
 
-use super::*;
+use gw_tags::{AppValue, Kind, ObjectId, Tag, TagFault, laws, read_tag, write_tag, write_value};
 use std::test::*;
 
 /// A tag of context class.
