@@ -12,7 +12,7 @@ use Rattle.gw_npdu.specs.Reading.{is_set}
 abbrev pub octet_of : Bool → Bool → Bool → Bool → Bool → Bool → ℕ → ℕ
 octet_of seven six five four three two low =
     message_bit * bit seven + bit_six * bit six + destination_bit * bit five + bit_four * bit four
-      + source_bit * bit three + reply_bit * bit two + low
+    + source_bit * bit three + reply_bit * bit two + low
 
 abbrev low : ℕ → ℕ
 low c = bit_and c priority_bits
@@ -20,7 +20,7 @@ low c = bit_and c priority_bits
 abbrev pub split_again : ℕ → ℕ
 split_again c =
     octet_of (is_set c message_bit) (is_set c bit_six) (is_set c destination_bit)
-      (is_set c bit_four) (is_set c source_bit) (is_set c reply_bit) (low c)
+    (is_set c bit_four) (is_set c source_bit) (is_set c reply_bit) (low c)
 
 pub octet-split : (c : ℕ) → c < 2 ^ 8 → c ≡ split_again c
 octet-split c lt = eqb-true _ _ (agree_below_at (λ n. nat_eq n (split_again n)) (λ n. true) 256 c refl lt)
@@ -67,15 +67,15 @@ pub octet_of-bits : (c : ℕ) (seven six five four three two : Bool) (priority :
     → c ≡ octet_of seven six five four three two priority → IsMadeOf c seven five three two priority
 octet_of-bits c seven six five four three two priority lt is =
     let small : c < 2 ^ 8 =
-        omega (arith, bit-most seven, bit-most six, bit-most five, bit-most four, bit-most three, bit-most two) in
+    omega (arith, bit-most seven, bit-most six, bit-most five, bit-most four, bit-most three, bit-most two) in
     let split = octet-split c small in
     let all =
-        same_bits (bit (is_set c message_bit)) (bit (is_set c bit_six)) (bit (is_set c destination_bit))
-          (bit (is_set c bit_four)) (bit (is_set c source_bit)) (bit (is_set c reply_bit))
-          (bit seven) (bit six) (bit five) (bit four) (bit three) (bit two) (low c) priority
-          (bit-most _) (bit-most _) (bit-most _) (bit-most _) (bit-most _) (bit-most _)
-          (bit-most _) (bit-most _) (bit-most _) (bit-most _) (bit-most _) (bit-most _)
-          (low-below c small) lt (cc) in
+    same_bits (bit (is_set c message_bit)) (bit (is_set c bit_six)) (bit (is_set c destination_bit))
+    (bit (is_set c bit_four)) (bit (is_set c source_bit)) (bit (is_set c reply_bit))
+    (bit seven) (bit six) (bit five) (bit four) (bit three) (bit two) (low c) priority
+    (bit-most _) (bit-most _) (bit-most _) (bit-most _) (bit-most _) (bit-most _)
+    (bit-most _) (bit-most _) (bit-most _) (bit-most _) (bit-most _) (bit-most _)
+    (low-below c small) lt (cc) in
     record {
       seven_is = bit-same _ _ all.0;
       five_is = bit-same _ _ all.2;

@@ -34,10 +34,10 @@ pub address_takes : (octets : List ℕ) (x : Address × List ℕ) → AreOctets 
 unfolding address_of
 address_takes octets x fits e =
     let a = bind_ok (number_at Short w16 octets) (λ network.
-        octet_at Short network.1 >>= λ len.
-        front_at Short len.0 len.1 >>= λ mac. Ok (address_of network.0 mac.0, mac.1)) x e in
+    octet_at Short network.1 >>= λ len.
+    front_at Short len.0 len.1 >>= λ mac. Ok (address_of network.0 mac.0, mac.1)) x e in
     let b = bind_ok (octet_at Short a.0.1) (λ len.
-        front_at Short len.0 len.1 >>= λ mac. Ok (address_of a.0.0 mac.0, mac.1)) x a.2 in
+    front_at Short len.0 len.1 >>= λ mac. Ok (address_of a.0.0 mac.0, mac.1)) x a.2 in
     let c = bind_ok (front_at Short b.0.0 b.0.1) (λ mac. Ok (address_of a.0.0 mac.0, mac.1)) x b.2 in
     let t0 = number_takes Short w16 (2 ^ 16) wide16 octets a.0.0 a.0.1 fits a.1 in
     let t1 = octet_takes Short a.0.1 b.0.0 b.0.1 t0.0.rest_octets b.1 in
@@ -45,7 +45,7 @@ address_takes octets x fits e =
     let e01 = Takes-then octets (to_be_bytes w16 a.0.0) a.0.1 (b.0.0 ∷ []) b.0.1 t0.0 t1.0 in
     let e02 = Takes-then octets (to_be_bytes w16 a.0.0 ++ b.0.0 ∷ []) b.0.1 c.0.0 c.0.1 e01 t2.0 in
     let takes : Takes octets (address_part (address_of a.0.0 c.0.0)) c.0.1 =
-        sized octets (to_be_bytes w16 a.0.0) c.0.0 c.0.1 b.0.0 t2.1 e02 in
+    sized octets (to_be_bytes w16 a.0.0) c.0.0 c.0.1 b.0.0 t2.1 e02 in
     let made : Address × List ℕ = (address_of a.0.0 c.0.0, c.0.1) in
     subst (λ (y : Address × List ℕ). IsAddress octets y) {x = made} (ok_is made x c.2) (takes, (t0.1, omega (arith, t2.1, t1.1)))
 
@@ -54,7 +54,7 @@ address_again a rest lt =
     let behind : List ℕ = length a.mac ∷ (a.mac ++ rest) in
     let regrouped : address_part a ++ rest ≡ to_be_bytes w16 a.network ++ behind = simp append_assoc in
     ap address_at regrouped
-      ∙ rw (number_again Short w16 (2 ^ 16) wide16 a.network behind lt, front_again Short a.mac rest) refl
+    ∙ rw (number_again Short w16 (2 ^ 16) wide16 a.network behind lt, front_again Short a.mac rest) refl
 
 -- ---- an address, where the control octet names one
 
@@ -71,13 +71,13 @@ pub named_takes : (is_named : Bool) (octets : List ℕ) (x : Option Address × L
     → named_at is_named octets ≡ Ok x → IsNamed is_named octets x.0 x.1
 named_takes false octets x fits e =
     subst (λ (y : Option Address × List ℕ). IsNamed false octets y.0 y.1) (ok_is (None, octets) x e)
-      (record { takes = record { parts = refl; rest_octets = fits }; present = refl; fits = tt })
+    (record { takes = record { parts = refl; rest_octets = fits }; present = refl; fits = tt })
 named_takes true octets x fits e =
     let a = bind_ok (address_at octets) (λ found. Ok (Some found.0, found.1)) x e in
     let t = address_takes octets a.0 fits a.1 in
     let made : Option Address × List ℕ = (Some a.0.0, a.0.1) in
     subst (λ (y : Option Address × List ℕ). IsNamed true octets y.0 y.1) {x = made} (ok_is made x a.2)
-      (record { takes = t.0; present = refl; fits = t.1 })
+    (record { takes = t.0; present = refl; fits = t.1 })
 
 pub named_again : (found : Option Address) (rest : List ℕ) → FitsNamed found
     → named_at (is_some found) (source_part found ++ rest) ≡ Ok (found, rest)
@@ -100,13 +100,13 @@ pub hops_takes : (bound : Option Address) (octets : List ℕ) (x : Option Destin
     → hops_at bound octets ≡ Ok x → IsBound bound octets x.0 x.1
 hops_takes None octets x fits e =
     subst (λ (y : Option Destination × List ℕ). IsBound None octets y.0 y.1) (ok_is (None, octets) x e)
-      (record { takes = record { parts = refl; rest_octets = fits }; address_is = refl; hops = tt })
+    (record { takes = record { parts = refl; rest_octets = fits }; address_is = refl; hops = tt })
 hops_takes (Some bound) octets x fits e =
     let a = bind_ok (octet_at Short octets) (λ hops. Ok (Some (record { address = bound; hops = hops.0 }), hops.1)) x e in
     let t = octet_takes Short octets a.0.0 a.0.1 fits a.1 in
     let made : Option Destination × List ℕ = (Some (record { address = bound; hops = a.0.0 }), a.0.1) in
     subst (λ (y : Option Destination × List ℕ). IsBound (Some bound) octets y.0 y.1) {x = made} (ok_is made x a.2)
-      (record { takes = t.0; address_is = refl; hops = t.1 })
+    (record { takes = t.0; address_is = refl; hops = t.1 })
 
 pub hops_again : (found : Option Destination) (rest : List ℕ) → hops_at (bound_of found) (hops_part found ++ rest) ≡ Ok (found, rest)
 hops_again None rest = refl
@@ -134,8 +134,8 @@ pub message_takes : (octets : List ℕ) (m : Message) → AreOctets octets → m
 unfolding message_of
 message_takes octets m fits e =
     let a = bind_ok (octet_at Short octets) (λ kind.
-        cond (ltb kind.0 first_vendor_kind) (Ok (message_of kind.0 None kind.1))
-          (number_at Short w16 kind.1 >>= λ vendor. Ok (message_of kind.0 (Some vendor.0) vendor.1))) m e in
+    cond (ltb kind.0 first_vendor_kind) (Ok (message_of kind.0 None kind.1))
+    (number_at Short w16 kind.1 >>= λ vendor. Ok (message_of kind.0 (Some vendor.0) vendor.1))) m e in
     let t = octet_takes Short octets a.0.0 a.0.1 fits a.1 in
     let plain = message_of a.0.0 None a.0.1 in
     let proprietary = number_at Short w16 a.0.1 >>= λ vendor. Ok (message_of a.0.0 (Some vendor.0) vendor.1) in
@@ -147,7 +147,7 @@ message_takes octets m fits e =
           let both = Takes-then octets (a.0.0 ∷ []) a.0.1 (to_be_bytes w16 b.0.0) b.0.1 t.0 u.0 in
           let made = message_of a.0.0 (Some b.0.0) b.0.1 in
           subst (λ (y : Message). IsMessage octets y) {x = made} (ok_is made m b.2)
-            (both.parts, (ltb-false _ _ high.0, t.1, u.1))
+          (both.parts, (ltb-false _ _ high.0, t.1, u.1))
     ]
 
 message_again : (kind : ℕ) (vendor : Option ℕ) (octets : List ℕ) → FitsMessage (message_of kind vendor octets)
@@ -170,12 +170,12 @@ pub payload_takes : (is_named : Bool) (octets : List ℕ) (p : Payload) → AreO
     → payload_at is_named octets ≡ Ok p → IsPayload is_named octets p
 payload_takes false octets p fits e =
     subst (λ (y : Payload). IsPayload false octets y) (ok_is (apdu octets) p e)
-      (record { parts = refl; present = refl; fits = tt })
+    (record { parts = refl; present = refl; fits = tt })
 payload_takes true octets p fits e =
     let a = bind_ok (message_at octets) (λ found. Ok (message found)) p e in
     let t = message_takes octets a.0 fits a.1 in
     subst (λ (y : Payload). IsPayload true octets y) (ok_is (message a.0) p a.2)
-      (record { parts = t.0; present = refl; fits = t.1 })
+    (record { parts = t.0; present = refl; fits = t.1 })
 
 pub payload_again : (p : Payload) → FitsPayload p → payload_at (is_message p) (payload_part p ++ payload_octets p) ≡ Ok p
 unfolding message_of

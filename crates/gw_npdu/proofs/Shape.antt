@@ -1,14 +1,13 @@
 -- The whole shape of a message: what was read is laid out so, and what is laid out so is read again.
-use Rattle.std.proofs.Common.{◌≡◌, ℕ, ◌+◌, ◌*◌, ◌^◌, ◌<◌, Bool, List, [], ◌∷◌, ◌++◌, length, Option, Some, None}
+use Rattle.std.proofs.Common.{◌≡◌, ℕ, ◌+◌, ◌*◌, ◌^◌, ◌<◌, List, [], ◌∷◌, ◌++◌, Option, Some, None}
 use Rattle.std.proofs.Common.{Result, Ok, refl, sym, ap, subst, ◌∙◌, append_assoc, arith}
 use Rattle.std.specs.Prelude.{is_some, IfSome}
-use Rattle.std.specs.Int.RustNames.{bit_and}
 use Rattle.gw_addr.specs.Reading.{◌>>=◌, AreOctets, Takes, octet_at}
 use Rattle.gw_addr.proofs.Reading.{bind_ok, ok_is, Takes-then, octet_takes}
 use Rattle.gw_npdu.specs.declared.fault.NpduFault.{NpduFault}
 use Rattle.gw_npdu.specs.declared.fault.NpduFault.TheVariants.{Short}
 use Rattle.gw_npdu.specs.Numbers.{message_bit, bit_six, destination_bit, bit_four}
-use Rattle.gw_npdu.specs.Numbers.{source_bit, reply_bit, priority_bits}
+use Rattle.gw_npdu.specs.Numbers.{source_bit}
 use Rattle.gw_npdu.specs.Npdu.{Address, Destination, Payload, Fields, IsLaidOut, is_message, bit, control}
 use Rattle.gw_npdu.specs.Npdu.{source_part, destination_part, hops_part, payload_part, payload_octets}
 use Rattle.gw_npdu.specs.Npdu.{FitsAddress, FitsPayload}
@@ -62,9 +61,9 @@ laid_out octets a b v c bound r0 r1 r2 d s p t0 t1 lt address source hops payloa
     let e4 = Takes-then octets (v ∷ [] ++ c ∷ [] ++ destination_part d ++ source_part s) r1 (hops_part d) r2 e3 hops.takes in
     let front = v ∷ [] ++ c ∷ [] ++ destination_part d ++ source_part s ++ hops_part d in
     let whole : octets ≡ front ++ payload_part p ++ payload_octets p =
-        e4.parts ∙ ap (λ (x : List ℕ). front ++ x) payload.parts ∙ sym (append_assoc front (payload_part p) (payload_octets p)) in
+    e4.parts ∙ ap (λ (x : List ℕ). front ++ x) payload.parts ∙ sym (append_assoc front (payload_part p) (payload_octets p)) in
     let present : is_some d ≡ is_set c destination_bit =
-        sym (is_some-bound d) ∙ ap is_some hops.address_is ∙ address.present in
+    sym (is_some-bound d) ∙ ap is_some hops.address_is ∙ address.present in
     let sum = control_is c d s p lt payload.present present source.present in
     let at_bound : FitsNamed (bound_of d) = rw hops.address_is address.fits in
     record {
@@ -111,9 +110,9 @@ raw_takes octets raw fits e =
     let t4 = hops_takes c.0.0 d.0.1 g.0 t3.takes.rest_octets g.1 in
     let t5 = payload_takes (is_set b.0.0 message_bit) g.0.1 h.0 t4.takes.rest_octets h.1 in
     let whole =
-        laid_out octets a.0.1 b.0.1 a.0.0 b.0.0 c.0.0 c.0.1 d.0.1 g.0.1 g.0.0 d.0.0 h.0 t0.0 t1.0 t1.1 t2 t3 t4 t5 in
+    laid_out octets a.0.1 b.0.1 a.0.0 b.0.0 c.0.0 c.0.1 d.0.1 g.0.1 g.0.0 d.0.0 h.0 t0.0 t1.0 t1.1 t2 t3 t4 t5 in
     subst (λ (y : RawNpdu). IsLaidOut octets y.version y.fields) {x = raw_npdu a.0.0 b.0.0 g.0.0 d.0.0 h.0}
-      (ok_is (raw_npdu a.0.0 b.0.0 g.0.0 d.0.0 h.0) raw h.2) whole
+    (ok_is (raw_npdu a.0.0 b.0.0 g.0.0 d.0.0 h.0) raw h.2) whole
 
 -- ---- what is laid out so is read
 
@@ -155,13 +154,13 @@ unfolding raw_of
 raw_again octets v f laid =
     let c = control f + laid.reserved in
     let sum : c ≡ control f + (bit_six * bit laid.is_reserved.0 + bit_four * bit laid.is_reserved.1) =
-        ap (λ (n : ℕ). control f + n) laid.is_reserved.2 in
+    ap (λ (n : ℕ). control f + n) laid.is_reserved.2 in
     let made =
-        octet_of-bits c (is_message f.payload) laid.is_reserved.0 (is_some f.destination) laid.is_reserved.1
-          (is_some f.source) f.reply_expected f.priority laid.fits.priority (omega (arith, sum)) in
+    octet_of-bits c (is_message f.payload) laid.is_reserved.0 (is_some f.destination) laid.is_reserved.1
+    (is_some f.source) f.reply_expected f.priority laid.fits.priority (omega (arith, sum)) in
     let grouped : octets ≡ v ∷ c ∷ parts_octets f.destination f.source f.payload =
-        laid.parts ∙ rw (destination_part-bound f.destination)
-          (regroup v c (destination_part f.destination) (source_part f.source) (hops_part f.destination)
-            (payload_part f.payload) (payload_octets f.payload)) in
+    laid.parts ∙ rw (destination_part-bound f.destination)
+    (regroup v c (destination_part f.destination) (source_part f.source) (hops_part f.destination)
+    (payload_part f.payload) (payload_octets f.payload)) in
     ap raw_at grouped
-      ∙ read_again v c f made (fits_address f.destination laid.fits.destination) laid.fits.source laid.fits.payload
+    ∙ read_again v c f made (fits_address f.destination laid.fits.destination) laid.fits.source laid.fits.payload

@@ -8,7 +8,7 @@ use Rattle.gw_npdu.specs.declared.fault.NpduFault.TheVariants.{Short}
 use Rattle.gw_npdu.specs.Numbers.{message_bit, destination_bit, source_bit}
 use Rattle.gw_npdu.specs.Numbers.{first_vendor_kind}
 use Rattle.gw_npdu.specs.Npdu.{Address}
-use Rattle.gw_npdu.specs.Reading.{is_set, raw_npdu, address_at, named_at, hops_at, message_at, payload_at, raw_at}
+use Rattle.gw_npdu.specs.Reading.{is_set, address_at, named_at, hops_at, message_at, payload_at, raw_at}
 
 -- a reading that fails by Short alone
 pub record FailsShort {A : Type 0} (r : Result A NpduFault) : Type 0 where

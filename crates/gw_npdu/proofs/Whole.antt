@@ -1,6 +1,6 @@
 -- Octets are read as a message exactly where they are one, and each fault exactly where its own condition holds.
 use Rattle.std.proofs.Common.{◌≡◌, ◌++◌, ℕ, false, cond, eqb, List, Result, Ok, Err, refl, ap, subst, ◌∙◌}
-use Rattle.std.proofs.Common.{inl, inr, ◌⊎◌, arith}
+use Rattle.std.proofs.Common.{inl, inr, ◌⊎◌}
 use Rattle.std.specs.Prelude.{◌↔◌}
 use Rattle.std.proofs.lemmas.Bool.{eqb-true, eqb-false, ne_eqb}
 use Rattle.gw_addr.specs.Reading.{AreOctets}
@@ -24,7 +24,7 @@ is_npdu : (octets : List ℕ) (version : ℕ) (f g : Fields) → version ≡ pro
 is_npdu octets version f g one same laid good =
     record {
       laid_out =
-        subst (λ (v : ℕ). IsLaidOut octets v g) one
+          subst (λ (v : ℕ). IsLaidOut octets v g) one
           (subst (λ (x : Fields). IsLaidOut octets version x) same laid);
       addressed = subst (λ (x : Fields). HasBadAddress x → ⊥) same good;
     }
@@ -53,7 +53,7 @@ read_once octets f g is_f is_g =
 pub encoded_again : (f : Fields) → IsValid f → npdu_at (encoding f) ≡ Ok f
 encoded_again f valid =
     let laid : IsLaidOut (encoding f) protocol_version f =
-        record { reserved = 0; is_reserved = (false, false, refl); parts = refl; fits = valid.fits } in
+    record { reserved = 0; is_reserved = (false, false, refl); parts = refl; fits = valid.fits } in
     npdu_again (encoding f) f (record { laid_out = laid; addressed = valid.addressed })
 
 -- what a message with the fields for the next hop is read as

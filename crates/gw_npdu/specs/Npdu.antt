@@ -64,8 +64,8 @@ bit true = 1
 abbrev pub parts_bits : Fields → ℕ
 parts_bits f =
     message_bit * bit (is_message f.payload)
-      + destination_bit * bit (is_some f.destination)
-      + source_bit * bit (is_some f.source)
+    + destination_bit * bit (is_some f.destination)
+    + source_bit * bit (is_some f.source)
 
 -- the control octet (6.2.2) with both reserved bits zero
 abbrev pub control : Fields → ℕ
@@ -109,8 +109,8 @@ payload_octets (message m) = m.octets
 abbrev pub header_with : ℕ → ℕ → Fields → List ℕ
 header_with version reserved f =
     version ∷ [] ++ (control f + reserved) ∷ []
-      ++ destination_part f.destination ++ source_part f.source
-      ++ hops_part f.destination ++ payload_part f.payload
+    ++ destination_part f.destination ++ source_part f.source
+    ++ hops_part f.destination ++ payload_part f.payload
 
 -- the canonical header: version 1, and reserved bits zero
 abbrev pub header : Fields → List ℕ
@@ -135,7 +135,7 @@ FitsAddress a = (a.network < 2 ^ 16) × (length a.mac < 2 ^ 8)
 abbrev pub FitsMessage : Message → Type 0
 FitsMessage m =
     MatchOption m.vendor (m.kind < first_vendor_kind)
-      (λ v. (first_vendor_kind ≤ m.kind) × (m.kind < 2 ^ 8) × (v < 2 ^ 16))
+    (λ v. (first_vendor_kind ≤ m.kind) × (m.kind < 2 ^ 8) × (v < 2 ^ 16))
 
 abbrev pub FitsPayload : Payload → Type 0
 FitsPayload (apdu octets) = Unit {0}

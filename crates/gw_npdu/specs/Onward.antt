@@ -1,5 +1,5 @@
 -- What a router changes of a message before it sends it on (clauses 6.2.2 and 6.5.4).
-use Rattle.std.specs.Prelude.{ℕ, ◌-◌, Bool, Option, Some, None, unwrap_or, if◌then◌else◌}
+use Rattle.std.specs.Prelude.{◌-◌, Bool, Some, None, unwrap_or, if◌then◌else◌}
 use Rattle.std.specs.Option.{option_map}
 use Rattle.gw_npdu.specs.declared.onward.Onward.{Onward as LentOnward}
 use Rattle.gw_npdu.specs.Npdu.{Address, Destination, Fields, address_view}

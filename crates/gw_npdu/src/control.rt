@@ -35,11 +35,9 @@ impl Flags for Control {
 
     ghost exact = { ⊤ };
 
-    ghost table = {
-        (codes "MESSAGE", message_bit) ∷ (codes "DESTINATION", destination_bit)
-            ∷ (codes "SOURCE", source_bit) ∷ (codes "REPLY_EXPECTED", reply_bit)
-            ∷ (codes "PRIORITY", priority_bits) ∷ []
-    };
+    ghost table = { (codes "MESSAGE", message_bit) ∷ (codes "DESTINATION", destination_bit)
+        ∷ (codes "SOURCE", source_bit) ∷ (codes "REPLY_EXPECTED", reply_bit)
+        ∷ (codes "PRIORITY", priority_bits) ∷ [] };
 
     ghost set_of = { λ c. c.0 };
 

@@ -61,13 +61,7 @@ pub fn next<'a>(npdu: &Npdu<'a>, how: &Onward<'a>) -> Npdu<'a>
     ensures { view result ≡ onward (onward_view how.now) (view npdu.now) }
 {
     let destination = match npdu.destination {
-        Some(
-            Destination {
-                network,
-                mac,
-                hops,
-            },
-        ) if how.keeps_destination => {
+        Some(Destination { network, mac, hops }) if how.keeps_destination => {
             Some(Destination {
                 network,
                 mac,

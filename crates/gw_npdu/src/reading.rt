@@ -51,7 +51,7 @@ fn hops<'a>(
 ) -> Result<(Option<RawDestination<'a>>, &'a [u8]), NpduFault>
     ensures { let address = option_map raw_address_view bound.entry in
         Gives (λ x. (option_map raw_destination_view x.0, x.1.now)) result
-            (hops_at address octets.now) }
+        (hops_at address octets.now) }
 {
     let Some(address) = bound else {
         return Ok((None, octets));
@@ -124,9 +124,7 @@ fn raw(octets: &[u8]) -> Result<RawNpdu<'_>, NpduFault>
 }
 
 /// The destination, where it can be meant.
-fn destination_of<'a>(
-    raw: Option<RawDestination<'a>>,
-) -> Result<Option<Destination<'a>>, NpduFault>
+fn destination_of<'a>(raw: Option<RawDestination<'a>>) -> Result<Option<Destination<'a>>, NpduFault>
     ensures { Gives (λ d. option_map destination_view d) result
         (destination_of (option_map raw_destination_view raw.entry)) }
 {

@@ -9,7 +9,7 @@ pub returns-clause-found : goal.returns-clause-found
 returns-clause-found c =
     let octets = c.args.octets.now in
     gives_found view _ _ (λ f. IsNpdu octets f) c.whole.ensures
-      (λ f e. npdu_takes octets f (λ i. omega (arith, c.type_inv.octets i)) e)
+    (λ f e. npdu_takes octets f (λ i. omega (arith, c.type_inv.octets i)) e)
 
 pub returns-clause-only : goal.returns-clause-only
 returns-clause-only c =
@@ -19,16 +19,16 @@ pub returns-clause-short : goal.returns-clause-short
 returns-clause-short c =
     let octets = c.args.octets.now in
     gives_fault view _ _ faults.Short (IsShort octets) c.whole.ensures
-      (short_is octets (λ i. omega (arith, c.type_inv.octets i)))
+    (short_is octets (λ i. omega (arith, c.type_inv.octets i)))
 
 pub returns-clause-version : goal.returns-clause-version
 returns-clause-version c =
     let octets = c.args.octets.now in
     gives_fault view _ _ faults.Version (IsBadVersion octets) c.whole.ensures
-      (version_is octets (λ i. omega (arith, c.type_inv.octets i)))
+    (version_is octets (λ i. omega (arith, c.type_inv.octets i)))
 
 pub returns-clause-address : goal.returns-clause-address
 returns-clause-address c =
     let octets = c.args.octets.now in
     gives_fault view _ _ faults.Address (IsBadAddress octets) c.whole.ensures
-      (address_is octets (λ i. omega (arith, c.type_inv.octets i)))
+    (address_is octets (λ i. omega (arith, c.type_inv.octets i)))
