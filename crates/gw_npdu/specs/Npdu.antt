@@ -1,5 +1,5 @@
--- The network layer's message (NPDU) of ISO 16484-5, clause 6.2: its fields without memory, its octets, and which
--- octets are a message with these fields.
+-- The network layer's message (NPDU) of ISO 16484-5, clause 6.2: its fields without memory, its
+-- octets, and which octets are a message with these fields.
 use Rattle.std.specs.Prelude.{◌≡◌, ◌≢◌, ℕ, ◌+◌, ◌*◌, ◌^◌, ◌<◌, ◌≤◌, ◌⊎◌, Bool, true, false}
 use Rattle.std.specs.Prelude.{List, [], ◌∷◌, ◌++◌, length, Option, Some, None, is_some}
 use Rattle.std.specs.Prelude.{IfSome, IsSomeAnd, MatchOption}
@@ -9,7 +9,7 @@ use Rattle.gw_npdu.specs.declared.address.AddressRef.{AddressRef}
 use Rattle.gw_npdu.specs.declared.address.Destination.{Destination as LentDestination}
 use Rattle.gw_npdu.specs.declared.message.NetMessage.{NetMessage}
 use Rattle.gw_npdu.specs.declared.npdu.Priority.{Priority}
-use Rattle.gw_npdu.specs.declared.npdu.Priority.TheVariants.{Normal, Urgent, CriticalEquipment, LifeSafety}
+use Rattle.gw_npdu.specs.declared.npdu.Priority.TheVariants as priorities
 use Rattle.gw_npdu.specs.declared.npdu.Payload.{Payload as LentPayload}
 use Rattle.gw_npdu.specs.declared.npdu.Payload.TheVariants as lent
 use Rattle.gw_npdu.specs.declared.npdu.Npdu.{Npdu}
@@ -24,12 +24,13 @@ pub record Address : Type 0 where
   pub network : ℕ
   pub mac : List ℕ
 
--- whom a message is bound for: DNET and DADR, and the hop count (6.2.2, 6.2.3). No DADR: each station of the network.
+-- whom a message is bound for: DNET and DADR, and the hop count (6.2.2, 6.2.3). No DADR: each
+-- station of the network.
 pub record Destination : Type 0 where
   pub address : Address
   pub hops : ℕ
 
--- a network layer message: its type, the vendor that a type from 80 on has, and what follows (6.2.4)
+-- a network layer message (6.2.4): its type, the vendor that a type from 80 on has, and what follows
 pub record Message : Type 0 where
   pub kind : ℕ
   pub vendor : Option ℕ
@@ -120,8 +121,8 @@ header f = header_with protocol_version 0 f
 abbrev pub encoding : Fields → List ℕ
 encoding f = header f ++ payload_octets f.payload
 
--- The most octets in front of the payload's own: version and control, two addresses of 255 octets, a hop count, a
--- type and a vendor.
+-- The most octets in front of the payload's own: version and control, two addresses of 255 octets,
+-- a hop count, a type and a vendor.
 abbrev pub max_header_len : ℕ
 max_header_len = 2 + (3 + 255) + (3 + 255) + 1 + 3
 
@@ -171,8 +172,8 @@ pub record IsValid (f : Fields) : Type 0 where
 abbrev pub IsReserved : ℕ → Type 0
 IsReserved n = (six : Bool) × (four : Bool) × (n ≡ bit_six * bit six + bit_four * bit four)
 
--- The octets are laid out as clause 6.2 says: a version, a control octet, each part that it names, and a payload.
--- Nothing is said of the version and of what the addresses mean.
+-- The octets are laid out as clause 6.2 says: a version, a control octet, each part that it names,
+-- and a payload. Nothing is said of the version and of what the addresses mean.
 pub record IsLaidOut (octets : List ℕ) (version : ℕ) (f : Fields) : Type 0 where
   pub reserved : ℕ
   pub is_reserved : IsReserved reserved
@@ -186,13 +187,15 @@ pub record IsNpdu (octets : List ℕ) (f : Fields) : Type 0 where
 
 -- ---- what is wrong with octets that are no message
 
--- They are laid out as a message of no version and no fields: they end before a field that they name.
+-- They are laid out as a message of no version and no fields: they end before a field that they
+-- name.
 abbrev pub IsShort : List ℕ → Type 0
 IsShort octets = ¬ ((version : ℕ) × (f : Fields) × IsLaidOut octets version f)
 
 -- They are laid out as a message of another version than 1.
 abbrev pub IsBadVersion : List ℕ → Type 0
-IsBadVersion octets = (version : ℕ) × (f : Fields) × IsLaidOut octets version f × (version ≢ protocol_version)
+IsBadVersion octets =
+    (version : ℕ) × (f : Fields) × IsLaidOut octets version f × (version ≢ protocol_version)
 
 -- They are laid out as a message of version 1, with an address that none can have.
 abbrev pub IsBadAddress : List ℕ → Type 0
@@ -202,16 +205,19 @@ IsBadAddress octets = (f : Fields) × IsLaidOut octets protocol_version f × Has
 
 -- a priority by its number (6.2.2)
 abbrev pub priority_of : Priority → ℕ
-priority_of Normal = 0
-priority_of Urgent = 1
-priority_of CriticalEquipment = 2
-priority_of LifeSafety = 3
+priority_of priorities.Normal = 0
+priority_of priorities.Urgent = 1
+priority_of priorities.CriticalEquipment = 2
+priority_of priorities.LifeSafety = 3
 
 abbrev pub address_view : AddressRef → Address
 address_view a = record { network = a.network; mac = a.mac.now }
 
 abbrev pub destination_view : LentDestination → Destination
-destination_view d = record { address = record { network = d.network; mac = d.mac.now }; hops = d.hops }
+destination_view d = record {
+  address = record { network = d.network; mac = d.mac.now };
+  hops = d.hops;
+}
 
 abbrev pub message_view : NetMessage → Message
 message_view m = record { kind = m.kind; vendor = m.vendor; octets = m.octets.now }

@@ -1,5 +1,5 @@
--- Computes; believe `IsNpdu` (Npdu.antt). How octets are read as a message, from the front, with the first fault by
--- number. The law `laws::reading` ties what is computed here to the relations.
+-- Computes; believe `IsNpdu` (Npdu.antt). How octets are read as a message, from the front, with the
+-- first fault by number. The law `laws::reading` ties what is computed here to the relations.
 use Rattle.std.specs.Prelude.{ℕ, Bool, true, false, ◌&&◌, ◌||◌, ◌==◌, if◌then◌else◌, nat_lt}
 use Rattle.std.specs.Prelude.{List, length, Option, Some, None, Result, Ok, Err}
 use Rattle.std.specs.Int.{w16}
@@ -37,13 +37,21 @@ hops_at (Some bound) octets = do
   hops ← octet_at faults.Short octets
   Ok (Some (record { address = bound; hops = hops.0 }), hops.1)
 
+-- a network layer message of a type that the standard numbers
+abbrev pub standard_message : ℕ → List ℕ → Result Message NpduFault
+standard_message kind octets = Ok (record { kind = kind; vendor = None; octets = octets })
+
+-- a network layer message of a type that a vendor numbers
+abbrev pub vendor_message_at : ℕ → List ℕ → Result Message NpduFault
+vendor_message_at kind octets = do
+  vendor ← number_at faults.Short w16 octets
+  Ok (record { kind = kind; vendor = Some vendor.0; octets = vendor.1 })
+
 -- a network layer message: all the octets that are left
 abbrev pub message_at : List ℕ → Result Message NpduFault
 message_at octets = do
   kind ← octet_at faults.Short octets
-  if nat_lt kind.0 first_vendor_kind then Ok (record { kind = kind.0; vendor = None; octets = kind.1 }) else (do
-    vendor ← number_at faults.Short w16 kind.1
-    Ok (record { kind = kind.0; vendor = Some vendor.0; octets = vendor.1 }))
+  if nat_lt kind.0 first_vendor_kind then standard_message kind.0 kind.1 else vendor_message_at kind.0 kind.1
 
 -- the payload: all the octets that are left
 abbrev pub payload_at : Bool → List ℕ → Result Payload NpduFault
@@ -84,7 +92,8 @@ raw_at octets = do
 -- whether a destination names no network, or every network with an address
 abbrev pub is_bad_destination : Destination → Bool
 is_bad_destination d =
-    d.address.network == 0 || (d.address.network == every_network && nat_lt 0 (length d.address.mac))
+    d.address.network == 0
+    || (d.address.network == every_network && nat_lt 0 (length d.address.mac))
 
 -- a destination that can be meant
 abbrev pub destination_of : Option Destination → Result (Option Destination) NpduFault
