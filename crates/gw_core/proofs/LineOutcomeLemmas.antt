@@ -1,12 +1,12 @@
 -- What is known of the text that is left and of what was written.
 use Rattle.std.proofs.Common.{◌≡◌, ℕ, List, [], ◌++◌, Option, Some, None, Err, ◌⊎◌, inl, inr, refl, sym, ap, subst, ◌∙◌}
 use Rattle.std.specs.Prelude.{IfSome}
-use Rattle.gw_core.specs.declared.event.Event.{Event}
+use Rattle.gw_script.specs.Event.{Event}
 use Rattle.gw_core.specs.declared.replaying.RunFault.{RunFault}
 use Rattle.gw_core.specs.declared.replaying.RunFault.TheVariants.{Memory, CountEnd}
 use Rattle.gw_core.specs.Standing.{Standing}
-use Rattle.gw_core.specs.Script.{IsLine}
-use Rattle.gw_core.specs.Underway.{PassesEnd, Turned}
+use Rattle.gw_script.specs.Script.{IsLine}
+use Rattle.gw_core.specs.LineOutcome.{LineOutcome, MemoryWant, PassesEnd}
 use Rattle.std.specs.Io.KnownBytes.{Keeps, Appends, prepend_known}
 
 -- text that is known stays known: what the reader has left stands behind what is held
@@ -43,9 +43,9 @@ pub nothing_held : (held : List ℕ) (known : Option (List ℕ)) (script : List 
 nothing_held held known script none e = ap (λ (h : List ℕ). prepend_known h known) none ∙ ap (prepend_known []) e
 
 -- an event that isn't taken leaves what was written as it was
-pub not_taken : (n : ℕ) (w moved : Standing) (text : List ℕ) (left : Option (List ℕ)) (before : List ℕ) (after : Option (List ℕ)) (fault : RunFault) (passes : Type 0)
-    → (fault ≡ Memory) ⊎ ((fault ≡ CountEnd) × passes) → (passes → PassesEnd w text) → after ≡ Some before → Turned n w moved text left before after (Err fault)
-not_taken n w moved text left before after fault passes (inl e) past held =
-    subst (λ (f : RunFault). Turned n w moved text left before after (Err f)) (sym e) held
-not_taken n w moved text left before after fault passes (inr h) past held =
-    subst (λ (f : RunFault). Turned n w moved text left before after (Err f)) (sym h.0) (past h.1, held)
+pub not_taken : (n : ℕ) (w moved : Standing) (text : List ℕ) (left : Option (List ℕ)) (before : List ℕ) (after : Option (List ℕ)) (fault : RunFault) (wants passes : Type 0)
+    → ((fault ≡ Memory) × wants) ⊎ ((fault ≡ CountEnd) × passes) → (wants → MemoryWant w text) → (passes → PassesEnd w text) → after ≡ Some before → LineOutcome n w moved text left before after (Err fault)
+not_taken n w moved text left before after fault wants passes (inl h) short past held =
+    subst (λ (f : RunFault). LineOutcome n w moved text left before after (Err f)) (sym h.0) (short h.1, held)
+not_taken n w moved text left before after fault wants passes (inr h) short past held =
+    subst (λ (f : RunFault). LineOutcome n w moved text left before after (Err f)) (sym h.0) (past h.1, held)
