@@ -26,13 +26,12 @@ pub use effects::{Denial, Denials, Effects, Sending, Sends};
 pub use event::Counts;
 pub use fault::StepFault;
 pub use gateway::Gateway;
+pub use gw_script::{Event, script_laws};
 pub use law::{counts, worked_examples};
 pub use octets::Octets;
 pub use replaying::{RunFault, replay};
 pub use setting::setting_s;
 pub use whole_run::run;
-
-pub use gw_script::{Event, script_laws};
 
 #[cfg(test)]
 mod replay_tests;

@@ -16,7 +16,11 @@ pub const MAX_DATAGRAM: usize = 2048;
 
 /// The event that a line of at most 4096 octets writes, or `None` where it writes none. The octets of a datagram are lent from the
 /// buffer.
-pub fn parse_line<'a>(ports: u8, line: &[u8], buffer: &'a mut [u8; MAX_DATAGRAM]) -> Option<Event<'a>>
+pub fn parse_line<'a>(
+    ports: u8,
+    line: &[u8],
+    buffer: &'a mut [u8; MAX_DATAGRAM],
+) -> Option<Event<'a>>
     requires ports { ports ≤ 8 }
     requires most { length line.now ≤ 4096 }
     ensures on { IfSome result (λ event. IsOnPort ports (event_view event)) }
@@ -30,7 +34,11 @@ pub fn parse_line<'a>(ports: u8, line: &[u8], buffer: &'a mut [u8; MAX_DATAGRAM]
 }
 
 /// The datagram that a line writes.
-fn parse_datagram<'a>(ports: u8, line: &[u8], buffer: &'a mut [u8; MAX_DATAGRAM]) -> Option<Event<'a>>
+fn parse_datagram<'a>(
+    ports: u8,
+    line: &[u8],
+    buffer: &'a mut [u8; MAX_DATAGRAM],
+) -> Option<Event<'a>>
     requires ports { ports ≤ 8 }
     requires most { length line.now ≤ 4096 }
     ensures on { IfSome result (λ event. IsOnPort ports (event_view event)) }

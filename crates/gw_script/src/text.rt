@@ -13,7 +13,12 @@ use std::alloc::AllocError;
 const DIGITS: &[u8; 16] = b"0123456789ABCDEF";
 
 /// Appends the line of a datagram that is sent. Refused only where the buffer had no room for it; the buffer then holds what it held.
-pub fn append_send(out: &mut Vec<u8>, port: u8, to: BipAddr, octets: &[u8]) -> Result<(), AllocError>
+pub fn append_send(
+    out: &mut Vec<u8>,
+    port: u8,
+    to: BipAddr,
+    octets: &[u8],
+) -> Result<(), AllocError>
     ensures ok { OnOk result (out.new.items ≡ out.old.items ++ send_line port to octets.now) }
     ensures err { OnErr result (out.new.items ≡ out.old.items) }
     ensures room { vec_len out.old + length (send_line port to octets.now) ≤ vec_capacity out.old → IsOk result }

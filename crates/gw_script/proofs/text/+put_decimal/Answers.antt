@@ -18,5 +18,5 @@ pub returns-in_err-put_decimal-clause-room : goal.returns-in_err-put_decimal-cla
 returns-in_err-put_decimal-clause-room t c =
     let longer = decimal_longer c.args.number (omega (arith, c.if-number-lt10.false)) (omega (arith, c.ranges.number.fits)) in
     λ room.
-        let fits = c.in_err-put_decimal.ensures.room (omega (arith, room, longer)) in
-        absurd cc
+    let fits = c.in_err-put_decimal.ensures.room (omega (arith, room, longer)) in
+    absurd cc

@@ -18,7 +18,7 @@ loop-octet-preserved c =
     ap encode_upper (take_more octets i 0 (omega arith)) ∙ encode_with-append upper_digits (take i octets) (x ∷ []) ∙ ap (λ (t : List ℕ). encode_upper (take i octets) ++ t) (encode_with-one upper_digits x) in
     let pair = get_or upper_digits (x / 16) 0 ∷ get_or upper_digits (x % 16) 0 ∷ [] in record {
       items = c.in_ok-extend_from_slice.ensures.items ∙ ap (λ (t : List ℕ). t ++ pair) before.items
-      ∙ append_assoc c.args.out.now.items (encode_upper (take i octets)) pair ∙ ap (λ (t : List ℕ). c.args.out.now.items ++ t) (sym more);
+          ∙ append_assoc c.args.out.now.items (encode_upper (take i octets)) pair ∙ ap (λ (t : List ℕ). c.args.out.now.items ++ t) (sym more);
       len = omega (arith, c.in_ok-extend_from_slice.ensures.len, before.len);
       capacity = omega (arith, c.extend_from_slice.ensures.capacity, before.capacity);
     }

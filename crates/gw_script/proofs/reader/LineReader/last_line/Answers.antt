@@ -3,7 +3,6 @@ use Rattle.std.proofs.lemmas.List.{append-nil}
 use Rattle.std.proofs.Math.Seq.{take-length}
 use Rattle.std.proofs.Math.Seq.{drop-length}
 use Rattle.gw_script.specs.Script.{lines_of}
-
 use Rattle.gw_script.proofs.LineLemmas.{lines_of-nil, lines_of-last}
 use Rattle.gw_script.proofs.reader.LineReader.last_line.Goals as goal
 

@@ -1,6 +1,5 @@
 use Rattle.std.proofs.Common.{length, Some, None, ap, arith}
 use Rattle.memchr.specs.Find.{IsFirstByte, is_byte}
-
 use Rattle.gw_script.proofs.SearchLemmas.{none_lacks}
 use Rattle.gw_script.proofs.LineLemmas.{first_line, first_line_long, begins_long}
 use Rattle.gw_script.proofs.reader.LineReader.whole_line.Goals as goal
