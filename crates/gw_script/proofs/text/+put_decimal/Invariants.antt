@@ -1,4 +1,3 @@
-use Rattle.std.proofs.Common.{ℕ}
 use Rattle.gw_script.proofs.text.+put_decimal.Given as goal
 
 abbrev pub decreases-put_decimal : goal.decreases-put_decimal
