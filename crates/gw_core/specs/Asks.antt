@@ -11,8 +11,8 @@ use Rattle.gw_core.specs.declared.config.Port.{Port}
 use Rattle.gw_core.specs.Device.{Device}
 use Rattle.gw_core.specs.declared.dropped.Dropped.{Dropped}
 use Rattle.gw_core.specs.declared.dropped.Dropped.TheVariants.{Silently}
-use Rattle.gw_core.specs.declared.event.Event.{Event}
-use Rattle.gw_core.specs.declared.event.Event.TheVariants.{Datagram, Tick}
+use Rattle.gw_script.specs.Event.{Event}
+use Rattle.gw_script.specs.Event.{Datagram, Tick}
 use Rattle.gw_core.specs.Standing.{Standing}
 use Rattle.gw_core.specs.Arrival.{Arrived, arrived}
 use Rattle.gw_core.specs.Read.{Read, read_at}
