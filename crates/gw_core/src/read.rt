@@ -8,6 +8,11 @@ ghost use Rattle.gw_core.specs.Read.{tagged, content_at, object_at, number_of, p
 use crate::dropped::Dropped;
 use gw_tags::{Kind, ObjectId, Tag, read_tag};
 
+/// The service choice of ReadProperty (clause 21).
+pub const READ_PROPERTY: u8 = 12;
+/// The bit of a confirmed request's first octet that says it is segmented (clause 20.1.2.1). The four bits above it are the PDU type, 0.
+const SEGMENTED: u8 = 8;
+
 /// A ReadProperty request.
 #[derive(Clone, Copy, Debug)]
 pub struct Read {
@@ -21,7 +26,6 @@ pub struct Read {
     pub index: Option<u32>,
 }
 
-#[tactic(auto, unfolding(crate::specs::Read::tagged))]
 fn is_tagged(number: u8, tag: Tag) -> bool
     ensures { result ≡ tagged number (tag_view tag) }
 {
@@ -29,7 +33,6 @@ fn is_tagged(number: u8, tag: Tag) -> bool
 }
 
 /// The content of the context tag of this number, and the octets behind it.
-#[tactic(auto, unfolding(crate::specs::Read::content_at))]
 fn content(number: u8, octets: &[u8]) -> Result<(&[u8], &[u8]), Dropped>
     ensures { Gives (λ x. (x.0.now, x.1.now)) result (content_at number octets.now) }
 {
@@ -54,7 +57,6 @@ fn front(count: usize, octets: &[u8]) -> Result<(&[u8], &[u8]), Dropped>
     Ok(octets.split_at(count))
 }
 
-#[tactic(auto, unfolding(crate::specs::Read::object_at))]
 fn object(octets: &[u8]) -> Result<([u8; 4], &[u8]), Dropped>
     ensures { Gives (λ x. (x.0, x.1.now)) result (object_at octets.now) }
 {
@@ -65,7 +67,6 @@ fn object(octets: &[u8]) -> Result<([u8; 4], &[u8]), Dropped>
     Ok(([*a, *b, *c, *d], rest))
 }
 
-#[tactic(auto, unfolding(crate::specs::Read::number_of))]
 fn number(content: &[u8]) -> Result<u32, Dropped>
     ensures { Gives (λ n. n) result (number_of content.now) }
 {
@@ -78,7 +79,6 @@ fn number(content: &[u8]) -> Result<u32, Dropped>
     }
 }
 
-#[tactic(auto, unfolding(crate::specs::Read::property_at))]
 fn property(octets: &[u8]) -> Result<(u32, &[u8]), Dropped>
     ensures { Gives (λ x. (x.0, x.1.now)) result (property_at octets.now) }
 {
@@ -90,7 +90,6 @@ fn property(octets: &[u8]) -> Result<(u32, &[u8]), Dropped>
     Ok((property, rest))
 }
 
-#[tactic(auto, unfolding(crate::specs::Read::index_at))]
 fn index(octets: &[u8]) -> Result<Option<u32>, Dropped>
     ensures { Gives (λ n. n) result (index_at octets.now) }
 {
@@ -105,7 +104,6 @@ fn index(octets: &[u8]) -> Result<Option<u32>, Dropped>
     Ok(Some(index))
 }
 
-#[tactic(auto, unfolding(crate::specs::Read::body_at))]
 fn body(invoke: u8, octets: &[u8]) -> Result<Read, Dropped>
     ensures { Gives read_of result (body_at invoke octets.now) }
 {
@@ -121,12 +119,11 @@ fn body(invoke: u8, octets: &[u8]) -> Result<Read, Dropped>
 }
 
 /// Reads a ReadProperty request.
-#[tactic(auto, unfolding(crate::specs::Read::read_at))]
 pub fn read_request(apdu: &[u8]) -> Result<Read, Dropped>
     ensures { Gives read_of result (read_at apdu.now) }
 {
     match apdu {
-        [first, _, invoke, 12, octets @ ..] if *first < 8 => body(*invoke, octets),
+        [first, _, invoke, READ_PROPERTY, octets @ ..] if *first < SEGMENTED => body(*invoke, octets),
         _ => Err(Dropped::Silently),
     }
 }
