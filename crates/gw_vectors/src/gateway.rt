@@ -228,12 +228,12 @@ fn a_run_over_a_list(rt: HostRuntime) -> Result<(), Fail> {
     let read = Event::Datagram {
         port: 1,
         from: node(5),
-        octets: Octets::from_slice(rt.alloc(), &hidden)?,
+        octets: &hidden,
     };
     let again = Event::Datagram {
         port: 1,
         from: node(5),
-        octets: Octets::from_slice(rt.alloc(), &hidden)?,
+        octets: &hidden,
     };
     let events = [Event::Tick, read, Event::Tick, again];
     let mut seen: u64 = 0;
