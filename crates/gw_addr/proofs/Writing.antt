@@ -5,7 +5,8 @@ use Rattle.std.specs.Fmt.{decimal}
 use Rattle.gw_addr.specs.declared.bip.BipAddr.{BipAddr}
 use Rattle.gw_addr.specs.Address.{text_of}
 use Rattle.gw_addr.specs.Reading.{Keeps}
-use Rattle.gw_addr.specs.Text.{pair_text, four_text}
+use Rattle.gw_addr.specs.Text.{four_text}
+use Rattle.gw_addr.specs.internal.Digits.{pair_text}
 
 -- what keeps more keeps its front
 pub Keeps-front : (old more new : List ℕ) → Keeps (old ++ more) new → Keeps old new

@@ -1,4 +1,5 @@
--- The entries of the broadcast distribution table and of the foreign device table (Annex J.2.2 and J.2.8), ten octets each.
+-- The entries of the broadcast distribution table and of the foreign device table (Annex J.2.2 and
+-- J.2.8), ten octets each.
 use Rattle.std.specs.Prelude.{◌≡◌, ℕ, ◌^◌, ◌<◌, List, ◌++◌, length, take, drop}
 use Rattle.std.specs.Int.{w16, from_be_bytes, to_be_bytes}
 use Rattle.gw_addr.specs.Reading.{AreOctets}
@@ -29,7 +30,8 @@ bdt_entry octets = record { address = address_in octets; mask = drop 6 octets }
 -- the six octets of the address, then the time to live and the seconds that remain
 abbrev pub fdt_octets : FdtEntry → List ℕ
 fdt_octets entry =
-    octets_of entry.address ++ (to_be_bytes w16 entry.time_to_live ++ to_be_bytes w16 entry.remaining)
+    octets_of entry.address
+    ++ (to_be_bytes w16 entry.time_to_live ++ to_be_bytes w16 entry.remaining)
 
 -- the entry that ten octets spell
 abbrev pub fdt_entry : List ℕ → FdtEntry

@@ -85,8 +85,8 @@ impl BipAddr {
         self == other
     }
 
-    /// Reads an address as it is written, `a.b.c.d:port`, in decimal digits without leading zeros. `Text` where the text is
-    /// anything else.
+    /// Reads an address as it is written, `a.b.c.d:port`, in decimal digits without leading zeros.
+    /// `Text` where the text is anything else.
     pub fn parse(text: &str) -> Result<BipAddr, TextFault>
         ensures found { IfOk result (λ a. text.now ≡ text_of a) }
         ensures only { (a : BipAddr) → IsAddress a → text.now ≡ text_of a → result ≡ Ok a }
@@ -94,12 +94,13 @@ impl BipAddr {
         address_written(text).ok_or(TextFault::Text)
     }
 
-    /// Appends the address as it is written, `a.b.c.d:port`. An `Err` only where the buffer had no room for it; then a
-    /// front of it may stand there.
+    /// Appends the address as it is written, `a.b.c.d:port`. An `Err` only where the buffer had no
+    /// room for it; then a front of it may stand there.
     pub fn put_text(self, out: &mut Vec<u8>) -> Result<(), AllocError>
         ensures ok { OnOk result (out.new.items ≡ out.old.items ++ text_of self) }
         ensures front { Keeps out.old.items out.new.items }
-        ensures room { vec_len out.old + length (text_of self) ≤ vec_capacity out.old → IsOk result }
+        ensures room { let text = text_of self in
+            vec_len out.old + length text ≤ vec_capacity out.old → IsOk result }
         ensures capacity { vec_capacity out.old ≤ vec_capacity out.new }
     {
         put_four(out, self.ip)?;

@@ -5,9 +5,10 @@ ghost use Rattle.std.specs.Prelude.{IsOk, IfSome, IsSomeAnd, OnOk};
 ghost use Rattle.std.specs.Char.{IsAsciiDigit};
 ghost use Rattle.std.specs.Fmt.{decimal};
 ghost use Rattle.std.specs.Vec.{vec_capacity};
-ghost use Rattle.gw_addr.specs.Decimal.{begins_canonical_of};
+ghost use Rattle.gw_addr.specs.internal.Digits.{begins_canonical_of};
 ghost use Rattle.gw_addr.specs.Reading.{Keeps};
-ghost use Rattle.gw_addr.specs.Text.{pair_text, four_text};
+ghost use Rattle.gw_addr.specs.Text.{four_text};
+ghost use Rattle.gw_addr.specs.internal.Digits.{pair_text};
 
 use crate::writers::put_octet;
 use itoa::Buffer;
@@ -66,11 +67,12 @@ pub fn put_decimal(out: &mut Vec<u8>, number: u16) -> Result<(), AllocError>
 }
 
 /// Appends two numbers with a point between them.
-#[tactic(auto, unfolding(crate::specs::Text::pair_text))]
+#[tactic(auto, unfolding(crate::specs::internal::Digits::pair_text))]
 fn put_pair(out: &mut Vec<u8>, first: u8, second: u8) -> Result<(), AllocError>
     ensures ok { OnOk result (out.new.items ≡ out.old.items ++ pair_text first second) }
     ensures front { Keeps out.old.items out.new.items }
-    ensures room { vec_len out.old + length (pair_text first second) ≤ vec_capacity out.old → IsOk result }
+    ensures room { let text = pair_text first second in
+        vec_len out.old + length text ≤ vec_capacity out.old → IsOk result }
     ensures capacity { vec_capacity out.old ≤ vec_capacity out.new }
 {
     put_decimal(out, u16::from(first))?;
@@ -82,7 +84,8 @@ fn put_pair(out: &mut Vec<u8>, first: u8, second: u8) -> Result<(), AllocError>
 pub fn put_four(out: &mut Vec<u8>, octets: [u8; 4]) -> Result<(), AllocError>
     ensures ok { OnOk result (out.new.items ≡ out.old.items ++ four_text octets) }
     ensures front { Keeps out.old.items out.new.items }
-    ensures room { vec_len out.old + length (four_text octets) ≤ vec_capacity out.old → IsOk result }
+    ensures room { let text = four_text octets in
+        vec_len out.old + length text ≤ vec_capacity out.old → IsOk result }
     ensures capacity { vec_capacity out.old ≤ vec_capacity out.new }
 {
     let [a, b, c, d] = octets;

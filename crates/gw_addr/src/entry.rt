@@ -1,11 +1,12 @@
-//! The entries of a broadcast distribution table and of a foreign device table (Annex J.2.2 and J.2.8), ten octets each.
+//! The entries of a broadcast distribution table and of a foreign device table (Annex J.2.2 and
+//! J.2.8), ten octets each.
 
 ghost use Rattle.std.specs.Prelude.{◌≡◌};
 
 use crate::bip::BipAddr;
 
-/// An entry of a broadcast distribution table: a broadcast manager, and the mask by which broadcasts are sent on to it
-/// (Annex J.2.2).
+/// An entry of a broadcast distribution table: a broadcast manager, and the mask by which
+/// broadcasts are sent on to it (Annex J.2.2).
 ///
 /// ```text
 /// +----+----+----+----+----+----+----+----+----+----+
@@ -54,7 +55,8 @@ impl BdtEntry {
     }
 }
 
-/// An entry of a foreign device table: a registered device, and for how long it stays registered (Annex J.2.8).
+/// An entry of a foreign device table: a registered device, and for how long it stays registered
+/// (Annex J.2.8).
 ///
 /// ```text
 /// +----+----+----+----+----+----+----+----+----+----+

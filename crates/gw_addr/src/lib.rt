@@ -1,5 +1,5 @@
-//! Addresses of BACnet/IP and of BACnet networks (Annex J.1.2, clauses 6.1 and 6.3), and, in `specs/`, the common ground of all
-//! codecs above.
+//! Addresses of BACnet/IP and of BACnet networks (Annex J.1.2, clauses 6.1 and 6.3), and, in
+//! `specs/`, the common ground of all codecs above.
 #![tactic(auto)]
 
 mod bip;

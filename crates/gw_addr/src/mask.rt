@@ -9,8 +9,8 @@ use crate::digits::{octet_before, octet_in, put_four};
 use std::alloc::AllocError;
 use std::fmt;
 
-/// The mask of an IPv4 address, four octets. Any four are one: a broadcast distribution mask need not be of ones and then
-/// zeros (Annex J.2.2 says no more of it).
+/// The mask of an IPv4 address, four octets. Any four are one: a broadcast distribution mask need
+/// not be of ones and then zeros (Annex J.2.2 says no more of it).
 #[derive(Clone, Copy, Debug, PartialEq, Eq)]
 pub struct Mask {
     /// The four octets, as they are written from left to right.
@@ -18,8 +18,8 @@ pub struct Mask {
 }
 
 impl Mask {
-    /// Reads a mask as it is written, `a.b.c.d`, in decimal digits without leading zeros. `None` where the text is
-    /// anything else.
+    /// Reads a mask as it is written, `a.b.c.d`, in decimal digits without leading zeros. `None`
+    /// where the text is anything else.
     #[tactic(auto, unfolding(crate::specs::Text::four_text))]
     pub fn parse(text: &str) -> Option<Mask>
         ensures found { IfSome result (λ m. text.now ≡ mask_text m) }
@@ -34,12 +34,13 @@ impl Mask {
         })
     }
 
-    /// Appends the mask as it is written, `a.b.c.d`. An `Err` only where the buffer had no room for it; then a front of it
-    /// may stand there.
+    /// Appends the mask as it is written, `a.b.c.d`. An `Err` only where the buffer had no room for
+    /// it; then a front of it may stand there.
     pub fn put_text(self, out: &mut Vec<u8>) -> Result<(), AllocError>
         ensures ok { OnOk result (out.new.items ≡ out.old.items ++ mask_text self) }
         ensures front { Keeps out.old.items out.new.items }
-        ensures room { vec_len out.old + length (mask_text self) ≤ vec_capacity out.old → IsOk result }
+        ensures room { let text = mask_text self in
+            vec_len out.old + length text ≤ vec_capacity out.old → IsOk result }
         ensures capacity { vec_capacity out.old ≤ vec_capacity out.new }
     {
         put_four(out, self.octets)

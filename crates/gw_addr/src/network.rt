@@ -58,11 +58,13 @@ impl NetNum {
         self == other
     }
 
-    /// Appends the decimal digits of the number. An `Err` only where the buffer had no room for them.
+    /// Appends the decimal digits of the number. An `Err` only where the buffer had no room for
+    /// them.
     pub fn put_text(self, out: &mut Vec<u8>) -> Result<(), AllocError>
         ensures ok { OnOk result (out.new.items ≡ out.old.items ++ decimal self) }
         ensures front { Keeps out.old.items out.new.items }
-        ensures room { vec_len out.old + length (decimal self) ≤ vec_capacity out.old → IsOk result }
+        ensures room { let text = decimal self in
+            vec_len out.old + length text ≤ vec_capacity out.old → IsOk result }
         ensures capacity { vec_capacity out.old ≤ vec_capacity out.new }
     {
         put_decimal(out, self.number)

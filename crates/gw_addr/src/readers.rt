@@ -1,5 +1,5 @@
-//! Reading from the front of octets, each value with what stands behind it. The fault where there are too few octets is the
-//! caller's.
+//! Reading from the front of octets, each value with what stands behind it. The fault where there
+//! are too few octets is the caller's.
 
 ghost use Rattle.std.specs.Prelude.{◌≡◌, length, IfOk};
 ghost use Rattle.std.specs.Int.{w16, w32};

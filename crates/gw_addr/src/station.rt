@@ -13,8 +13,8 @@ use std::alloc::AllocError;
 use std::fmt;
 use std::marker::Model;
 
-/// The address of a station on its network: 1 to 255 octets, kept in place (clause 6.2.2). A BACnet/IP node has the six of its
-/// `BipAddr`.
+/// The address of a station on its network: 1 to 255 octets, kept in place (clause 6.2.2). A
+/// BACnet/IP node has the six of its `BipAddr`.
 #[derive(Clone, Copy, Debug, PartialEq, Eq)]
 pub struct Mac {
     octets: [u8; 255],
@@ -26,7 +26,7 @@ impl Model for Mac {
 
     ghost Value = { List ℕ };
 
-    ghost use Rattle.gw_addr.specs.Padded.{kept, kept_again, IsKept};
+    ghost use Rattle.gw_addr.specs.internal.Padded.{kept, kept_again, IsKept};
 
     ghost view = { λ m. take m.len m.octets };
 
@@ -72,7 +72,8 @@ impl Mac {
         &self.octets[..usize::from(self.len)]
     }
 
-    /// The octets as one number of 48 bits, the first octet its highest, or `None` where there are not six.
+    /// The octets as one number of 48 bits, the first octet its highest, or `None` where there are
+    /// not six.
     pub fn key48(&self) -> Option<u64>
         ensures { result ≡ key_of self.now }
     {
@@ -84,8 +85,8 @@ impl Mac {
         }
     }
 
-    /// Appends the octets as they are printed, two upper-case hexadecimal digits for each. An `Err` only where the buffer
-    /// had no room for them; then a front of them may stand there.
+    /// Appends the octets as they are printed, two upper-case hexadecimal digits for each. An `Err`
+    /// only where the buffer had no room for them; then a front of them may stand there.
     pub fn put_text(&self, out: &mut Vec<u8>) -> Result<(), AllocError>
         ensures ok { OnOk result (out.new.items ≡ out.old.items ++ flat_map two_digits self.now) }
         ensures front { Keeps out.old.items out.new.items }

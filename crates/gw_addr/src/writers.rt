@@ -1,4 +1,5 @@
-//! Writing behind what a buffer holds. An `Err` only where the buffer had no room and its growth was refused.
+//! Writing behind what a buffer holds. An `Err` only where the buffer had no room and its growth
+//! was refused.
 
 ghost use Rattle.std.specs.Prelude.{◌≡◌, ◌+◌, ◌++◌, ◌∷◌, [], ◌≤◌, length, vec_len, IsOk, OnOk};
 ghost use Rattle.std.specs.Int.{w16, w32, to_be_bytes};

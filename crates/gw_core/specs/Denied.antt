@@ -7,7 +7,7 @@ use Rattle.gw_rules.specs.declared.rule.Rule.{Rule}
 use Rattle.gw_rules.specs.RuleList.{first, allows}
 use Rattle.gw_core.specs.declared.dropped.Dropped.{Dropped}
 use Rattle.gw_core.specs.declared.effects.Denial.{Denial}
-use Rattle.gw_core.specs.declared.event.Event.{Event}
+use Rattle.gw_script.specs.Event.{Event}
 use Rattle.gw_core.specs.Standing.{Standing}
 use Rattle.gw_core.specs.Arrival.{Arrived}
 use Rattle.gw_core.specs.Asks.{asks, message_of}

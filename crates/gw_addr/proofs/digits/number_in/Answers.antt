@@ -1,6 +1,6 @@
 use Rattle.std.proofs.Common.{◌≡◌, true, sym, ap, ◌∙◌, arith}
 use Rattle.std.specs.Fmt.{decimal}
-use Rattle.gw_addr.specs.Decimal.{begins_canonical_of}
+use Rattle.gw_addr.specs.internal.Digits.{begins_canonical_of}
 use Rattle.gw_addr.proofs.Decimal.{begins_canonical-decimal, number_found_option, number_only_option}
 use Rattle.gw_addr.proofs.digits.number_in.Goals as goal
 
