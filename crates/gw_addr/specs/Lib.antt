@@ -1,4 +1,7 @@
 pub mod Reading
+pub mod Text
 pub mod Address
+pub mod Mask
 pub mod Station
-pub mod Padded
+pub mod Entry
+pub mod internal

@@ -1,5 +1,7 @@
--- The common ground of all codecs: reading from the front of a list of octets, with the first fault that is met.
--- Each reading function answers the value with the octets after it, or a fault of its caller's type.
+-- Reading from the front of a list of octets, with the first fault that is met: the common ground
+-- of all codecs. Each reading function (`octet_at` and the like) computes: it answers the value
+-- with the octets after it, or the fault that its caller names. What a codec asks to be believed is
+-- its relation between octets and values (`Is..`), above these.
 use Rattle.std.specs.Prelude.{◌≡◌, ℕ, ◌<◌, List, [], ◌∷◌, ◌++◌, length, take, drop, slice_index, Result, Ok, Err, nat_lt, if◌then◌else◌}
 use Rattle.std.specs.Int.{Width, byte_len, from_be_bytes}
 
@@ -21,11 +23,14 @@ octet_at short (octet ∷ rest) = Ok (octet, rest)
 
 -- the first octets, so many
 abbrev pub front_at : {F : Type 0} → F → ℕ → List ℕ → Result (List ℕ × List ℕ) F
-front_at short count octets = if nat_lt (length octets) count then Err short else Ok (take count octets, drop count octets)
+front_at short count octets =
+    if nat_lt (length octets) count then Err short else Ok (take count octets, drop count octets)
 
 -- a number of so many bits, big-endian
 abbrev pub number_at : {F : Type 0} → F → Width → List ℕ → Result (ℕ × List ℕ) F
-number_at short width octets = if nat_lt (length octets) (byte_len width) then Err short else Ok (from_be_bytes width (take (byte_len width) octets), drop (byte_len width) octets)
+number_at short width octets =
+    if nat_lt (length octets) (byte_len width) then Err short
+    else Ok (from_be_bytes width (take (byte_len width) octets), drop (byte_len width) octets)
 
 -- each number of the list is an octet
 abbrev pub AreOctets : List ℕ → Type 0

@@ -5,7 +5,7 @@ use Rattle.gw_addr.specs.declared.station.Source.{Source}
 use Rattle.gw_addr.specs.Reading.{◌>>=◌}
 use Rattle.gw_addr.specs.Station.{key_of}
 use Rattle.gw_npdu.specs.Npdu.{Fields, Destination, Payload, apdu, message}
-use Rattle.gw_rules.specs.declared.ask.Ask.{Ask}
+use Rattle.gw_rules.specs.Ask.{Ask}
 use Rattle.gw_tags.specs.Object.{Object}
 use Rattle.gw_core.specs.declared.config.Port.{Port}
 use Rattle.gw_core.specs.Device.{Device}

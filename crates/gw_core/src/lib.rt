@@ -32,8 +32,3 @@ pub use octets::Octets;
 pub use replaying::{RunFault, replay};
 pub use setting::setting_s;
 pub use whole_run::run;
-
-#[cfg(test)]
-mod replay_tests;
-#[cfg(test)]
-mod tests;

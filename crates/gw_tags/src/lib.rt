@@ -16,6 +16,3 @@ pub use reading::{Header, read_tag};
 pub use tag::{Kind, Tag};
 pub use value::{AppValue, write_value};
 pub use writing::write_tag;
-
-#[cfg(test)]
-mod tests;

@@ -1,0 +1,331 @@
+//! Rules: the worked example, the limits at their ends, and each public function once.
+ghost use Rattle.std.specs.Prelude.{◌≡◌, List, IfOk, if◌then◌else◌};
+ghost use Rattle.gw_rules.specs.declared.rule.Rule.{Rule};
+ghost use Rattle.gw_rules.specs.Authorizer.{denied_of};
+ghost use Rattle.gw_rules.specs.RuleList.{allows, first};
+
+use gw_rules::{
+    Ask, Authorizer, Decision, FieldName, Fields, Judge, MAX_RANGES, MAX_RULES, Operation, Range,
+    Ranges, Refusal, Refusals, Rule, RuleFault, RuleList, RuleName, Service, laws,
+};
+use std::alloc::{AllocError, Global};
+use std::test::Fail;
+
+/// The broadcast key, all of whose 48 bits are set.
+const LAST_KEY: u64 = 0xffff_ffff_ffff;
+
+/// The number of the rule that denies the ask, if it is denied: what a caller makes of any judge.
+fn denial<J: Judge>(judge: &J, ask: &Ask) -> Option<Option<u16>>
+    ensures { (rules : List Rule) → J.StandsFor judge.now rules →
+        result ≡ (if allows rules ask.now then None else Some (first rules ask.now)) }
+{
+    if judge.allows(ask) {
+        None
+    } else {
+        Some(judge.first(ask))
+    }
+}
+
+/// Two rules in order.
+fn pair(alloc: Global, first: Rule, second: Rule) -> Result<Vec<Rule>, RuleFault> {
+    let mut rules = Vec::new(alloc);
+    rules.push(first)?;
+    rules.push(second)?;
+    Ok(rules)
+}
+
+/// A rule that denies these source keys, before one that allows all.
+fn keys_denied(alloc: Global, keys: Range) -> Result<RuleList, RuleFault> {
+    let denies = Rule::new(alloc, "broadcast", false)?.with(FieldName::SourceKey, keys)?;
+    let allows = Rule::new(alloc, "all", true)?;
+    RuleList::new(pair(alloc, denies, allows)?)
+}
+
+fn from_key(key: Option<u64>) -> Ask {
+    Ask {
+        source_key: key,
+        ..Ask::new(Operation::Route)
+    }
+}
+
+#[test]
+fn the_first_matching_rule_decides(rt: HostRuntime) -> Result<(), Fail> {
+    let rules = keys_denied(rt.alloc(), Range::only(LAST_KEY))?;
+    for (key, first, allowed) in [
+        (Some(LAST_KEY), Some(1), false),
+        (Some(LAST_KEY - 1), Some(2), true),
+        (None, Some(2), true),
+    ] {
+        let ask = from_key(key);
+        assert_eq!(rt; rules.first(&ask), first, "at {key:?}");
+        assert_eq!(rt; rules.allows(&ask), allowed, "at {key:?}");
+        let denied = if allowed { None } else { Some(first) };
+        assert_eq!(rt; denial(&rules, &ask), denied, "at {key:?}");
+    }
+    Ok(())
+}
+
+#[test]
+fn a_range_reaches_the_last_number(rt: HostRuntime) -> Result<(), Fail> {
+    let keys = Range {
+        low: LAST_KEY,
+        high: u64::MAX,
+    };
+    let rules = keys_denied(rt.alloc(), keys)?;
+    assert_eq!(rt; rules.first(&from_key(Some(u64::MAX))), Some(1));
+    assert_eq!(rt; rules.first(&from_key(Some(LAST_KEY - 1))), Some(2));
+    Ok(())
+}
+
+#[test]
+fn no_rules_deny_every_ask(rt: HostRuntime) -> Result<(), Fail> {
+    let rules = RuleList::new(Vec::new(rt.alloc()))?;
+    assert_eq!(rt; rules.first(&from_key(None)), None);
+    assert!(rt; !rules.allows(&from_key(None)));
+    assert_eq!(rt; denial(&rules, &from_key(None)), Some(None));
+    Ok(())
+}
+
+/// This many rules that each name one port, from port 1.
+fn numbered(alloc: Global, count: u64) -> Result<Vec<Rule>, RuleFault> {
+    let mut rules = Vec::new(alloc);
+    for port in 0..count {
+        let rule = Rule::new(alloc, "port", true)?.with(FieldName::Port, Range::only(port))?;
+        rules.push(rule)?;
+    }
+    Ok(rules)
+}
+
+#[test]
+fn takes_512_rules_and_no_more(rt: HostRuntime) -> Result<(), Fail> {
+    let rules = RuleList::new(numbered(rt.alloc(), 512)?)?;
+    assert_eq!(rt; rules.rules().len(), 512);
+    let last = Ask {
+        port: Some(511),
+        ..Ask::new(Operation::Cast)
+    };
+    assert_eq!(rt; rules.first(&last), Some(512));
+    let refused = RuleList::new(numbered(rt.alloc(), 513)?);
+    assert_eq!(rt; refused.err(), Some(RuleFault::TooMany));
+    Ok(())
+}
+
+#[test]
+fn counts_are_judged_before_ends(rt: HostRuntime) -> Result<(), Fail> {
+    let alloc = rt.alloc();
+    let backward = Range { low: 2, high: 1 };
+    for (count, fault) in [(4, RuleFault::Range), (5, RuleFault::TooMany)] {
+        let mut rule = Rule::new(alloc, "backward", false)?;
+        for _ in 0..count {
+            rule = rule.with(FieldName::Priority, backward)?;
+        }
+        let rules = pair(alloc, rule, Rule::new(alloc, "all", true)?)?;
+        let refused = RuleList::new(rules);
+        assert_eq!(rt; refused.err(), Some(fault), "at {count} ranges");
+    }
+    Ok(())
+}
+
+#[test]
+fn each_field_has_its_own_place(rt: HostRuntime) -> Result<(), Fail> {
+    let alloc = rt.alloc();
+    let ask = Ask {
+        operation: Some(1),
+        port: Some(2),
+        source_network: Some(3),
+        source_key: Some(4),
+        destination_network: Some(5),
+        service: Some(6),
+        object_type: Some(7),
+        instance: Some(8),
+        property: Some(9),
+        priority: Some(10),
+    };
+    let mut rule = Rule::new(alloc, "every field", true)?;
+    for field in FieldName::ALL {
+        assert_eq!(rt; *ask.get(field), Some(field.number()));
+        rule = rule.with(field, Range::only(field.number()))?;
+        assert_eq!(rt;
+            rule.ranges(field).as_slice(),
+            [Range::only(field.number())].as_slice()
+        );
+    }
+    assert!(rt; rule.matches(&ask));
+    assert!(rt; !rule.matches(&Ask::new(Operation::Cast)));
+    assert_eq!(rt; rule.name.as_str(), "every field");
+    Ok(())
+}
+
+#[test]
+fn a_rule_may_be_written_as_a_struct(rt: HostRuntime) -> Result<(), Fail> {
+    let alloc = rt.alloc();
+    let mut service = Ranges::new(alloc);
+    service.push(Range { low: 12, high: 15 })?;
+    let no_fields = Rule::new(alloc, "", true)?;
+    let rule = Rule {
+        name: RuleName::new(alloc, "services")?,
+        ranges: Fields {
+            service,
+            ..no_fields.ranges
+        },
+        ..no_fields
+    };
+    assert!(rt; Range { low: 12, high: 15 }.holds(15));
+    assert!(rt; !rule.matches(&Ask::new(Operation::Cast)));
+    laws::matching();
+    laws::first_match();
+    laws::decision();
+    laws::limits();
+    Ok(())
+}
+
+#[test]
+fn faults_are_told_in_words(rt: HostRuntime) -> Result<(), Fail> {
+    let alloc = rt.alloc();
+    assert_eq!(rt;
+        RuleFault::TooMany.to_string(alloc)?.as_str(),
+        "too many rules or ranges"
+    );
+    assert_eq!(rt;
+        RuleFault::Range.to_string(alloc)?.as_str(),
+        "a range's low end is above its high end"
+    );
+    assert_eq!(rt;
+        RuleFault::Memory.to_string(alloc)?.as_str(),
+        "out of memory"
+    );
+    Ok(())
+}
+
+/// Reads of Binary Values 2 to 9 are denied by rule 1, all other reads are allowed by rule 2, and
+/// nothing else matches.
+fn policy(alloc: Global) -> Result<RuleList, RuleFault> {
+    let read = Range::only(Operation::Read.number());
+    let hide = Rule::new(alloc, "hide", false)?
+        .with(FieldName::Operation, read)?
+        .with(FieldName::ObjectType, Range::only(5))?
+        .with(FieldName::Instance, Range { low: 2, high: 9 })?;
+    let reads = Rule::new(alloc, "reads", true)?.with(FieldName::Operation, read)?;
+    let mut rules = Vec::new(alloc);
+    rules.push(hide)?;
+    rules.push(reads)?;
+    RuleList::new(rules)
+}
+
+fn read_of(instance: u64) -> Ask {
+    Ask {
+        service: Some(Service::Confirmed(12).number()),
+        object_type: Some(5),
+        instance: Some(instance),
+        ..Ask::new(Operation::Read)
+    }
+}
+
+#[test]
+fn an_ask_is_decided_by_one_walk(rt: HostRuntime) -> Result<(), Fail> {
+    let rules = policy(rt.alloc())?;
+    for (ask, decision) in [
+        (read_of(1), Decision::Allow),
+        (read_of(2), Decision::Deny { by: Some(1) }),
+        (Ask::new(Operation::Write), Decision::Deny { by: None }),
+    ] {
+        assert_eq!(rt; rules.decide(&ask), decision, "at {ask:?}");
+        assert_eq!(rt; Judge::decide(&rules, &ask), decision, "at {ask:?}");
+        assert_eq!(rt; rules.allows(&ask), decision == Decision::Allow, "at {ask:?}");
+    }
+    Ok(())
+}
+
+/// Three asks in a row, over any judge: what a part of the gateway does.
+fn refused<J: Judge>(alloc: Global, judge: &J, asks: [Ask; 3]) -> Result<Refusals, AllocError>
+    ensures { (rules : List Rule) → J.StandsFor judge.now rules →
+        IfOk result (λ refused. refused ≡ denied_of rules asks) }
+{
+    let [first, second, third] = asks;
+    let mut authorizer = Authorizer::new(alloc, judge);
+    authorizer.authorize(&first)?;
+    authorizer.authorize(&second)?;
+    authorizer.authorize(&third)?;
+    Ok(authorizer.into_refusals())
+}
+
+#[test]
+fn what_is_denied_is_kept_in_order(rt: HostRuntime) -> Result<(), Fail> {
+    let alloc = rt.alloc();
+    let rules = policy(alloc)?;
+    let write = Ask::new(Operation::Write);
+    let kept = refused(alloc, &rules, [write, read_of(1), read_of(9)])?;
+    assert_eq!(rt;
+        kept.as_slice(),
+        [
+            Refusal { ask: write, by: None },
+            Refusal { ask: read_of(9), by: Some(1) },
+        ].as_slice()
+    );
+    let mut authorizer = Authorizer::new(alloc, &rules);
+    assert!(rt; authorizer.authorize(&read_of(1))?);
+    assert!(rt; authorizer.refusals().is_empty());
+    assert!(rt; !authorizer.authorize(&read_of(2))?);
+    assert_eq!(rt; authorizer.refusals().len(), 1);
+    Ok(())
+}
+
+#[test]
+fn operations_go_by_name_and_by_number(rt: HostRuntime) -> Result<(), Fail> {
+    let rows = [
+        ("cast", 1, Operation::Cast),
+        ("route", 2, Operation::Route),
+        ("register", 3, Operation::Register),
+        ("delete", 4, Operation::Delete),
+        ("read-table", 5, Operation::ReadTable),
+        ("write-table", 6, Operation::WriteTable),
+        ("learn", 7, Operation::Learn),
+        ("network", 8, Operation::Network),
+        ("read", 9, Operation::Read),
+        ("write", 10, Operation::Write),
+        ("list", 11, Operation::List),
+    ];
+    for (name, number, operation) in rows {
+        assert_eq!(rt; operation.name(), name);
+        assert_eq!(rt; operation.number(), number);
+        assert_eq!(rt; Operation::from_name(name), Some(operation));
+        assert_eq!(rt; Operation::from_number(number), Some(operation));
+    }
+    for text in ["", "Read", "read ", "read-", "reading", "default"] {
+        assert_eq!(rt; Operation::from_name(text), None, "at {text}");
+    }
+    for number in [0, 12, 256 + 9, u64::MAX] {
+        assert_eq!(rt; Operation::from_number(number), None, "at {number}");
+    }
+    Ok(())
+}
+
+#[test]
+fn each_kind_of_service_has_its_base(rt: HostRuntime) {
+    assert_eq!(rt; Service::Confirmed(12).number(), 12);
+    assert_eq!(rt; Service::Confirmed(255).number(), 255);
+    assert_eq!(rt; Service::Unconfirmed(8).number(), 264);
+    assert_eq!(rt; Service::NetworkMessage(1).number(), 513);
+    assert_eq!(rt; Service::BvllFunction(5).number(), 773);
+    assert_eq!(rt; Service::Pdu(2).number(), 1026);
+}
+
+#[test]
+fn unequal_values_differ(rt: HostRuntime) {
+    let ask = Ask::new(Operation::Read);
+    for field in FieldName::ALL {
+        assert_eq!(rt; *ask.get(field), if field == FieldName::Operation { Some(9) } else { None });
+    }
+    assert!(rt; ask != Ask { priority: Some(16), ..ask });
+    assert!(rt; ask != Ask { operation: None, ..ask });
+    assert!(rt; Range { low: 1, high: 2 } != Range { low: 1, high: 3 });
+    assert!(rt; Decision::Deny { by: None } != Decision::Deny { by: Some(1) });
+    assert!(rt; Refusal { ask, by: None } != Refusal { ask, by: Some(1) });
+    assert_eq!(rt; MAX_RULES, 512);
+    assert_eq!(rt; MAX_RANGES, 4);
+    laws::fields();
+    laws::operations();
+    laws::services();
+    laws::refusals();
+    laws::equality();
+}
