@@ -26,7 +26,8 @@ message_of w Tick = Err Silently
 
 -- whether a destination is the device: its network, and the one station there
 abbrev pub is_device : ℕ → Destination → Bool
-is_device network d = d.network == network && (length d.address == 1 && slice_index d.address 0 == 1)
+is_device network d =
+    d.address.network == network && (length d.address.mac == 1 && slice_index d.address.mac 0 == 1)
 
 -- the APDU of a payload that is for the device
 abbrev pub apdu_of : Payload → Result (List ℕ) Dropped

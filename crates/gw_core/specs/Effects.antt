@@ -19,7 +19,7 @@ use Rattle.gw_core.specs.Reply.{answer, reply_apdu, reply_npdu}
 
 -- the octets of an NPDU, unless there are more than 1497 (Annex J.2.11)
 unfoldable pub within : Fields → Option (List ℕ)
-within message = if nat_lt 1497 (length (npdu.spelling message)) then None else Some (npdu.spelling message)
+within message = if nat_lt 1497 (length (npdu.encoding message)) then None else Some (npdu.encoding message)
 
 -- an NPDU to one address, where it is within its length
 unfoldable pub unicast : ℕ → BipAddr → Fields → List Sending

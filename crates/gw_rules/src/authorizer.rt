@@ -38,9 +38,9 @@ impl<'a, J: Judge> Authorizer<'a, J> {
         }
     }
 
-    /// Whether the policy allows the ask. A denied ask is kept, behind those that were denied before.
-    /// Only that may want memory; with `AllocError` the refusals stay as they are, and the ask counts
-    /// as not put.
+    /// Whether the policy allows the ask. A denied ask is kept, behind those that were denied
+    /// before. Only that may want memory; with `AllocError` the refusals stay as they are, and the
+    /// ask counts as not put.
     pub fn authorize(&mut self, ask: &Ask) -> Result<bool, AllocError>
         ensures answer { (rules : List Rule) → J.StandsFor self.old.judge rules →
             IfOk result (λ yes. yes ≡ allows rules ask.now) }

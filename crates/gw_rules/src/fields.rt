@@ -4,8 +4,8 @@ ghost use Rattle.gw_rules.specs.Fields.{value_of};
 
 use crate::FieldName;
 
-/// A value for each of the ten fields, as an [`Ask`](crate::Ask) has one number or none for each and
-/// a [`Rule`](crate::Rule) some ranges for each.
+/// A value for each of the ten fields: an [`Ask`](crate::Ask) has one number or none for each, a
+/// [`Rule`](crate::Rule) some ranges for each.
 #[derive(Clone, Copy, Debug, Drop, PartialEq, Eq)]
 pub struct Fields<T> {
     /// 1: what is about to be done, by [`Operation`](crate::Operation)'s number.

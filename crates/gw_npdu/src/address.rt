@@ -1,7 +1,8 @@
 //! Destinations and sources: DNET, DADR, SNET and SADR of clause 6.2.2.
 
-ghost use Rattle.std.specs.Prelude.{◌≡◌, ◌<◌, length};
+ghost use Rattle.std.specs.Prelude.{◌≡◌, ◌<◌, ◌^◌, length};
 ghost use Rattle.gw_addr.specs.Station.{network_of};
+ghost use Rattle.gw_npdu.specs.Numbers.{every_network};
 
 use gw_addr::NetNum;
 
@@ -18,14 +19,15 @@ use gw_addr::NetNum;
 pub struct Destination<'a> {
     /// The number of the network, 1 to 65534, or 65535 for every network.
     pub network: u16,
-    /// The address on that network, at most 255 octets. None: every station there. For every network there is none.
-    pub address: &'a [u8],
+    /// The station's address on that network, at most 255 octets. None: every station there. For every network there
+    /// is none.
+    pub mac: &'a [u8],
     /// The hop count: a router takes one from it, and passes on no message whose count is or becomes 0.
     pub hops: u8,
 
     pub ghost numbered: { 0 < network },
-    pub ghost short: { length address.now < 256 },
-    pub ghost whole: { network ≡ 65535 → length address.now ≡ 0 },
+    pub ghost short: { length mac.now < 2 ^ 8 },
+    pub ghost whole: { network ≡ every_network → length mac.now ≡ 0 },
 }
 
 impl Destination<'_> {
@@ -40,7 +42,8 @@ impl Destination<'_> {
     }
 }
 
-/// One station, by its network and its address there: SNET, SLEN and SADR.
+/// The address of one station (a BACnetAddress, clause 21), lent: its network, and its address there. SNET, SLEN and
+/// SADR.
 ///
 /// ```text
 /// +------+------+------+------+--  --+
@@ -48,19 +51,19 @@ impl Destination<'_> {
 /// +------+------+------+------+--  --+
 /// ```
 #[derive(Clone, Copy, Debug, PartialEq, Eq)]
-pub struct Station<'a> {
+pub struct AddressRef<'a> {
     /// The number of the network, 1 to 65534.
     pub network: u16,
-    /// The address on that network, 1 to 255 octets.
-    pub address: &'a [u8],
+    /// The station's address on that network, 1 to 255 octets.
+    pub mac: &'a [u8],
 
     pub ghost numbered: { 0 < network },
-    pub ghost single: { network < 65535 },
-    pub ghost present: { 0 < length address.now },
-    pub ghost short: { length address.now < 256 },
+    pub ghost single: { network < every_network },
+    pub ghost present: { 0 < length mac.now },
+    pub ghost short: { length mac.now < 2 ^ 8 },
 }
 
-impl Station<'_> {
+impl AddressRef<'_> {
     /// The network.
     pub fn net(&self) -> NetNum
         ensures { result ≡ self.now.network }
