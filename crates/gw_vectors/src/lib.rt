@@ -23,4 +23,6 @@ mod routes;
 #[cfg(test)]
 mod rules;
 #[cfg(test)]
+mod script;
+#[cfg(test)]
 mod tags;
