@@ -3,9 +3,9 @@ use Rattle.std.proofs.Common.{◌≡◌, ◌∙◌, ◌⊎◌, inl, inr, refl, s
 use Rattle.std.specs.Io.KnownBytes.{Keeps}
 use Rattle.gw_core.specs.declared.replaying.RunFault.{RunFault}
 use Rattle.gw_core.specs.declared.replaying.RunFault.TheVariants as run
-use Rattle.gw_core.specs.declared.event.Event.{Event}
-use Rattle.gw_core.specs.Replay.{RunsFront, RunsPart, RunsToEnd, RunsToLine, RunsWhole, Told, run_text}
-use Rattle.gw_core.specs.Script.{AreLines, lines_of}
+use Rattle.gw_script.specs.Event.{Event}
+use Rattle.gw_core.specs.Replay.{RunsFront, RunsPart, RunsToEnd, RunsToLine, RunsWhole, OnKnown, run_text}
+use Rattle.gw_script.specs.Script.{AreLines, lines_of}
 use Rattle.gw_core.specs.Configured.{Configured}
 use Rattle.gw_core.specs.History.{run_after}
 use Rattle.gw_core.specs.Setting.{setting}
@@ -23,12 +23,12 @@ Leaves c script before (Err run.CountEnd) after = RunsToEnd c script before afte
 
 -- the clauses of a run as one
 pub run_leaves : (c : Configured) (read held holds : Option (List ℕ)) (r : Result (Unit {0}) RunFault)
-    → OnOk r (Told read held holds (RunsWhole c))
-    → ((n : ℕ) → IsErrOf r (run.Line n) → Told read held holds (RunsToLine n c))
-    → (IsErrOf r run.Write → Told read held holds (RunsFront c))
-    → (IsErrOf r run.CountEnd → Told read held holds (RunsToEnd c))
-    → ((IsErrOf r run.Read ⊎ IsErrOf r run.Memory) → Told read held holds (RunsPart c))
-    → Told read held holds (λ script before. Leaves c script before r)
+    → OnOk r (OnKnown read held holds (RunsWhole c))
+    → ((n : ℕ) → IsErrOf r (run.Line n) → OnKnown read held holds (RunsToLine n c))
+    → (IsErrOf r run.Write → OnKnown read held holds (RunsFront c))
+    → (IsErrOf r run.CountEnd → OnKnown read held holds (RunsToEnd c))
+    → ((IsErrOf r run.Read ⊎ IsErrOf r run.Memory) → OnKnown read held holds (RunsPart c))
+    → OnKnown read held holds (λ script before. Leaves c script before r)
 run_leaves c read held holds (Ok done) whole line front count_end part = whole
 run_leaves c read held holds (Err (run.Line n)) whole line front count_end part = line n refl
 run_leaves c read held holds (Err run.Read) whole line front count_end part = part (inl refl)

@@ -2,7 +2,7 @@
 
 ghost use Rattle.std.specs.Prelude.{◌≡◌, [], OnOk};
 ghost use Rattle.std.specs.Io.Buffered.{writer_buffer, writer_contents};
-ghost use Rattle.gw_core.specs.Replay.{Told};
+ghost use Rattle.gw_core.specs.Replay.{OnKnown};
 ghost use Rattle.bacgw.specs.Played.{Plays};
 ghost use Rattle.bacgw.specs.Told.{first_fault};
 
@@ -29,7 +29,7 @@ pub fn replay<R: Read, W: Write + Drop>(
     reader: &mut R,
     writer: &mut BufWriter<W>,
 ) -> Result<(), Fault>
-    ensures plays { Told (R.remaining reader.old) (writer_contents W.contents writer.old) (writer_contents W.contents writer.new) (λ script before. Plays script before result) }
+    ensures plays { OnKnown (R.remaining reader.old) (writer_contents W.contents writer.old) (writer_contents W.contents writer.new) (λ script before. Plays script before result) }
     ensures flushed { OnOk result (writer_buffer writer.new ≡ []) }
 {
     let config = gw_core::setting_s(alloc)?;

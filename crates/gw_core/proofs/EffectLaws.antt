@@ -8,8 +8,8 @@ use Rattle.gw_core.specs.declared.dropped.Dropped.TheVariants.{Silently}
 use Rattle.gw_core.specs.declared.effects.Effects.{Effects}
 use Rattle.gw_core.specs.declared.effects.Sending.{Sending}
 use Rattle.gw_core.specs.declared.effects.Denial.{Denial}
-use Rattle.gw_core.specs.declared.event.Event.{Event}
-use Rattle.gw_core.specs.declared.event.Event.TheVariants.{Datagram, Tick}
+use Rattle.gw_script.specs.Event.{Event}
+use Rattle.gw_script.specs.Event.{Datagram, Tick}
 use Rattle.gw_core.specs.Standing.{Standing}
 use Rattle.gw_core.specs.Arrival.{Arrived, arrived}
 use Rattle.gw_core.specs.Asks.{Asked, asked, asked_on, asked_by, message_of, asks, asks_of, device_asks}

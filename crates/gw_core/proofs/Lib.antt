@@ -2,11 +2,7 @@ pub mod EffectLaws
 pub mod HistoryLaws
 pub mod ExampleRuns
 pub mod LogLaws
-pub mod Lacking
-pub mod LineLaws
-pub mod Holding
-pub mod Showing
-pub mod Pieces
-pub mod TurnLaws
-pub mod RunLaws
-pub mod ScriptLaws
+pub mod ShownLemmas
+pub mod LineOutcomeLemmas
+pub mod ReplayLemmas
+pub mod CallLemmas

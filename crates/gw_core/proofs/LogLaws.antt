@@ -4,13 +4,13 @@ use Rattle.std.proofs.lemmas.List.{map-append}
 use Rattle.std.specs.Prelude.{count_by}
 use Rattle.std.specs.List.{fold}
 use Rattle.gw_addr.specs.declared.station.Source.{Source}
-use Rattle.gw_rules.specs.declared.ask.Ask.{Ask}
+use Rattle.gw_rules.specs.Ask.{Ask}
 use Rattle.gw_rules.specs.declared.rule.Rule.{Rule}
 use Rattle.gw_core.specs.declared.dropped.Dropped.{Dropped}
 use Rattle.gw_core.specs.declared.effects.Denial.{Denial}
 use Rattle.gw_core.specs.declared.event.Counts.{Counts}
-use Rattle.gw_core.specs.declared.event.Event.{Event}
-use Rattle.gw_core.specs.declared.event.Event.TheVariants.{Datagram, Tick}
+use Rattle.gw_script.specs.Event.{Event}
+use Rattle.gw_script.specs.Event.{Datagram, Tick}
 use Rattle.gw_core.specs.Arrival.{Arrived}
 use Rattle.gw_core.specs.Asks.{asks, message_of}
 use Rattle.gw_core.specs.Configured.{Configured}

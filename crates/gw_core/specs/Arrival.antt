@@ -6,7 +6,8 @@ use Rattle.gw_addr.specs.declared.station.Source.{Source}
 use Rattle.gw_addr.specs.Address.{octets_of, big_endian}
 use Rattle.gw_addr.specs.Reading.{◌>>=◌}
 use Rattle.gw_bvll.specs.Bvll.{Message, bvll_at, original_unicast}
-use Rattle.gw_npdu.specs.Npdu.{Fields, Station, npdu_at}
+use Rattle.gw_npdu.specs.Npdu.{Fields, Address}
+use Rattle.gw_npdu.specs.Reading.{npdu_at}
 use Rattle.gw_core.specs.declared.config.Port.{Port}
 use Rattle.gw_core.specs.declared.dropped.Dropped.{Dropped}
 use Rattle.gw_core.specs.declared.dropped.Dropped.TheVariants.{Silently}
@@ -51,9 +52,9 @@ unfoldable pub is_direct : List Port → ℕ → ℕ → Bool
 is_direct ports device network = network == device || list_any (λ p. p.network == network) ports
 
 -- whether the source that a message names is on a network that the gateway itself stands on
-abbrev pub claims_direct : List Port → ℕ → Option Station → Bool
+abbrev pub claims_direct : List Port → ℕ → Option Address → Bool
 claims_direct ports device None = false
-claims_direct ports device (Some s) = is_direct ports device s.network
+claims_direct ports device (Some a) = is_direct ports device a.network
 
 -- the message that a datagram on a port brings
 unfoldable pub arrived_on : List Port → ℕ → ℕ → Port → BipAddr → List ℕ → Result Arrived Dropped

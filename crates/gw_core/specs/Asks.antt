@@ -5,14 +5,14 @@ use Rattle.gw_addr.specs.declared.station.Source.{Source}
 use Rattle.gw_addr.specs.Reading.{◌>>=◌}
 use Rattle.gw_addr.specs.Station.{key_of}
 use Rattle.gw_npdu.specs.Npdu.{Fields, Destination, Payload, apdu, message}
-use Rattle.gw_rules.specs.declared.ask.Ask.{Ask}
+use Rattle.gw_rules.specs.Ask.{Ask}
 use Rattle.gw_tags.specs.Object.{Object}
 use Rattle.gw_core.specs.declared.config.Port.{Port}
 use Rattle.gw_core.specs.Device.{Device}
 use Rattle.gw_core.specs.declared.dropped.Dropped.{Dropped}
 use Rattle.gw_core.specs.declared.dropped.Dropped.TheVariants.{Silently}
-use Rattle.gw_core.specs.declared.event.Event.{Event}
-use Rattle.gw_core.specs.declared.event.Event.TheVariants.{Datagram, Tick}
+use Rattle.gw_script.specs.Event.{Event}
+use Rattle.gw_script.specs.Event.{Datagram, Tick}
 use Rattle.gw_core.specs.Standing.{Standing}
 use Rattle.gw_core.specs.Arrival.{Arrived, arrived}
 use Rattle.gw_core.specs.Read.{Read, read_at}
@@ -26,7 +26,8 @@ message_of w Tick = Err Silently
 
 -- whether a destination is the device: its network, and the one station there
 abbrev pub is_device : ℕ → Destination → Bool
-is_device network d = d.network == network && (length d.address == 1 && slice_index d.address 0 == 1)
+is_device network d =
+    d.address.network == network && (length d.address.mac == 1 && slice_index d.address.mac 0 == 1)
 
 -- the APDU of a payload that is for the device
 abbrev pub apdu_of : Payload → Result (List ℕ) Dropped

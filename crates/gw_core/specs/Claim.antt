@@ -4,7 +4,7 @@ use Rattle.gw_addr.specs.declared.bip.BipAddr.{BipAddr}
 use Rattle.gw_addr.specs.declared.station.Source.{Source}
 use Rattle.gw_addr.specs.Address.{octets_of}
 use Rattle.gw_bvll.specs.Bvll.{Message, forwarded}
-use Rattle.gw_npdu.specs.Npdu.{Fields, Station}
+use Rattle.gw_npdu.specs.Npdu.{Fields, Address}
 
 -- The link source: the originator of a Forwarded-NPDU, else the sender (Annex J.2.5).
 abbrev pub link_source : BipAddr → Message → BipAddr
@@ -15,9 +15,9 @@ link_source from other = from
 abbrev pub here : ℕ → BipAddr → Source
 here network address = record { net = network; mac = octets_of address }
 
-abbrev pub claimed_by : Source → Option Station → Source
+abbrev pub claimed_by : Source → Option Address → Source
 claimed_by link None = link
-claimed_by link (Some s) = record { net = s.network; mac = s.address }
+claimed_by link (Some a) = record { net = a.network; mac = a.mac }
 
 -- The claim: the source that the NPDU names, and where it names none, the link source on the port's network (clause 6.2.2).
 abbrev pub claimed : ℕ → BipAddr → Fields → Source

@@ -2,12 +2,12 @@
 use Rattle.std.specs.Prelude.{ℕ, ◌+◌, ◌-◌, List, [], ◌∷◌, Result, Ok, Err, codes, filter, not, slice_get}
 use Rattle.std.specs.Option.{option_map_or}
 use Rattle.gw_addr.specs.declared.station.Source.{Source}
-use Rattle.gw_rules.specs.declared.ask.Ask.{Ask}
+use Rattle.gw_rules.specs.Ask.{Ask}
 use Rattle.gw_rules.specs.declared.rule.Rule.{Rule}
 use Rattle.gw_rules.specs.RuleList.{first, allows}
 use Rattle.gw_core.specs.declared.dropped.Dropped.{Dropped}
 use Rattle.gw_core.specs.declared.effects.Denial.{Denial}
-use Rattle.gw_core.specs.declared.event.Event.{Event}
+use Rattle.gw_script.specs.Event.{Event}
 use Rattle.gw_core.specs.Standing.{Standing}
 use Rattle.gw_core.specs.Arrival.{Arrived}
 use Rattle.gw_core.specs.Asks.{asks, message_of}

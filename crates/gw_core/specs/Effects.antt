@@ -1,23 +1,25 @@
 -- What an event does: its sends and its denials.
-use Rattle.std.specs.Prelude.{ℕ, ◌+◌, ◌^◌, Bool, List, [], ◌∷◌, ◌++◌, length, Option, Some, None, Result, Ok, Err, nat_lt, ◌||◌, if◌then◌else◌}
+use Rattle.std.specs.Prelude.{◌≡◌, ⊤, ℕ, ◌+◌, ◌^◌, Bool, List, [], ◌∷◌, ◌++◌, length, Option, Some, None, Result, Ok, Err, nat_lt, ◌||◌, if◌then◌else◌}
 use Rattle.gw_addr.specs.declared.bip.BipAddr.{BipAddr}
 use Rattle.gw_bvll.specs.Bvll.{original_unicast}
 use Rattle.gw_bvll.specs.Bvll as bvll
 use Rattle.gw_npdu.specs.Npdu.{Fields}
 use Rattle.gw_npdu.specs.Npdu as npdu
 use Rattle.gw_core.specs.declared.dropped.Dropped.{Dropped}
+use Rattle.gw_core.specs.declared.dropped.Dropped.TheVariants.{Silently}
 use Rattle.gw_core.specs.declared.effects.Sending.{Sending}
 use Rattle.gw_core.specs.declared.effects.Effects.{Effects}
-use Rattle.gw_core.specs.declared.event.Event.{Event}
-use Rattle.gw_core.specs.declared.event.Event.TheVariants.{Datagram, Tick}
+use Rattle.gw_script.specs.Event.{Event}
+use Rattle.gw_script.specs.Event.{Datagram, Tick}
 use Rattle.gw_core.specs.Standing.{Standing}
+use Rattle.gw_core.specs.Arrival.{arrived}
 use Rattle.gw_core.specs.Asks.{Asked, asked}
 use Rattle.gw_core.specs.Denied.{denials_at}
 use Rattle.gw_core.specs.Reply.{answer, reply_apdu, reply_npdu}
 
 -- the octets of an NPDU, unless there are more than 1497 (Annex J.2.11)
 unfoldable pub within : Fields → Option (List ℕ)
-within message = if nat_lt 1497 (length (npdu.spelling message)) then None else Some (npdu.spelling message)
+within message = if nat_lt 1497 (length (npdu.encoding message)) then None else Some (npdu.encoding message)
 
 -- an NPDU to one address, where it is within its length
 unfoldable pub unicast : ℕ → BipAddr → Fields → List Sending
@@ -76,3 +78,8 @@ last_count = 2 ^ 63
 
 unfoldable pub passes_end : Standing → Event → Bool
 passes_end w e = nat_lt last_count (w.ticks + ticks_of e) || nat_lt last_count (w.denials + length (denials_at w e))
+
+-- A tick needs no memory, and neither does a datagram that brings no message.
+abbrev pub NeedsNoMemory : Standing → Event → Type 0
+NeedsNoMemory w (Datagram port from octets) = arrived w.ports w.device.network port from octets ≡ Err Silently
+NeedsNoMemory w Tick = ⊤

@@ -1,9 +1,9 @@
 -- Worked examples of the built-in configuration, frame by frame: what a reader can hold against the standard. Frames are written in
 -- hexadecimal. In each, a station at 192.168.1.5 on port 1 sends a datagram to a fresh gateway.
 use Rattle.std.specs.Prelude.{◌≡◌, ℕ, zero, suc, ◌+◌, ◌-◌, ◌*◌, ◌^◌, true, false, List, [], ◌∷◌, ◌++◌, take, map, replicate, codes, Some, None, nat_lt, if◌then◌else◌}
-use Rattle.gw_rules.specs.declared.ask.Ask.{Ask}
+use Rattle.gw_rules.specs.Ask.{Ask}
 use Rattle.gw_core.specs.declared.effects.Effects.{Effects}
-use Rattle.gw_core.specs.declared.event.Event.TheVariants.{Datagram, Tick}
+use Rattle.gw_script.specs.Event.{Datagram, Tick}
 use Rattle.gw_core.specs.Standing.{Standing}
 use Rattle.gw_core.specs.Effects.{passes_end}
 use Rattle.gw_core.specs.History.{effects, standing}

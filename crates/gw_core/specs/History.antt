@@ -2,8 +2,8 @@
 use Rattle.std.specs.Prelude.{◌≡◌, ℕ, ◌+◌, ◌≤◌, List, [], ◌∷◌, length}
 use Rattle.gw_core.specs.declared.effects.Effects.{Effects}
 use Rattle.gw_core.specs.declared.event.Counts.{Counts}
-use Rattle.gw_core.specs.declared.event.Event.{Event}
-use Rattle.gw_core.specs.declared.event.Event.TheVariants.{Datagram, Tick}
+use Rattle.gw_script.specs.Event.{Event}
+use Rattle.gw_script.specs.Event.{Datagram, Tick}
 use Rattle.gw_core.specs.Configured.{Configured}
 use Rattle.gw_core.specs.Standing.{Standing}
 use Rattle.gw_core.specs.Denied.{denials_at}
@@ -65,8 +65,3 @@ run c k l = run_after c k [] l
 unfoldable pub taken : List Event → List Event → List Event
 taken h [] = h
 taken h (e ∷ l) = taken (e ∷ h) l
-
--- an event that is a tick, or a datagram on one of so many ports
-abbrev pub IsOnPort : ℕ → Event → Type 0
-IsOnPort count (Datagram port from octets) = (1 ≤ port) × (port ≤ count)
-IsOnPort count Tick = Unit {0}

@@ -13,9 +13,6 @@ pub mod View
 pub mod Setting
 pub mod Examples
 pub mod Laws
-pub mod Script
 pub mod Shown
 pub mod Replay
-pub mod Ahead
-pub mod Parsed
-pub mod Underway
+pub mod LineOutcome

@@ -1,12 +1,12 @@
 -- What a replay writes: the text of the run of a script's events, as far as the script and its run go.
-use Rattle.std.specs.Prelude.{◌≡◌, ℕ, ◌+◌, List, [], ◌∷◌, ◌++◌, length, take, drop, true, Option, Some, IsSomeAnd}
+use Rattle.std.specs.Prelude.{◌≡◌, ◌⊎◌, ℕ, ◌+◌, List, [], ◌∷◌, ◌++◌, length, take, drop, true, Option, Some, IsSomeAnd}
 use Rattle.gw_core.specs.declared.event.Counts.{Counts}
-use Rattle.gw_core.specs.declared.event.Event.{Event}
+use Rattle.gw_script.specs.Event.{Event}
 use Rattle.gw_core.specs.Configured.{Configured}
-use Rattle.gw_core.specs.Effects.{passes_end}
+use Rattle.gw_core.specs.Effects.{passes_end, NeedsNoMemory}
 use Rattle.gw_core.specs.History.{run, standing, taken}
-use Rattle.gw_core.specs.Script.{lines_of, IsLine, AreLines}
-use Rattle.gw_core.specs.Shown.{shown}
+use Rattle.gw_script.specs.Script.{lines_of, IsLine, AreLines}
+use Rattle.gw_core.specs.Shown.{text_of_run}
 
 -- a gateway that nothing came to
 abbrev pub no_counts : Counts
@@ -14,7 +14,7 @@ no_counts = record { ticks = 0; denials = 0 }
 
 -- the text of the run of these events, from a fresh gateway
 abbrev pub run_text : Configured → List Event → List ℕ
-run_text c events = shown (run c no_counts events)
+run_text c events = text_of_run (run c no_counts events)
 
 -- these events are the first lines of the script
 abbrev pub FirstLines : Configured → List ℕ → List Event → Type 0
@@ -56,6 +56,23 @@ pub record RunsToEnd (c : Configured) (script before after : List ℕ) : Type 0 
   pub passes : passes_end (standing c no_counts (taken [] events)) event ≡ true
   pub text : after ≡ before ++ run_text c events
 
+-- The line behind those of these events writes one for which memory may be wanted.
+pub record MemoryLine (c : Configured) (script : List ℕ) (events : List Event) : Type 0 where
+  pub line : List ℕ
+  pub rest : List (List ℕ)
+  pub stands : drop (length events) (lines_of script) ≡ line ∷ rest
+  pub event : Event
+  pub writes : IsLine (length c.ports) line event
+  pub wants : ¬ (NeedsNoMemory (standing c no_counts (taken [] events)) event)
+
+-- Some first lines write events, and what was written is the text of their run, whole. Either there are none of them, or the line behind
+-- them writes an event for which memory may be wanted.
+pub record RunsToMemory (c : Configured) (script before after : List ℕ) : Type 0 where
+  pub events : List Event
+  pub lines : FirstLines c script events
+  pub cause : (events ≡ []) ⊎ MemoryLine c script events
+  pub text : after ≡ before ++ run_text c events
+
 -- some first lines write events, and what was written is a front of the text of their run
 pub record RunsFront (c : Configured) (script before after : List ℕ) : Type 0 where
   pub events : List Event
@@ -67,5 +84,5 @@ pub record RunsFront (c : Configured) (script before after : List ℕ) : Type 0 
 
 -- Where the octets of the reader and those that the writer holds are known, they are so known after the replay, and this is said of
 -- the script, of what was written before and of what is written then.
-abbrev pub Told : Option (List ℕ) → Option (List ℕ) → Option (List ℕ) → (List ℕ → List ℕ → List ℕ → Type 0) → Type 0
-Told read held holds said = (script before : List ℕ) → read ≡ Some script → held ≡ Some before → IsSomeAnd holds (said script before)
+abbrev pub OnKnown : Option (List ℕ) → Option (List ℕ) → Option (List ℕ) → (List ℕ → List ℕ → List ℕ → Type 0) → Type 0
+OnKnown read held holds said = (script before : List ℕ) → read ≡ Some script → held ≡ Some before → IsSomeAnd holds (said script before)

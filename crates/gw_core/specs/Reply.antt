@@ -1,14 +1,14 @@
 -- What the device answers to a ReadProperty request (clauses 15.5, 18, 20.1.5 and 20.1.7).
 use Rattle.std.specs.Prelude.{ℕ, Bool, true, false, List, [], ◌∷◌, ◌++◌, length, Option, Some, None, Result, Ok, Err, ◌==◌, find, if◌then◌else◌}
 use Rattle.std.specs.Option.{option_map}
-use Rattle.gw_rules.specs.declared.ask.Ask.{Ask}
+use Rattle.gw_rules.specs.Ask.{Ask}
 use Rattle.gw_rules.specs.declared.rule.Rule.{Rule}
 use Rattle.gw_rules.specs.RuleList.{allows}
 use Rattle.gw_tags.specs.declared.tag.Kind.TheVariants.{Length, Opening, Closing}
 use Rattle.gw_tags.specs.Tag.{canonical}
 use Rattle.gw_tags.specs.Object.{Object, object_octets}
 use Rattle.gw_tags.specs.Value.{enumerated, number_text, value_text}
-use Rattle.gw_npdu.specs.Npdu.{Fields, Station, Destination, apdu}
+use Rattle.gw_npdu.specs.Npdu.{Fields, Address, Destination, apdu}
 use Rattle.gw_core.specs.declared.config.BinaryValue.{BinaryValue}
 use Rattle.gw_core.specs.declared.reply.Failure.{Failure}
 use Rattle.gw_core.specs.Read.{Read}
@@ -88,14 +88,14 @@ reply_apdu read (Err failure) = read_error read.invoke failure
 -- ---- the message that carries it
 
 -- the way back to a station behind routers, with a whole count of hops (clause 6.2.2)
-abbrev pub way_back : Station → Destination
-way_back s = record { network = s.network; address = s.address; hops = 255 }
+abbrev pub way_back : Address → Destination
+way_back a = record { address = a; hops = 255 }
 
 -- the device is the one station of its network, and keeps the request's priority (clause 6.2.2)
 unfoldable pub reply_npdu : ℕ → Fields → List ℕ → Fields
 reply_npdu network request answer = record {
   destination = option_map way_back request.source;
-  source = Some (record { network = network; address = 1 ∷ [] });
+  source = Some (record { network = network; mac = 1 ∷ [] });
   reply_expected = false;
   priority = request.priority;
   payload = apdu answer;

@@ -1,20 +1,22 @@
 -- The text of a run: for each event its sends, a line each, and then `end`.
-use Rattle.std.specs.Prelude.{ℕ, List, [], ◌∷◌, ◌++◌, codes}
+use Rattle.std.specs.Prelude.{ℕ, List, ◌++◌}
 use Rattle.std.specs.List.{flat_map}
-use Rattle.std.specs.Fmt.{decimal}
-use Rattle.hex.specs.Hex.{encode_upper}
-use Rattle.gw_addr.specs.Address.{text_of}
+use Rattle.gw_script.specs.Text.{end_line, send_line}
 use Rattle.gw_core.specs.declared.effects.Sending.{Sending}
 use Rattle.gw_core.specs.declared.effects.Effects.{Effects}
 
--- `send <port> <address> <HEX>` and a line feed
-unfoldable pub shown_send : Sending → List ℕ
-shown_send s = codes "send " ++ decimal s.port ++ 32 ∷ [] ++ text_of s.to ++ 32 ∷ [] ++ encode_upper s.octets ++ 10 ∷ []
+-- the line of one datagram that is sent
+abbrev pub sending_line : Sending → List ℕ
+sending_line s = send_line s.port s.to s.octets
+
+-- a line for each datagram that is sent
+abbrev pub sends_text : List Sending → List ℕ
+sends_text sends = flat_map sending_line sends
 
 -- the lines of what one event does
-unfoldable pub shown_effects : Effects → List ℕ
-shown_effects e = flat_map shown_send e.sends ++ codes "end" ++ 10 ∷ []
+unfoldable pub effects_text : Effects → List ℕ
+effects_text e = sends_text e.sends ++ end_line
 
 -- the lines of what each event of a run does
-abbrev pub shown : List Effects → List ℕ
-shown run = flat_map shown_effects run
+abbrev pub text_of_run : List Effects → List ℕ
+text_of_run run = flat_map effects_text run

@@ -3,7 +3,7 @@
 ghost use Rattle.std.specs.Prelude.{◌≡◌, ◌+◌, ◌<◌, ◌≤◌, ◌^◌, ◌∷◌, [], length, IfOk, IfSome};
 ghost use Rattle.std.specs.Option.{option_map};
 ghost use Rattle.gw_bvll.specs.Bvll.{spelling, original_unicast};
-ghost use Rattle.gw_npdu.specs.Npdu.{destination_view, station_view, view as npdu_view};
+ghost use Rattle.gw_npdu.specs.Npdu.{address_view, destination_view, view as npdu_view};
 ghost use Rattle.gw_core.specs.Denied.{denials_from, denied, rule_name};
 ghost use Rattle.gw_core.specs.Effects.{unicast, within};
 ghost use Rattle.gw_core.specs.Reply.{answer, reply_apdu, reply_npdu, way_back};
@@ -17,7 +17,7 @@ use crate::octets::Octets;
 use crate::reply::{DEVICE_STATION, answer_of, put_reply};
 use gw_addr::BipAddr;
 use gw_bvll::Bvll;
-use gw_npdu::{Destination, Npdu, Payload, Station};
+use gw_npdu::{AddressRef, Destination, Npdu, Payload};
 use gw_rules::{Ask, RuleList, RuleName};
 use std::alloc::{AllocError, Global};
 
@@ -67,14 +67,14 @@ fn sends_of(alloc: Global, port: u8, to: BipAddr, npdu: &Npdu<'_>) -> Result<Sen
     }
 }
 
-fn way_back_to<'a>(source: &Option<Station<'a>>) -> Option<Destination<'a>>
-    ensures { option_map destination_view result ≡ option_map way_back (option_map station_view source.now) }
+fn way_back_to<'a>(source: &Option<AddressRef<'a>>) -> Option<Destination<'a>>
+    ensures { option_map destination_view result ≡ option_map way_back (option_map address_view source.now) }
 {
     match source {
         None => None,
-        Some(station) => Some(Destination {
-            network: station.network,
-            address: station.address,
+        Some(address) => Some(Destination {
+            network: address.network,
+            mac: address.mac,
             hops: 255,
         }),
     }
@@ -89,12 +89,12 @@ fn send_reply(
 ) -> Result<Sends, AllocError>
     ensures { IfOk result (λ sends. sends ≡ unicast arrived.now.port arrived.now.link (reply_npdu device.network (npdu_view arrived.now.npdu) apdu.now)) }
 {
-    let address = [DEVICE_STATION];
+    let mac = [DEVICE_STATION];
     let reply = Npdu {
         destination: way_back_to(&arrived.npdu.source),
-        source: Some(Station {
+        source: Some(AddressRef {
             network: device.network().get(),
-            address: &address,
+            mac: &mac,
         }),
         reply_expected: false,
         priority: arrived.npdu.priority,

@@ -5,7 +5,7 @@ ghost use Rattle.std.specs.List.{list_any};
 ghost use Rattle.std.specs.Option.{option_map};
 ghost use Rattle.gw_addr.specs.Reading.{Gives};
 ghost use Rattle.gw_bvll.specs.Bvll.{view as frame_view};
-ghost use Rattle.gw_npdu.specs.Npdu.{view as npdu_view, station_view};
+ghost use Rattle.gw_npdu.specs.Npdu.{view as npdu_view, address_view};
 ghost use Rattle.gw_core.specs.Claim.{claimed_by, here, link_source};
 ghost use Rattle.gw_core.specs.Arrival.{arrived, arrived_on, claims_direct, comes_in, frame_in, is_direct, npdu_in, payload_in};
 ghost use Rattle.gw_core.specs.View.{arrived_view};
@@ -14,7 +14,7 @@ use crate::config::Port;
 use crate::dropped::Dropped;
 use gw_addr::{BipAddr, Mac, NetNum, Source};
 use gw_bvll::Bvll;
-use gw_npdu::{Npdu, Station};
+use gw_npdu::{AddressRef, Npdu};
 
 /// The longest datagram that is heard, in octets.
 const LONGEST_DATAGRAM: usize = gw_bvll::MAX_LEN;
@@ -98,12 +98,12 @@ fn is_a_ports(ports: &[Port], network: u16) -> bool
     ports.iter().any(|p| p.network.get() == network)
 }
 
-fn claims_direct(ports: &[Port], device: NetNum, source: &Option<Station<'_>>) -> bool
-    ensures { result ≡ claims_direct ports.now device (option_map station_view source.now) }
+fn claims_direct(ports: &[Port], device: NetNum, source: &Option<AddressRef<'_>>) -> bool
+    ensures { result ≡ claims_direct ports.now device (option_map address_view source.now) }
 {
     match source {
         None => false,
-        Some(station) => is_direct(ports, device, station.network),
+        Some(address) => is_direct(ports, device, address.network),
     }
 }
 
@@ -115,17 +115,17 @@ fn mac_of(octets: &[u8]) -> Mac
     Mac::new(octets).unwrap()
 }
 
-fn claim_of(network: NetNum, link: BipAddr, source: &Option<Station<'_>>) -> Source
-    ensures { result ≡ claimed_by (here network link) (option_map station_view source.now) }
+fn claim_of(network: NetNum, link: BipAddr, source: &Option<AddressRef<'_>>) -> Source
+    ensures { result ≡ claimed_by (here network link) (option_map address_view source.now) }
 {
     match source {
         None => Source {
             net: network,
             mac: mac_of(&link.to_octets()),
         },
-        Some(station) => Source {
-            net: station.net(),
-            mac: mac_of(station.address),
+        Some(address) => Source {
+            net: address.net(),
+            mac: mac_of(address.mac),
         },
     }
 }

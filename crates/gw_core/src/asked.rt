@@ -35,7 +35,7 @@ const ANY_INSTANCE: u32 = 4_194_303;
 fn is_device(network: NetNum, destination: &Destination<'_>) -> bool
     ensures { result ≡ is_device network (destination_view destination.now) }
 {
-    destination.network == network.get() && matches!(destination.address, [DEVICE_STATION])
+    destination.network == network.get() && matches!(destination.mac, [DEVICE_STATION])
 }
 
 fn apdu_of<'a>(payload: &Payload<'a>) -> Result<&'a [u8], Dropped>

@@ -3,8 +3,8 @@
 ghost use Rattle.std.specs.Prelude.{◌≡◌, ◌+◌, ◌≤◌, ◌<◌, ◌^◌, ◌↔◌, ◌∷◌, [], false, true, length, List, IsOk, IfOk, OnOk, OnErr, IsErrOf, Err};
 ghost use Rattle.gw_core.specs.declared.dropped.Dropped.TheVariants.{Silently};
 ghost use Rattle.gw_core.specs.declared.event.Counts.{Counts};
-ghost use Rattle.gw_core.specs.declared.event.Event.{Event};
-ghost use Rattle.gw_core.specs.declared.event.Event.TheVariants.{Datagram, Tick};
+ghost use Rattle.gw_script.specs.Event.{Event};
+ghost use Rattle.gw_script.specs.Event.{Datagram, Tick};
 ghost use Rattle.gw_core.specs.Configured.{Configured};
 
 use crate::answered::{denials_of, reply_sends};

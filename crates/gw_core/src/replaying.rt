@@ -1,27 +1,29 @@
 //! The replay of a script: its events one by one through a fresh gateway, and the text of what they do.
 
-ghost use Rattle.std.specs.Prelude.{◌≡◌, ℕ, List, length, ◌⊎◌, Some, OnOk, IfErr, IfOk, IsErrOf, true};
+ghost use Rattle.std.specs.Prelude.{◌≡◌, ◌+◌, ◌*◌, ◌<◌, ◌≤◌, ℕ, List, length, ◌⊎◌, Ok, Some, OnOk, IfErr, IsErrOf, true, vec_capacity};
 ghost use Rattle.std.specs.Io.KnownBytes.{prepend_known};
-ghost use Rattle.gw_core.specs.Effects.{effects_at, passes_end};
+ghost use Rattle.gw_script.specs.Event.{IsOnPort, event_view};
+ghost use Rattle.gw_script.specs.Reader.{IsPaid};
+ghost use Rattle.gw_core.specs.Effects.{NeedsNoMemory, effects_at, passes_end};
 ghost use Rattle.gw_core.specs.History.{next};
-ghost use Rattle.gw_core.specs.Ahead.{held};
-ghost use Rattle.gw_core.specs.Parsed.{event_of, IsOn};
-ghost use Rattle.gw_core.specs.Shown.{shown_effects};
-ghost use Rattle.gw_core.specs.Replay.{Told, RunsWhole, RunsToLine, RunsToEnd, RunsPart, RunsFront};
-ghost use Rattle.gw_core.specs.Underway.{Turned};
+ghost use Rattle.gw_core.specs.Shown.{effects_text};
+ghost use Rattle.gw_core.specs.Replay.{OnKnown, RunsWhole, RunsToLine, RunsToEnd, RunsToMemory, RunsPart, RunsFront};
+ghost use Rattle.gw_core.specs.LineOutcome.{IsShorter, LineOutcome};
 
-use crate::ahead::{Ahead, Piece};
 use crate::config::Config;
-use crate::effects::Effects;
 use crate::event::Counts;
 use crate::fault::StepFault;
 use crate::gateway::Gateway;
-use crate::script::{MOST_OCTETS, Parsed, parse_line};
-use crate::shown::show_effects;
-use crate::written::write_whole;
+use crate::shown::append_effects;
+use crate::whole_run::take_event;
+use gw_script::{
+    Event, LineReader, MAX_DATAGRAM, NextLine, OctetSink, OctetSource, parse_line, write_whole,
+};
 use std::alloc::Global;
-use std::io::{Read, Write};
 use thiserror::Error;
+
+/// How many octets of text there is room for at the start.
+const TEXT_ROOM: usize = 4096;
 
 /// Why a replay ends before its script does.
 #[derive(Clone, Copy, Debug, PartialEq, Eq, Error)]
@@ -43,13 +45,14 @@ pub enum RunFault {
     CountEnd,
 }
 
-/// A replay under way: what it keeps from line to line.
+/// What a replay keeps from line to line.
 #[derive(Debug, Drop)]
-struct Underway {
+struct ScriptRun {
     gateway: Gateway,
-    ahead: Ahead,
-    octets: [u8; MOST_OCTETS],
-    shown: Vec<u8>,
+    lines: LineReader,
+    datagram: [u8; MAX_DATAGRAM],
+    text: Vec<u8>,
+    ghost room: { 4 ≤ vec_capacity text },
 }
 
 /// Runs the events of a script through a fresh gateway of this configuration, whose counts start at 0, and writes what each of them does
@@ -70,21 +73,26 @@ struct Underway {
 /// send 1 192.168.1.5:47808 810A001801080064010130070C0C0140000119553E91003F
 /// end
 /// ```
-pub fn replay<R: Read, W: Write>(
+pub fn replay<R: OctetSource, W: OctetSink>(
     alloc: Global,
     config: Config,
     reader: &mut R,
     writer: &mut W,
 ) -> Result<(), RunFault>
     // What is written then, where the octets of the reader and the writer are known: the text of the run of the whole script,
-    ensures whole { OnOk result (Told (R.remaining reader.old) (W.contents writer.old) (W.contents writer.new) (RunsWhole config)) }
+    ensures whole { OnOk result (OnKnown (R.left reader.old) (W.held writer.old) (W.held writer.new) (RunsWhole config)) }
     // of the lines before one that writes no event,
-    ensures line { (n : ℕ) → IsErrOf result (RunFault.Line n) → Told (R.remaining reader.old) (W.contents writer.old) (W.contents writer.new) (RunsToLine n config) }
+    ensures line { (n : ℕ) → IsErrOf result (RunFault.Line n) → OnKnown (R.left reader.old) (W.held writer.old) (W.held writer.new) (RunsToLine n config) }
     // of the lines before one whose event would pass the end of a count,
-    ensures count_end { IsErrOf result RunFault.CountEnd → Told (R.remaining reader.old) (W.contents writer.old) (W.contents writer.new) (RunsToEnd config) }
+    ensures count_end { IsErrOf result RunFault.CountEnd → OnKnown (R.left reader.old) (W.held writer.old) (W.held writer.new) (RunsToEnd config) }
     // or of some first lines, of which a failed write may leave a front.
-    ensures front { IsErrOf result RunFault.Write → Told (R.remaining reader.old) (W.contents writer.old) (W.contents writer.new) (RunsFront config) }
-    ensures part { (IsErrOf result RunFault.Read ⊎ IsErrOf result RunFault.Memory) → Told (R.remaining reader.old) (W.contents writer.old) (W.contents writer.new) (RunsPart config) }
+    ensures front { IsErrOf result RunFault.Write → OnKnown (R.left reader.old) (W.held writer.old) (W.held writer.new) (RunsFront config) }
+    ensures part { (IsErrOf result RunFault.Read ⊎ IsErrOf result RunFault.Memory) → OnKnown (R.left reader.old) (W.held writer.old) (W.held writer.new) (RunsPart config) }
+    // Memory is wanted before the first line, or for an event that brings a message.
+    ensures memory { IsErrOf result RunFault.Memory → OnKnown (R.left reader.old) (W.held writer.old) (W.held writer.new) (RunsToMemory config) }
+    // What never fails doesn't end the replay: a reader, of a script of less than 2 GiB, and a writer.
+    ensures sure_reader { R.NeverFails reader.old → (script : List ℕ) → R.left reader.old ≡ Some script → 2 * length script + 1 < 4294967295 → ¬ (IsErrOf result RunFault.Read) }
+    ensures sure_writer { W.NeverFails writer.old → ¬ (IsErrOf result RunFault.Write) }
 {
     let counts = Counts {
         ticks: 0,
@@ -93,14 +101,17 @@ pub fn replay<R: Read, W: Write>(
     let Ok(gateway) = Gateway::new(alloc, config, counts) else {
         return Err(RunFault::Memory);
     };
-    let mut underway = Underway {
+    let Ok(text) = Vec::with_capacity(alloc, TEXT_ROOM) else {
+        return Err(RunFault::Memory);
+    };
+    let mut run = ScriptRun {
         gateway,
-        ahead: Ahead::new(),
-        octets: [0; MOST_OCTETS],
-        shown: Vec::new(alloc),
+        lines: LineReader::new(),
+        datagram: [0; MAX_DATAGRAM],
+        text,
     };
     for number in 1..u64::MAX {
-        match underway.turn(alloc, number, reader, writer) {
+        match run.replay_line(alloc, number, reader, writer) {
             Ok(true) => {}
             Ok(false) => return Ok(()),
             Err(fault) => return Err(fault),
@@ -109,87 +120,68 @@ pub fn replay<R: Read, W: Write>(
     Err(RunFault::Read)
 }
 
-impl Underway {
+impl ScriptRun {
     /// Replays the line of this number. It answers whether there was one.
-    fn turn<R: Read, W: Write>(
+    fn replay_line<R: OctetSource, W: OctetSink>(
         &mut self,
         alloc: Global,
         number: u64,
         reader: &mut R,
         writer: &mut W,
     ) -> Result<bool, RunFault>
-        ensures { (text before : List ℕ) → prepend_known (held self.old.ahead) (R.remaining reader.old) ≡ Some text → W.contents writer.old ≡ Some before → Turned number self.old.gateway self.new.gateway text (prepend_known (held self.new.ahead) (R.remaining reader.new)) before (W.contents writer.new) result }
+        ensures outcome { (text before : List ℕ) → prepend_known self.old.lines.unread (R.left reader.old) ≡ Some text → W.held writer.old ≡ Some before → LineOutcome number self.old.gateway self.new.gateway text (prepend_known self.new.lines.unread (R.left reader.new)) before (W.held writer.new) result }
+        ensures shorter { (text : List ℕ) → prepend_known self.old.lines.unread (R.left reader.old) ≡ Some text → result ≡ Ok true → IsShorter text (prepend_known self.new.lines.unread (R.left reader.new)) }
+        ensures paid { IsPaid self.old.lines.calls (R.left reader.old) self.new.lines.calls (R.left reader.new) }
+        ensures sure_reader { R.NeverFails reader.old → IsErrOf result RunFault.Read → self.new.lines.calls ≡ 4294967295 }
+        ensures sure_writer { W.NeverFails writer.old → ¬ (IsErrOf result RunFault.Write) }
+        ensures lasting_reader { R.NeverFails reader.old → R.NeverFails reader.new }
+        ensures lasting_writer { W.NeverFails writer.old → W.NeverFails writer.new }
     {
-        let (len, taken) = match self.ahead.find_line(reader) {
-            Ok(Piece::Line { len, taken }) => (len, taken),
-            Ok(Piece::Long) => return Err(RunFault::Line(number)),
-            Ok(Piece::End) => return Ok(false),
+        let (len, span) = match self.lines.find_line(reader) {
+            Ok(NextLine::Line { len, span }) => (len, span),
+            Ok(NextLine::Long) => return Err(RunFault::Line(number)),
+            Ok(NextLine::End) => return Ok(false),
             Err(_) => return Err(RunFault::Read),
         };
-        let line = self.ahead.front(len);
-        let Some(parsed) = parse_line(self.gateway.ports(), line, &mut self.octets) else {
+        let line = self.lines.front(len);
+        let Some(event) = parse_line(self.gateway.ports(), line, &mut self.datagram) else {
             return Err(RunFault::Line(number));
         };
-        match show_event(
-            alloc,
-            &mut self.gateway,
-            parsed,
-            &self.octets,
-            &mut self.shown,
-        ) {
+        match make_text(alloc, &mut self.gateway, &event, &mut self.text) {
             Ok(()) => {}
             Err(fault) => return Err(fault),
         }
-        let Ok(()) = write_whole(writer, &self.shown) else {
+        let Ok(()) = write_whole(writer, &self.text) else {
             return Err(RunFault::Write);
         };
-        self.ahead.take(taken);
+        self.lines.consume(span);
         Ok(true)
     }
 }
 
 /// Has the gateway take an event, and makes the text of what it does.
-fn show_event(
+fn make_text(
     alloc: Global,
     gateway: &mut Gateway,
-    parsed: Parsed,
-    octets: &[u8; MOST_OCTETS],
-    shown: &mut Vec<u8>,
+    event: &Event<'_>,
+    text: &mut Vec<u8>,
 ) -> Result<(), RunFault>
-    requires { IsOn (length gateway.old.ports) parsed }
-    ensures text { OnOk result (shown.new.items ≡ shown_effects (effects_at gateway.old (event_of octets.now parsed))) }
-    ensures moved { OnOk result (gateway.new ≡ next gateway.old (event_of octets.now parsed)) }
-    ensures fault { IfErr result (λ fault. (fault ≡ RunFault.Memory) ⊎ ((fault ≡ RunFault.CountEnd) × (passes_end gateway.old (event_of octets.now parsed) ≡ true))) }
+    requires port { IsOnPort (length gateway.old.ports) (event_view event.now) }
+    requires room { 4 ≤ vec_capacity text.old }
+    ensures text { OnOk result (text.new.items ≡ effects_text (effects_at gateway.old (event_view event.now))) }
+    ensures moved { OnOk result (gateway.new ≡ next gateway.old (event_view event.now)) }
+    ensures fault { IfErr result (λ fault. ((fault ≡ RunFault.Memory) × ¬ (NeedsNoMemory gateway.old (event_view event.now))) ⊎ ((fault ≡ RunFault.CountEnd) × (passes_end gateway.old (event_view event.now) ≡ true))) }
+    ensures capacity { vec_capacity text.old ≤ vec_capacity text.new }
 {
-    let effects = match take_event(alloc, gateway, parsed, octets) {
+    let effects = match take_event(alloc, gateway, event) {
         Ok(effects) => effects,
         Err(StepFault::Memory) => return Err(RunFault::Memory),
         Err(StepFault::CountEnd) => return Err(RunFault::CountEnd),
     };
-    shown.clear();
-    let Ok(()) = show_effects(shown, &effects) else {
-        return Err(RunFault::Memory);
-    };
-    Ok(())
-}
-
-/// Has the gateway take an event, and answers what it does.
-fn take_event(
-    alloc: Global,
-    gateway: &mut Gateway,
-    parsed: Parsed,
-    octets: &[u8; MOST_OCTETS],
-) -> Result<Effects, StepFault>
-    requires { IsOn (length gateway.old.ports) parsed }
-    ensures given { IfOk result (λ given. given ≡ effects_at gateway.old (event_of octets.now parsed)) }
-    ensures moved { OnOk result (gateway.new ≡ next gateway.old (event_of octets.now parsed)) }
-    ensures count_end { IsErrOf result StepFault.CountEnd → passes_end gateway.old (event_of octets.now parsed) ≡ true }
-{
-    match parsed {
-        Parsed::Tick => match gateway.tick() {
-            Ok(()) => Ok(Effects::none(alloc)),
-            Err(fault) => Err(fault),
-        },
-        Parsed::Datagram { port, from, len } => gateway.step(alloc, port, from, &octets[..len]),
+    text.clear();
+    match append_effects(text, &effects) {
+        Ok(()) => {}
+        Err(_) => return Err(RunFault::Memory),
     }
+    Ok(())
 }

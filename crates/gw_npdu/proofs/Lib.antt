@@ -3,5 +3,4 @@ pub mod Parts
 pub mod Shape
 pub mod Judged
 pub mod Short
-pub mod Size
 pub mod Whole

@@ -1,2 +1,6 @@
+pub mod Numbers
 pub mod Npdu
-pub mod Layout
+pub mod Reading
+pub mod Onward
+pub mod Kind
+pub mod internal

@@ -1,6 +1,8 @@
 //! The control octet, of clause 6.2.2.
 
 ghost use Rattle.std.specs.Prelude.{⊤, ◌≡◌, [], ◌∷◌, codes};
+ghost use Rattle.gw_npdu.specs.Numbers.{message_bit, destination_bit, source_bit, reply_bit};
+ghost use Rattle.gw_npdu.specs.Numbers.{priority_bits};
 
 use bitflags::{Flag, Flags, bitflag_items};
 
@@ -13,8 +15,8 @@ use bitflags::{Flag, Flags, bitflag_items};
 /// +---+---+---+---+---+---+---+---+
 /// ```
 ///
-/// M: a message between routers in place of an APDU. D: DNET, DLEN, DADR and the hop count. S: SNET, SLEN and
-/// SADR. R: the sender waits for an answer. Bits 6 and 4 are reserved: ignored on reading, zero on writing.
+/// M: a network layer message in place of an APDU. D: DNET, DLEN, DADR and the hop count. S: SNET, SLEN and SADR. R:
+/// the sender waits for an answer. Bits 6 and 4 are reserved: ignored on reading, zero on writing.
 #[derive(Clone, Copy, PartialEq, Eq, Debug)]
 pub struct Control(pub u8);
 
@@ -33,7 +35,9 @@ impl Flags for Control {
 
     ghost exact = { ⊤ };
 
-    ghost table = { (codes "MESSAGE", 128) ∷ (codes "DESTINATION", 32) ∷ (codes "SOURCE", 8) ∷ (codes "REPLY_EXPECTED", 4) ∷ (codes "PRIORITY", 3) ∷ [] };
+    ghost table = { (codes "MESSAGE", message_bit) ∷ (codes "DESTINATION", destination_bit)
+        ∷ (codes "SOURCE", source_bit) ∷ (codes "REPLY_EXPECTED", reply_bit)
+        ∷ (codes "PRIORITY", priority_bits) ∷ [] };
 
     ghost set_of = { λ c. c.0 };
 

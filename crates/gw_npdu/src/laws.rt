@@ -1,18 +1,48 @@
 //! Laws of the definitions that the contracts cite. The functions change nothing and answer nothing: their contracts
 //! are the laws.
 
-ghost use Rattle.std.specs.Prelude.{◌≡◌, ◌<◌, ◌^◌, ◌++◌, ℕ, List, length, Ok, IfSome, IsSomeAnd, option_map};
-ghost use Rattle.gw_npdu.specs.Npdu.{Fields, IsNpdu, IsValid, spelling, npdu_at, header, payload_octets};
-ghost use Rattle.gw_npdu.specs.Npdu.{IsBadDestination, IsBadSource, FitsPayload, onward, onward_view};
-ghost use Rattle.gw_npdu.specs.Npdu.{view, destination_view, station_view, payload_view};
+ghost use Rattle.std.specs.Prelude.{◌≡◌, ◌<◌, ◌^◌, ◌++◌, ◌↔◌, ℕ, List, length, Ok, Err, IfSome};
+ghost use Rattle.std.specs.Prelude.{IsSomeAnd, option_map};
+ghost use Rattle.gw_addr.specs.Reading.{AreOctets};
+ghost use Rattle.gw_npdu.specs.Numbers.{max_len, every_network, first_vendor_kind};
+ghost use Rattle.gw_npdu.specs.Numbers.{protocol_version};
+ghost use Rattle.gw_npdu.specs.Npdu.{Fields, IsNpdu, IsValid, IsShort, IsBadVersion, IsBadAddress};
+ghost use Rattle.gw_npdu.specs.Npdu.{IsBadDestination, IsBadSource, FitsAddress, FitsPayload};
+ghost use Rattle.gw_npdu.specs.Npdu.{encoding, header, payload_octets};
+ghost use Rattle.gw_npdu.specs.Npdu.{view, destination_view, address_view, payload_view};
+ghost use Rattle.gw_npdu.specs.Onward.{onward, onward_view};
+ghost use Rattle.gw_npdu.specs.Reading.{npdu_at};
 
+use crate::address::{AddressRef, Destination};
+use crate::fault::NpduFault;
+use crate::message::NetMessage;
 use crate::npdu::{Npdu, Payload};
 use crate::onward::{Onward, next};
-use crate::station::{Destination, Station};
+use crate::writing::MAX_LEN;
 
-/// What `encode` writes, `decode` reads to the same fields: the spelling of valid fields is read as them.
+/// The numbers that others may take from the code are those of the standard.
+pub fn numbers()
+    ensures max_len { MAX_LEN ≡ max_len }
+    ensures every_network { Destination.EVERY_NETWORK ≡ every_network }
+    ensures first_vendor_kind { NetMessage.FIRST_VENDOR_KIND ≡ first_vendor_kind }
+{}
+
+/// What `npdu_at` computes of octets is what the relations say of them: the message that they are, and each fault
+/// exactly where its own condition holds.
+pub fn reading()
+    ensures found { (octets : List ℕ) (f : Fields) → AreOctets octets →
+        (npdu_at octets ≡ Ok f) ↔ IsNpdu octets f }
+    ensures short { (octets : List ℕ) → AreOctets octets →
+        (npdu_at octets ≡ Err NpduFault.Short) ↔ IsShort octets }
+    ensures version { (octets : List ℕ) → AreOctets octets →
+        (npdu_at octets ≡ Err NpduFault.Version) ↔ IsBadVersion octets }
+    ensures address { (octets : List ℕ) → AreOctets octets →
+        (npdu_at octets ≡ Err NpduFault.Address) ↔ IsBadAddress octets }
+{}
+
+/// What `encode` writes, `decode` reads to the same fields: the encoding of valid fields is read as them.
 pub fn read_again()
-    ensures { (f : Fields) → IsValid f → npdu_at (spelling f) ≡ Ok f }
+    ensures { (f : Fields) → IsValid f → npdu_at (encoding f) ≡ Ok f }
 {}
 
 /// Octets are one message at most.
@@ -41,7 +71,7 @@ pub fn read_at_next_hop(npdu: &Npdu<'_>, how: &Onward<'_>)
 
 fn destination_valid(destination: &Option<Destination<'_>>)
     ensures fits { IfSome (option_map destination_view destination.now)
-        (λ d. (d.network < 2 ^ 16) × (length d.address < 2 ^ 8) × (d.hops < 2 ^ 8)) }
+        (λ d. FitsAddress d.address × (d.hops < 2 ^ 8)) }
     ensures good { ¬ IsSomeAnd (option_map destination_view destination.now) IsBadDestination }
 {
     if let Some(destination) = destination {
@@ -50,10 +80,9 @@ fn destination_valid(destination: &Option<Destination<'_>>)
     }
 }
 
-fn source_valid(source: &Option<Station<'_>>)
-    ensures fits { IfSome (option_map station_view source.now)
-        (λ s. (s.network < 2 ^ 16) × (length s.address < 2 ^ 8)) }
-    ensures good { ¬ IsSomeAnd (option_map station_view source.now) IsBadSource }
+fn source_valid(source: &Option<AddressRef<'_>>)
+    ensures fits { IfSome (option_map address_view source.now) FitsAddress }
+    ensures good { ¬ IsSomeAnd (option_map address_view source.now) IsBadSource }
 {
     if let Some(source) = source {
         let _network = source.network;

@@ -1,8 +1,9 @@
-//! Messages between routers, of clause 6.2.4.
+//! Network layer messages, of clause 6.2.4.
 
 ghost use Rattle.std.specs.Prelude.{◌≡◌, is_some, nat_le};
+ghost use Rattle.gw_npdu.specs.Numbers.{first_vendor_kind};
 
-/// A message between routers, in place of an APDU.
+/// A network layer message, in place of an APDU.
 ///
 /// ```text
 /// +------+------+------+--  --+
@@ -13,12 +14,17 @@ ghost use Rattle.std.specs.Prelude.{◌≡◌, is_some, nat_le};
 /// The vendor stands behind a type from 80 hexadecimal on, and behind no other.
 #[derive(Clone, Copy, Debug, PartialEq, Eq)]
 pub struct NetMessage<'a> {
-    /// The message type.
+    /// The message type ([`MessageKind`](crate::MessageKind) has those that the standard names).
     pub kind: u8,
     /// The vendor of a message type from 80 hexadecimal on.
     pub vendor: Option<u16>,
     /// The octets behind the type and the vendor.
     pub octets: &'a [u8],
 
-    pub ghost proprietary: { is_some vendor ≡ nat_le 128 kind },
+    pub ghost proprietary: { is_some vendor ≡ nat_le first_vendor_kind kind },
+}
+
+impl NetMessage<'_> {
+    /// The first message type that a vendor numbers.
+    pub const FIRST_VENDOR_KIND: u8 = 0x80;
 }

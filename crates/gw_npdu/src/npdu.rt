@@ -1,7 +1,13 @@
 //! The message of the network layer, of clause 6.2.
 
+ghost use Rattle.std.specs.Prelude.{◌≡◌};
+ghost use Rattle.gw_npdu.specs.Npdu.{priority_of};
+
+use crate::address::{AddressRef, Destination};
 use crate::message::NetMessage;
-use crate::station::{Destination, Station};
+
+/// The version of the protocol, the first octet of each message.
+pub(crate) const PROTOCOL_VERSION: u8 = 1;
 
 /// How urgent a message is: bits 1 and 0 of the control octet.
 #[derive(Clone, Copy, Debug, PartialEq, Eq)]
@@ -16,12 +22,26 @@ pub enum Priority {
     LifeSafety,
 }
 
+impl Priority {
+    /// The number of the priority, 0 to 3.
+    pub fn number(self) -> u8
+        ensures { result ≡ priority_of self }
+    {
+        match self {
+            Priority::Normal => 0,
+            Priority::Urgent => 1,
+            Priority::CriticalEquipment => 2,
+            Priority::LifeSafety => 3,
+        }
+    }
+}
+
 /// What a message carries, behind all other parts.
 #[derive(Clone, Copy, Debug, PartialEq, Eq)]
 pub enum Payload<'a> {
     /// An APDU of the application layer.
     Apdu(&'a [u8]),
-    /// A message between routers.
+    /// A network layer message.
     Message(NetMessage<'a>),
 }
 
@@ -42,7 +62,7 @@ pub struct Npdu<'a> {
     /// Whom the message is bound for. None: a station of the network that it is on.
     pub destination: Option<Destination<'a>>,
     /// Where the message comes from. None: the station that sent it on this network.
-    pub source: Option<Station<'a>>,
+    pub source: Option<AddressRef<'a>>,
     /// Whether the sender waits for an answer.
     pub reply_expected: bool,
     /// How urgent the message is.

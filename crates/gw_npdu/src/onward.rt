@@ -1,27 +1,30 @@
 //! What a router changes of a message for the next hop, by clause 6.5.4.
 
-ghost use Rattle.std.specs.Prelude.{◌≡◌, ◌+◌, ◌<◌, ◌↔◌, ◌++◌, length, vec_len, OnOk, OnErr, IsErrOf};
+ghost use Rattle.std.specs.Prelude.{◌≡◌, ◌+◌, ◌<◌, ◌≤◌, ◌↔◌, ◌++◌, length, vec_len};
+ghost use Rattle.std.specs.Prelude.{OnOk, OnErr, IsErrOf};
 ghost use Rattle.std.specs.Vec.{vec_capacity};
-ghost use Rattle.gw_npdu.specs.Npdu.{header, onward, onward_view, view};
+ghost use Rattle.gw_npdu.specs.Numbers.{max_len};
+ghost use Rattle.gw_npdu.specs.Npdu.{header, view};
+ghost use Rattle.gw_npdu.specs.Onward.{onward, onward_view};
 
+use crate::address::{AddressRef, Destination};
 use crate::fault::EncodeFault;
 use crate::npdu::Npdu;
-use crate::station::{Destination, Station};
 use crate::writing::{MAX_LEN, put_header};
 
 /// How a message goes on.
-#[derive(Clone, Copy, Debug, PartialEq, Eq)]
+#[derive(Clone, Copy, Debug)]
 pub struct Onward<'a> {
     /// Whether the destination stays, with one hop less. It is taken away on the destination's own network.
     pub keeps_destination: bool,
     /// The station that the message comes from where it names no source.
-    pub source: Station<'a>,
+    pub source: AddressRef<'a>,
 }
 
 /// Appends the header of a message for the next hop, before `n` more octets.
 ///
 /// The header is everything in front of the payload's own octets ([`Payload::octets`](crate::Payload::octets)), with
-/// the type and the vendor of a message between routers. A router writes it and then those octets, so `n` is how
+/// the type and the vendor of a network layer message. A router writes it and then those octets, so `n` is how
 /// many they are. Version, reply expected, priority and the kind of payload stay.
 ///
 /// The faults are those of [`EncodeFault`]: `TooLong` where the header and `n` octets are over 1497 together.
@@ -34,11 +37,12 @@ pub fn relay_header(
     ensures ok { let next = onward (onward_view how.now) (view npdu.now) in
         OnOk result (out.new.items ≡ out.old.items ++ header next) }
     ensures too_long { let next = onward (onward_view how.now) (view npdu.now) in
-        IsErrOf result EncodeFault.TooLong ↔ (MAX_LEN < length (header next) + n) }
+        IsErrOf result EncodeFault.TooLong ↔ (max_len < length (header next) + n) }
     // Memory only where the buffer had no room for the header.
-    ensures memory { let next = onward (onward_view how.now) (view npdu.now) in
-        IsErrOf result EncodeFault.Memory → vec_capacity out.old < vec_len out.old + length (header next) }
+    ensures memory { let len = length (header (onward (onward_view how.now) (view npdu.now))) in
+        IsErrOf result EncodeFault.Memory → vec_capacity out.old < vec_len out.old + len }
     ensures err { OnErr result (out.new.items ≡ out.old.items) }
+    ensures capacity { vec_capacity out.old ≤ vec_capacity out.new }
 {
     let next = next(npdu, how);
     if n > MAX_LEN - next.header_len() {
@@ -57,16 +61,10 @@ pub fn next<'a>(npdu: &Npdu<'a>, how: &Onward<'a>) -> Npdu<'a>
     ensures { view result ≡ onward (onward_view how.now) (view npdu.now) }
 {
     let destination = match npdu.destination {
-        Some(
-            Destination {
-                network,
-                address,
-                hops,
-            },
-        ) if how.keeps_destination => {
+        Some(Destination { network, mac, hops }) if how.keeps_destination => {
             Some(Destination {
                 network,
-                address,
+                mac,
                 hops: hops.saturating_sub(1),
             })
         }

@@ -1,106 +1,78 @@
 //! Reading a message of the network layer, by clause 6.2: its whole shape first, then what it says.
 
-ghost use Rattle.std.specs.Prelude.{◌≡◌, ℕ, ◌<◌, ◌↔◌, IfOk, IsOkAnd, IsErrOf, length, option_map};
-ghost use Rattle.std.specs.Int.{w16};
-ghost use Rattle.gw_addr.specs.Reading.{Gives, octet_at, number_at, front_at};
-ghost use Rattle.gw_npdu.specs.Npdu.{Fields, IsNpdu, EndsEarly, IsOfOtherVersion, IsBadlyAddressed};
-ghost use Rattle.gw_npdu.specs.Npdu.{place_at, named_at, hops_at, message_at, payload_at, layout_at};
-ghost use Rattle.gw_npdu.specs.Npdu.{destination_of, source_of, fields_of, npdu_at};
-ghost use Rattle.gw_npdu.specs.Npdu.{view, destination_view, station_view, message_view, payload_view};
-ghost use Rattle.gw_npdu.specs.Npdu.{priority_of};
+ghost use Rattle.std.specs.Prelude.{◌≡◌, ℕ, ◌↔◌, IfOk, IsOkAnd, IsErrOf};
+ghost use Rattle.std.specs.Option.{option_map};
 ghost use Rattle.std.specs.Int.RustNames.{bit_and};
-ghost use Rattle.gw_npdu.specs.Layout.{place_view, bound_view, layout_view, raw_fields};
+ghost use Rattle.gw_addr.specs.Reading.{Gives};
+ghost use Rattle.gw_npdu.specs.Numbers.{priority_bits};
+ghost use Rattle.gw_npdu.specs.Npdu.{Fields, IsNpdu, IsShort, IsBadVersion, IsBadAddress};
+ghost use Rattle.gw_npdu.specs.Npdu.{view, destination_view, address_view, message_view};
+ghost use Rattle.gw_npdu.specs.Npdu.{payload_view, priority_of};
+ghost use Rattle.gw_npdu.specs.Reading.{address_at, named_at, hops_at, message_at, payload_at};
+ghost use Rattle.gw_npdu.specs.Reading.{raw_at, destination_of, source_of, fields_of, npdu_at};
+ghost use Rattle.gw_npdu.specs.internal.Raw.{raw_address_view, raw_destination_view};
+ghost use Rattle.gw_npdu.specs.internal.Raw.{raw_view, raw_fields};
 
+use crate::address::{AddressRef, Destination};
 use crate::control::Control;
 use crate::fault::NpduFault;
-use crate::layout::{Bound, Layout, Place};
 use crate::message::NetMessage;
-use crate::npdu::{Npdu, Payload, Priority};
-use crate::station::{Destination, Station};
+use crate::npdu::{Npdu, PROTOCOL_VERSION, Payload, Priority};
+use crate::raw::{RawAddress, RawDestination, RawNpdu};
 use bitflags::Flags;
+use gw_addr::{front, number, octet};
 
-fn octet(octets: &[u8]) -> Result<(u8, &[u8]), NpduFault>
-    ensures { Gives (λ x. (x.0, x.1.now)) result (octet_at NpduFault.Short octets.now) }
+/// A network and the address of a station there.
+fn address(octets: &[u8]) -> Result<(RawAddress<'_>, &[u8]), NpduFault>
+    ensures { Gives (λ x. (raw_address_view x.0, x.1.now)) result (address_at octets.now) }
 {
-    let (first, rest) = octets.split_first().ok_or(NpduFault::Short)?;
-    Ok((*first, rest))
+    let (network, rest) = number(NpduFault::Short, octets)?;
+    let (len, rest) = octet(NpduFault::Short, rest)?;
+    let (mac, rest) = front(NpduFault::Short, usize::from(len), rest)?;
+    Ok((RawAddress { network, mac }, rest))
 }
 
-fn number(octets: &[u8]) -> Result<(u16, &[u8]), NpduFault>
-    ensures { Gives (λ x. (x.0, x.1.now)) result (number_at NpduFault.Short w16 octets.now) }
-{
-    if octets.len() < 2 {
-        return Err(NpduFault::Short);
-    }
-    let (front, rest) = octets.split_at(2);
-    Ok((u16::from_be_bytes([front[0], front[1]]), rest))
-}
-
-/// The first octets, so many, and the rest.
-fn front(count: u8, octets: &[u8]) -> Result<(&[u8], &[u8]), NpduFault>
-    ensures read { Gives (λ x. (x.0.now, x.1.now)) result (front_at NpduFault.Short count octets.now) }
-    ensures len { IfOk result (λ x. length x.0.now ≡ count) }
-{
-    let count = usize::from(count);
-    if octets.len() < count {
-        return Err(NpduFault::Short);
-    }
-    Ok(octets.split_at(count))
-}
-
-/// A network and an address behind it.
-#[tactic(auto, unfolding(crate::specs::Npdu::place_at))]
-fn place(octets: &[u8]) -> Result<(Place<'_>, &[u8]), NpduFault>
-    ensures { Gives (λ x. (place_view x.0, x.1.now)) result (place_at octets.now) }
-{
-    let (network, rest) = number(octets)?;
-    let (len, rest) = octet(rest)?;
-    let (address, rest) = front(len, rest)?;
-    Ok((Place { network, address }, rest))
-}
-
-/// The same, where the control octet names it.
-#[tactic(auto, unfolding(crate::specs::Npdu::named_at))]
-fn named(is_named: bool, octets: &[u8]) -> Result<(Option<Place<'_>>, &[u8]), NpduFault>
-    ensures { Gives (λ x. (option_map place_view x.0, x.1.now)) result (named_at is_named octets.now) }
+/// An address, where the control octet names one.
+fn named(is_named: bool, octets: &[u8]) -> Result<(Option<RawAddress<'_>>, &[u8]), NpduFault>
+    ensures { Gives (λ x. (option_map raw_address_view x.0, x.1.now)) result
+        (named_at is_named octets.now) }
 {
     if !is_named {
         return Ok((None, octets));
     }
-    let (found, rest) = place(octets)?;
+    let (found, rest) = address(octets)?;
     Ok((Some(found), rest))
 }
 
 /// The hop count of a destination, where there is one.
-#[tactic(auto, unfolding(crate::specs::Npdu::hops_at))]
 fn hops<'a>(
-    bound: Option<Place<'a>>,
+    bound: Option<RawAddress<'a>>,
     octets: &'a [u8],
-) -> Result<(Option<Bound<'a>>, &'a [u8]), NpduFault>
-    ensures { let place = option_map place_view bound.entry in
-        Gives (λ x. (option_map bound_view x.0, x.1.now)) result (hops_at place octets.now) }
+) -> Result<(Option<RawDestination<'a>>, &'a [u8]), NpduFault>
+    ensures { let address = option_map raw_address_view bound.entry in
+        Gives (λ x. (option_map raw_destination_view x.0, x.1.now)) result
+        (hops_at address octets.now) }
 {
-    let Some(place) = bound else {
+    let Some(address) = bound else {
         return Ok((None, octets));
     };
-    let (hops, rest) = octet(octets)?;
-    Ok((Some(Bound { place, hops }), rest))
+    let (hops, rest) = octet(NpduFault::Short, octets)?;
+    Ok((Some(RawDestination { address, hops }), rest))
 }
 
-/// A message between routers, of all the octets.
-#[tactic(auto, unfolding(crate::specs::Npdu::message_at))]
+/// A network layer message, of all the octets.
 fn message(octets: &[u8]) -> Result<NetMessage<'_>, NpduFault>
     ensures { Gives (λ m. message_view m) result (message_at octets.now) }
 {
-    let (kind, rest) = octet(octets)?;
-    if kind < 128 {
+    let (kind, rest) = octet(NpduFault::Short, octets)?;
+    if kind < NetMessage::FIRST_VENDOR_KIND {
         return Ok(NetMessage {
             kind,
             vendor: None,
             octets: rest,
         });
     }
-    let (vendor, rest) = number(rest)?;
+    let (vendor, rest) = number(NpduFault::Short, rest)?;
     Ok(NetMessage {
         kind,
         vendor: Some(vendor),
@@ -109,7 +81,6 @@ fn message(octets: &[u8]) -> Result<NetMessage<'_>, NpduFault>
 }
 
 /// The payload, of all the octets.
-#[tactic(auto, unfolding(crate::specs::Npdu::payload_at))]
 fn payload(is_message: bool, octets: &[u8]) -> Result<Payload<'_>, NpduFault>
     ensures { Gives (λ p. payload_view p) result (payload_at is_message octets.now) }
 {
@@ -121,9 +92,9 @@ fn payload(is_message: bool, octets: &[u8]) -> Result<Payload<'_>, NpduFault>
 
 /// The two low bits of the control octet.
 fn priority(control: Control) -> Priority
-    ensures { priority_of result ≡ bit_and control.0 3 }
+    ensures { priority_of result ≡ bit_and control.0 priority_bits }
 {
-    match control.bits() & 3 {
+    match control.bits() & Control::PRIORITY.bits() {
         0 => Priority::Normal,
         1 => Priority::Urgent,
         2 => Priority::CriticalEquipment,
@@ -132,96 +103,79 @@ fn priority(control: Control) -> Priority
 }
 
 /// All parts that the octets name, none of them judged.
-#[tactic(auto, unfolding(crate::specs::Npdu::layout_at))]
-fn layout(octets: &[u8]) -> Result<Layout<'_>, NpduFault>
-    ensures { Gives (λ l. layout_view l) result (layout_at octets.now) }
+fn raw(octets: &[u8]) -> Result<RawNpdu<'_>, NpduFault>
+    ensures { Gives (λ r. raw_view r) result (raw_at octets.now) }
 {
-    let (version, rest) = octet(octets)?;
-    let (control, rest) = octet(rest)?;
+    let (version, rest) = octet(NpduFault::Short, octets)?;
+    let (control, rest) = octet(NpduFault::Short, rest)?;
     let control = Control::from_bits_retain(control);
     let (bound, rest) = named(control.contains(Control::DESTINATION), rest)?;
     let (source, rest) = named(control.contains(Control::SOURCE), rest)?;
     let (destination, rest) = hops(bound, rest)?;
     let payload = payload(control.contains(Control::MESSAGE), rest)?;
-    let reply_expected = control.contains(Control::REPLY_EXPECTED);
-    Ok(Layout {
+    Ok(RawNpdu {
         version,
         destination,
         source,
-        reply_expected,
+        reply_expected: control.contains(Control::REPLY_EXPECTED),
         priority: priority(control),
         payload,
     })
 }
 
 /// The destination, where it can be meant.
-#[tactic(auto, unfolding(crate::specs::Npdu::destination_of))]
-fn destination_of<'a>(bound: Option<Bound<'a>>) -> Result<Option<Destination<'a>>, NpduFault>
-    ensures { Gives (λ d. option_map destination_view d) result (destination_of (option_map bound_view bound.entry)) }
+fn destination_of<'a>(raw: Option<RawDestination<'a>>) -> Result<Option<Destination<'a>>, NpduFault>
+    ensures { Gives (λ d. option_map destination_view d) result
+        (destination_of (option_map raw_destination_view raw.entry)) }
 {
-    let Some(bound) = bound else {
+    let Some(RawDestination { address, hops }) = raw else {
         return Ok(None);
     };
-    let Bound {
-        place: Place { network, address },
-        hops,
-    } = bound;
-    if network == 0 || network == Destination::EVERY_NETWORK && !address.is_empty() {
+    let RawAddress { network, mac } = address;
+    if network == 0 || network == Destination::EVERY_NETWORK && !mac.is_empty() {
         return Err(NpduFault::Address);
     }
-    Ok(Some(Destination {
-        network,
-        address,
-        hops,
-    }))
+    Ok(Some(Destination { network, mac, hops }))
 }
 
 /// The source, where it can be meant.
-#[tactic(auto, unfolding(crate::specs::Npdu::source_of))]
-fn source_of<'a>(place: Option<Place<'a>>) -> Result<Option<Station<'a>>, NpduFault>
-    ensures { Gives (λ s. option_map station_view s) result (source_of (option_map place_view place.entry)) }
+fn source_of<'a>(raw: Option<RawAddress<'a>>) -> Result<Option<AddressRef<'a>>, NpduFault>
+    ensures { Gives (λ s. option_map address_view s) result
+        (source_of (option_map raw_address_view raw.entry)) }
 {
-    let Some(Place { network, address }) = place else {
+    let Some(RawAddress { network, mac }) = raw else {
         return Ok(None);
     };
-    if network == 0 || network == Destination::EVERY_NETWORK || address.is_empty() {
+    if network == 0 || network == Destination::EVERY_NETWORK || mac.is_empty() {
         return Err(NpduFault::Address);
     }
-    Ok(Some(Station { network, address }))
+    Ok(Some(AddressRef { network, mac }))
 }
 
 /// The fields, once they are judged.
-#[tactic(auto, unfolding(crate::specs::Npdu::fields_of))]
-fn fields<'a>(layout: Layout<'a>) -> Result<Npdu<'a>, NpduFault>
-    ensures { Gives (λ n. view n) result (fields_of (raw_fields layout.entry)) }
+fn fields<'a>(raw: RawNpdu<'a>) -> Result<Npdu<'a>, NpduFault>
+    ensures { Gives (λ n. view n) result (fields_of (raw_fields raw.entry)) }
 {
-    let destination = destination_of(layout.destination)?;
-    let source = source_of(layout.source)?;
-    let Layout {
-        reply_expected,
-        priority,
-        payload,
-        ..
-    } = layout;
+    let destination = destination_of(raw.destination)?;
+    let source = source_of(raw.source)?;
     Ok(Npdu {
         destination,
         source,
-        reply_expected,
-        priority,
-        payload,
+        reply_expected: raw.reply_expected,
+        priority: raw.priority,
+        payload: raw.payload,
     })
 }
 
 /// The message that the octets are, or the first fault by number.
-#[tactic(auto, unfolding(crate::specs::Npdu::npdu_at))]
 fn whole(octets: &[u8]) -> Result<Npdu<'_>, NpduFault>
     ensures { Gives (λ n. view n) result (npdu_at octets.now) }
 {
-    let layout = layout(octets)?;
-    if layout.version != 1 {
+    let raw = raw(octets)?;
+    if raw.version != PROTOCOL_VERSION {
         return Err(NpduFault::Version);
     }
-    fields(layout)
+    fields(raw)
 }
 
 /// Reads the octets as one message, all of them (ISO 16484-5, clause 6.2).
@@ -234,10 +188,10 @@ pub fn decode(octets: &[u8]) -> Result<Npdu<'_>, NpduFault>
     // What the octets are is read.
     ensures only { (f : Fields) → IsNpdu octets.now f → IsOkAnd result (λ n. view n ≡ f) }
     // What is wrong with octets that are no message.
-    ensures short { IsErrOf result NpduFault.Short ↔ EndsEarly octets.now }
-    ensures version { IsErrOf result NpduFault.Version ↔ IsOfOtherVersion octets.now }
-    ensures address { IsErrOf result NpduFault.Address ↔ IsBadlyAddressed octets.now }
-    // The same as a function of the octets.
+    ensures short { IsErrOf result NpduFault.Short ↔ IsShort octets.now }
+    ensures version { IsErrOf result NpduFault.Version ↔ IsBadVersion octets.now }
+    ensures address { IsErrOf result NpduFault.Address ↔ IsBadAddress octets.now }
+    // The answer as a function of the octets.
     ensures exact { Gives (λ n. view n) result (npdu_at octets.now) }
 {
     whole(octets)

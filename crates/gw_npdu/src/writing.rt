@@ -1,38 +1,30 @@
-//! Writing a message of the network layer: the one canonical spelling, by clause 6.2.
+//! Writing a message of the network layer: the one canonical encoding, by clause 6.2.
 
-ghost use Rattle.std.specs.Prelude.{◌≡◌, ◌+◌, ◌<◌, ◌≤◌, ◌↔◌, ◌++◌, length, option_map};
+ghost use Rattle.std.specs.Prelude.{◌≡◌, ◌+◌, ◌<◌, ◌≤◌, ◌^◌, ◌↔◌, ◌++◌, length, option_map};
 ghost use Rattle.std.specs.Prelude.{vec_len, IsOk, OnOk, OnErr, IsErrOf};
 ghost use Rattle.std.specs.Vec.{vec_capacity};
 ghost use Rattle.gw_addr.specs.Reading.{Keeps};
-ghost use Rattle.gw_npdu.specs.Npdu.{control, place, destination_part, source_part, hops_part};
-ghost use Rattle.gw_npdu.specs.Npdu.{payload_part, payload_octets, header, spelling};
-ghost use Rattle.gw_npdu.specs.Npdu.{view, destination_view, station_view, payload_view, priority_of};
+ghost use Rattle.gw_npdu.specs.Numbers.{max_len};
+ghost use Rattle.gw_npdu.specs.Npdu.{Address, IsValid, max_header_len, control, header, encoding};
+ghost use Rattle.gw_npdu.specs.Npdu.{address_part, destination_part, source_part, hops_part};
+ghost use Rattle.gw_npdu.specs.Npdu.{payload_part, payload_octets};
+ghost use Rattle.gw_npdu.specs.Npdu.{view, address_view, destination_view, payload_view};
 
+use crate::address::{AddressRef, Destination};
 use crate::control::Control;
 use crate::fault::EncodeFault;
-use crate::npdu::{Npdu, Payload, Priority};
-use crate::station::{Destination, Station};
+use crate::laws;
+use crate::npdu::{Npdu, PROTOCOL_VERSION, Payload};
 use bitflags::Flags;
+use gw_addr::{put_number, put_octet, put_slice};
 use std::alloc::AllocError;
 
 /// The most octets that a message of the network layer has on BACnet/IP (Annex J).
 pub const MAX_LEN: usize = 1497;
 
-/// The two low bits of the control octet.
-fn priority_bits(priority: Priority) -> Control
-    ensures { result.0 ≡ priority_of priority }
-{
-    match priority {
-        Priority::Normal => Control::from_bits_retain(0),
-        Priority::Urgent => Control::from_bits_retain(1),
-        Priority::CriticalEquipment => Control::from_bits_retain(2),
-        Priority::LifeSafety => Control::from_bits_retain(3),
-    }
-}
-
 impl<'a> Payload<'a> {
     /// The octets of the payload that no field of the network layer names: the APDU, or what stands behind the
-    /// type and the vendor of a message between routers.
+    /// type and the vendor of a network layer message.
     pub fn octets(&self) -> &'a [u8]
         ensures { result.now ≡ payload_octets (payload_view self.now) }
     {
@@ -48,7 +40,7 @@ impl Npdu<'_> {
     pub fn control(&self) -> Control
         ensures { result.0 ≡ control (view self.now) }
     {
-        let mut control = priority_bits(self.priority);
+        let mut control = Control::from_bits_retain(self.priority.number());
         if self.reply_expected {
             control.insert(Control::REPLY_EXPECTED);
         }
@@ -67,7 +59,7 @@ impl Npdu<'_> {
     /// How many octets stand in front of the payload's own.
     pub fn header_len(&self) -> usize
         ensures len { result ≡ length (header (view self.now)) }
-        ensures most { result ≤ 522 }
+        ensures most { result ≤ max_header_len }
     {
         2 + destination_len(&self.destination)
             + source_len(&self.source)
@@ -79,26 +71,26 @@ impl Npdu<'_> {
 fn destination_len(destination: &Option<Destination<'_>>) -> usize
     ensures len { let d = option_map destination_view destination.now in
         result ≡ length (destination_part d) + length (hops_part d) }
-    ensures most { result ≤ 259 }
+    ensures most { result ≤ 3 + 255 + 1 }
 {
     match destination {
         None => 0,
-        Some(destination) => 4 + destination.address.len(),
+        Some(destination) => 4 + destination.mac.len(),
     }
 }
 
 /// The octets of SNET, SLEN and SADR.
-fn source_len(source: &Option<Station<'_>>) -> usize
-    ensures len { result ≡ length (source_part (option_map station_view source.now)) }
-    ensures most { result ≤ 258 }
+fn source_len(source: &Option<AddressRef<'_>>) -> usize
+    ensures len { result ≡ length (source_part (option_map address_view source.now)) }
+    ensures most { result ≤ 3 + 255 }
 {
     match source {
         None => 0,
-        Some(station) => 3 + station.address.len(),
+        Some(address) => 3 + address.mac.len(),
     }
 }
 
-/// The octets of the type and the vendor of a message between routers.
+/// The octets of the type and the vendor of a network layer message.
 fn payload_len(payload: &Payload<'_>) -> usize
     ensures len { result ≡ length (payload_part (payload_view payload.now)) }
     ensures most { result ≤ 3 }
@@ -112,124 +104,143 @@ fn payload_len(payload: &Payload<'_>) -> usize
     }
 }
 
-fn put_place(out: &mut Vec<u8>, network: u16, address: &[u8]) -> Result<(), AllocError>
-    requires { length address.now < 256 }
-    ensures ok { OnOk result (out.new.items ≡ out.old.items ++ place network address.now) }
+/// A network and the address of a station there.
+fn put_address(out: &mut Vec<u8>, network: u16, mac: &[u8]) -> Result<(), AllocError>
+    requires { length mac.now < 2 ^ 8 }
+    ensures ok { let a : Address = record { network = network; mac = mac.now } in
+        OnOk result (out.new.items ≡ out.old.items ++ address_part a) }
     ensures front { Keeps out.old.items out.new.items }
+    ensures room { let a : Address = record { network = network; mac = mac.now } in
+        vec_len out.old + length (address_part a) ≤ vec_capacity out.old → IsOk result }
     ensures capacity { vec_capacity out.old ≤ vec_capacity out.new }
-    ensures room { vec_len out.old + length (place network address.now) ≤ vec_capacity out.old → IsOk result }
 {
-    out.extend_from_slice(&network.to_be_bytes())?;
-    out.push(address.len() as u8)?;
-    out.extend_from_slice(address)
+    put_number(out, network)?;
+    put_octet(out, mac.len() as u8)?;
+    put_slice(out, mac)
 }
 
+/// DNET, DLEN and DADR.
 fn put_destination(
     out: &mut Vec<u8>,
     destination: &Option<Destination<'_>>,
 ) -> Result<(), AllocError>
-    ensures ok { let d = option_map destination_view destination.now in
-        OnOk result (out.new.items ≡ out.old.items ++ destination_part d) }
+    ensures ok { let part = destination_part (option_map destination_view destination.now) in
+        OnOk result (out.new.items ≡ out.old.items ++ part) }
     ensures front { Keeps out.old.items out.new.items }
+    ensures room { let part = destination_part (option_map destination_view destination.now) in
+        vec_len out.old + length part ≤ vec_capacity out.old → IsOk result }
     ensures capacity { vec_capacity out.old ≤ vec_capacity out.new }
-    ensures room { let d = option_map destination_view destination.now in
-        vec_len out.old + length (destination_part d) ≤ vec_capacity out.old → IsOk result }
 {
     match destination {
         None => Ok(()),
-        Some(destination) => put_place(out, destination.network, destination.address),
+        Some(destination) => put_address(out, destination.network, destination.mac),
     }
 }
 
-fn put_source(out: &mut Vec<u8>, source: &Option<Station<'_>>) -> Result<(), AllocError>
-    ensures ok { let s = option_map station_view source.now in
-        OnOk result (out.new.items ≡ out.old.items ++ source_part s) }
+/// SNET, SLEN and SADR.
+fn put_source(out: &mut Vec<u8>, source: &Option<AddressRef<'_>>) -> Result<(), AllocError>
+    ensures ok { let part = source_part (option_map address_view source.now) in
+        OnOk result (out.new.items ≡ out.old.items ++ part) }
     ensures front { Keeps out.old.items out.new.items }
+    ensures room { let part = source_part (option_map address_view source.now) in
+        vec_len out.old + length part ≤ vec_capacity out.old → IsOk result }
     ensures capacity { vec_capacity out.old ≤ vec_capacity out.new }
-    ensures room { let s = option_map station_view source.now in
-        vec_len out.old + length (source_part s) ≤ vec_capacity out.old → IsOk result }
 {
     match source {
         None => Ok(()),
-        Some(station) => put_place(out, station.network, station.address),
+        Some(address) => put_address(out, address.network, address.mac),
     }
 }
 
 fn put_hops(out: &mut Vec<u8>, destination: &Option<Destination<'_>>) -> Result<(), AllocError>
-    ensures ok { let d = option_map destination_view destination.now in
-        OnOk result (out.new.items ≡ out.old.items ++ hops_part d) }
+    ensures ok { let part = hops_part (option_map destination_view destination.now) in
+        OnOk result (out.new.items ≡ out.old.items ++ part) }
     ensures front { Keeps out.old.items out.new.items }
+    ensures room { let part = hops_part (option_map destination_view destination.now) in
+        vec_len out.old + length part ≤ vec_capacity out.old → IsOk result }
     ensures capacity { vec_capacity out.old ≤ vec_capacity out.new }
-    ensures room { let d = option_map destination_view destination.now in
-        vec_len out.old + length (hops_part d) ≤ vec_capacity out.old → IsOk result }
 {
     if let Some(destination) = destination {
-        out.push(destination.hops)?;
+        put_octet(out, destination.hops)?;
     }
     Ok(())
 }
 
+/// The type and the vendor of a network layer message.
 fn put_payload_part(out: &mut Vec<u8>, payload: &Payload<'_>) -> Result<(), AllocError>
-    ensures ok { OnOk result (out.new.items ≡ out.old.items ++ payload_part (payload_view payload.now)) }
+    ensures ok { let part = payload_part (payload_view payload.now) in
+        OnOk result (out.new.items ≡ out.old.items ++ part) }
     ensures front { Keeps out.old.items out.new.items }
+    ensures room { let part = payload_part (payload_view payload.now) in
+        vec_len out.old + length part ≤ vec_capacity out.old → IsOk result }
     ensures capacity { vec_capacity out.old ≤ vec_capacity out.new }
-    ensures room { vec_len out.old + length (payload_part (payload_view payload.now)) ≤ vec_capacity out.old → IsOk result }
 {
     let Payload::Message(message) = payload else {
         return Ok(());
     };
-    out.push(message.kind)?;
+    put_octet(out, message.kind)?;
     if let Some(vendor) = message.vendor {
-        out.extend_from_slice(&vendor.to_be_bytes())?;
+        put_number(out, vendor)?;
     }
     Ok(())
 }
 
 /// DNET, DLEN and DADR, then SNET, SLEN and SADR.
-fn put_places(out: &mut Vec<u8>, npdu: &Npdu<'_>) -> Result<(), AllocError>
+fn put_addresses(out: &mut Vec<u8>, npdu: &Npdu<'_>) -> Result<(), AllocError>
     ensures ok { let f = view npdu.now in
-        OnOk result (out.new.items ≡ out.old.items ++ (destination_part f.destination ++ source_part f.source)) }
+        let part = destination_part f.destination ++ source_part f.source in
+        OnOk result (out.new.items ≡ out.old.items ++ part) }
     ensures front { Keeps out.old.items out.new.items }
-    ensures capacity { vec_capacity out.old ≤ vec_capacity out.new }
     ensures room { let f = view npdu.now in
-        vec_len out.old + length (destination_part f.destination ++ source_part f.source) ≤ vec_capacity out.old → IsOk result }
+        let part = destination_part f.destination ++ source_part f.source in
+        vec_len out.old + length part ≤ vec_capacity out.old → IsOk result }
+    ensures capacity { vec_capacity out.old ≤ vec_capacity out.new }
 {
     put_destination(out, &npdu.destination)?;
     put_source(out, &npdu.source)
 }
 
 /// Everything in front of the payload's own octets.
-pub fn put_header(out: &mut Vec<u8>, npdu: &Npdu<'_>) -> Result<(), AllocError>
+pub(crate) fn put_header(out: &mut Vec<u8>, npdu: &Npdu<'_>) -> Result<(), AllocError>
     ensures ok { OnOk result (out.new.items ≡ out.old.items ++ header (view npdu.now)) }
     ensures front { Keeps out.old.items out.new.items }
+    ensures room { let part = header (view npdu.now) in
+        vec_len out.old + length part ≤ vec_capacity out.old → IsOk result }
     ensures capacity { vec_capacity out.old ≤ vec_capacity out.new }
-    ensures room { vec_len out.old + length (header (view npdu.now)) ≤ vec_capacity out.old → IsOk result }
 {
-    out.extend_from_slice(&[1, npdu.control().bits()])?;
-    put_places(out, npdu)?;
+    put_octet(out, PROTOCOL_VERSION)?;
+    put_octet(out, npdu.control().bits())?;
+    put_addresses(out, npdu)?;
     put_hops(out, &npdu.destination)?;
     put_payload_part(out, &npdu.payload)
 }
 
 fn put(out: &mut Vec<u8>, npdu: &Npdu<'_>) -> Result<(), AllocError>
-    ensures ok { OnOk result (out.new.items ≡ out.old.items ++ spelling (view npdu.now)) }
+    ensures ok { OnOk result (out.new.items ≡ out.old.items ++ encoding (view npdu.now)) }
     ensures front { Keeps out.old.items out.new.items }
-    ensures room { vec_len out.old + length (spelling (view npdu.now)) ≤ vec_capacity out.old → IsOk result }
+    ensures room { let part = encoding (view npdu.now) in
+        vec_len out.old + length part ≤ vec_capacity out.old → IsOk result }
+    ensures capacity { vec_capacity out.old ≤ vec_capacity out.new }
 {
     put_header(out, npdu)?;
-    out.extend_from_slice(npdu.payload.octets())
+    put_slice(out, npdu.payload.octets())
 }
 
-/// Appends the canonical spelling of a message.
+/// Appends the canonical encoding of a message, which is valid.
 ///
-/// The faults are those of [`EncodeFault`].
+/// The faults are those of [`EncodeFault`]. The buffer keeps its room, also after a fault.
 pub fn encode(npdu: &Npdu<'_>, out: &mut Vec<u8>) -> Result<(), EncodeFault>
-    ensures ok { OnOk result (out.new.items ≡ out.old.items ++ spelling (view npdu.now)) }
-    ensures too_long { IsErrOf result EncodeFault.TooLong ↔ (MAX_LEN < length (spelling (view npdu.now))) }
+    ensures ok { OnOk result (out.new.items ≡ out.old.items ++ encoding (view npdu.now)) }
+    ensures valid { IsValid (view npdu.now) }
+    ensures too_long { let len = length (encoding (view npdu.now)) in
+        IsErrOf result EncodeFault.TooLong ↔ (max_len < len) }
     // Memory only where the buffer had no room for the message.
-    ensures memory { IsErrOf result EncodeFault.Memory → vec_capacity out.old < vec_len out.old + length (spelling (view npdu.now)) }
+    ensures memory { let len = length (encoding (view npdu.now)) in
+        IsErrOf result EncodeFault.Memory → vec_capacity out.old < vec_len out.old + len }
     ensures err { OnErr result (out.new.items ≡ out.old.items) }
+    ensures capacity { vec_capacity out.old ≤ vec_capacity out.new }
 {
+    laws::valid(npdu);
     if npdu.payload.octets().len() > MAX_LEN - npdu.header_len() {
         return Err(EncodeFault::TooLong);
     }

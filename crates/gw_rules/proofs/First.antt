@@ -1,15 +1,15 @@
 -- The first rule that matches is the one of the least number, and the policy allows what it allows.
 use Rattle.std.proofs.Common.{◌≡◌, ℕ, ◌+◌, ◌-◌, ◌≤◌, Bool, true, false, cond, List, [], ◌∷◌, length, ◌↔◌, inl, inr, Option, Some, None, arith, refl, sym, subst, ◌∙◌, ap, nat_lt, get_or}
 use Rattle.std.specs.List.{All, position, position_or_len, slice_get}
-use Rattle.std.specs.Option.{option_map, option_map_or}
+use Rattle.std.specs.Option.{IfSome, option_map, option_map_or}
 use Rattle.std.proofs.lemmas.Bool.{both_ways, cases_order, ltb-false, false≢true}
 use Rattle.std.proofs.lemmas.List.Quantifiers.{position-Some}
 use Rattle.std.proofs.lemmas.List.Sums.{fails_before_first}
 use Rattle.std.proofs.lemmas.Option.{slice_get-get_or, get_or_from_slice_get, slice_get_within}
-use Rattle.gw_rules.specs.declared.ask.Ask.{Ask}
+use Rattle.gw_rules.specs.Ask.{Ask}
 use Rattle.gw_rules.specs.declared.rule.Rule.{Rule}
 use Rattle.gw_rules.specs.Rule.{matches, Matches}
-use Rattle.gw_rules.specs.RuleList.{first, allows, allows_at, IsFirst, Allows}
+use Rattle.gw_rules.specs.RuleList.{first, allows, allows_at, IsFirst, IsNumberOf, Allows}
 use Rattle.gw_rules.proofs.Matching.{matches_iff}
 
 -- a number counted from 1 is one more than the place
@@ -119,3 +119,15 @@ allows_iff rules ask = (
       ap (λ o. option_map_or (allows_at rules) o false) ((first_iff rules ask a.0).1 a.1)
       ∙ (says rules a.0 a.1.rule a.1.numbered.there ∙ a.2),
 )
+
+-- what `first` answers is the number of a rule
+pub first_within : (rules : List Rule) (ask : Ask) → IfSome (first rules ask) (IsNumberOf rules)
+first_within rules ask = at (first rules ask) refl
+  where
+    at : (answer : Option ℕ) → first rules ask ≡ answer → IfSome answer (IsNumberOf rules)
+    at None e = tt
+    at (Some number) e =
+        let is = (first_iff rules ask number).0 e in
+        let below = slice_get_within rules (number - 1) is.rule is.numbered.there in
+        let counted : 1 ≤ number = is.numbered.counted in
+        (counted, omega arith)

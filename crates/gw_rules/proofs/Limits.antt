@@ -11,7 +11,7 @@ use Rattle.gw_rules.specs.declared.rule_list.TheConstants.{MAX_RULES}
 use Rattle.gw_rules.specs.Range.{is_ordered}
 use Rattle.gw_rules.specs.Rule.{ranges_of, HasFewRanges, has_few_ranges, HasOrderedRanges, has_ordered_ranges}
 use Rattle.gw_rules.specs.RuleList.{keeps_counts, keeps_order, KeepsCounts, KeepsOrder}
-use Rattle.gw_rules.proofs.Fields.{each_field_at, each_field_from}
+use Rattle.gw_rules.proofs.EachField.{each_field_at, each_field_from}
 
 -- a test of each element is a fact of each
 all_iff : {X : Type 0} (test : X → Bool) (P : X → Type 0) → ((x : X) → test x ≡ true → P x) → ((x : X) → P x → test x ≡ true) → (xs : List X) → (list_all test xs ≡ true) ↔ All P xs

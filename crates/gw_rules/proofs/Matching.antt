@@ -4,14 +4,14 @@ use Rattle.std.specs.List.{Any, list_any}
 use Rattle.std.specs.Option.{IsSomeAnd, option_map_or}
 use Rattle.std.proofs.lemmas.Bool.{leb-true, le-leb, and_parts, and_from, false≢true, ne_eqb}
 use Rattle.std.proofs.lemmas.List.Folds.{Any-from_list_any, list_any-from_Any}
-use Rattle.gw_rules.specs.declared.ask.Ask.{Ask}
+use Rattle.gw_rules.specs.Ask.{Ask}
 use Rattle.gw_rules.specs.declared.field.FieldName.{FieldName}
 use Rattle.gw_rules.specs.declared.range.Range.{Range}
 use Rattle.gw_rules.specs.declared.rule.Rule.{Rule}
-use Rattle.gw_rules.specs.Ask.{value_of}
+use Rattle.gw_rules.specs.Fields.{value_of}
 use Rattle.gw_rules.specs.Range.{admits, holds}
 use Rattle.gw_rules.specs.Rule.{matches, Matches, ranges_of}
-use Rattle.gw_rules.proofs.Fields.{each_field_at, each_field_from}
+use Rattle.gw_rules.proofs.EachField.{each_field_at, each_field_from}
 
 -- the number lies in the range
 abbrev Lies : ℕ → Range → Type 0

@@ -1,6 +1,9 @@
 pub mod Ask
+pub mod Authorizer
 pub mod Field
+pub mod Fields
 pub mod Operation
 pub mod Range
 pub mod Rule
 pub mod RuleList
+pub mod Service

@@ -1,18 +1,26 @@
--- The numbers of operations, which are this project's own.
-use Rattle.std.specs.Prelude.{ℕ}
+-- The eleven operations, each with its number and its name, which are this project's own.
+use Rattle.std.specs.Prelude.{ℕ, List, codes}
 use Rattle.gw_rules.specs.declared.operation.Operation.{Operation}
-use Rattle.gw_rules.specs.declared.operation.Operation.TheVariants.{Cast, Route, Register, Delete, ReadTable, WriteTable, Learn, Network, Read, Write, List}
+use Rattle.gw_rules.specs.declared.operation.Operation.TheVariants.{Cast, Route, Register, Delete, ReadTable, WriteTable, Learn, Network, Read, Write, List as Listing}
 
--- the number under which asks and rules name an operation
+-- the number under which asks and rules name an operation, and the name that configurations and the log show
+abbrev pub row : Operation → ℕ × List ℕ
+row Cast = (1, codes "cast")
+row Route = (2, codes "route")
+row Register = (3, codes "register")
+row Delete = (4, codes "delete")
+row ReadTable = (5, codes "read-table")
+row WriteTable = (6, codes "write-table")
+row Learn = (7, codes "learn")
+row Network = (8, codes "network")
+row Read = (9, codes "read")
+row Write = (10, codes "write")
+row Listing = (11, codes "list")
+
+-- the number of an operation
 abbrev pub operation_number : Operation → ℕ
-operation_number Cast = 1
-operation_number Route = 2
-operation_number Register = 3
-operation_number Delete = 4
-operation_number ReadTable = 5
-operation_number WriteTable = 6
-operation_number Learn = 7
-operation_number Network = 8
-operation_number Read = 9
-operation_number Write = 10
-operation_number List = 11
+operation_number operation = (row operation).0
+
+-- the name of an operation
+abbrev pub operation_name : Operation → List ℕ
+operation_name operation = (row operation).1

@@ -1,64 +1,32 @@
 -- What a rule says of each field, when it matches an ask, and the limits that it keeps.
-use Rattle.std.specs.Prelude.{ℕ, ◌≤◌, ◌<◌, Bool, ◌&&◌, List, [], ◌∷◌, ◌++◌, length, nat_le, All, Any}
+use Rattle.std.specs.Prelude.{ℕ, ◌≤◌, ◌<◌, Bool, List, [], ◌∷◌, ◌++◌, length, nat_le, All, Any}
 use Rattle.std.specs.List.{list_all}
 use Rattle.std.specs.Option.{IsSomeAnd}
-use Rattle.gw_rules.specs.declared.ask.Ask.{Ask}
+use Rattle.gw_rules.specs.Ask.{Ask}
 use Rattle.gw_rules.specs.declared.field.FieldName.{FieldName}
-use Rattle.gw_rules.specs.declared.field.FieldName.TheVariants.{Operation, Port, SourceNetwork, SourceKey, DestinationNetwork, Service, ObjectType, Instance, Property, Priority}
+use Rattle.gw_rules.specs.declared.field.TheConstants.FieldName.{ALL}
 use Rattle.gw_rules.specs.declared.range.Range.{Range}
 use Rattle.gw_rules.specs.declared.rule.Rule.{Rule}
 use Rattle.gw_rules.specs.declared.rule.TheConstants.{MAX_RANGES}
-use Rattle.gw_rules.specs.Ask.{value_of}
+use Rattle.gw_rules.specs.Fields.{in_each, value_of, with_value}
 use Rattle.gw_rules.specs.Range.{admits, is_ordered}
 
 -- the ranges that a rule has for a field
 abbrev pub ranges_of : FieldName → Rule → List Range
-ranges_of Operation rule = rule.operation
-ranges_of Port rule = rule.port
-ranges_of SourceNetwork rule = rule.source_network
-ranges_of SourceKey rule = rule.source_key
-ranges_of DestinationNetwork rule = rule.destination_network
-ranges_of Service rule = rule.service
-ranges_of ObjectType rule = rule.object_type
-ranges_of Instance rule = rule.instance
-ranges_of Property rule = rule.property
-ranges_of Priority rule = rule.priority
+ranges_of field rule = value_of field rule.ranges
 
 -- a rule that names no field
 abbrev pub rule_without_fields : List ℕ → Bool → Rule
-rule_without_fields name allow = record {
-  name = name;
-  allow = allow;
-  operation = [];
-  port = [];
-  source_network = [];
-  source_key = [];
-  destination_network = [];
-  service = [];
-  object_type = [];
-  instance = [];
-  property = [];
-  priority = [];
-}
+rule_without_fields name allow = record { name = name; allow = allow; ranges = in_each [] }
 
 -- the rule with one more range for a field, behind those that it has
 abbrev pub with_range : FieldName → Range → Rule → Rule
-with_range Operation range rule = record rule { operation = rule.operation ++ range ∷ [] }
-with_range Port range rule = record rule { port = rule.port ++ range ∷ [] }
-with_range SourceNetwork range rule = record rule { source_network = rule.source_network ++ range ∷ [] }
-with_range SourceKey range rule = record rule { source_key = rule.source_key ++ range ∷ [] }
-with_range DestinationNetwork range rule = record rule { destination_network = rule.destination_network ++ range ∷ [] }
-with_range Service range rule = record rule { service = rule.service ++ range ∷ [] }
-with_range ObjectType range rule = record rule { object_type = rule.object_type ++ range ∷ [] }
-with_range Instance range rule = record rule { instance = rule.instance ++ range ∷ [] }
-with_range Property range rule = record rule { property = rule.property ++ range ∷ [] }
-with_range Priority range rule = record rule { priority = rule.priority ++ range ∷ [] }
+with_range field range rule =
+    record rule { ranges = with_value field (ranges_of field rule ++ range ∷ []) rule.ranges }
 
 -- each of the ten fields passes the test
 abbrev pub each_field : (FieldName → Bool) → Bool
-each_field test =
-    test Operation && test Port && test SourceNetwork && test SourceKey && test DestinationNetwork
-    && test Service && test ObjectType && test Instance && test Property && test Priority
+each_field test = list_all test ALL
 
 -- a rule matches an ask where, in each field, its ranges admit what the ask has
 unfoldable pub matches : Rule → Ask → Bool

@@ -1,8 +1,10 @@
 -- The first rule that matches, whether the policy allows an ask, and the limits of a rule list.
-use Rattle.std.specs.Prelude.{◌≡◌, ℕ, ◌+◌, ◌-◌, ◌≤◌, ◌<◌, Bool, false, ◌&&◌, nat_le, IsTrue, List, length, Option, Some, slice_get, position, All}
+use Rattle.std.specs.Prelude.{◌≡◌, ℕ, ◌+◌, ◌-◌, ◌≤◌, ◌<◌, Bool, false, ◌&&◌, if◌then◌else◌, nat_le, IsTrue, List, length, Option, Some, slice_get, position, All}
 use Rattle.std.specs.List.{list_all}
 use Rattle.std.specs.Option.{option_map, option_map_or}
-use Rattle.gw_rules.specs.declared.ask.Ask.{Ask}
+use Rattle.gw_rules.specs.Ask.{Ask}
+use Rattle.gw_rules.specs.declared.decision.Decision.{Decision}
+use Rattle.gw_rules.specs.declared.decision.Decision.TheVariants.{Allow, Deny}
 use Rattle.gw_rules.specs.declared.rule.Rule.{Rule}
 use Rattle.gw_rules.specs.declared.rule_list.TheConstants.{MAX_RULES}
 use Rattle.gw_rules.specs.Rule.{matches, Matches, HasFewRanges, has_few_ranges, HasOrderedRanges, has_ordered_ranges}
@@ -22,6 +24,10 @@ allows_at rules number = option_map_or (λ rule. rule.allow) (slice_get rules (n
 -- a policy allows an ask where there is a first rule that matches, and it says allow
 unfoldable pub allows : List Rule → Ask → Bool
 allows rules ask = option_map_or (allows_at rules) (first rules ask) false
+
+-- what a policy says of an ask: allow, or deny by its first rule, or by none
+abbrev pub decide : List Rule → Ask → Decision
+decide rules ask = if allows rules ask then Allow else Deny (first rules ask)
 
 -- a rule has a number, its place in the list counted from 1
 pub record HasNumber (rules : List Rule) (number : ℕ) (rule : Rule) : Type 0 where

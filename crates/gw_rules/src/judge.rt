@@ -1,9 +1,9 @@
 //! What any judge of a policy answers, however it keeps the policy.
-ghost use Rattle.std.specs.Prelude.{◌≡◌, List, IfSome};
+ghost use Rattle.std.specs.Prelude.{◌≡◌, List};
 ghost use Rattle.gw_rules.specs.declared.rule.Rule.{Rule};
-ghost use Rattle.gw_rules.specs.RuleList.{IsNumberOf, allows, first};
+ghost use Rattle.gw_rules.specs.RuleList.{allows, decide, first};
 
-use crate::{Ask, RuleList};
+use crate::{Ask, Decision, RuleList};
 
 /// A judge of asks by the first rule that matches. It may keep the rules in another form than a
 /// list, so a relation says for which lists its answers are right.
@@ -13,12 +13,16 @@ pub trait Judge {
 
     /// The number of the first rule that matches the ask, counted from 1, or none.
     fn first(&self, ask: &Ask) -> Option<u16>
-        ensures first { (rules : List Rule) → StandsFor self.now rules → result ≡ first rules ask.now }
-        ensures within { (rules : List Rule) → StandsFor self.now rules → IfSome result (IsNumberOf rules) };
+        ensures first { (rules : List Rule) → StandsFor self.now rules →
+            result ≡ first rules ask.now };
 
     /// Whether there is a first rule that matches the ask, and it says allow.
     fn allows(&self, ask: &Ask) -> bool
         ensures { (rules : List Rule) → StandsFor self.now rules → result ≡ allows rules ask.now };
+
+    /// Both at once, by one walk: whether the ask is allowed, and which rule denies it.
+    fn decide(&self, ask: &Ask) -> Decision
+        ensures { (rules : List Rule) → StandsFor self.now rules → result ≡ decide rules ask.now };
 }
 
 impl Judge for RuleList {
@@ -30,5 +34,9 @@ impl Judge for RuleList {
 
     fn allows(&self, ask: &Ask) -> bool {
         RuleList::allows(self, ask)
+    }
+
+    fn decide(&self, ask: &Ask) -> Decision {
+        RuleList::decide(self, ask)
     }
 }

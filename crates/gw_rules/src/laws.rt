@@ -1,11 +1,23 @@
 //! What the words of a policy mean, proved of every rule, every list of rules and every ask, for a
 //! reader of the definitions that contracts here and in the crates above cite. The functions do
 //! nothing.
-ghost use Rattle.std.specs.Prelude.{◌≡◌, ◌↔◌, ℕ, List, IsTrue, All};
-ghost use Rattle.gw_rules.specs.declared.ask.Ask.{Ask};
+ghost use Rattle.std.specs.Prelude.{◌≡◌, ◌↔◌, ◌<◌, ◌-◌, ◌++◌, ℕ, List, [], ◌∷◌, IsTrue, IfSome, All, Option, filter, map, not, slice_get};
+ghost use Rattle.gw_rules.specs.declared.decision.Decision.{Decision};
+ghost use Rattle.gw_rules.specs.declared.field.FieldName.{FieldName};
+ghost use Rattle.gw_rules.specs.declared.operation.Operation.{Operation};
+ghost use Rattle.gw_rules.specs.declared.range.Range.{Range};
+ghost use Rattle.gw_rules.specs.declared.refusal.Refusal.{Refusal};
 ghost use Rattle.gw_rules.specs.declared.rule.Rule.{Rule};
+ghost use Rattle.gw_rules.specs.declared.service.Service.{Service};
+ghost use Rattle.gw_rules.specs.Ask.{Ask};
+ghost use Rattle.gw_rules.specs.Authorizer.{denied_of};
+ghost use Rattle.gw_rules.specs.Field.{field_number};
+ghost use Rattle.gw_rules.specs.Operation.{operation_name, operation_number};
 ghost use Rattle.gw_rules.specs.Rule.{Matches, matches};
-ghost use Rattle.gw_rules.specs.RuleList.{Allows, IsFirst, KeepsCounts, KeepsOrder, allows, first, keeps_counts, keeps_order};
+ghost use Rattle.gw_rules.specs.RuleList.{Allows, IsFirst, IsNumberOf, KeepsCounts, KeepsOrder, allows, decide, first, keeps_counts, keeps_order};
+ghost use Rattle.gw_rules.specs.Service.{own_number, service_number};
+
+use crate::{Ask, Decision, FieldName, MAX_RANGES, MAX_RULES, Operation, Range, Refusal};
 
 /// A rule matches an ask exactly where, for every field that the rule names, the ask has that field
 /// and one of the rule's ranges holds its value.
@@ -14,22 +26,78 @@ pub fn matching()
 {}
 
 /// The first rule is the one of the least number that matches, and there is none exactly where no
-/// rule matches.
+/// rule matches. Its number is that of a rule.
 pub fn first_match()
     ensures least { (rules : List Rule) (ask : Ask) (number : ℕ) →
         (first rules ask ≡ Some number) ↔ IsFirst rules ask number }
     ensures none { (rules : List Rule) (ask : Ask) →
         (first rules ask ≡ None) ↔ All (λ rule. ¬ Matches rule ask) rules }
+    ensures within { (rules : List Rule) (ask : Ask) →
+        IfSome (first rules ask) (IsNumberOf rules) }
 {}
 
-/// An ask is allowed exactly where there is a first rule that matches, and it says allow.
+/// An ask is allowed exactly where there is a first rule that matches, and it says allow. Every
+/// other ask is denied, by the first rule that matches or by none.
 pub fn decision()
-    ensures { (rules : List Rule) (ask : Ask) → IsTrue (allows rules ask) ↔ Allows rules ask }
+    ensures allows { (rules : List Rule) (ask : Ask) →
+        IsTrue (allows rules ask) ↔ Allows rules ask }
+    ensures allow { (rules : List Rule) (ask : Ask) →
+        (decide rules ask ≡ Decision.Allow) ↔ Allows rules ask }
+    ensures deny { (rules : List Rule) (ask : Ask) (by : Option ℕ) →
+        (decide rules ask ≡ Decision.Deny by) ↔ ((¬ Allows rules ask) × (first rules ask ≡ by)) }
 {}
 
-/// The tests of a list's limits hold exactly where there are at most 512 rules, each with at most
-/// four ranges for a field, and where no range has its low end above its high end.
+/// What is refused of a list of asks are exactly the asks that aren't allowed, in their order, each
+/// by its first rule or by none. Asks that are put one after the other are refused so too.
+pub fn refusals()
+    ensures asks { (rules : List Rule) (asks : List Ask) →
+        map (λ r. r.ask) (denied_of rules asks) ≡ filter (λ ask. not (allows rules ask)) asks }
+    ensures by { (rules : List Rule) (asks : List Ask) →
+        map (λ r. r.by) (denied_of rules asks)
+            ≡ map (λ r. first rules r.ask) (denied_of rules asks) }
+    ensures joined { (rules : List Rule) (asks more : List Ask) →
+        denied_of rules (asks ++ more) ≡ denied_of rules asks ++ denied_of rules more }
+{}
+
+/// The limits are 512 rules and four ranges for a field. The tests of a list's limits hold exactly
+/// where there are at most so many, and where no range has its low end above its high end.
 pub fn limits()
+    ensures rules { MAX_RULES ≡ 512 }
+    ensures ranges { MAX_RANGES ≡ 4 }
     ensures counts { (rules : List Rule) → IsTrue (keeps_counts rules) ↔ KeepsCounts rules }
     ensures order { (rules : List Rule) → IsTrue (keeps_order rules) ↔ KeepsOrder rules }
+{}
+
+/// `FieldName::ALL` has each of the ten fields once, in the order of their numbers.
+pub fn fields()
+    ensures numbers { map field_number FieldName.ALL ≡
+        1 ∷ 2 ∷ 3 ∷ 4 ∷ 5 ∷ 6 ∷ 7 ∷ 8 ∷ 9 ∷ 10 ∷ [] }
+    ensures places { (field : FieldName) →
+        slice_get FieldName.ALL (field_number field - 1) ≡ Some field }
+{}
+
+/// `Operation::ALL` has each of the eleven operations once, in the order of their numbers. No two
+/// share a name or a number.
+pub fn operations()
+    ensures all { map operation_number Operation.ALL ≡
+        1 ∷ 2 ∷ 3 ∷ 4 ∷ 5 ∷ 6 ∷ 7 ∷ 8 ∷ 9 ∷ 10 ∷ 11 ∷ [] }
+    ensures places { (operation : Operation) →
+        slice_get Operation.ALL (operation_number operation - 1) ≡ Some operation }
+    ensures names { (a b : Operation) → operation_name a ≡ operation_name b → a ≡ b }
+    ensures numbers { (a b : Operation) → operation_number a ≡ operation_number b → a ≡ b }
+{}
+
+/// No two services share a number.
+pub fn services()
+    ensures { (a b : Service) → own_number a < 256 → own_number b < 256 →
+        service_number a ≡ service_number b → a ≡ b }
+{}
+
+/// `==` holds exactly of what is the same.
+pub fn equality()
+    ensures asks { (a b : Ask) → IsTrue (⟦<Ask as PartialEq>⟧.eq a b) ↔ (a ≡ b) }
+    ensures ranges { (a b : Range) → IsTrue (⟦<Range as PartialEq>⟧.eq a b) ↔ (a ≡ b) }
+    ensures decisions { (a b : Decision) →
+        IsTrue (⟦<Decision as PartialEq>⟧.eq a b) ↔ (a ≡ b) }
+    ensures refusals { (a b : Refusal) → IsTrue (⟦<Refusal as PartialEq>⟧.eq a b) ↔ (a ≡ b) }
 {}

@@ -7,24 +7,34 @@
 #![tactic(auto)]
 
 mod ask;
+mod authorizer;
+mod decision;
 mod fault;
 mod field;
+mod fields;
 mod judge;
 pub mod laws;
 mod name;
 mod operation;
 mod range;
 mod ranges;
+mod refusal;
 mod rule;
 mod rule_list;
+mod service;
 
 pub use ask::Ask;
+pub use authorizer::Authorizer;
+pub use decision::Decision;
 pub use fault::RuleFault;
 pub use field::FieldName;
+pub use fields::Fields;
 pub use judge::Judge;
 pub use name::RuleName;
 pub use operation::Operation;
 pub use range::Range;
 pub use ranges::Ranges;
+pub use refusal::{Refusal, Refusals};
 pub use rule::{MAX_RANGES, Rule};
 pub use rule_list::{MAX_RULES, RuleList};
+pub use service::Service;

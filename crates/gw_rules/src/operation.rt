@@ -1,39 +1,109 @@
 //! What the gateway is about to do when it asks.
-ghost use Rattle.std.specs.Prelude.{◌≡◌};
-ghost use Rattle.gw_rules.specs.Operation.{operation_number};
+ghost use Rattle.std.specs.Prelude.{◌≡◌, ◌↔◌, ◌==◌, find, nat_eq};
+ghost use Rattle.std.specs.Cmp.Lexicographic.{pointwise};
+ghost use Rattle.gw_rules.specs.declared.operation.Operation.{Operation};
+ghost use Rattle.gw_rules.specs.Operation.{operation_name, operation_number};
 
-/// What the gateway is about to do when it asks.
+/// What the gateway is about to do when it asks. Names and numbers are this project's own.
 #[derive(Clone, Copy, Debug, PartialEq, Eq)]
 pub enum Operation {
-    /// 1: distribute a broadcast to peers, foreign devices and the own subnet (Annex J).
+    /// 1, `cast`: distribute a broadcast to peers, foreign devices and the own subnet (Annex J).
     Cast = 1,
-    /// 2: send a message on to another network (clause 6).
+    /// 2, `route`: send a message on to another network (clause 6).
     Route = 2,
-    /// 3: register a foreign device (Annex J).
+    /// 3, `register`: register a foreign device (Annex J).
     Register = 3,
-    /// 4: delete a foreign device's registration (Annex J).
+    /// 4, `delete`: delete a foreign device's registration (Annex J).
     Delete = 4,
-    /// 5: show a broadcast distribution table or the foreign devices (Annex J).
+    /// 5, `read-table`: show a broadcast distribution table or the foreign devices (Annex J).
     ReadTable = 5,
-    /// 6: replace a broadcast distribution table (Annex J).
+    /// 6, `write-table`: replace a broadcast distribution table (Annex J).
     WriteTable = 6,
-    /// 7: learn a route to a network from another router (clause 6).
+    /// 7, `learn`: learn a route to a network from another router (clause 6).
     Learn = 7,
-    /// 8: answer a question about networks (clause 6).
+    /// 8, `network`: answer a question about networks (clause 6).
     Network = 8,
-    /// 9: read a property of the device (clause 15).
+    /// 9, `read`: read a property of the device (clause 15).
     Read = 9,
-    /// 10: write a property of the device (clauses 15 and 19).
+    /// 10, `write`: write a property of the device (clauses 15 and 19).
     Write = 10,
-    /// 11: tell that the device or one of its objects is here (clause 16).
+    /// 11, `list`: tell that the device or one of its objects is here (clause 16).
     List = 11,
 }
 
 impl Operation {
+    /// The eleven operations in the order of their numbers.
+    pub const ALL: [Operation; 11] = [
+        Operation::Cast,
+        Operation::Route,
+        Operation::Register,
+        Operation::Delete,
+        Operation::ReadTable,
+        Operation::WriteTable,
+        Operation::Learn,
+        Operation::Network,
+        Operation::Read,
+        Operation::Write,
+        Operation::List,
+    ];
+
+    /// The name under which a configuration and the log show it.
+    pub fn name(self) -> &'static str
+        ensures { result.now ≡ operation_name self }
+    {
+        match self {
+            Operation::Cast => "cast",
+            Operation::Route => "route",
+            Operation::Register => "register",
+            Operation::Delete => "delete",
+            Operation::ReadTable => "read-table",
+            Operation::WriteTable => "write-table",
+            Operation::Learn => "learn",
+            Operation::Network => "network",
+            Operation::Read => "read",
+            Operation::Write => "write",
+            Operation::List => "list",
+        }
+    }
+
+    /// The operation of this name, or `None` where none has it.
+    pub fn from_name(text: &str) -> Option<Self>
+        ensures { (operation : Operation) →
+            (result ≡ Some operation) ↔ (text.now ≡ operation_name operation) }
+    {
+        of_name(text)
+    }
+
     /// The number under which asks and rules name it, from 1 to 11.
     pub fn number(self) -> u64
         ensures { result ≡ operation_number self }
     {
         self as u64
     }
+
+    /// The operation of this number, or `None` where none has it.
+    pub fn from_number(number: u64) -> Option<Self>
+        ensures { (operation : Operation) →
+            (result ≡ Some operation) ↔ (number ≡ operation_number operation) }
+    {
+        of_number(number)
+    }
+}
+
+fn of_name(text: &str) -> Option<Operation>
+    ensures { result ≡ find (λ o. pointwise nat_eq (operation_name o) text.now) Operation.ALL }
+{
+    Operation::ALL
+        .iter()
+        .copied()
+        .find(|operation| operation.name() == text)
+}
+
+fn of_number(number: u64) -> Option<Operation>
+    ensures { result ≡ find (λ o. operation_number o == number) Operation.ALL }
+{
+    Operation::ALL
+        .iter()
+        .copied()
+        .find(|operation| operation.number() == number)
 }

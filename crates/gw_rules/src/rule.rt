@@ -1,9 +1,11 @@
 //! A rule: the ranges by which it picks asks, and what it says of those that it matches.
-ghost use Rattle.std.specs.Prelude.{◌≡◌, IfOk, IsOkUnless};
+ghost use Rattle.std.specs.Prelude.{◌≡◌, [], ◌∷◌, ◌++◌, IfOk, IsOkUnless, OnOk};
+ghost use Rattle.gw_rules.specs.Fields.{in_each, value_of, with_value};
 ghost use Rattle.gw_rules.specs.Rule.{has_few_ranges, has_ordered_ranges, matches, ranges_of, rule_without_fields, with_range};
 
-use crate::{Ask, FieldName, Range, Ranges, RuleFault, RuleName};
-use std::alloc::Global;
+use crate::ranges::{admit, are_ordered};
+use crate::{Ask, FieldName, Fields, Range, Ranges, RuleFault, RuleName};
+use std::alloc::{AllocError, Global};
 
 /// How many ranges a rule in a [`RuleList`](crate::RuleList) may have for one field.
 pub const MAX_RANGES: usize = 4;
@@ -18,26 +20,8 @@ pub struct Rule {
     pub name: RuleName,
     /// Whether an ask is allowed whose first matching rule this is.
     pub allow: bool,
-    /// The operations, by [`Operation`](crate::Operation)'s numbers.
-    pub operation: Ranges,
-    /// The ports on which the datagram came, from 1.
-    pub port: Ranges,
-    /// The networks of the stations that are said to have sent it.
-    pub source_network: Ranges,
-    /// The addresses of six octets of these stations, as numbers of 48 bits.
-    pub source_key: Ranges,
-    /// The networks to which it goes.
-    pub destination_network: Ranges,
-    /// The services, numbered as [`FieldName::Service`] says.
-    pub service: Ranges,
-    /// The types of the object.
-    pub object_type: Ranges,
-    /// The instances of the object.
-    pub instance: Ranges,
-    /// The properties.
-    pub property: Ranges,
-    /// The priorities of a write.
-    pub priority: Ranges,
+    /// The ranges for each field.
+    pub ranges: Fields<Ranges>,
 }
 
 impl Rule {
@@ -50,16 +34,7 @@ impl Rule {
         Ok(Rule {
             name: RuleName::new(alloc, name)?,
             allow,
-            operation: Ranges::new(alloc),
-            port: Ranges::new(alloc),
-            source_network: Ranges::new(alloc),
-            source_key: Ranges::new(alloc),
-            destination_network: Ranges::new(alloc),
-            service: Ranges::new(alloc),
-            object_type: Ranges::new(alloc),
-            instance: Ranges::new(alloc),
-            property: Ranges::new(alloc),
-            priority: Ranges::new(alloc),
+            ranges: no_ranges(alloc),
         })
     }
 
@@ -69,18 +44,7 @@ impl Rule {
         ensures rule { IfOk result (λ rule. rule ≡ with_range field range self) }
         ensures memory { IsOkUnless result RuleFault.Memory }
     {
-        match field {
-            FieldName::Operation => self.operation.push(range)?,
-            FieldName::Port => self.port.push(range)?,
-            FieldName::SourceNetwork => self.source_network.push(range)?,
-            FieldName::SourceKey => self.source_key.push(range)?,
-            FieldName::DestinationNetwork => self.destination_network.push(range)?,
-            FieldName::Service => self.service.push(range)?,
-            FieldName::ObjectType => self.object_type.push(range)?,
-            FieldName::Instance => self.instance.push(range)?,
-            FieldName::Property => self.property.push(range)?,
-            FieldName::Priority => self.priority.push(range)?,
-        }
+        put(&mut self.ranges, field, range)?;
         Ok(self)
     }
 
@@ -88,18 +52,7 @@ impl Rule {
     pub fn ranges(&self, field: FieldName) -> &Ranges
         ensures { result.now ≡ ranges_of field self.now }
     {
-        match field {
-            FieldName::Operation => &self.operation,
-            FieldName::Port => &self.port,
-            FieldName::SourceNetwork => &self.source_network,
-            FieldName::SourceKey => &self.source_key,
-            FieldName::DestinationNetwork => &self.destination_network,
-            FieldName::Service => &self.service,
-            FieldName::ObjectType => &self.object_type,
-            FieldName::Instance => &self.instance,
-            FieldName::Property => &self.property,
-            FieldName::Priority => &self.priority,
-        }
+        self.ranges.get(field)
     }
 
     /// Whether the rule matches the ask.
@@ -107,47 +60,74 @@ impl Rule {
     pub fn matches(&self, ask: &Ask) -> bool
         ensures { result ≡ matches self.now ask.now }
     {
-        self.operation.admits(ask.operation)
-            && self.port.admits(ask.port)
-            && self.source_network.admits(ask.source_network)
-            && self.source_key.admits(ask.source_key)
-            && self.destination_network.admits(ask.destination_network)
-            && self.service.admits(ask.service)
-            && self.object_type.admits(ask.object_type)
-            && self.instance.admits(ask.instance)
-            && self.property.admits(ask.property)
-            && self.priority.admits(ask.priority)
+        let ranges = &self.ranges;
+        admit(ranges.operation.as_slice(), ask.operation)
+            && admit(ranges.port.as_slice(), ask.port)
+            && admit(ranges.source_network.as_slice(), ask.source_network)
+            && admit(ranges.source_key.as_slice(), ask.source_key)
+            && admit(
+                ranges.destination_network.as_slice(),
+                ask.destination_network,
+            )
+            && admit(ranges.service.as_slice(), ask.service)
+            && admit(ranges.object_type.as_slice(), ask.object_type)
+            && admit(ranges.instance.as_slice(), ask.instance)
+            && admit(ranges.property.as_slice(), ask.property)
+            && admit(ranges.priority.as_slice(), ask.priority)
     }
 
     /// Whether the rule has at most four ranges for each field.
     pub(crate) fn has_few_ranges(&self) -> bool
         ensures { result ≡ has_few_ranges self.now }
     {
-        self.operation.len() <= MAX_RANGES
-            && self.port.len() <= MAX_RANGES
-            && self.source_network.len() <= MAX_RANGES
-            && self.source_key.len() <= MAX_RANGES
-            && self.destination_network.len() <= MAX_RANGES
-            && self.service.len() <= MAX_RANGES
-            && self.object_type.len() <= MAX_RANGES
-            && self.instance.len() <= MAX_RANGES
-            && self.property.len() <= MAX_RANGES
-            && self.priority.len() <= MAX_RANGES
+        FieldName::ALL
+            .iter()
+            .all(|field| self.ranges(*field).len() <= MAX_RANGES)
     }
 
     /// Whether no range of the rule has its low end above its high end.
     pub(crate) fn has_ordered_ranges(&self) -> bool
         ensures { result ≡ has_ordered_ranges self.now }
     {
-        self.operation.is_ordered()
-            && self.port.is_ordered()
-            && self.source_network.is_ordered()
-            && self.source_key.is_ordered()
-            && self.destination_network.is_ordered()
-            && self.service.is_ordered()
-            && self.object_type.is_ordered()
-            && self.instance.is_ordered()
-            && self.property.is_ordered()
-            && self.priority.is_ordered()
+        FieldName::ALL
+            .iter()
+            .all(|field| are_ordered(self.ranges(*field).as_slice()))
+    }
+}
+
+/// No range for any field. It takes no memory.
+fn no_ranges(alloc: Global) -> Fields<Ranges>
+    ensures { result ≡ in_each [] }
+{
+    Fields {
+        operation: Ranges::new(alloc),
+        port: Ranges::new(alloc),
+        source_network: Ranges::new(alloc),
+        source_key: Ranges::new(alloc),
+        destination_network: Ranges::new(alloc),
+        service: Ranges::new(alloc),
+        object_type: Ranges::new(alloc),
+        instance: Ranges::new(alloc),
+        property: Ranges::new(alloc),
+        priority: Ranges::new(alloc),
+    }
+}
+
+/// Puts one more range for a field behind those that are there.
+fn put(ranges: &mut Fields<Ranges>, field: FieldName, range: Range) -> Result<(), AllocError>
+    ensures { OnOk result (ranges.new ≡
+        with_value field (value_of field ranges.old ++ range ∷ []) ranges.old) }
+{
+    match field {
+        FieldName::Operation => ranges.operation.push(range),
+        FieldName::Port => ranges.port.push(range),
+        FieldName::SourceNetwork => ranges.source_network.push(range),
+        FieldName::SourceKey => ranges.source_key.push(range),
+        FieldName::DestinationNetwork => ranges.destination_network.push(range),
+        FieldName::Service => ranges.service.push(range),
+        FieldName::ObjectType => ranges.object_type.push(range),
+        FieldName::Instance => ranges.instance.push(range),
+        FieldName::Property => ranges.property.push(range),
+        FieldName::Priority => ranges.priority.push(range),
     }
 }

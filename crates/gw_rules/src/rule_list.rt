@@ -2,9 +2,9 @@
 ghost use Rattle.std.specs.Prelude.{◌≡◌, ◌<◌, ◌↔◌, ◌&&◌, IsTrue, IsFalse, IsOk, IfOk, IfSome, IsErrOf, [], false, length, position};
 ghost use Rattle.std.specs.List.{list_all};
 ghost use Rattle.gw_rules.specs.Rule.{has_few_ranges, matches};
-ghost use Rattle.gw_rules.specs.RuleList.{IsNumberOf, KeepsCounts, KeepsOrder, allows, first, keeps_counts, keeps_order};
+ghost use Rattle.gw_rules.specs.RuleList.{IsNumberOf, KeepsCounts, KeepsOrder, allows, decide, first, keeps_counts, keeps_order};
 
-use crate::{Ask, Rule, RuleFault};
+use crate::{Ask, Decision, Rule, RuleFault};
 use std::marker::Model;
 
 /// How many rules a [`RuleList`] may have.
@@ -37,7 +37,8 @@ impl RuleList {
     /// else `Range` where a range's low end is above its high end. The rules are dropped then.
     pub fn new(rules: Vec<Rule>) -> Result<Self, RuleFault>
         ensures list { IfOk result (λ list. list ≡ rules.items) }
-        ensures accepted { IsOk result ↔ IsTrue (keeps_counts rules.items && keeps_order rules.items) }
+        ensures accepted { IsOk result ↔
+            IsTrue (keeps_counts rules.items && keeps_order rules.items) }
         ensures too_many { IsErrOf result RuleFault.TooMany ↔ IsFalse (keeps_counts rules.items) }
         ensures range { IsErrOf result RuleFault.Range ↔
             (IsTrue (keeps_counts rules.items) × IsFalse (keeps_order rules.items)) }
@@ -81,6 +82,17 @@ impl RuleList {
         match self.first(ask) {
             Some(number) => self.rules[usize::from(number) - 1].allow,
             None => false,
+        }
+    }
+
+    /// Both at once, by one walk: whether the ask is allowed, and which rule denies it.
+    #[tactic(auto, unfolding(crate::specs::RuleList::allows))]
+    pub fn decide(&self, ask: &Ask) -> Decision
+        ensures { result ≡ decide self.now ask.now }
+    {
+        match self.first(ask) {
+            Some(number) if self.rules[usize::from(number) - 1].allow => Decision::Allow,
+            by => Decision::Deny { by },
         }
     }
 }

@@ -143,7 +143,7 @@ fn longest_message(rt: HostRuntime) -> Result<(), Fail> {
     assert_eq!(rt; too_long, Err(EncodeFault::TooLong));
     assert_eq!(rt; out.len(), 0);
     let longest = Bvll::OriginalUnicast(&npdu[..1503]);
-    encode(&longest, &mut out).ok().ok_or("memory")?;
+    encode(&longest, &mut out)?;
     assert_eq!(rt; out.len(), 1507);
     assert_eq!(rt; decode(&out), Ok(longest));
     Ok(())

@@ -1,5 +1,7 @@
 //! Readers and writers that are slow, narrow or small, and that fail at a call of your choice.
 
+ghost use Rattle.std.specs.Prelude.{Some};
+
 use std::io;
 use std::io::{Read, Write};
 
@@ -11,17 +13,15 @@ pub struct Slow {
 }
 
 impl Read for Slow {
+    ghost remaining = { λ reader. Some reader.bytes.now };
+
     fn read(&mut self, buf: &mut [u8]) -> io::Result<usize> {
         if self.fails == Some(0) {
             return Err(io::ErrorKind::Other.into());
         }
         self.fails = self.fails.map(|n| n.saturating_sub(1));
-        if self.bytes.is_empty() || buf.is_empty() {
-            return Ok(0);
-        }
-        buf[0] = self.bytes[0];
-        self.bytes = &self.bytes[1..];
-        Ok(1)
+        let count = buf.len().min(1);
+        self.bytes.read(&mut buf[..count])
     }
 }
 
@@ -34,6 +34,8 @@ pub struct Narrow {
 }
 
 impl Write for Narrow {
+    ghost contents = { λ writer. Some writer.held.items };
+
     fn write(&mut self, buf: &[u8]) -> io::Result<usize> {
         if buf.is_empty() {
             return Ok(0);
@@ -65,6 +67,10 @@ pub struct Small {
 }
 
 impl Write for Small {
+    ghost use Rattle.std.specs.Prelude.{take};
+
+    ghost contents = { λ writer. Some (take writer.len writer.held) };
+
     fn write(&mut self, buf: &[u8]) -> io::Result<usize> {
         if buf.is_empty() || self.len >= 128 {
             return Ok(0);

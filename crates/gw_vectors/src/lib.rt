@@ -15,7 +15,11 @@ mod gateway;
 #[cfg(test)]
 mod npdu;
 #[cfg(test)]
+mod priority;
+#[cfg(test)]
 mod replay;
+#[cfg(test)]
+mod routes;
 #[cfg(test)]
 mod rules;
 #[cfg(test)]

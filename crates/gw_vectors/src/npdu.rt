@@ -1,8 +1,9 @@
-//! The messages of the network layer: octets from outside, faults, headers for the next hop, and a refused growth.
+//! The messages of the network layer: octets from outside, faults, headers for the next hop, messages that differ in one field,
+//! and a refused growth.
 
 use gw_npdu::{
-    Destination, EncodeFault, NetMessage, Npdu, NpduFault, Onward, Payload, Priority, Station,
-    decode, encode, relay_header,
+    AddressRef, Destination, EncodeFault, MessageKind, NetMessage, Npdu, NpduFault, Onward, Payload,
+    Priority, decode, encode, relay_header,
 };
 use std::test::*;
 
@@ -18,12 +19,12 @@ fn a_routed_read(rt: HostRuntime) -> Result<(), Fail> {
     let want = Npdu {
         destination: Some(Destination {
             network: 100,
-            address: &[0x01],
+            mac: &[0x01],
             hops: 254,
         }),
-        source: Some(Station {
+        source: Some(AddressRef {
             network: 500,
-            address: &[0x07],
+            mac: &[0x07],
         }),
         reply_expected: true,
         priority: Priority::Normal,
@@ -78,7 +79,7 @@ fn faults(rt: HostRuntime) {
 }
 
 #[test]
-fn messages_between_routers(rt: HostRuntime) -> Result<(), Fail> {
+fn network_layer_messages(rt: HostRuntime) -> Result<(), Fail> {
     let plain = |message| Npdu {
         destination: None,
         source: None,
@@ -104,7 +105,7 @@ fn messages_between_routers(rt: HostRuntime) -> Result<(), Fail> {
     let asked = Npdu {
         destination: Some(Destination {
             network: 500,
-            address: &[0x07],
+            mac: &[0x07],
             hops: 255,
         }),
         ..reject
@@ -178,9 +179,9 @@ const FROM_ONE: [u8; 6] = [0xC0, 0xA8, 0x01, 0x05, 0xBA, 0xC0];
 
 #[test]
 fn headers_for_the_next_hop(rt: HostRuntime) -> Result<(), Fail> {
-    let source = Station {
+    let source = AddressRef {
         network: 1,
-        address: &FROM_ONE,
+        mac: &FROM_ONE,
     };
     let delivered = Onward {
         keeps_destination: false,
@@ -246,9 +247,9 @@ fn the_longest_header(rt: HostRuntime) -> Result<(), Fail> {
     let npdu = decode(&TO_TWO)?;
     let how = Onward {
         keeps_destination: false,
-        source: Station {
+        source: AddressRef {
             network: 1,
-            address: &FROM_ONE,
+            mac: &FROM_ONE,
         },
     };
     let mut out = Vec::from_slice(rt.alloc(), b"before")?;
@@ -272,9 +273,9 @@ fn a_refused_growth_leaves_the_buffer(rt: HostRuntime) -> Result<(), Fail> {
     let npdu = decode(&ROUTED_READ)?;
     let how = Onward {
         keeps_destination: true,
-        source: Station {
+        source: AddressRef {
             network: 1,
-            address: &FROM_ONE,
+            mac: &FROM_ONE,
         },
     };
     let Ok(mut out) = Vec::from_slice(rt.alloc(), b"before") else {
@@ -304,20 +305,20 @@ fn a_refused_growth_leaves_the_buffer(rt: HostRuntime) -> Result<(), Fail> {
 
 #[test]
 fn networks(rt: HostRuntime) {
-    let station = Station {
+    let station = AddressRef {
         network: 7,
-        address: &[1],
+        mac: &[1],
     };
     assert_eq!(rt; station.net().get(), 7);
     let one = Destination {
         network: 65534,
-        address: &[],
+        mac: &[],
         hops: 1,
     };
     assert_eq!(rt; one.net().map(|net| net.get()), Some(65534));
     let every = Destination {
         network: Destination::EVERY_NETWORK,
-        address: &[],
+        mac: &[],
         hops: 1,
     };
     assert!(rt; every.net().is_none());
@@ -332,5 +333,98 @@ fn texts_of_faults(rt: HostRuntime) -> Result<(), Fail> {
     );
     let long = EncodeFault::TooLong.to_string(rt.alloc())?;
     assert_eq!(rt; long.as_str(), "the message would be over 1497 octets");
+    Ok(())
+}
+
+/// `==` tells messages apart that differ in one field alone: each row but the first has one field of the first changed.
+#[test]
+fn messages_that_differ_in_one_field(rt: HostRuntime) -> Result<(), Fail> {
+    let rows: [&[u8]; 13] = [
+        &[1, 0x2D, 0, 100, 2, 1, 2, 1, 244, 1, 7, 254, 0x10, 8],
+        // The destination: none, and its network, its station, its hop count.
+        &[1, 0x0D, 1, 244, 1, 7, 0x10, 8],
+        &[1, 0x2D, 0, 101, 2, 1, 2, 1, 244, 1, 7, 254, 0x10, 8],
+        &[1, 0x2D, 0, 100, 2, 1, 3, 1, 244, 1, 7, 254, 0x10, 8],
+        &[1, 0x2D, 0, 100, 1, 1, 1, 244, 1, 7, 254, 0x10, 8],
+        &[1, 0x2D, 0, 100, 2, 1, 2, 1, 244, 1, 7, 253, 0x10, 8],
+        // The source: none, and its network and its station.
+        &[1, 0x25, 0, 100, 2, 1, 2, 254, 0x10, 8],
+        &[1, 0x2D, 0, 100, 2, 1, 2, 1, 245, 1, 7, 254, 0x10, 8],
+        &[1, 0x2D, 0, 100, 2, 1, 2, 1, 244, 2, 7, 0, 254, 0x10, 8],
+        // Reply expected, the priority, and the payload.
+        &[1, 0x29, 0, 100, 2, 1, 2, 1, 244, 1, 7, 254, 0x10, 8],
+        &[1, 0x2F, 0, 100, 2, 1, 2, 1, 244, 1, 7, 254, 0x10, 8],
+        &[1, 0x2D, 0, 100, 2, 1, 2, 1, 244, 1, 7, 254, 0x10],
+        &[1, 0x2D, 0, 100, 2, 1, 2, 1, 244, 1, 7, 254, 0x10, 9],
+    ];
+    for one in rows {
+        for other in rows {
+            assert_eq!(rt; decode(one)? == decode(other)?, one == other, "{one:?} {other:?}");
+        }
+    }
+    Ok(())
+}
+
+/// The same of network layer messages.
+#[test]
+fn network_layer_messages_that_differ_in_one_field(rt: HostRuntime) -> Result<(), Fail> {
+    let rows: [&[u8]; 7] = [
+        &[1, 0x80, 0x80, 1, 2, 0xAA],
+        // The type, the vendor, and the octets.
+        &[1, 0x80, 0x81, 1, 2, 0xAA],
+        &[1, 0x80, 0x80, 1, 3, 0xAA],
+        &[1, 0x80, 0x80, 2, 2, 0xAA],
+        &[1, 0x80, 0x80, 1, 2, 0xAB],
+        &[1, 0x80, 0x80, 1, 2],
+        // An APDU of those octets.
+        &[1, 0x00, 0xAA],
+    ];
+    for one in rows {
+        for other in rows {
+            assert_eq!(rt; decode(one)? == decode(other)?, one == other, "{one:?} {other:?}");
+        }
+    }
+    Ok(())
+}
+
+#[test]
+fn types_of_network_layer_messages(rt: HostRuntime) {
+    let rows = [
+        (0x00, MessageKind::WhoIsRouterToNetwork),
+        (0x01, MessageKind::IAmRouterToNetwork),
+        (0x02, MessageKind::ICouldBeRouterToNetwork),
+        (0x03, MessageKind::RejectMessageToNetwork),
+        (0x04, MessageKind::RouterBusyToNetwork),
+        (0x05, MessageKind::RouterAvailableToNetwork),
+        (0x06, MessageKind::InitializeRoutingTable),
+        (0x07, MessageKind::InitializeRoutingTableAck),
+        (0x08, MessageKind::EstablishConnectionToNetwork),
+        (0x09, MessageKind::DisconnectConnectionToNetwork),
+        (0x12, MessageKind::WhatIsNetworkNumber),
+        (0x13, MessageKind::NetworkNumberIs),
+    ];
+    for (number, kind) in rows {
+        assert_eq!(rt; kind.number(), number);
+        assert_eq!(rt; MessageKind::from_number(number), Some(kind));
+    }
+    for number in [0x0A, 0x11, 0x14, 0x7F, 0x80, 0xFF] {
+        assert_eq!(rt; MessageKind::from_number(number), None);
+    }
+}
+
+/// A buffer with room keeps it, so that the next message is written where it stands.
+#[test]
+fn room_stays(rt: HostRuntime) -> Result<(), Fail> {
+    let npdu = Npdu {
+        destination: None,
+        source: None,
+        reply_expected: false,
+        priority: Priority::Normal,
+        payload: Payload::Apdu(&[0x10, 0x08]),
+    };
+    let mut out = Vec::with_capacity(rt.alloc(), 64)?;
+    encode(&npdu, &mut out)?;
+    assert_eq!(rt; out.as_slice(), [0x01, 0x00, 0x10, 0x08].as_slice());
+    assert!(rt; out.capacity() >= 64);
     Ok(())
 }

@@ -2,6 +2,8 @@
 
 use crate::fakes::{Narrow, Slow, Small};
 use gw_core::{RunFault, replay, setting_s};
+use std::alloc::Global;
+use std::io::{Read, Write};
 use std::test::*;
 
 /// The read of Binary Value 1, and its answer.
@@ -10,60 +12,92 @@ const READ: &[u8] = b"1 192.168.1.5:47808 810A0016012400640101FF0005070C0C014000
 const ANSWER: &[u8] =
     b"send 1 192.168.1.5:47808 810A001801080064010130070C0C0140000119553E91003F\nend\n";
 
+/// How a replay of a script ended. Want of memory ends the test in its place.
+fn end_of<R: Read, W: Write>(
+    alloc: Global,
+    reader: &mut R,
+    writer: &mut W,
+) -> Result<Result<(), RunFault>, RunFault> {
+    let Ok(config) = setting_s(alloc) else {
+        return Err(RunFault::Memory);
+    };
+    match replay(alloc, config, reader, writer) {
+        Err(RunFault::Memory) => Err(RunFault::Memory),
+        end => Ok(end),
+    }
+}
+
+/// Whether a script's replay ends so and writes this text.
+fn plays(
+    alloc: Global,
+    mut script: &[u8],
+    want: Result<(), RunFault>,
+    text: &[u8],
+) -> Result<bool, Fail> {
+    let mut written = Vec::with_capacity(alloc, text.len())?;
+    let end = end_of(alloc, &mut script, &mut written)?;
+    Ok(end == want && written.as_slice() == text)
+}
+
+/// A script, how its replay ends, and what it writes.
+type Case = (&'static [u8], Result<(), RunFault>, &'static [u8]);
+
+const WHOLE_RUNS: [Case; 6] = [
+    (b"", Ok(()), b""),
+    (b"tick", Ok(()), b"end\n"),
+    (b"tick\n1 192.168.1.5:47808 -\n", Ok(()), b"end\nend\n"),
+    (READ, Ok(()), ANSWER),
+    (
+        b"2 192.168.2.5:47808 810a0016012400640101Ff0005070c0C014000011955",
+        Ok(()),
+        b"send 2 192.168.2.5:47808 810A001801080064010130070C0C0140000119553E91003F\nend\n",
+    ),
+    (
+        b"1 192.168.1.5:47808 810A0016012400640101FF0005080C0C014000021955\ntick",
+        Ok(()),
+        b"send 1 192.168.1.5:47808 810A001101080064010150080C9102911B\nend\nend\n",
+    ),
+];
+
+const BAD_LINES: [Case; 14] = [
+    (
+        b"tick\n3 192.168.1.5:47808 -\n",
+        Err(RunFault::Line(2)),
+        b"end\n",
+    ),
+    (b"\n", Err(RunFault::Line(1)), b""),
+    (b"tick\n\ntick\n", Err(RunFault::Line(2)), b"end\n"),
+    (b"tick\r\n", Err(RunFault::Line(1)), b""),
+    (
+        b"tick\n1 192.168.1.5:47808 -\r\n",
+        Err(RunFault::Line(2)),
+        b"end\n",
+    ),
+    (b"tick ", Err(RunFault::Line(1)), b""),
+    (b"0 192.168.1.5:47808 -", Err(RunFault::Line(1)), b""),
+    (b"01 192.168.1.5:47808 -", Err(RunFault::Line(1)), b""),
+    (b"1 192.168.1.5:47808 ", Err(RunFault::Line(1)), b""),
+    (b"1 192.168.1.5:47808", Err(RunFault::Line(1)), b""),
+    (b"1 192.168.1.5:47808 0", Err(RunFault::Line(1)), b""),
+    (b"1 192.168.1.5:47808 0G", Err(RunFault::Line(1)), b""),
+    (b"1  192.168.1.5:47808 00", Err(RunFault::Line(1)), b""),
+    (b"1 192.168.1.05:47808 00", Err(RunFault::Line(1)), b""),
+];
+
 #[test]
 fn scripts_and_their_text(rt: HostRuntime) -> Result<(), Fail> {
-    let alloc = rt.alloc();
-    let cases: [(&[u8], Result<(), RunFault>, &[u8]); 20] = [
-        (b"", Ok(()), b""),
-        (
-            b"tick\n3 192.168.1.5:47808 -\n",
-            Err(RunFault::Line(2)),
-            b"end\n",
-        ),
-        (b"tick\n1 192.168.1.5:47808 -\n", Ok(()), b"end\nend\n"),
-        (READ, Ok(()), ANSWER),
-        (
-            b"2 192.168.2.5:47808 810a0016012400640101Ff0005070c0C014000011955",
-            Ok(()),
-            b"send 2 192.168.2.5:47808 810A001801080064010130070C0C0140000119553E91003F\nend\n",
-        ),
-        (
-            b"1 192.168.1.5:47808 810A0016012400640101FF0005080C0C014000021955\ntick",
-            Ok(()),
-            b"send 1 192.168.1.5:47808 810A001101080064010150080C9102911B\nend\nend\n",
-        ),
-        (b"tick", Ok(()), b"end\n"),
-        (b"\n", Err(RunFault::Line(1)), b""),
-        (b"tick\n\ntick\n", Err(RunFault::Line(2)), b"end\n"),
-        (b"tick\r\n", Err(RunFault::Line(1)), b""),
-        (
-            b"tick\n1 192.168.1.5:47808 -\r\n",
-            Err(RunFault::Line(2)),
-            b"end\n",
-        ),
-        (b"tick ", Err(RunFault::Line(1)), b""),
-        (b"0 192.168.1.5:47808 -", Err(RunFault::Line(1)), b""),
-        (b"01 192.168.1.5:47808 -", Err(RunFault::Line(1)), b""),
-        (b"1 192.168.1.5:47808 ", Err(RunFault::Line(1)), b""),
-        (b"1 192.168.1.5:47808", Err(RunFault::Line(1)), b""),
-        (b"1 192.168.1.5:47808 0", Err(RunFault::Line(1)), b""),
-        (b"1 192.168.1.5:47808 0G", Err(RunFault::Line(1)), b""),
-        (b"1  192.168.1.5:47808 00", Err(RunFault::Line(1)), b""),
-        (b"1 192.168.1.05:47808 00", Err(RunFault::Line(1)), b""),
-    ];
-    for (script, want, text) in cases {
-        let mut reader: &[u8] = script;
-        let mut written = Vec::new(alloc);
-        let got = replay(alloc, setting_s(alloc)?, &mut reader, &mut written);
-        assert_eq!(rt; got, want, "{script:?}");
-        assert_eq!(rt; written.as_slice(), text, "{script:?}");
+    for (script, want, text) in WHOLE_RUNS {
+        assert!(rt; plays(rt.alloc(), script, want, text)?, "{script:?}");
+    }
+    for (script, want, text) in BAD_LINES {
+        assert!(rt; plays(rt.alloc(), script, want, text)?, "{script:?}");
     }
     Ok(())
 }
 
 /// A line of so many octets, with its line feed: a datagram of zeros.
-fn long_line(rt: &HostRuntime, len: usize) -> Result<Vec<u8>, Fail> {
-    let mut line = Vec::from_slice(rt.alloc(), b"1 192.168.1.50:47808 ")?;
+fn long_line(alloc: Global, len: usize) -> Result<Vec<u8>, Fail> {
+    let mut line = Vec::from_slice(alloc, b"1 192.168.1.50:47808 ")?;
     for _ in 21..len {
         line.push(b'0')?;
     }
@@ -73,97 +107,103 @@ fn long_line(rt: &HostRuntime, len: usize) -> Result<Vec<u8>, Fail> {
 
 #[test]
 fn lines_of_the_longest_length(rt: HostRuntime) -> Result<(), Fail> {
-    let alloc = rt.alloc();
-    let mut short = long_line(&rt, 4095)?;
+    let mut short = long_line(rt.alloc(), 4095)?;
     short.extend_from_slice(b"tick")?;
-    let mut reader = short.as_slice();
-    let mut written = Vec::new(alloc);
-    let got = replay(alloc, setting_s(alloc)?, &mut reader, &mut written);
-    assert_eq!(rt; got, Ok(()));
-    assert_eq!(rt; written.as_slice(), &b"end\nend\n"[..]);
+    assert!(rt; plays(rt.alloc(), &short, Ok(()), b"end\nend\n")?);
     for len in [4096, 4097, 4098, 70_000] {
-        let line = long_line(&rt, len)?;
-        let mut reader = line.as_slice();
-        let mut written = Vec::new(alloc);
-        let got = replay(alloc, setting_s(alloc)?, &mut reader, &mut written);
-        assert_eq!(rt; got, Err(RunFault::Line(1)));
-        assert!(rt; written.is_empty());
+        let line = long_line(rt.alloc(), len)?;
+        assert!(rt;
+            plays(rt.alloc(), &line, Err(RunFault::Line(1)), b"")?,
+            "at {len}"
+        );
     }
     Ok(())
+}
+
+/// The octets so many times.
+fn repeated(alloc: Global, octets: &[u8], count: u32) -> Result<Vec<u8>, Fail> {
+    let mut all = Vec::new(alloc);
+    for _ in 0..count {
+        all.extend_from_slice(octets)?;
+    }
+    Ok(all)
 }
 
 #[test]
 fn many_lines(rt: HostRuntime) -> Result<(), Fail> {
-    let alloc = rt.alloc();
-    let mut script = Vec::new(alloc);
-    let mut text = Vec::new(alloc);
-    for _ in 0..3000 {
-        script.extend_from_slice(READ)?;
-        text.extend_from_slice(ANSWER)?;
-    }
-    let mut reader = script.as_slice();
-    let mut written = Vec::new(alloc);
-    let got = replay(alloc, setting_s(alloc)?, &mut reader, &mut written);
-    assert_eq!(rt; got, Ok(()));
-    assert!(rt; written == text);
+    let script = repeated(rt.alloc(), READ, 300)?;
+    let text = repeated(rt.alloc(), ANSWER, 300)?;
+    assert!(rt; plays(rt.alloc(), &script, Ok(()), &text)?);
     Ok(())
+}
+
+/// Whether the replay of three lines from a reader that gives one octet a call, and fails at the call of this number, ends so, with
+/// so many octets written.
+fn reads(
+    alloc: Global,
+    fails: Option<u32>,
+    want: Result<(), RunFault>,
+    len: usize,
+) -> Result<bool, Fail> {
+    let mut reader = Slow {
+        bytes: b"tick\n1 192.168.1.5:47808 -\ntick",
+        fails,
+    };
+    let mut written = Vec::with_capacity(alloc, 12)?;
+    let end = end_of(alloc, &mut reader, &mut written)?;
+    let text = b"end\nend\nend\n".as_slice();
+    Ok(end == want && written.len() == len && text.starts_with(&written))
 }
 
 #[test]
 fn a_reader_that_is_slow_or_fails(rt: HostRuntime) -> Result<(), Fail> {
-    let alloc = rt.alloc();
-    let script = b"tick\n1 192.168.1.5:47808 -\ntick";
-    let mut reader = Slow {
-        bytes: script,
-        fails: None,
-    };
-    let mut written = Vec::new(alloc);
-    let got = replay(alloc, setting_s(alloc)?, &mut reader, &mut written);
-    assert_eq!(rt; got, Ok(()));
-    assert_eq!(rt; written.as_slice(), &b"end\nend\nend\n"[..]);
-    for fails in 0..32 {
-        let mut reader = Slow {
-            bytes: script,
-            fails: Some(fails),
-        };
-        let mut written = Vec::new(alloc);
-        let got = replay(alloc, setting_s(alloc)?, &mut reader, &mut written);
-        assert_eq!(rt; got, Err(RunFault::Read));
-        let lines = if fails < 5 {
-            0
-        } else if fails < 27 {
-            1
-        } else {
-            2
-        };
-        assert_eq!(rt; written.len(), 4 * lines, "at {fails}");
+    assert!(rt; reads(rt.alloc(), None, Ok(()), 12)?);
+    for (calls, len) in [(0..5, 0), (5..27, 4), (27..32, 8)] {
+        for fails in calls {
+            assert!(rt;
+                reads(rt.alloc(), Some(fails), Err(RunFault::Read), len)?,
+                "at {fails}"
+            );
+        }
     }
     Ok(())
 }
 
+/// Whether a replay to a writer that takes so many octets ends so, with the front of the text written that it took.
+fn stops(
+    alloc: Global,
+    mut script: &[u8],
+    text: &[u8],
+    left: usize,
+    takes_nothing: bool,
+) -> Result<bool, Fail> {
+    let mut writer = Narrow {
+        held: Vec::with_capacity(alloc, text.len())?,
+        left,
+        takes_nothing,
+    };
+    let end = end_of(alloc, &mut script, &mut writer)?;
+    let want = if left < text.len() {
+        Err(RunFault::Write)
+    } else {
+        Ok(())
+    };
+    let front = text.get(..left).ok_or("a front of the text")?;
+    Ok(end == want && writer.held.as_slice() == front)
+}
+
 #[test]
 fn a_writer_that_is_narrow_or_fails(rt: HostRuntime) -> Result<(), Fail> {
-    let alloc = rt.alloc();
-    let mut script = Vec::from_slice(alloc, b"tick\n")?;
+    let mut script = Vec::from_slice(rt.alloc(), b"tick\n")?;
     script.extend_from_slice(READ)?;
-    let mut text = Vec::from_slice(alloc, b"end\n")?;
+    let mut text = Vec::from_slice(rt.alloc(), b"end\n")?;
     text.extend_from_slice(ANSWER)?;
     for left in 0..text.len() + 1 {
         for takes_nothing in [false, true] {
-            let mut reader = script.as_slice();
-            let mut writer = Narrow {
-                held: Vec::new(alloc),
-                left,
-                takes_nothing,
-            };
-            let got = replay(alloc, setting_s(alloc)?, &mut reader, &mut writer);
-            let want = if left < text.len() {
-                Err(RunFault::Write)
-            } else {
-                Ok(())
-            };
-            assert_eq!(rt; got, want, "after {left}");
-            assert!(rt; writer.held.as_slice() == &text[..left]);
+            assert!(rt;
+                stops(rt.alloc(), &script, &text, left, takes_nothing)?,
+                "after {left}"
+            );
         }
     }
     Ok(())
@@ -172,21 +212,18 @@ fn a_writer_that_is_narrow_or_fails(rt: HostRuntime) -> Result<(), Fail> {
 /// Passes with ample memory, and also where any one growth is refused: no event is then written in part.
 #[test]
 fn a_refused_growth(rt: HostRuntime) -> Result<(), Fail> {
-    let Ok(config) = setting_s(rt.alloc()) else {
-        return Ok(());
-    };
     let mut reader: &[u8] =
         b"tick\n1 192.168.1.5:47808 810A0016012400640101FF0005070C0C014000011955\n";
     let mut writer = Small {
         held: [0; 128],
         len: 0,
     };
-    let got = replay(rt.alloc(), config, &mut reader, &mut writer);
-    if got == Ok(()) {
-        assert_eq!(rt; writer.len, 4 + ANSWER.len());
-    } else {
-        assert_eq!(rt; got, Err(RunFault::Memory));
-        assert!(rt; writer.len == 0 || writer.len == 4);
+    match end_of(rt.alloc(), &mut reader, &mut writer) {
+        Ok(end) => {
+            assert_eq!(rt; end, Ok(()));
+            assert_eq!(rt; writer.len, 4 + ANSWER.len());
+        }
+        Err(_) => assert!(rt; writer.len == 0 || writer.len == 4),
     }
     Ok(())
 }

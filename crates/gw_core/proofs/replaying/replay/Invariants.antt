@@ -1,10 +1,16 @@
 use Rattle.std.proofs.Common.{◌≡◌, ℕ, List, Some}
 use Rattle.std.specs.Io.KnownBytes.{prepend_known}
-use Rattle.gw_core.specs.Ahead.{held}
-use Rattle.gw_core.proofs.RunLaws.{Progress}
+use Rattle.gw_core.proofs.CallLemmas.{CallBound}
+use Rattle.gw_core.proofs.ReplayLemmas.{Progress}
 use Rattle.gw_core.proofs.replaying.replay.Given as goal
 
 abbrev pub invariant-loop-number : goal.invariant-loop-number
 invariant-loop-number g l =
-    (script before : List ℕ) → g.R.Read.remaining l.fn.reader ≡ Some script → g.W.Write.contents l.fn.writer ≡ Some before
-    → Progress l.fn.config script before l.number l.underway.gateway (prepend_known (held l.underway.ahead) (g.R.Read.remaining l.reader)) (g.W.Write.contents l.writer)
+    let left = g.R.OctetSource.left in
+    let held = g.W.OctetSink.held in record {
+      progress : (script before : List ℕ) → left l.fn.reader ≡ Some script → held l.fn.writer ≡ Some before
+          → Progress l.fn.config script before l.number l.run.gateway (prepend_known l.run.lines.unread (left l.reader)) (held l.writer);
+      calls : (script : List ℕ) → left l.fn.reader ≡ Some script → CallBound script l.number l.run.lines.calls (left l.reader) (prepend_known l.run.lines.unread (left l.reader));
+      lasting_reader : g.R.OctetSource.NeverFails l.fn.reader → g.R.OctetSource.NeverFails l.reader;
+      lasting_writer : g.W.OctetSink.NeverFails l.fn.writer → g.W.OctetSink.NeverFails l.writer;
+    }

@@ -1,13 +1,10 @@
-use Rattle.std.proofs.Common.{◌≡◌, ◌++◌, List, length, take, drop}
-use Rattle.gw_core.specs.declared.event.Counts.{Counts}
-use Rattle.gw_core.specs.declared.event.Event.{Event}
-use Rattle.gw_core.specs.Configured.{Configured}
-use Rattle.gw_core.specs.History.{Stands, run_after, taken}
+use Rattle.std.proofs.Common.{ℕ, length, map}
+use Rattle.gw_script.specs.Event.{event_view}
+use Rattle.gw_core.proofs.HistoryLaws.{RunProgress}
 use Rattle.gw_core.proofs.whole_run.run.Given as goal
 
-abbrev pub invariant-loop-event : goal.invariant-loop-event
-invariant-loop-event l = record {
-  ports : length l.gateway.ports ≡ length l.fn.gateway.ports;
-  stands : (c : Configured) (k : Counts) (h : List Event) → Stands l.fn.gateway c k h → Stands l.gateway c k (taken h (take l.event-index l.events));
-  told : (c : Configured) (k : Counts) (h : List Event) → Stands l.fn.gateway c k h → l.given.items ++ run_after c k (taken h (take l.event-index l.events)) (drop l.event-index l.events) ≡ run_after c k h l.events;
-}
+abbrev pub invariant-loop-rest : goal.invariant-loop-rest
+invariant-loop-rest l = RunProgress l.fn.gateway l.gateway (map event_view l.fn.events) (map event_view l.rest) l.given.items
+
+abbrev pub decreases-loop-rest : goal.decreases-loop-rest
+decreases-loop-rest l = length l.rest

@@ -1,8 +1,10 @@
 use Rattle.std.proofs.Common.{sym, ap, ◌∙◌}
+use Rattle.gw_script.specs.declared.event.Event.{Event as LentEvent}
+use Rattle.gw_script.specs.Event.{event_view}
 use Rattle.gw_core.specs.Effects.{effects_at}
 use Rattle.gw_core.proofs.EffectLaws.{nothing_is, effects_at-tick}
 use Rattle.gw_core.proofs.whole_run.take_event.Goals as goal
 
 pub returns-in_ok-tick-in-Tick-clause-given : goal.returns-in_ok-tick-in-Tick-clause-given
 returns-in_ok-tick-in-Tick-clause-given c =
-    nothing_is c.none.result c.none.ensures.sends c.none.ensures.denials ∙ sym (effects_at-tick c.args.gateway.now) ∙ ap (effects_at c.args.gateway.now) (sym c.in-Tick.is)
+    nothing_is c.none.result c.none.ensures.sends c.none.ensures.denials ∙ sym (effects_at-tick c.args.gateway.now) ∙ ap (λ (e : LentEvent). effects_at c.args.gateway.now (event_view e)) (sym c.in-Tick.is)

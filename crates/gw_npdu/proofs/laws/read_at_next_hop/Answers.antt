@@ -1,4 +1,5 @@
-use Rattle.gw_npdu.specs.Npdu.{view, onward_view}
+use Rattle.gw_npdu.specs.Npdu.{view}
+use Rattle.gw_npdu.specs.Onward.{onward_view}
 use Rattle.gw_npdu.proofs.Whole.{next_again}
 use Rattle.gw_npdu.proofs.laws.read_at_next_hop.Goals as goal
 

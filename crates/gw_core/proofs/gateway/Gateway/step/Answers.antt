@@ -1,5 +1,5 @@
 use Rattle.std.proofs.Common.{◌≡◌, ◌+◌, ◌^◌, ◌<◌, ◌≤◌, length, ap, ◌∙◌, arith}
-use Rattle.gw_core.specs.declared.event.Event.TheVariants.{Datagram}
+use Rattle.gw_script.specs.Event.{Datagram}
 use Rattle.gw_core.proofs.EffectLaws.{effects_at-dropped, passes_end-within, passes_end-denials, denials_of_effects}
 use Rattle.gw_core.proofs.HistoryLaws.{stands_next, moves_denials}
 use Rattle.gw_core.proofs.gateway.Gateway.step.Goals as goal

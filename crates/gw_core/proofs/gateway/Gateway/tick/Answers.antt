@@ -1,5 +1,5 @@
 use Rattle.std.proofs.Common.{◌≡◌, ◌+◌, ◌^◌, ◌<◌, ◌≤◌, true, false, refl, arith}
-use Rattle.gw_core.specs.declared.event.Event.TheVariants.{Tick}
+use Rattle.gw_script.specs.Event.{Tick}
 use Rattle.gw_core.specs.Effects.{passes_end}
 use Rattle.gw_core.proofs.EffectLaws.{passes_end-within, passes_end-ticks, no_denials_at_tick}
 use Rattle.gw_core.proofs.HistoryLaws.{stands_next, moves_ticks}

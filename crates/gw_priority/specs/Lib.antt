@@ -1,0 +1,2 @@
+pub mod Commandable
+pub mod History

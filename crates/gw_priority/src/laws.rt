@@ -1,0 +1,27 @@
+//! What the words of the priority rule mean, proved of all slots and of every history, for a reader
+//! of the definitions that contracts here and in the crates above cite. The functions do nothing.
+ghost use Rattle.std.specs.Prelude.{◌≡◌, ◌↔◌, ◌⊎◌, ℕ, List, length};
+ghost use Rattle.gw_priority.specs.Commandable.{Commandable, IsPriority, IsPresent, present, slot};
+ghost use Rattle.gw_priority.specs.History.{Act, Command, Relinquish, IsLastAt, HasNoneAt, slot_after, state_after};
+
+use crate::PRIORITIES;
+
+/// The present value as it is computed is that of the least priority whose slot isn't empty, else
+/// the default, and no other value is.
+pub fn present_value<T>()
+    ensures { (property : Commandable T) (value : T) → length property.slots ≡ PRIORITIES →
+        IsPresent property value ↔ value ≡ present property }
+{}
+
+/// After a history a slot holds the value of the last act at its priority where that was a command;
+/// it is empty where that was a relinquish or there was none.
+pub fn slots_after<T>()
+    ensures slots { (start : T) (history : List (Act T)) (priority : ℕ) → IsPriority priority →
+        slot priority (state_after start history) ≡ slot_after history priority }
+    ensures command { (history : List (Act T)) (priority : ℕ) (value : T) →
+        (slot_after history priority ≡ Some value)
+        ↔ IsLastAt priority history (Command priority value) }
+    ensures empty { (history : List (Act T)) (priority : ℕ) →
+        (slot_after history priority ≡ None)
+        ↔ (IsLastAt priority history (Relinquish priority) ⊎ HasNoneAt priority history) }
+{}

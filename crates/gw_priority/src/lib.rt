@@ -1,0 +1,10 @@
+//! Command prioritization (ISO 16484-5 clause 19.2): sixteen slots for commands of one property, by
+//! priority, and the default that holds where every slot is empty.
+#![tactic(auto)]
+
+mod array;
+mod fault;
+pub mod laws;
+
+pub use array::{LOWEST, PRIORITIES, PriorityArray, RESERVED};
+pub use fault::{PriorityFault, RefusedCommand};

@@ -1,0 +1,4 @@
+pub mod Learning
+pub mod Room
+pub mod Order
+pub mod Words

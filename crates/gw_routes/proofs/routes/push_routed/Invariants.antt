@@ -1,0 +1,6 @@
+use Rattle.std.proofs.Common.{◌≡◌, ◌++◌}
+use Rattle.gw_routes.specs.Table.{routed_but}
+use Rattle.gw_routes.proofs.routes.push_routed.Given as goal
+
+abbrev pub invariant-loop-net : goal.invariant-loop-net
+invariant-loop-net l = l.nets.items ++ routed_but l.port l.net-iterator ≡ l.fn.nets.items ++ routed_but l.port l.routes.entries

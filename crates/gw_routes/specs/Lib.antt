@@ -1,0 +1,4 @@
+pub mod Table
+pub mod History
+pub mod Internal
+pub mod Laws

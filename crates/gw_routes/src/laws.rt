@@ -1,0 +1,18 @@
+//! What the words of a routing table mean, proved of every history and every table, for a reader of the
+//! definitions that contracts here and in the crates above cite. The functions do nothing.
+ghost use Rattle.gw_routes.specs.Laws.{EachIsLearnedOnce, NamedAreLearned, PlacesAreKept};
+ghost use Rattle.gw_routes.specs.Laws.{FixedWaysStay, LastLearningHolds};
+
+/// The learned networks are those that were granted, in the order of their first grants, each with
+/// the port and next router of its last.
+pub fn learned_networks()
+    ensures each_once { EachIsLearnedOnce }
+    ensures named { NamedAreLearned }
+    ensures places { PlacesAreKept }
+    ensures last { LastLearningHolds }
+{}
+
+/// A learned route never takes the place of a direct network or of a configured route.
+pub fn fixed_ways()
+    ensures { FixedWaysStay }
+{}

@@ -1,0 +1,13 @@
+//! What a policy says of an ask.
+
+/// What a policy says of an ask.
+#[derive(Clone, Copy, Debug, PartialEq, Eq)]
+pub enum Decision {
+    /// The first rule that matches says allow.
+    Allow,
+    /// The first rule that matches says deny, or none matches.
+    Deny {
+        /// The number of that rule, counted from 1; `None` where no rule matches.
+        by: Option<u16>,
+    },
+}

@@ -1,0 +1,4 @@
+pub mod Event
+pub mod Script
+pub mod Reader
+pub mod Text

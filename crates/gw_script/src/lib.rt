@@ -1,0 +1,20 @@
+//! Scripts of events: their lines, read from any source of octets, and the text of what events do.
+//!
+//! It knows lines and texts alone, and no gateway: what an event does is `gw_core`'s.
+#![tactic(auto)]
+
+mod event;
+mod law;
+mod line;
+mod reader;
+mod sink;
+mod source;
+mod text;
+
+pub use event::Event;
+pub use law::script_laws;
+pub use line::{MAX_DATAGRAM, parse_line};
+pub use reader::{LineReader, NextLine};
+pub use sink::{OctetSink, WriteFailed, write_whole};
+pub use source::{OctetSource, ReadFailed};
+pub use text::{append_end, append_send};

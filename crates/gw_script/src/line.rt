@@ -1,0 +1,110 @@
+//! The grammar of a line: `tick`, or a datagram as `<port> <address> <hex>`.
+
+ghost use Rattle.std.specs.Prelude.{◌≡◌, ◌≢◌, ◌+◌, ◌≤◌, ◌++◌, ◌∷◌, ℕ, List, Some, IfSome, IsNone, length};
+ghost use Rattle.gw_addr.specs.declared.bip.BipAddr.{BipAddr};
+ghost use Rattle.gw_addr.specs.Address.{IsAddress, text_of};
+ghost use Rattle.gw_script.specs.Event.{Event as PlainEvent, IsOnPort, event_view};
+ghost use Rattle.gw_script.specs.Script.{IsLine, Lacks, Writes, WritesDatagram, WritesOctets};
+
+use crate::event::Event;
+use gw_addr::BipAddr;
+use memchr::memchr;
+use std::str;
+
+/// How many octets the datagram of a line has at most.
+pub const MAX_DATAGRAM: usize = 2048;
+
+/// The event that a line of at most 4096 octets writes, or `None` where it writes none. The octets of a datagram are lent from the
+/// buffer.
+pub fn parse_line<'a>(
+    ports: u8,
+    line: &[u8],
+    buffer: &'a mut [u8; MAX_DATAGRAM],
+) -> Option<Event<'a>>
+    requires ports { ports ≤ 8 }
+    requires most { length line.now ≤ 4096 }
+    ensures on { IfSome result (λ event. IsOnPort ports (event_view event)) }
+    ensures found { IfSome result (λ event. IsLine ports line.now (event_view event)) }
+    ensures only { IsNone result → (e : PlainEvent) → ¬ (IsLine ports line.now e) }
+{
+    match line {
+        [b't', b'i', b'c', b'k'] => Some(Event::Tick),
+        _ => parse_datagram(ports, line, buffer),
+    }
+}
+
+/// The datagram that a line writes.
+fn parse_datagram<'a>(
+    ports: u8,
+    line: &[u8],
+    buffer: &'a mut [u8; MAX_DATAGRAM],
+) -> Option<Event<'a>>
+    requires ports { ports ≤ 8 }
+    requires most { length line.now ≤ 4096 }
+    ensures on { IfSome result (λ event. IsOnPort ports (event_view event)) }
+    ensures found { IfSome result (λ event. Writes ports line.now (event_view event)) }
+    ensures only { IsNone result → (port : ℕ) (from : BipAddr) (octets : List ℕ) → ¬ (WritesDatagram ports line.now port from octets) }
+{
+    let [digit, b' ', rest @ ..] = line else {
+        return None;
+    };
+    let port = port_of(ports, *digit)?;
+    let (address, text) = split_at_space(rest)?;
+    let from = address_of(address)?;
+    let octets = octets_of(text, buffer)?;
+    Some(Event::Datagram { port, from, octets })
+}
+
+/// The port that a digit names.
+fn port_of(ports: u8, digit: u8) -> Option<u8>
+    requires { ports ≤ 8 }
+    ensures found { IfSome result (λ port. (1 ≤ port) × (port ≤ ports) × (digit ≡ 48 + port)) }
+    ensures only { IsNone result → (port : ℕ) → 1 ≤ port → port ≤ ports → digit ≢ 48 + port }
+{
+    if digit > b'0' && digit <= b'0' + ports {
+        Some(digit - b'0')
+    } else {
+        None
+    }
+}
+
+/// What stands before the first space, and what stands behind it.
+fn split_at_space(text: &[u8]) -> Option<(&[u8], &[u8])>
+    ensures found { IfSome result (λ x. text.now ≡ x.0.now ++ 32 ∷ x.1.now) }
+    ensures first { IfSome result (λ x. Lacks 32 x.0.now) }
+    ensures only { IsNone result → Lacks 32 text.now }
+{
+    let at = memchr(b' ', text)?;
+    Some((&text[..at], &text[at + 1..]))
+}
+
+/// The address that the text writes.
+fn address_of(text: &[u8]) -> Option<BipAddr>
+    ensures found { IfSome result (λ a. text.now ≡ text_of a) }
+    ensures is { IfSome result (λ a. IsAddress a) }
+    ensures only { (a : BipAddr) → IsAddress a → text.now ≡ text_of a → result ≡ Some a }
+{
+    let Ok(text) = str::from_utf8(text) else {
+        return None;
+    };
+    BipAddr::parse(text).ok()
+}
+
+/// The octets that a text writes, lent from the buffer.
+fn octets_of<'a>(text: &[u8], buffer: &'a mut [u8; MAX_DATAGRAM]) -> Option<&'a [u8]>
+    requires { length text.now ≤ 4096 }
+    ensures found { IfSome result (λ octets. WritesOctets text.now octets.now) }
+    ensures only { IsNone result → (octets : List ℕ) → ¬ (WritesOctets text.now octets) }
+{
+    if let [b'-'] = text {
+        return Some(&[]);
+    }
+    if text.is_empty() {
+        return None;
+    }
+    let octets = &mut buffer[..text.len() / 2];
+    match hex::decode_to_slice(text, octets) {
+        Ok(()) => Some(octets),
+        Err(_) => None,
+    }
+}

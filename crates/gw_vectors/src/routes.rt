@@ -1,0 +1,372 @@
+//! The table of routes: worked cases, many random acts beside a plain list, and refused growths.
+ghost use Rattle.std.specs.Prelude.{◌≡◌, ◌≤◌, ◌<◌, IsTrue};
+ghost use Rattle.gw_addr.specs.Station.{is_network};
+
+use gw_addr::{BipAddr, NetNum};
+use gw_routes::{LearnFault, MAX_ROUTES, Route, Routes, Way, laws};
+use std::alloc::{AllocError, Global};
+use std::test::*;
+
+/// The router behind which network 300 is configured, 192.168.2.20:47808.
+const CONFIGURED: Route = Route {
+    port: 2,
+    next: BipAddr {
+        ip: [192, 168, 2, 20],
+        udp: 47808,
+    },
+};
+
+/// Another router on the second port's network, 192.168.2.21:47808.
+const NEXT: BipAddr = BipAddr {
+    ip: [192, 168, 2, 21],
+    udp: 47808,
+};
+
+/// The router of this last octet on the second port's network.
+fn router(last: u8) -> BipAddr {
+    BipAddr {
+        ip: [192, 168, 2, last],
+        udp: 47808,
+    }
+}
+
+/// The network of a number.
+fn net(number: u16) -> NetNum
+    requires { IsTrue (is_network number) }
+    ensures { result ≡ number }
+{
+    NetNum::new(number).unwrap()
+}
+
+/// Two ports of the networks 1 and 2, the device on 100, and a configured route to 300.
+fn table(alloc: Global) -> Result<Routes, AllocError> {
+    let mut direct = Vec::new(alloc);
+    direct.push(net(1))?;
+    direct.push(net(2))?;
+    direct.push(net(100))?;
+    let mut configured = Vec::new(alloc);
+    configured.push((net(300), CONFIGURED))?;
+    Routes::new(alloc, direct, configured)
+}
+
+/// Whether these are the networks, in this order.
+fn are(nets: &[NetNum], numbers: &[u16]) -> bool {
+    nets.len() == numbers.len() && nets.iter().zip(numbers).all(|(net, number)| net.get() == *number)
+}
+
+/// The networks from a first number on, so many.
+fn run_of(alloc: Global, first: u16, count: u16) -> Result<Vec<NetNum>, AllocError>
+    requires first { first ≤ 60000 }
+    requires count { count ≤ 1000 }
+{
+    let mut nets = Vec::new(alloc);
+    for i in 0..count {
+        if let Some(net) = NetNum::new(first + i) {
+            nets.push(net)?;
+        }
+    }
+    Ok(nets)
+}
+
+#[test]
+fn each_way(rt: HostRuntime) -> Result<(), Fail> {
+    let mut routes = table(rt.alloc())?;
+    let route = Route {
+        port: 1,
+        next: router(9),
+    };
+    routes.learn(net(400), route.port, route.next)?;
+    for (number, way) in [
+        (0, Way::Unknown),
+        (1, Way::Port(1)),
+        (2, Way::Port(2)),
+        (100, Way::Device),
+        (300, Way::Router(CONFIGURED)),
+        (400, Way::Router(route)),
+        (500, Way::Unknown),
+        (65534, Way::Unknown),
+        (65535, Way::Everywhere),
+    ] {
+        assert_eq!(rt; routes.find(number), way, "{number}");
+    }
+    assert!(rt; are(routes.direct(), &[1, 2, 100]));
+    laws::learned_networks();
+    laws::fixed_ways();
+    Ok(())
+}
+
+#[test]
+fn a_table_of_nothing(rt: HostRuntime) -> Result<(), Fail> {
+    let mut routes = Routes::new(rt.alloc(), Vec::new(rt.alloc()), Vec::new(rt.alloc()))?;
+    assert!(rt; routes.direct().is_empty());
+    assert_eq!(rt; routes.find(1), Way::Unknown);
+    assert!(rt; routes.reachable_from(rt.alloc(), 1)?.is_empty());
+    routes.learn(net(1), 3, NEXT)?;
+    assert!(rt; are(&routes.reachable_from(rt.alloc(), 1)?, &[1]));
+    assert!(rt; routes.reachable_from(rt.alloc(), 3)?.is_empty());
+    Ok(())
+}
+
+#[test]
+fn what_is_learned_is_reachable_from_the_other_port(rt: HostRuntime) -> Result<(), Fail> {
+    let mut routes = table(rt.alloc())?;
+    let nets = [net(400), net(300)];
+    routes.learn_all(&nets, 2, NEXT)?;
+    let learned = Route {
+        port: 2,
+        next: NEXT,
+    };
+    assert_eq!(rt; routes.find(400), Way::Router(learned));
+    assert_eq!(rt; routes.find(300), Way::Router(CONFIGURED));
+    assert!(rt; are(&routes.reachable_from(rt.alloc(), 1)?, &[2, 100, 300, 400]));
+    assert!(rt; are(&routes.reachable_from(rt.alloc(), 2)?, &[1, 100]));
+    for none in [0, 3, 255] {
+        assert!(rt; are(&routes.reachable_from(rt.alloc(), none)?, &[1, 2, 100, 300, 400]));
+    }
+    Ok(())
+}
+
+#[test]
+fn a_renewed_route_keeps_its_place(rt: HostRuntime) -> Result<(), Fail> {
+    let mut routes = table(rt.alloc())?;
+    for number in [400, 401, 402] {
+        routes.learn(net(number), 2, NEXT)?;
+    }
+    routes.learn(net(400), 1, router(9))?;
+    let renewed = Route {
+        port: 1,
+        next: router(9),
+    };
+    assert_eq!(rt; routes.find(400), Way::Router(renewed));
+    assert!(rt; are(&routes.reachable_from(rt.alloc(), 3)?, &[1, 2, 100, 300, 400, 401, 402]));
+    assert!(rt; are(&routes.reachable_from(rt.alloc(), 2)?, &[1, 100, 400]));
+    Ok(())
+}
+
+#[test]
+fn the_513th_route_is_refused(rt: HostRuntime) -> Result<(), Fail> {
+    // Network 300 is the first route, so 511 of these find room.
+    let nets = run_of(rt.alloc(), 1001, 512)?;
+    let mut routes = table(rt.alloc())?;
+    routes.learn_all(&nets, 2, NEXT)?;
+    let learned = Route {
+        port: 2,
+        next: NEXT,
+    };
+    assert_eq!(rt; routes.find(1001), Way::Router(learned));
+    assert_eq!(rt; routes.find(1511), Way::Router(learned));
+    assert_eq!(rt; routes.find(1512), Way::Unknown);
+    assert_eq!(rt; routes.learn(net(1512), 2, NEXT), Err(LearnFault::Full));
+    // What is held or fixed is judged as ever.
+    assert_eq!(rt; routes.learn(net(300), 2, NEXT), Err(LearnFault::Fixed));
+    assert_eq!(rt; routes.learn(net(100), 2, NEXT), Err(LearnFault::Fixed));
+    assert_eq!(rt; routes.learn(net(1511), 1, NEXT), Ok(()));
+    assert!(rt; routes.reachable_from(rt.alloc(), 3)?.len() == 3 + MAX_ROUTES);
+    Ok(())
+}
+
+#[test]
+fn a_configured_route_stays(rt: HostRuntime) -> Result<(), Fail> {
+    let mut routes = table(rt.alloc())?;
+    for _ in 0..10_000 {
+        assert_eq!(rt; routes.learn(net(300), 2, NEXT), Err(LearnFault::Fixed));
+    }
+    assert_eq!(rt; routes.find(300), Way::Router(CONFIGURED));
+    Ok(())
+}
+
+#[test]
+fn a_copy_is_equal_and_apart(rt: HostRuntime) -> Result<(), Fail> {
+    let mut routes = table(rt.alloc())?;
+    routes.learn(net(400), 2, NEXT)?;
+    let copy = routes.copy()?;
+    routes.learn(net(401), 2, NEXT)?;
+    assert!(rt; are(&copy.reachable_from(rt.alloc(), 1)?, &[2, 100, 300, 400]));
+    assert!(rt; are(&routes.reachable_from(rt.alloc(), 1)?, &[2, 100, 300, 400, 401]));
+    assert!(rt; are(copy.direct(), &[1, 2, 100]));
+    Ok(())
+}
+
+/// Numbers that look random, the same ones in each run.
+#[derive(Drop)]
+struct Chosen {
+    state: u64,
+}
+
+impl Chosen {
+    /// The next number below a bound.
+    fn below(&mut self, bound: u64) -> u64
+        requires { 0 < bound }
+        ensures { result < bound }
+    {
+        self.state = self
+            .state
+            .wrapping_mul(6_364_136_223_846_793_005)
+            .wrapping_add(1_442_695_040_888_963_407);
+        (self.state >> 33) % bound
+    }
+}
+
+/// The routes of `table` as a plain list.
+#[derive(Drop)]
+struct Plain {
+    learned: Vec<(NetNum, Route)>,
+}
+
+impl Plain {
+    /// What a table answers to a learning, by a walk over the list.
+    fn learn(&mut self, net: NetNum, route: Route) -> Result<(), LearnFault> {
+        if matches!(net.get(), 1 | 2 | 100 | 300) {
+            return Err(LearnFault::Fixed);
+        }
+        for i in 0..self.learned.len() {
+            if self.learned[i].0 == net {
+                self.learned[i].1 = route;
+                return Ok(());
+            }
+        }
+        if self.learned.len() >= MAX_ROUTES - 1 {
+            return Err(LearnFault::Full);
+        }
+        self.learned.push((net, route))?;
+        Ok(())
+    }
+
+    /// What a table answers to a look-up of a number that `table` has no way for.
+    fn find(&self, number: u16) -> Way {
+        for (net, route) in &self.learned {
+            if net.get() == number {
+                return Way::Router(*route);
+            }
+        }
+        Way::Unknown
+    }
+
+    /// What a table names to a third port.
+    fn reachable(&self, alloc: Global) -> Result<Vec<u16>, AllocError> {
+        let mut numbers = Vec::new(alloc);
+        for number in [1, 2, 100, 300] {
+            numbers.push(number)?;
+        }
+        for (net, route) in &self.learned {
+            if route.port != 3 {
+                numbers.push(net.get())?;
+            }
+        }
+        Ok(numbers)
+    }
+}
+
+/// A network number from 1 on, mostly few enough that they come again.
+fn chosen_net(chosen: &mut Chosen) -> Option<NetNum> {
+    NetNum::new(chosen.below(700) as u16 + 1)
+}
+
+/// One of eight routers, by one of three ports.
+fn chosen_route(chosen: &mut Chosen) -> Route {
+    Route {
+        port: chosen.below(3) as u8 + 1,
+        next: router(chosen.below(8) as u8),
+    }
+}
+
+#[test]
+fn ten_thousand_acts_beside_a_plain_list(rt: HostRuntime) -> Result<(), Fail> {
+    let mut chosen = Chosen { state: 135 };
+    let mut plain = Plain {
+        learned: Vec::new(rt.alloc()),
+    };
+    let mut routes = table(rt.alloc())?;
+    for act in 0..10_000 {
+        let Some(net) = chosen_net(&mut chosen) else {
+            continue;
+        };
+        let route = chosen_route(&mut chosen);
+        assert_eq!(rt;
+            routes.learn(net, route.port, route.next),
+            plain.learn(net, route),
+            "act {act}: {net}"
+        );
+        let number = chosen.below(700) as u16 + 1000;
+        assert_eq!(rt; routes.find(number), plain.find(number), "act {act}: {number}");
+        assert_eq!(rt;
+            routes.find(net.get()) == plain.find(net.get()),
+            !matches!(net.get(), 1 | 2 | 100 | 300),
+            "act {act}: {net}"
+        );
+        if act % 500 == 0 {
+            routes = routes.copy()?;
+            let named = routes.reachable_from(rt.alloc(), 3)?;
+            assert!(rt; are(&named, &plain.reachable(rt.alloc())?), "act {act}");
+        }
+    }
+    Ok(())
+}
+
+#[test]
+fn a_set_is_learned_as_one_after_the_other(rt: HostRuntime) -> Result<(), Fail> {
+    let mut chosen = Chosen { state: 7 };
+    let mut plain = Plain {
+        learned: Vec::new(rt.alloc()),
+    };
+    let mut routes = table(rt.alloc())?;
+    for act in 0..500 {
+        let route = chosen_route(&mut chosen);
+        let mut nets = Vec::new(rt.alloc());
+        for _ in 0..chosen.below(9) {
+            let Some(net) = chosen_net(&mut chosen) else {
+                continue;
+            };
+            nets.push(net)?;
+            let _answer = plain.learn(net, route);
+        }
+        routes.learn_all(&nets, route.port, route.next)?;
+        let named = routes.reachable_from(rt.alloc(), 3)?;
+        assert!(rt; are(&named, &plain.reachable(rt.alloc())?), "act {act}");
+    }
+    Ok(())
+}
+
+#[test]
+fn a_refused_growth_leaves_the_routes(rt: HostRuntime) -> Result<(), Fail> {
+    let Ok(nets) = run_of(rt.alloc(), 1001, 40) else {
+        return Ok(());
+    };
+    let Ok(mut routes) = table(rt.alloc()) else {
+        return Ok(());
+    };
+    // Before and after each growth the table is whole, and what is known needs none.
+    for net in &nets {
+        match routes.learn(*net, 2, NEXT) {
+            Ok(()) => assert!(rt; routes.find(net.get()) != Way::Unknown),
+            Err(fault) => {
+                assert_eq!(rt; fault, LearnFault::Memory);
+                assert_eq!(rt; routes.find(net.get()), Way::Unknown);
+                assert_eq!(rt; routes.learn(*net, 2, NEXT), Ok(()));
+            },
+        }
+        assert_eq!(rt; routes.learn(*net, 1, NEXT), Ok(()));
+    }
+    let Ok(more) = run_of(rt.alloc(), 1021, 300) else {
+        return Ok(());
+    };
+    let before = Way::Router(Route {
+        port: 1,
+        next: NEXT,
+    });
+    if routes.learn_all(&more, 2, NEXT).is_err() {
+        assert_eq!(rt; routes.find(1021), before);
+        assert_eq!(rt; routes.find(1041), Way::Unknown);
+        assert!(rt; routes.learn_all(&more, 2, NEXT).is_ok());
+    }
+    assert!(rt; routes.find(1021) != before);
+    assert!(rt; routes.find(1320) != Way::Unknown);
+    // The refused growth was the only one.
+    if routes.copy().is_err() {
+        assert!(rt; routes.copy().is_ok());
+    }
+    if routes.reachable_from(rt.alloc(), 3).is_err() {
+        assert!(rt; routes.reachable_from(rt.alloc(), 3).is_ok());
+    }
+    Ok(())
+}
