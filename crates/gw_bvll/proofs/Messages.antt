@@ -17,8 +17,8 @@ use Rattle.gw_bvll.specs.declared.function.Function.TheVariants as functions
 use Rattle.gw_bvll.specs.Tens.{entries_at}
 use Rattle.gw_bvll.specs.internal.Reads.{reads_bdt, reads_fdt}
 use Rattle.gw_bvll.specs.Bvll.{Message, result_code, write_bdt, read_bdt, read_bdt_ack, forwarded, register, read_fdt, read_fdt_ack, delete, distribute, original_unicast, original_broadcast, octet_of, function_of, body_of, encoding, HasFields, IsValid, IsBvll}
-use Rattle.gw_bvll.specs.Read.{function_at, number_body, address_body, body_at, bvll_at}
-use Rattle.gw_bvll.specs.Shape.{told_length, IsMarked, IsFramed, FitsFunction, LacksMarker, LacksLength, LacksFunction, LacksBody}
+use Rattle.gw_bvll.specs.Reading.{function_at, number_body, address_body, body_at, bvll_at}
+use Rattle.gw_bvll.specs.Shape.{told_length, IsMarked, IsFramed, FitsFunction, IsBadMarker, IsBadLength, IsBadFunction, IsBadBody}
 use Rattle.gw_bvll.proofs.EntryLists.{entries-back, entries-fit, entries-again, entries-whole}
 
 -- ---- the parts of a body
@@ -208,7 +208,7 @@ function_cases (suc (suc (suc (suc (suc (suc (suc (suc (suc (suc (suc (suc n))))
 
 -- ---- whole messages
 
-lacks_marker : (octets : List ℕ) → LacksMarker octets → bvll_at octets ≡ Err faults.Marker
+lacks_marker : (octets : List ℕ) → IsBadMarker octets → bvll_at octets ≡ Err faults.Marker
 lacks_marker [] h = absurd (omega (arith, h.whole))
 lacks_marker (a ∷ []) h = absurd (omega (arith, h.whole))
 lacks_marker (a ∷ b ∷ []) h = absurd (omega (arith, h.whole))
@@ -231,7 +231,7 @@ other_length (marker ∷ function ∷ high ∷ low ∷ body) h ne =
     let unequal : (from_be_bytes w16 (high ∷ low ∷ []) ≡ 4 + length body → ⊥) = λ e. ne (omega arith) in
     rw (eq-eqb marker 0x81 h.marker, ne_eqb (from_be_bytes w16 (high ∷ low ∷ [])) (4 + length body) unequal) refl
 
-lacks_length : (octets : List ℕ) → LacksLength octets → bvll_at octets ≡ Err faults.Length
+lacks_length : (octets : List ℕ) → IsBadLength octets → bvll_at octets ≡ Err faults.Length
 lacks_length octets (inl short) = short_length octets short
 lacks_length octets (inr other) = other_length octets other.0 other.1
 
@@ -245,7 +245,7 @@ framed_reads (marker ∷ function ∷ high ∷ low ∷ body) h =
     let equal : from_be_bytes w16 (high ∷ low ∷ []) ≡ 4 + length body = omega (arith, h.size) in
     rw (eq-eqb marker 0x81 h.marked.marker, eq-eqb (from_be_bytes w16 (high ∷ low ∷ [])) (4 + length body) equal) refl
 
-lacks_function : (octets : List ℕ) → LacksFunction octets → bvll_at octets ≡ Err faults.Function
+lacks_function : (octets : List ℕ) → IsBadFunction octets → bvll_at octets ≡ Err faults.Function
 lacks_function octets h = framed_reads octets h.framed ∙ rw (function_refused (get_or octets 1 0) h.function) refl
 
 -- a whole header with a function
@@ -267,10 +267,10 @@ framed_back (marker ∷ function ∷ high ∷ low ∷ rest) m fits h named body 
 
 -- what octets are
 data Outcome (octets : List ℕ) : Type 0 where
-  unmarked : LacksMarker octets → Outcome octets
-  other_sized : LacksLength octets → Outcome octets
-  unnamed : LacksFunction octets → Outcome octets
-  unfit : LacksBody octets → Outcome octets
+  unmarked : IsBadMarker octets → Outcome octets
+  other_sized : IsBadLength octets → Outcome octets
+  unnamed : IsBadFunction octets → Outcome octets
+  unfit : IsBadBody octets → Outcome octets
   whole : (m : Message) → bvll_at octets ≡ Ok m → octets ≡ encoding m → IsValid m → Outcome octets
 
 outcome_named : (octets : List ℕ) → AreOctets octets → IsFramed octets → (f : Function) → get_or octets 1 0 ≡ octet_of f → IsRead f (drop 4 octets) ⊎ IsRefused f (drop 4 octets) → Outcome octets
@@ -301,7 +301,7 @@ outcome octets fits =
           ]
     ]
 
-lacks_body : (octets : List ℕ) → AreOctets octets → LacksBody octets → bvll_at octets ≡ Err faults.Body
+lacks_body : (octets : List ℕ) → AreOctets octets → IsBadBody octets → bvll_at octets ≡ Err faults.Body
 lacks_body octets fits h =
     named_reads octets h.function h.framed h.named ∙ elim (body_cases h.function (drop 4 octets) (AreOctets-drop 4 octets fits)) [
       | inl read ↦ absurd (h.body read.fits)
@@ -336,7 +336,7 @@ bvll_takes octets fits m e =
 
 -- ---- each fault, by its words
 
-pub marker_is : (octets : List ℕ) → AreOctets octets → (bvll_at octets ≡ Err faults.Marker) ↔ LacksMarker octets
+pub marker_is : (octets : List ℕ) → AreOctets octets → (bvll_at octets ≡ Err faults.Marker) ↔ IsBadMarker octets
 marker_is octets fits = (
   λ e. elim (outcome octets fits) [
     | unmarked h ↦ h
@@ -348,7 +348,7 @@ marker_is octets fits = (
   lacks_marker octets,
 )
 
-pub length_is : (octets : List ℕ) → AreOctets octets → (bvll_at octets ≡ Err faults.Length) ↔ LacksLength octets
+pub length_is : (octets : List ℕ) → AreOctets octets → (bvll_at octets ≡ Err faults.Length) ↔ IsBadLength octets
 length_is octets fits = (
   λ e. elim (outcome octets fits) [
     | unmarked h ↦ let refused = lacks_marker octets h in absurd cc
@@ -360,7 +360,7 @@ length_is octets fits = (
   lacks_length octets,
 )
 
-pub function_is : (octets : List ℕ) → AreOctets octets → (bvll_at octets ≡ Err faults.Function) ↔ LacksFunction octets
+pub function_is : (octets : List ℕ) → AreOctets octets → (bvll_at octets ≡ Err faults.Function) ↔ IsBadFunction octets
 function_is octets fits = (
   λ e. elim (outcome octets fits) [
     | unmarked h ↦ let refused = lacks_marker octets h in absurd cc
@@ -372,7 +372,7 @@ function_is octets fits = (
   lacks_function octets,
 )
 
-pub body_is : (octets : List ℕ) → AreOctets octets → (bvll_at octets ≡ Err faults.Body) ↔ LacksBody octets
+pub body_is : (octets : List ℕ) → AreOctets octets → (bvll_at octets ≡ Err faults.Body) ↔ IsBadBody octets
 body_is octets fits = (
   λ e. elim (outcome octets fits) [
     | unmarked h ↦ let refused = lacks_marker octets h in absurd cc

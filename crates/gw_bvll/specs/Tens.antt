@@ -12,7 +12,8 @@ abbrev pub entries_at : {E : Type 0} → (List ℕ → E) → List ℕ → List 
 entries_at entry_of octets = map entry_of (parts (length octets / 10) octets)
 
 -- Ten octets and an entry are one to one.
-pub record ReadsTen {E : Type 0} (encoding : E → List ℕ) (entry_of : List ℕ → E) (IsEntry : E → Type 0) : Type 0 where
+pub record ReadsTen {E : Type 0}
+    (encoding : E → List ℕ) (entry_of : List ℕ → E) (IsEntry : E → Type 0) : Type 0 where
   pub back : (ten : List ℕ) → length ten ≡ 10 → AreOctets ten → encoding (entry_of ten) ≡ ten
   pub fits : (ten : List ℕ) → length ten ≡ 10 → AreOctets ten → IsEntry (entry_of ten)
   pub again : (x : E) → IsEntry x → entry_of (encoding x) ≡ x

@@ -2,7 +2,7 @@
 
 ghost use Rattle.std.specs.Prelude.{◌≡◌};
 ghost use Rattle.gw_bvll.specs.Bvll.{octet_of};
-ghost use Rattle.gw_bvll.specs.Read.{function_at};
+ghost use Rattle.gw_bvll.specs.Reading.{function_at};
 
 use crate::fault::BvllFault;
 

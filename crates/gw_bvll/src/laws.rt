@@ -1,10 +1,10 @@
-//! Laws of the messages and their octets (Annex J.2). The functions change nothing and answer nothing: their contracts are
-//! the laws.
+//! Laws of the messages and their octets (Annex J.2). The functions change nothing and answer
+//! nothing: their contracts are the laws.
 
 ghost use Rattle.std.specs.Prelude.{◌≡◌, ◌↔◌, ◌<◌, ◌^◌, ℕ, List, Ok};
 ghost use Rattle.gw_addr.specs.Reading.{AreOctets};
 ghost use Rattle.gw_bvll.specs.Bvll.{Message, view, encoding, HasFields, IsValid, IsBvll};
-ghost use Rattle.gw_bvll.specs.Read.{bvll_at};
+ghost use Rattle.gw_bvll.specs.Reading.{bvll_at};
 
 use crate::message::Bvll;
 

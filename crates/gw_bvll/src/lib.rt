@@ -1,4 +1,5 @@
-//! The BACnet virtual link layer of BACnet/IP (Annex J.2): its twelve messages, read from datagrams and written into them.
+//! The BACnet virtual link layer of BACnet/IP (Annex J.2): its twelve messages, read from datagrams
+//! and written into them.
 #![tactic(auto)]
 
 mod entries;

@@ -9,7 +9,8 @@ use gw_addr::BipAddr;
 /// The first octet of each message: BVLL for BACnet/IP.
 pub(crate) const MARKER: u8 = 0x81;
 
-/// The code of a BVLC-Result (Annex J.2.1). Each number of two octets is one; the named ones are those of the standard.
+/// The code of a BVLC-Result (Annex J.2.1). Each number of two octets is one; the named ones are
+/// those of the standard.
 #[derive(Clone, Copy, Debug, PartialEq, Eq)]
 pub struct ResultCode(pub u16);
 
@@ -31,7 +32,8 @@ impl ResultCode {
     /// Distribute-Broadcast-To-Network NAK.
     pub const DISTRIBUTE_NAK: ResultCode = ResultCode(0x0060);
 
-    /// The code by which what a function asks for is refused (Annex J.2.1), or `None` where it asks for nothing.
+    /// The code by which what a function asks for is refused (Annex J.2.1), or `None` where it asks
+    /// for nothing.
     pub fn refusal(function: Function) -> Option<ResultCode>
         ensures { option_map (λ code. code.0) result ≡ refusal function }
     {
@@ -54,7 +56,8 @@ impl ResultCode {
     }
 }
 
-/// A message of the virtual link layer, by its function. NPDUs and tables are lent from where they lie.
+/// A message of the virtual link layer, by its function. NPDUs and tables are lent from where they
+/// lie.
 ///
 /// ```text
 /// +----+----------+----+----+------ .. ------+

@@ -4,8 +4,9 @@ ghost use Rattle.std.specs.Prelude.{◌≡◌, ◌↔◌, IfOk, IsOkAnd};
 ghost use Rattle.gw_addr.specs.Reading.{Gives};
 ghost use Rattle.gw_bvll.specs.Entries.{lent};
 ghost use Rattle.gw_bvll.specs.Bvll.{Message, view, IsBvll};
-ghost use Rattle.gw_bvll.specs.Read.{ended, number_body, address_body, entries_body, body_at, bvll_at};
-ghost use Rattle.gw_bvll.specs.Shape.{LacksMarker, LacksLength, LacksFunction, LacksBody};
+ghost use Rattle.gw_bvll.specs.Reading.{ended, number_body, address_body, entries_body};
+ghost use Rattle.gw_bvll.specs.Reading.{body_at, bvll_at};
+ghost use Rattle.gw_bvll.specs.Shape.{IsBadMarker, IsBadLength, IsBadFunction, IsBadBody};
 
 use crate::entries::Entries;
 use crate::entry::Entry;
@@ -98,20 +99,21 @@ fn message_at(octets: &[u8]) -> Result<Bvll<'_>, BvllFault>
     message_of(function, body)
 }
 
-/// Reads a message from the octets of a datagram, all of them (Annex J.2): accepts exactly the valid encodings. It takes no
-/// memory: NPDUs and tables are lent from the datagram. The faults are judged in the order `Length` for fewer than four
-/// octets, `Marker`, `Length`, `Function`, `Body`.
+/// Reads a message from the octets of a datagram, all of them (Annex J.2): accepts exactly the
+/// valid encodings. It takes no memory: NPDUs and tables are lent from the datagram. The faults are
+/// judged in the order `Length` for fewer than four octets, `Marker`, `Length`, `Function`, `Body`.
 pub fn decode(octets: &[u8]) -> Result<Bvll<'_>, BvllFault>
     // What is read has these octets, each of them.
     ensures found { IfOk result (λ message. IsBvll octets.now (view message)) }
     // A message with these octets is read.
-    ensures only { (m : Message) → IsBvll octets.now m → IsOkAnd result (λ message. view message ≡ m) }
+    ensures only { (m : Message) → IsBvll octets.now m
+        → IsOkAnd result (λ message. view message ≡ m) }
 
     // Which fault it is, said of the octets.
-    ensures marker { (result ≡ Err BvllFault.Marker) ↔ LacksMarker octets.now }
-    ensures size { (result ≡ Err BvllFault.Length) ↔ LacksLength octets.now }
-    ensures function { (result ≡ Err BvllFault.Function) ↔ LacksFunction octets.now }
-    ensures body { (result ≡ Err BvllFault.Body) ↔ LacksBody octets.now }
+    ensures marker { (result ≡ Err BvllFault.Marker) ↔ IsBadMarker octets.now }
+    ensures size { (result ≡ Err BvllFault.Length) ↔ IsBadLength octets.now }
+    ensures function { (result ≡ Err BvllFault.Function) ↔ IsBadFunction octets.now }
+    ensures body { (result ≡ Err BvllFault.Body) ↔ IsBadBody octets.now }
 
     // The result as a function of the octets.
     ensures exact { Gives view result (bvll_at octets.now) }

@@ -13,7 +13,8 @@ use crate::message::{Bvll, MARKER};
 use gw_addr::{put_number, put_octet, put_slice};
 use std::alloc::AllocError;
 
-/// The most octets of a message, a rule of ours: an NPDU of 1497 octets behind the ten of a Forwarded-NPDU.
+/// The most octets of a message, a rule of ours: an NPDU of 1497 octets behind the ten of a
+/// Forwarded-NPDU.
 pub const MAX_LEN: usize = 1507;
 
 /// How many octets the body of the message has.
@@ -74,8 +75,9 @@ fn put_message(message: &Bvll<'_>, len: u16, out: &mut Vec<u8>) -> Result<(), Al
     put_body(message, out)
 }
 
-/// Appends the octets of a message (Annex J.2). `TooLong` where they would be over 1507, and `Memory` where a growth of the
-/// buffer was refused. After a fault the buffer holds what it held, and no room is given back.
+/// Appends the octets of a message (Annex J.2). `TooLong` where they would be over 1507, and
+/// `Memory` where a growth of the buffer was refused. After a fault the buffer holds what it held,
+/// and no room is given back.
 pub fn encode(message: &Bvll<'_>, out: &mut Vec<u8>) -> Result<(), EncodeFault>
     ensures ok { OnOk result (out.new.items ≡ out.old.items ++ encoding (view message.now)) }
     // What was written is read again: the message is a valid one.

@@ -3,8 +3,8 @@ use Rattle.gw_addr.specs.Reading.{AreOctets}
 use Rattle.gw_addr.proofs.Reading.{gives_found, gives_only, gives_fault}
 use Rattle.gw_bvll.specs.declared.fault.BvllFault.TheVariants.{Marker, Length, Function, Body}
 use Rattle.gw_bvll.specs.Bvll.{view, IsBvll}
-use Rattle.gw_bvll.specs.Read.{bvll_at}
-use Rattle.gw_bvll.specs.Shape.{LacksMarker, LacksLength, LacksFunction, LacksBody}
+use Rattle.gw_bvll.specs.Reading.{bvll_at}
+use Rattle.gw_bvll.specs.Shape.{IsBadMarker, IsBadLength, IsBadFunction, IsBadBody}
 use Rattle.gw_bvll.proofs.Messages.{reads_as, marker_is, length_is, function_is, body_is}
 use Rattle.gw_bvll.proofs.reading.decode.Goals as goal
 
@@ -17,9 +17,9 @@ returns c =
     record {
       found = gives_found view r (bvll_at octets) (IsBvll octets) given (λ m e. (reads_as octets m fits).0 e);
       only = λ m is. gives_only view r (bvll_at octets) m given ((reads_as octets m fits).1 is);
-      marker = gives_fault view r (bvll_at octets) Marker (LacksMarker octets) given (marker_is octets fits);
-      size = gives_fault view r (bvll_at octets) Length (LacksLength octets) given (length_is octets fits);
-      function = gives_fault view r (bvll_at octets) Function (LacksFunction octets) given (function_is octets fits);
-      body = gives_fault view r (bvll_at octets) Body (LacksBody octets) given (body_is octets fits);
+      marker = gives_fault view r (bvll_at octets) Marker (IsBadMarker octets) given (marker_is octets fits);
+      size = gives_fault view r (bvll_at octets) Length (IsBadLength octets) given (length_is octets fits);
+      function = gives_fault view r (bvll_at octets) Function (IsBadFunction octets) given (function_is octets fits);
+      body = gives_fault view r (bvll_at octets) Body (IsBadBody octets) given (body_is octets fits);
       exact = given;
     }

@@ -1,5 +1,6 @@
--- How octets are read as a message. These functions compute; what is to be believed is the relation `IsBvll` of
--- `Bvll.antt` and the words for each fault of `Shape.antt`, and `laws::read_as` says that both agree.
+-- How octets are read as a message. These functions compute; what is to be believed is the relation
+-- `IsBvll` of `Bvll.antt` and the words for each fault of `Shape.antt`, and `laws::read_as` says
+-- that both agree.
 use Rattle.std.specs.Prelude.{ℕ, ◌+◌, ◌%◌, List, [], ◌∷◌, length, Result, Ok, Err, ◌==◌}
 use Rattle.std.specs.Prelude.{if◌then◌else◌, Bool, true, false, ⊤, slice_get}
 use Rattle.std.specs.Option.{ok_or}
