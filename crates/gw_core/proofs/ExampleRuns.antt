@@ -1,7 +1,6 @@
 -- The worked examples, computed.
 use Rattle.std.specs.Prelude.{⊤}
 use Rattle.std.proofs.Common.{refl}
-use Rattle.gw_bvll.specs.Bvll.{number_body, address_at, address_body, body_at, bvll_at}
 use Rattle.gw_tags.specs.Object.{object_octets, object_of}
 use Rattle.gw_tags.specs.Tag.{tag_number_at, length_at, kind_at, header_at, tag_at}
 use Rattle.gw_tags.specs.Value.{value_text}
@@ -19,7 +18,7 @@ use Rattle.gw_core.specs.Examples.{ReadIsAnswered, HiddenReadIsDenied, LocalRead
 
 -- all that a frame runs through
 unfoldable frames : ⊤
-unfolding number_body address_at address_body body_at bvll_at comes_in frame_in npdu_in is_direct arrived_on arrived
+unfolding comes_in frame_in npdu_in is_direct arrived_on arrived
 frames = tt
 
 -- all that a read runs through

@@ -5,7 +5,8 @@ use Rattle.gw_addr.specs.declared.bip.BipAddr.{BipAddr}
 use Rattle.gw_addr.specs.declared.station.Source.{Source}
 use Rattle.gw_addr.specs.Address.{octets_of, big_endian}
 use Rattle.gw_addr.specs.Reading.{◌>>=◌}
-use Rattle.gw_bvll.specs.Bvll.{Message, bvll_at, original_unicast}
+use Rattle.gw_bvll.specs.Bvll.{Message, original_unicast}
+use Rattle.gw_bvll.specs.Reading.{bvll_at}
 use Rattle.gw_npdu.specs.Npdu.{Fields, Address}
 use Rattle.gw_npdu.specs.Reading.{npdu_at}
 use Rattle.gw_core.specs.declared.config.Port.{Port}

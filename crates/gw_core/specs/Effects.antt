@@ -24,7 +24,7 @@ within message = if nat_lt 1497 (length (npdu.encoding message)) then None else 
 -- an NPDU to one address, where it is within its length
 unfoldable pub unicast : ℕ → BipAddr → Fields → List Sending
 unicast port to message = elim (within message) [
-  | Some octets ↦ record { port = port; to = to; octets = bvll.spelling (original_unicast octets) } ∷ []
+  | Some octets ↦ record { port = port; to = to; octets = bvll.encoding (original_unicast octets) } ∷ []
   | None ↦ []
 ]
 

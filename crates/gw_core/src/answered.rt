@@ -2,7 +2,7 @@
 
 ghost use Rattle.std.specs.Prelude.{◌≡◌, ◌+◌, ◌<◌, ◌≤◌, ◌^◌, ◌∷◌, [], length, IfOk, IfSome};
 ghost use Rattle.std.specs.Option.{option_map};
-ghost use Rattle.gw_bvll.specs.Bvll.{spelling, original_unicast};
+ghost use Rattle.gw_bvll.specs.Bvll.{encoding, original_unicast};
 ghost use Rattle.gw_npdu.specs.Npdu.{address_view, destination_view, view as npdu_view};
 ghost use Rattle.gw_core.specs.Denied.{denials_from, denied, rule_name};
 ghost use Rattle.gw_core.specs.Effects.{unicast, within};
@@ -41,7 +41,7 @@ fn octets_within(alloc: Global, npdu: &Npdu<'_>) -> Result<Option<Octets>, Alloc
 /// The datagram of an Original-Unicast-NPDU.
 fn original_unicast(alloc: Global, npdu: &[u8]) -> Result<Octets, AllocError>
     requires { length npdu.now ≤ 1497 }
-    ensures { IfOk result (λ octets. octets ≡ spelling (original_unicast npdu.now)) }
+    ensures { IfOk result (λ octets. octets ≡ encoding (original_unicast npdu.now)) }
 {
     let mut octets = Vec::with_capacity(alloc, REPLY_LEN)?;
     match gw_bvll::encode(&Bvll::OriginalUnicast(npdu), &mut octets) {
