@@ -10,7 +10,8 @@ use Rattle.gw_tags.specs.declared.tag.Kind.TheVariants.{Length, Opening, Closing
 use Rattle.gw_tags.specs.declared.fault.TagFault.{TagFault}
 use Rattle.gw_tags.specs.declared.fault.TagFault.TheVariants.{Short, BadTag}
 use Rattle.gw_tags.specs.Kind.{is_length}
-use Rattle.gw_tags.specs.Tag.{Tag, IsTag, is_tag, LengthFits, LengthPlace, low_bits, one_octet, two_octets, four_octets, LengthHasRoom, Spells, BeginsWith, BeginsWithNoTag, IsCut, header_at, tag_at}
+use Rattle.gw_tags.specs.Tag.{Tag, IsTag, is_tag, LengthFits, LengthPlace, low_bits, one_octet, two_octets, four_octets, LengthHasRoom, EncodesTag, BeginsWith, IsBadTag, IsShortTag}
+use Rattle.gw_tags.specs.Reading.{header_at, tag_at}
 use Rattle.gw_tags.proofs.Tags.{header_again, tag_again}
 use Rattle.gw_tags.proofs.Takes.{header_takes}
 use Rattle.gw_tags.proofs.Cut.{header_cut}
@@ -27,7 +28,7 @@ both_true : (a b : Bool) → (a && b) ≡ true → (a ≡ true) × (b ≡ true)
 both_true true b e = (refl, e)
 both_true false b e = absurd cc
 
-is_written : (tag : Tag) (front : List ℕ) → Spells front tag → is_tag tag ≡ true → IsTag tag
+is_written : (tag : Tag) (front : List ℕ) → EncodesTag front tag → is_tag tag ≡ true → IsTag tag
 is_written tag front s e =
     let both = both_true (ltb tag.number 255) (is_length tag.kind || tag.context) e in
     record { numbered = ltb-true _ _ both.0; classed = both.1; length_fits = fits_kind tag.kind s.length_place s.length_room }
@@ -41,29 +42,29 @@ tag_takes octets tag rest fits e =
       | inl known ↦
           let both = ok_is a.0 (tag, rest) known.1 in
           let begins = header_takes octets a.0.0 a.0.1 fits a.1 in
-          subst (λ (x : Tag × List ℕ). BeginsWith octets x.0 x.1 × IsTag x.0) both (begins, is_written a.0.0 begins.front begins.spells known.0)
+          subst (λ (x : Tag × List ℕ). BeginsWith octets x.0 x.1 × IsTag x.0) both (begins, is_written a.0.0 begins.front begins.encodes known.0)
       | inr reserved ↦ absurd (let h = reserved.1 in cc)
     ]
 
 pub begins_again : (octets : List ℕ) (tag : Tag) (rest : List ℕ) → BeginsWith octets tag rest → header_at octets ≡ Ok (tag, rest)
-begins_again octets tag rest b = rw b.parts (header_again b.front tag rest b.spells)
+begins_again octets tag rest b = rw b.parts (header_again b.front tag rest b.encodes)
 
 nothing_behind : (rest missing : List ℕ) → [] ≡ rest ++ missing → missing ≡ []
 nothing_behind [] missing e = sym e
 nothing_behind (octet ∷ rest) missing e = absurd cc
 
 -- octets that end within a tag are no whole header
-cut_is_short : (octets : List ℕ) (read : Result (Tag × List ℕ) TagFault) → AreOctets octets → IsCut octets → header_at octets ≡ read → read ≡ Err Short
+cut_is_short : (octets : List ℕ) (read : Result (Tag × List ℕ) TagFault) → AreOctets octets → IsShortTag octets → header_at octets ≡ read → read ≡ Err Short
 cut_is_short octets (Err fault) fits c e = ap Err (header_cut octets fault fits e).0
 cut_is_short octets (Ok x) fits c e =
     let begins = header_takes octets x.0 x.1 fits e in
-    let whole = header_again (octets ++ c.missing) c.tag [] c.spells in
-    let front = header_again begins.front x.0 (x.1 ++ c.missing) begins.spells in
+    let whole = header_again (octets ++ c.missing) c.tag [] c.encodes in
+    let front = header_again begins.front x.0 (x.1 ++ c.missing) begins.encodes in
     let regrouped : (octets ++ c.missing) ++ [] ≡ begins.front ++ (x.1 ++ c.missing) = append-nil (octets ++ c.missing) ∙ ap (λ (o : List ℕ). o ++ c.missing) begins.parts ∙ append_assoc begins.front x.1 c.missing in
     let same = ok_is (c.tag, []) (x.0, x.1 ++ c.missing) (sym whole ∙ ap header_at regrouped ∙ front) in
     absurd (c.some_missing (nothing_behind x.1 c.missing (ap (λ (y : Tag × List ℕ). y.1) same)))
 
-pub tag_is_short : (octets : List ℕ) → AreOctets octets → (tag_at octets ≡ Err Short) ↔ IsCut octets
+pub tag_is_short : (octets : List ℕ) → AreOctets octets → (tag_at octets ≡ Err Short) ↔ IsShortTag octets
 unfolding tag_at
 tag_is_short octets fits = (
   λ e. elim (bind_err (header_at octets) (λ header. cond (is_tag header.0) (Ok header) (Err BadTag)) Short e) [
@@ -76,7 +77,7 @@ tag_is_short octets fits = (
   λ c. rw (cut_is_short octets (header_at octets) fits c refl) refl,
 )
 
-pub tag_is_bad : (octets : List ℕ) → AreOctets octets → (tag_at octets ≡ Err BadTag) ↔ BeginsWithNoTag octets
+pub tag_is_bad : (octets : List ℕ) → AreOctets octets → (tag_at octets ≡ Err BadTag) ↔ IsBadTag octets
 unfolding tag_at
 tag_is_bad octets fits = (
   λ e. elim (bind_err (header_at octets) (λ header. cond (is_tag header.0) (Ok header) (Err BadTag)) BadTag e) [
@@ -89,9 +90,9 @@ tag_is_bad octets fits = (
   λ b. rw (begins_again octets b.tag b.rest b.begins, b.reserved) refl,
 )
 
--- what is spelled so is read
+-- what is encoded so is read
 pub is_read : (octets : List ℕ) (tag : Tag) (rest : List ℕ) → IsTag tag → BeginsWith octets tag rest → tag_at octets ≡ Ok (tag, rest)
-is_read octets tag rest is b = rw b.parts (tag_again b.front tag rest is b.spells)
+is_read octets tag rest is b = rw b.parts (tag_again b.front tag rest is b.encodes)
 
 -- a fault is that of the reading function
 pub gives_fault : {X Y F : Type 0} (view : X → Y) (r : Result X F) (reading : Result Y F) (fault : F) (P : Type 0) → Gives view r reading → ((reading ≡ Err fault) ↔ P) → (r ≡ Err fault) ↔ P

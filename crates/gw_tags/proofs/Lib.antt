@@ -5,4 +5,5 @@ pub mod Cut
 pub mod Faults
 pub mod Canonical
 pub mod Objects
-pub mod Values
+pub mod Texts
+pub mod Bodies

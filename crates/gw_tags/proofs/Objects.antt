@@ -29,8 +29,8 @@ object_read object is =
     let parts = split (from_be_bytes w32 (to_be_bytes w32 n)) object.kind object.instance is.instance back in
     same_object (from_be_bytes w32 (to_be_bytes w32 n) / 4194304) (from_be_bytes w32 (to_be_bytes w32 n) % 4194304) object parts.0 parts.1
 
-pub object_spelled : (octets : List ℕ) → length octets ≡ 4 → AreOctets octets → IsObject (object_of octets) × (object_octets (object_of octets) ≡ octets)
+pub object_encoded : (octets : List ℕ) → length octets ≡ 4 → AreOctets octets → IsObject (object_of octets) × (object_octets (object_of octets) ≡ octets)
 unfolding object_of object_octets
-object_spelled octets len fits =
+object_encoded octets len fits =
     let n = from_be_bytes w32 octets in
     (record { kind = high_small n (wide32.below octets fits); instance = low_small n }, ap (to_be_bytes w32) (whole n) ∙ wide32.back octets len fits)

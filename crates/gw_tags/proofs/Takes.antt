@@ -1,4 +1,4 @@
--- What was read as a tag is a spelling of it, and what ends within a tag can be completed to one.
+-- What was read as a tag is a tag_encoding of it, and what ends within a tag can be completed to one.
 use Rattle.std.proofs.Common.{◌≡◌, ◌≢◌, ℕ, ◌+◌, ◌*◌, ◌/◌, ◌%◌, ◌^◌, ◌<◌, cond, eqb, ltb, List, [], ◌∷◌, ◌++◌, length, Result, Ok, refl, ap, subst, ◌∙◌, arith, inl, inr}
 use Rattle.std.specs.Int.{w16, w32, to_be_bytes}
 use Rattle.std.proofs.lemmas.Bool.{cases_lt, eqb-false, eqb-true, le-ltb, lt-ltb}
@@ -8,7 +8,8 @@ use Rattle.gw_tags.specs.declared.tag.Kind.{Kind}
 use Rattle.gw_tags.specs.declared.tag.Kind.TheVariants.{Length, Opening, Closing}
 use Rattle.gw_tags.specs.declared.fault.TagFault.{TagFault}
 use Rattle.gw_tags.specs.declared.fault.TagFault.TheVariants.{Short}
-use Rattle.gw_tags.specs.Tag.{Tag, NumberPlace, high_bits, own_octet, LengthPlace, low_bits, one_octet, two_octets, four_octets, high_of, class_of, low_of, number_octets, length_octets, NumberHasRoom, LengthHasRoom, BeginsWith, tag_number_at, length_at, kind_at, header_at}
+use Rattle.gw_tags.specs.Tag.{Tag, NumberPlace, high_bits, own_octet, LengthPlace, low_bits, one_octet, two_octets, four_octets, high_of, class_of, low_of, number_octets, length_octets, NumberHasRoom, LengthHasRoom, BeginsWith}
+use Rattle.gw_tags.specs.Reading.{tag_number_at, length_at, kind_at, header_at}
 
 -- the parts of a first octet make it up
 first_is : (first : ℕ) → first < 256 → first ≡ 16 * (first / 16) + class_of (ltb 7 (first % 16)) + first % 8
@@ -107,21 +108,21 @@ kind_takes low octets kind rest lt fits e =
       ]
     ]
 
--- a number and a kind that were read make a spelling
+-- a number and a kind that were read make a tag_encoding
 joined : (first : ℕ) (others : List ℕ) (n : ℕ) (middle : List ℕ) (kind : Kind) (rest : List ℕ) → first < 256 → ReadsNumber first others n middle → ReadsKind (first % 8) middle kind rest → BeginsWith (first ∷ others) (record { number = n; context = ltb 7 (first % 16); kind = kind }) rest
 joined first others n middle kind rest small a b = record {
   front = first ∷ (number_octets n a.place ++ length_octets kind b.place);
-  spells = record {
+  encodes = record {
     number_place = a.place;
     length_place = b.place;
     number_room = a.room;
     length_room = b.room;
-    spelled = ap (λ (o : ℕ). o ∷ (number_octets n a.place ++ length_octets kind b.place)) (first_made first (high_of n a.place) (low_of kind b.place) small a.high b.low_is);
+    encoded = ap (λ (o : ℕ). o ∷ (number_octets n a.place ++ length_octets kind b.place)) (first_made first (high_of n a.place) (low_of kind b.place) small a.high b.low_is);
   };
   parts = ap (λ (o : List ℕ). first ∷ o) (Takes-then others (number_octets n a.place) middle (length_octets kind b.place) rest a.takes b.takes).parts;
 }
 
--- what was read is spelled so
+-- what was read is encoded so
 pub header_takes : (octets : List ℕ) (tag : Tag) (rest : List ℕ) → AreOctets octets → header_at octets ≡ Ok (tag, rest) → BeginsWith octets tag rest
 unfolding header_at
 header_takes [] tag rest fits e = absurd cc

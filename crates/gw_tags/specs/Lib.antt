@@ -1,5 +1,9 @@
 pub mod Kind
+pub mod Fault
 pub mod Tag
 pub mod Object
+pub mod Number
+pub mod Strings
 pub mod Value
-pub mod Laws
+pub mod Reading
+pub mod Body

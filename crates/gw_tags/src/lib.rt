@@ -1,21 +1,24 @@
 //! Tags, object identifiers and values as octets (ISO 16484-5, clause 20.2).
 #![tactic(auto)]
 
+mod body;
+mod datatype;
 mod fault;
-mod law;
+
 mod object;
 mod reading;
 mod tag;
+mod strings;
 mod value;
+mod value_reading;
 mod writing;
 
-pub use fault::TagFault;
-pub use law::laws;
+pub use fault::{TagFault, ValueFault};
+
 pub use object::ObjectId;
 pub use reading::{Header, read_tag};
 pub use tag::{Kind, Tag};
-pub use value::{AppValue, write_value};
+pub use strings::{BitString, CharacterString};
+pub use value::AppValue;
 pub use writing::write_tag;
 
-#[cfg(test)]
-mod tests;

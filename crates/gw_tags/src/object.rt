@@ -10,7 +10,7 @@ ghost use Rattle.std.specs.Prelude.{◌<◌, ◌^◌};
 /// |    type    |        instance         |    four octets, the most significant first
 /// +------------+-------------------------+
 /// ```
-#[derive(Clone, Copy, Debug, PartialEq, Eq, PartialOrd, Ord, Hash)]
+#[derive(Clone, Copy, Debug, PartialEq, Eq, Hash)]
 pub struct ObjectId {
     /// The number of the type, 0 to 1023.
     pub kind: u16,
@@ -37,7 +37,6 @@ impl ObjectId {
     }
 
     /// The object that four octets stand for.
-    #[tactic(auto, unfolding(crate::specs::Object::object_of))]
     pub fn from_octets(octets: [u8; 4]) -> ObjectId
         ensures { object_view result ≡ object_of octets }
     {
@@ -49,7 +48,6 @@ impl ObjectId {
     }
 
     /// The four octets that stand for the object.
-    #[tactic(auto, unfolding(crate::specs::Object::object_octets))]
     pub fn to_octets(self) -> [u8; 4]
         ensures { result ≡ object_octets (object_view self) }
     {

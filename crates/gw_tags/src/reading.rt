@@ -3,7 +3,8 @@
 ghost use Rattle.std.specs.Prelude.{◌≡◌, ◌↔◌, ◌%◌, List, ℕ, IfOk, IsOkAnd, nat_lt};
 ghost use Rattle.std.specs.Int.{w16, w32};
 ghost use Rattle.gw_addr.specs.Reading.{Gives, octet_at, number_at};
-ghost use Rattle.gw_tags.specs.Tag.{Tag as TagFields, IsTag, tag_view, BeginsWith, BeginsWithNoTag, IsCut, tag_number_at, length_at, kind_at, header_at, tag_at, low_bits_at};
+ghost use Rattle.gw_tags.specs.Tag.{Tag as TagFields, IsTag, tag_view, BeginsWith, IsBadTag, IsShortTag};
+ghost use Rattle.gw_tags.specs.Reading.{tag_number_at, length_at, kind_at, header_at, tag_at, low_bits_at};
 
 use crate::fault::TagFault;
 use crate::tag::{Kind, Tag};
@@ -59,7 +60,6 @@ fn four_octets(octets: &[u8]) -> Result<(u32, &[u8]), TagFault>
     ))
 }
 
-#[tactic(auto, unfolding(crate::specs::Tag::tag_number_at))]
 fn tag_number(first: u8, rest: &[u8]) -> Result<(u8, &[u8]), TagFault>
     ensures { Gives (λ x. (x.0, x.1.now)) result (tag_number_at first rest.now) }
 {
@@ -69,7 +69,6 @@ fn tag_number(first: u8, rest: &[u8]) -> Result<(u8, &[u8]), TagFault>
     }
 }
 
-#[tactic(auto, unfolding(crate::specs::Tag::length_at))]
 fn length(octets: &[u8]) -> Result<(u32, &[u8]), TagFault>
     ensures { Gives (λ x. (x.0, x.1.now)) result (length_at octets.now) }
 {
@@ -84,7 +83,6 @@ fn length(octets: &[u8]) -> Result<(u32, &[u8]), TagFault>
     }
 }
 
-#[tactic(auto, unfolding(crate::specs::Tag::kind_at))]
 fn kind(low_bits: u8, rest: &[u8]) -> Result<(Kind, &[u8]), TagFault>
     ensures { Gives (λ x. (x.0, x.1.now)) result (kind_at low_bits rest.now) }
 {
@@ -106,7 +104,6 @@ fn is_context(first: u8) -> bool
     first & 0x08 != 0
 }
 
-#[tactic(auto, unfolding(crate::specs::Tag::header_at))]
 fn read_whole(octets: &[u8]) -> Result<Whole<'_>, TagFault>
     ensures exact { Gives (λ p. (record { number = p.number; context = p.context; kind = p.kind }, p.rest.now)) result (header_at octets.now) }
     ensures low_bits { IfOk result (λ p. p.low_bits ≡ low_bits_at octets.now) }
@@ -125,7 +122,6 @@ fn read_whole(octets: &[u8]) -> Result<Whole<'_>, TagFault>
 }
 
 /// What `read_tag` gives, said by the reading function alone.
-#[tactic(auto, unfolding(crate::specs::Tag::tag_at))]
 fn read(octets: &[u8]) -> Result<Header<'_>, TagFault>
     ensures exact { Gives (λ header. (tag_view header.tag, header.rest.now)) result (tag_at octets.now) }
     ensures low_bits { IfOk result (λ header. header.low_bits ≡ low_bits_at octets.now) }
@@ -159,15 +155,15 @@ fn read(octets: &[u8]) -> Result<Header<'_>, TagFault>
 /// 1 `Short` where the octets end within the tag, and 2 `BadTag` where the tag is whole and its number is
 /// 255, or it opens or closes a list and its class is application.
 pub fn read_tag(octets: &[u8]) -> Result<Header<'_>, TagFault>
-    // What is read is spelled so, and can be written.
+    // What is read is encoded so, and can be written.
     ensures found { IfOk result (λ header. BeginsWith octets.now (tag_view header.tag) header.rest.now) }
     ensures valid { IfOk result (λ header. IsTag (tag_view header.tag)) }
-    // What is spelled so is read, and the octets behind it are the rest.
+    // What is encoded so is read, and the octets behind it are the rest.
     ensures only { (tag : TagFields) (rest : List ℕ) → IsTag tag → BeginsWith octets.now tag rest → IsOkAnd result (λ header. (tag_view header.tag ≡ tag) × (header.rest.now ≡ rest)) }
 
     // Which fault it is.
-    ensures short { (result ≡ Err TagFault.Short) ↔ IsCut octets.now }
-    ensures bad_tag { (result ≡ Err TagFault.BadTag) ↔ BeginsWithNoTag octets.now }
+    ensures short { (result ≡ Err TagFault.Short) ↔ IsShortTag octets.now }
+    ensures bad_tag { (result ≡ Err TagFault.BadTag) ↔ IsBadTag octets.now }
 
     ensures low_bits { IfOk result (λ header. header.low_bits ≡ low_bits_at octets.now) }
     ensures exact { Gives (λ header. (tag_view header.tag, header.rest.now)) result (tag_at octets.now) }

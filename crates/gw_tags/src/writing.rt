@@ -57,7 +57,7 @@ fn first_octet(high: u8, context: bool, low: u8) -> u8
     high << 4 | class_bit(context) | low
 }
 
-/// Appends the shortest spelling of the tag. After an `Err` a front of it may stand there.
+/// Appends the shortest tag_encoding of the tag. After an `Err` a front of it may stand there.
 pub fn put_tag(out: &mut Vec<u8>, tag: Tag) -> Result<(), AllocError>
     ensures ok { OnOk result (out.new.items ≡ out.old.items ++ canonical (tag_view tag)) }
     ensures front { Keeps out.old.items out.new.items }
@@ -73,7 +73,7 @@ pub fn put_tag(out: &mut Vec<u8>, tag: Tag) -> Result<(), AllocError>
     put_length(out, tag.kind)
 }
 
-/// Appends the one spelling of the tag that has the fewest octets. The buffer keeps what it had, and is
+/// Appends the one tag_encoding of the tag that has the fewest octets. The buffer keeps what it had, and is
 /// unchanged after an error.
 ///
 /// # Errors

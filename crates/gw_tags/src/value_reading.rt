@@ -1,0 +1,260 @@
+//! Reading a value from the front of octets (clause 20.2).
+
+ghost use Rattle.std.specs.Prelude.{◌≡◌, ◌<◌, ◌≤◌, ◌^◌, ◌==◌, nat_lt, true, Ok, ℕ, List, length, IfOk};
+ghost use Rattle.gw_addr.specs.Reading.{Gives, front_at};
+ghost use Rattle.std.specs.Str.{is_utf8 as utf8};
+ghost use Rattle.gw_addr.specs.Address.{big_endian};
+ghost use Rattle.gw_tags.specs.Number.{twos_complement, unsigned_of, signed_of};
+ghost use Rattle.gw_tags.specs.Object.{object_of};
+ghost use Rattle.gw_tags.specs.Reading.{head_at, octets_at, number_in, judged_text_at, judged_body_at, one_to_four, null_at, boolean_at, text_at, bits_at, body_at, judged, value_at};
+ghost use Rattle.gw_tags.specs.Value.{value_view, real, double, octet_string, date, time, unsigned, signed, enumerated, object_id};
+ghost use Rattle.gw_tags.specs.Body.{body_view};
+
+use crate::body::Body;
+use crate::datatype::{Datatype, of_number};
+use crate::fault::ValueFault;
+use crate::object::ObjectId;
+use crate::reading::read_tag;
+use crate::strings::{BitString, CharacterString};
+use crate::tag::Kind;
+use crate::value::AppValue;
+
+type Found<'a> = Result<(AppValue<'a>, &'a [u8]), ValueFault>;
+
+/// The kind of the value at the front, and what is behind its tag.
+fn head(octets: &[u8]) -> Result<(Datatype, Body<'_>), ValueFault>
+    ensures { Gives (λ x. (x.0, body_view x.1)) result (head_at octets.now) }
+{
+    let header = read_tag(octets)?;
+    if header.tag.context {
+        return Err(ValueFault::BadTag);
+    }
+    let datatype = of_number(header.tag.number)?;
+    let Kind::Length(count) = header.tag.kind else {
+        return Err(ValueFault::BadTag);
+    };
+    Ok((
+        datatype,
+        Body {
+            low_bits: header.low_bits,
+            count,
+            octets: header.rest,
+        },
+    ))
+}
+
+/// The content, where the kind has one of this length.
+fn content(has_length: bool, body: Body<'_>) -> Result<(&[u8], &[u8]), ValueFault>
+    ensures { Gives (λ x. (x.0.now, x.1.now)) result (octets_at has_length (body_view body.entry)) }
+{
+    if !has_length {
+        return Err(ValueFault::BadLength);
+    }
+    let count = body.count as usize;
+    if body.octets.len() < count {
+        return Err(ValueFault::Short);
+    }
+    Ok(body.octets.split_at(count))
+}
+
+fn null(body: Body<'_>) -> Found<'_>
+    ensures { Gives (λ x. (value_view x.0, x.1.now)) result (null_at (body_view body.entry)) }
+{
+    if body.count != 0 {
+        return Err(ValueFault::BadLength);
+    }
+    Ok((AppValue::Null, body.octets))
+}
+
+fn boolean(body: Body<'_>) -> Found<'_>
+    ensures { Gives (λ x. (value_view x.0, x.1.now)) result (boolean_at (body_view body.entry)) }
+{
+    match body.low_bits {
+        0 => Ok((AppValue::Boolean(false), body.octets)),
+        1 => Ok((AppValue::Boolean(true), body.octets)),
+        _ => Err(ValueFault::BadLength),
+    }
+}
+
+/// A number in one to four octets, the most significant first.
+fn number(content: &[u8]) -> Option<u32>
+    ensures { result ≡ unsigned_of content.now }
+{
+    match content {
+        [a] => Some(u32::from(*a)),
+        [a, b] => Some(u32::from_be_bytes([0, 0, *a, *b])),
+        [a, b, c] => Some(u32::from_be_bytes([0, *a, *b, *c])),
+        [a, b, c, d] => Some(u32::from_be_bytes([*a, *b, *c, *d])),
+        _ => None,
+    }
+}
+
+/// A number in one to four octets in two's complement.
+fn signed_number(content: &[u8]) -> Option<i32>
+    ensures { result ≡ signed_of content.now }
+{
+    match content {
+        [a] => Some(i32::from(i8::from_be_bytes([*a]))),
+        [a, b] => Some(i32::from(i16::from_be_bytes([*a, *b]))),
+        [a, b, c] => Some(i32::from_be_bytes([if *a < 128 { 0 } else { 255 }, *a, *b, *c])),
+        [a, b, c, d] => Some(i32::from_be_bytes([*a, *b, *c, *d])),
+        _ => None,
+    }
+}
+
+/// A number in one to four octets, as what its content is.
+fn unsigned(body: Body<'_>) -> Result<(u32, &[u8]), ValueFault>
+    ensures { Gives (λ x. (x.0, x.1.now)) result (number_in big_endian (body_view body.entry)) }
+{
+    let (content, rest) = content((1..=4).contains(&body.count), body)?;
+    match number(content) {
+        Some(n) => Ok((n, rest)),
+        None => Err(ValueFault::BadLength),
+    }
+}
+
+fn signed(body: Body<'_>) -> Result<(i32, &[u8]), ValueFault>
+    ensures { Gives (λ x. (x.0, x.1.now)) result (number_in twos_complement (body_view body.entry)) }
+{
+    let (content, rest) = content((1..=4).contains(&body.count), body)?;
+    match signed_number(content) {
+        Some(z) => Ok((z, rest)),
+        None => Err(ValueFault::BadLength),
+    }
+}
+
+fn four(body: Body<'_>) -> Result<([u8; 4], &[u8]), ValueFault>
+    ensures { Gives (λ x. (x.0, x.1.now)) result (octets_at (body.entry.count == 4) (body_view body.entry)) }
+{
+    let (content, rest) = content(body.count == 4, body)?;
+    let [a, b, c, d] = content else {
+        return Err(ValueFault::BadLength);
+    };
+    Ok(([*a, *b, *c, *d], rest))
+}
+
+fn eight(body: Body<'_>) -> Result<([u8; 8], &[u8]), ValueFault>
+    ensures { Gives (λ x. (x.0, x.1.now)) result (octets_at (body.entry.count == 8) (body_view body.entry)) }
+{
+    let (content, rest) = content(body.count == 8, body)?;
+    let [a, b, c, d, e, f, g, h] = content else {
+        return Err(ValueFault::BadLength);
+    };
+    Ok(([*a, *b, *c, *d, *e, *f, *g, *h], rest))
+}
+
+/// Whether the octets are UTF-8.
+fn is_utf8(octets: &[u8]) -> bool
+    ensures { result ≡ utf8 octets.now }
+{
+    str::from_utf8(octets).is_ok()
+}
+
+fn text(body: Body<'_>) -> Result<(CharacterString<'_>, &[u8]), ValueFault>
+    ensures { Gives (λ x. (value_view (AppValue.Text x.0), x.1.now)) result (judged_text_at (body_view body.entry)) }
+{
+    let (content, rest) = content(body.count > 0, body)?;
+    let [charset, octets @ ..] = content else {
+        return Err(ValueFault::BadLength);
+    };
+    if *charset == 0 && !is_utf8(octets) {
+        return Err(ValueFault::BadText);
+    }
+    Ok((
+        CharacterString {
+            charset: *charset,
+            octets,
+        },
+        rest,
+    ))
+}
+
+fn bits(body: Body<'_>) -> Result<(BitString<'_>, &[u8]), ValueFault>
+    ensures { Gives (λ x. (value_view (AppValue.Bits x.0), x.1.now)) result (bits_at (body_view body.entry)) }
+{
+    if body.count == 0 {
+        return Err(ValueFault::BadLength);
+    }
+    let Some((unused, octets)) = body.octets.split_first() else {
+        return Err(ValueFault::Short);
+    };
+    let count = body.count - 1;
+    if *unused > 7 || count == 0 && *unused != 0 {
+        return Err(ValueFault::BadLength);
+    }
+    let rest = Body {
+        low_bits: body.low_bits,
+        count,
+        octets,
+    };
+    let (octets, rest) = content(true, rest)?;
+    Ok((
+        BitString {
+            unused: *unused,
+            octets,
+        },
+        rest,
+    ))
+}
+
+/// The content of a kind.
+fn value(datatype: Datatype, body: Body<'_>) -> Found<'_>
+    ensures { Gives (λ x. (value_view x.0, x.1.now)) result (judged_body_at datatype (body_view body.entry)) }
+{
+    match datatype {
+        Datatype::Null => null(body),
+        Datatype::Boolean => boolean(body),
+        Datatype::Unsigned => {
+            let (n, rest) = unsigned(body)?;
+            Ok((AppValue::Unsigned(n), rest))
+        }
+        Datatype::Signed => {
+            let (z, rest) = signed(body)?;
+            Ok((AppValue::Signed(z), rest))
+        }
+        Datatype::Real => {
+            let (octets, rest) = four(body)?;
+            Ok((AppValue::Real(octets), rest))
+        }
+        Datatype::Double => {
+            let (octets, rest) = eight(body)?;
+            Ok((AppValue::Double(octets), rest))
+        }
+        Datatype::Octets => {
+            let (octets, rest) = content(true, body)?;
+            Ok((AppValue::Octets(octets), rest))
+        }
+        Datatype::Text => {
+            let (text, rest) = text(body)?;
+            Ok((AppValue::Text(text), rest))
+        }
+        Datatype::Bits => {
+            let (bits, rest) = bits(body)?;
+            Ok((AppValue::Bits(bits), rest))
+        }
+        Datatype::Enumerated => {
+            let (n, rest) = unsigned(body)?;
+            Ok((AppValue::Enumerated(n), rest))
+        }
+        Datatype::Date => {
+            let (octets, rest) = four(body)?;
+            Ok((AppValue::Date(octets), rest))
+        }
+        Datatype::Time => {
+            let (octets, rest) = four(body)?;
+            Ok((AppValue::Time(octets), rest))
+        }
+        Datatype::Object => {
+            let (octets, rest) = four(body)?;
+            Ok((AppValue::Object(ObjectId::from_octets(octets)), rest))
+        }
+    }
+}
+
+/// The value at the front, said by the reading function alone.
+fn read(octets: &[u8]) -> Found<'_>
+    ensures { Gives (λ x. (value_view x.0, x.1.now)) result (value_at octets.now) }
+{
+    let (datatype, body) = head(octets)?;
+    value(datatype, body)
+}
