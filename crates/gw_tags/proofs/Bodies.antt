@@ -65,19 +65,19 @@ pub append_octets : (xs ys : List ℕ) → AreOctets xs → AreOctets ys → Are
 append_octets [] ys a b = b
 append_octets (x ∷ xs) ys a b = one_more x (xs ++ ys) (a 0) (append_octets xs ys (AreOctets-rest x xs a) b)
 
-abbrev zeros : ℕ → List ℕ
+abbrev pub zeros : ℕ → List ℕ
 zeros zero = []
 zeros (suc n) = 0 ∷ zeros n
 
-zeros_octets : (n : ℕ) → AreOctets (zeros n)
+pub zeros_octets : (n : ℕ) → AreOctets (zeros n)
 zeros_octets zero = none
 zeros_octets (suc n) = one_more 0 (zeros n) (omega arith) (zeros_octets n)
 
-zeros_length : (n : ℕ) → length (zeros n) ≡ n
+pub zeros_length : (n : ℕ) → length (zeros n) ≡ n
 zeros_length zero = refl
 zeros_length (suc n) = omega (arith, zeros_length n)
 
-some_zeros : (n : ℕ) → 0 < n → zeros n ≢ []
+pub some_zeros : (n : ℕ) → 0 < n → zeros n ≢ []
 some_zeros zero lt e = absurd (omega arith)
 some_zeros (suc n) lt e = cc
 
@@ -97,7 +97,7 @@ counted has make number low count octets content rest t parts len fits known = r
   bits = subst (λ (b : LengthBits). HasBits b low count (length content)) (sym (t.bits_are content)) (sym len);
 }
 
-counted_takes : (has : ℕ → Bool) (make : List ℕ → Value) (number low count : ℕ) (octets : List ℕ) (value : Value) (rest : List ℕ) → IsCounted has make number → AreOctets octets → content_at has make (body low count octets) ≡ Ok (value, rest) → TakesBody number low count octets value rest
+pub counted_takes : (has : ℕ → Bool) (make : List ℕ → Value) (number low count : ℕ) (octets : List ℕ) (value : Value) (rest : List ℕ) → IsCounted has make number → AreOctets octets → content_at has make (body low count octets) ≡ Ok (value, rest) → TakesBody number low count octets value rest
 counted_takes has make number low count octets value rest t fits e =
     let a = bind_ok (octets_at (has count) (body low count octets)) (λ x. Ok (make x.0, x.1)) (value, rest) e in
     elim (chosen (has count) (front_at ShortValue count octets) (Err BadLength) (Ok a.0) a.1) [
@@ -121,7 +121,7 @@ completed has make number low count octets t fits known lt = record {
   takes = counted has make number low count (octets ++ zeros (count - length octets)) (octets ++ zeros (count - length octets)) [] t (sym (append-nil (octets ++ zeros (count - length octets)))) (omega (arith, length-append octets (zeros (count - length octets)), zeros_length (count - length octets))) (append_octets octets (zeros (count - length octets)) fits (zeros_octets (count - length octets))) known;
 }
 
-counted_fails : (has : ℕ → Bool) (make : List ℕ → Value) (number low count : ℕ) (octets : List ℕ) (fault : ValueFault) → IsCounted has make number → AreOctets octets → content_at has make (body low count octets) ≡ Err fault → Fails number low count octets fault (λ o. content_at has make (body low count o))
+pub counted_fails : (has : ℕ → Bool) (make : List ℕ → Value) (number low count : ℕ) (octets : List ℕ) (fault : ValueFault) → IsCounted has make number → AreOctets octets → content_at has make (body low count octets) ≡ Err fault → Fails number low count octets fault (λ o. content_at has make (body low count o))
 counted_fails has make number low count octets fault t fits e =
     elim (bind_err (octets_at (has count) (body low count octets)) (λ x. Ok (make x.0, x.1)) fault e) [
       | inl here ↦ elim (chosen (has count) (front_at ShortValue count octets) (Err BadLength) (Err fault) here) [
@@ -133,55 +133,55 @@ counted_fails has make number low count octets fault t fits e =
       | inr after ↦ absurd (let h = after.2 in cc)
     ]
 
-counted_again : (has : ℕ → Bool) (make : List ℕ → Value) (low : ℕ) (content rest : List ℕ) → has (length content) ≡ true → content_at has make (body low (length content) (content ++ rest)) ≡ Ok (make content, rest)
+pub counted_again : (has : ℕ → Bool) (make : List ℕ → Value) (low : ℕ) (content rest : List ℕ) → has (length content) ≡ true → content_at has make (body low (length content) (content ++ rest)) ≡ Ok (make content, rest)
 counted_again has make low content rest known = rw known (ap (λ (r : Result (List ℕ × List ℕ) ValueFault). r >>= λ x. Ok (make x.0, x.1)) (front_again ShortValue content rest))
 
 -- ---- the kinds that are so
 
-both_hold : (a b : Bool) → (a && b) ≡ true → (a ≡ true) × (b ≡ true)
+pub both_hold : (a b : Bool) → (a && b) ≡ true → (a ≡ true) × (b ≡ true)
 both_hold true b e = (refl, e)
 both_hold false b e = absurd cc
 
-one_to_four_holds : (n : ℕ) → 1 ≤ n → n ≤ 4 → one_to_four n ≡ true
+pub one_to_four_holds : (n : ℕ) → 1 ≤ n → n ≤ 4 → one_to_four n ≡ true
 one_to_four_holds n least most = rw (le-leb 1 n least, le-leb n 4 most) refl
 
-is_unsigned : IsCounted one_to_four (λ o. unsigned (big_endian o)) 2
+pub is_unsigned : IsCounted one_to_four (λ o. unsigned (big_endian o)) 2
 is_unsigned = record {
   number_is = λ c. refl;
   bits_are = λ c. refl;
   content_is = λ c fits has. let b = both_hold _ _ has in record { least = leb-true _ _ b.0; most = leb-true _ _ b.1; octets_fit = fits; number = refl };
 }
 
-is_enumerated : IsCounted one_to_four (λ o. enumerated (big_endian o)) 9
+pub is_enumerated : IsCounted one_to_four (λ o. enumerated (big_endian o)) 9
 is_enumerated = record {
   number_is = λ c. refl;
   bits_are = λ c. refl;
   content_is = λ c fits has. let b = both_hold _ _ has in record { least = leb-true _ _ b.0; most = leb-true _ _ b.1; octets_fit = fits; number = refl };
 }
 
-is_signed : IsCounted one_to_four (λ o. signed (twos_complement o)) 3
+pub is_signed : IsCounted one_to_four (λ o. signed (twos_complement o)) 3
 is_signed = record {
   number_is = λ c. refl;
   bits_are = λ c. refl;
   content_is = λ c fits has. let b = both_hold _ _ has in record { least = leb-true _ _ b.0; most = leb-true _ _ b.1; octets_fit = fits; number = refl };
 }
 
-is_real : IsCounted (λ n. eqb n 4) real 4
+pub is_real : IsCounted (λ n. eqb n 4) real 4
 is_real = record { number_is = λ c. refl; bits_are = λ c. refl; content_is = λ c fits has. (refl, eqb-true _ _ has) }
 
-is_double : IsCounted (λ n. eqb n 8) double 5
+pub is_double : IsCounted (λ n. eqb n 8) double 5
 is_double = record { number_is = λ c. refl; bits_are = λ c. refl; content_is = λ c fits has. (refl, eqb-true _ _ has) }
 
-is_date : IsCounted (λ n. eqb n 4) date 10
+pub is_date : IsCounted (λ n. eqb n 4) date 10
 is_date = record { number_is = λ c. refl; bits_are = λ c. refl; content_is = λ c fits has. (refl, eqb-true _ _ has) }
 
-is_time : IsCounted (λ n. eqb n 4) time 11
+pub is_time : IsCounted (λ n. eqb n 4) time 11
 is_time = record { number_is = λ c. refl; bits_are = λ c. refl; content_is = λ c fits has. (refl, eqb-true _ _ has) }
 
-is_octets : IsCounted (λ n. true) octet_string 6
+pub is_octets : IsCounted (λ n. true) octet_string 6
 is_octets = record { number_is = λ c. refl; bits_are = λ c. refl; content_is = λ c fits has. refl }
 
-is_object : IsCounted (λ n. eqb n 4) (λ o. object_id (object_of o)) 12
+pub is_object : IsCounted (λ n. eqb n 4) (λ o. object_id (object_of o)) 12
 is_object = record {
   number_is = λ c. refl;
   bits_are = λ c. refl;
@@ -200,5 +200,5 @@ text_content : (c : List ℕ) → AreOctets c → ltb 0 (length c) ≡ true → 
 text_content [] fits has = absurd cc
 text_content (charset ∷ own) fits has = refl
 
-is_text_kind : IsCounted (ltb 0) text_of 7
+pub is_text_kind : IsCounted (ltb 0) text_of 7
 is_text_kind = record { number_is = text_number; bits_are = text_bits; content_is = text_content }

@@ -68,7 +68,6 @@ behind_255 : (first : ℕ) (others : List ℕ) → first ≡ 255 → IsFrontOfNu
 behind_255 first others is f = record { n = f.n; place = four_octets; missing = f.missing; some_missing = f.some_missing; low = refl; room = f.room; whole = rw is (ap (λ (o : List ℕ). 255 ∷ o) f.whole) }
 
 length_cut : (octets : List ℕ) (fault : TagFault) → AreOctets octets → length_at octets ≡ Err fault → (fault ≡ Short) × IsFrontOfLength octets
-unfolding length_at
 length_cut [] fault fits e = (cc, record { n = 0; place = one_octet; missing = 0 ∷ []; some_missing = λ e. cc; low = refl; room = omega arith; whole = refl })
 length_cut (first ∷ others) fault fits e =
     let others_fit = AreOctets-rest first others fits in
@@ -87,7 +86,6 @@ length_cut (first ∷ others) fault fits e =
     ]
 
 kind_cut : (low : ℕ) (octets : List ℕ) (fault : TagFault) → AreOctets octets → kind_at low octets ≡ Err fault → (fault ≡ Short) × (low ≡ 5) × IsFrontOfLength octets
-unfolding kind_at
 kind_cut low octets fault fits e =
     elim (chosen (eqb low 6) (Ok (Opening, octets)) (cond (eqb low 7) (Ok (Closing, octets)) (cond (eqb low 5) (length_at octets >>= λ n. Ok (Length n.0, n.1)) (Ok (Length low, octets)))) (Err fault) e) [
       | inl opening ↦ absurd (let h = opening.1 in cc)
@@ -126,7 +124,6 @@ octet_cut [] fault e = (cc, refl)
 octet_cut (octet ∷ octets) fault e = absurd cc
 
 number_cut : (first : ℕ) (octets : List ℕ) (fault : TagFault) → tag_number_at first octets ≡ Err fault → (fault ≡ Short) × (first / 16 ≡ 15) × (octets ≡ [])
-unfolding tag_number_at
 number_cut first octets fault e = elim (chosen (eqb (first / 16) 15) (octet_at Short octets) (Ok (first / 16, octets)) (Err fault) e) [
   | inl own ↦ let f = octet_cut octets fault own.1 in (f.0, eqb-true _ _ own.0, f.1)
   | inr bits ↦ absurd (let h = bits.1 in cc)
@@ -175,7 +172,6 @@ cut_at_length first others n middle small a low b = record {
 
 -- what ends within a tag is cut
 pub header_cut : (octets : List ℕ) (fault : TagFault) → AreOctets octets → header_at octets ≡ Err fault → (fault ≡ Short) × IsShortTag octets
-unfolding header_at
 header_cut [] fault fits e = (cc, empty_cut)
 header_cut (first ∷ others) fault fits e =
     let small : first < 256 = fits 0 in

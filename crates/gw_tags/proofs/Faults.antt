@@ -35,7 +35,6 @@ is_written tag front s e =
 
 -- what was read can be written
 pub tag_takes : (octets : List ℕ) (tag : Tag) (rest : List ℕ) → AreOctets octets → tag_at octets ≡ Ok (tag, rest) → BeginsWith octets tag rest × IsTag tag
-unfolding tag_at
 tag_takes octets tag rest fits e =
     let a = bind_ok (header_at octets) (λ header. cond (is_tag header.0) (Ok header) (Err BadTag)) (tag, rest) e in
     elim (chosen (is_tag a.0.0) (Ok a.0) (Err BadTag) (Ok (tag, rest)) a.2) [
@@ -65,7 +64,6 @@ cut_is_short octets (Ok x) fits c e =
     absurd (c.some_missing (nothing_behind x.1 c.missing (ap (λ (y : Tag × List ℕ). y.1) same)))
 
 pub tag_is_short : (octets : List ℕ) → AreOctets octets → (tag_at octets ≡ Err Short) ↔ IsShortTag octets
-unfolding tag_at
 tag_is_short octets fits = (
   λ e. elim (bind_err (header_at octets) (λ header. cond (is_tag header.0) (Ok header) (Err BadTag)) Short e) [
     | inl here ↦ (header_cut octets Short fits here).1
@@ -78,7 +76,6 @@ tag_is_short octets fits = (
 )
 
 pub tag_is_bad : (octets : List ℕ) → AreOctets octets → (tag_at octets ≡ Err BadTag) ↔ IsBadTag octets
-unfolding tag_at
 tag_is_bad octets fits = (
   λ e. elim (bind_err (header_at octets) (λ header. cond (is_tag header.0) (Ok header) (Err BadTag)) BadTag e) [
     | inl here ↦ absurd (let h = (header_cut octets BadTag fits here).0 in cc)

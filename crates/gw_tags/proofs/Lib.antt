@@ -7,3 +7,4 @@ pub mod Canonical
 pub mod Objects
 pub mod Texts
 pub mod Bodies
+pub mod EachKind

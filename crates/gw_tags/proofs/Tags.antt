@@ -36,7 +36,6 @@ class_part high low false lt = le-ltb _ _ (omega arith)
 -- ---- the number
 
 tag_number_again : (first n : ℕ) (place : NumberPlace) (rest : List ℕ) → first / 16 ≡ high_of n place → NumberHasRoom n place → tag_number_at first (number_octets n place ++ rest) ≡ Ok (n, rest)
-unfolding tag_number_at
 tag_number_again first n high_bits rest high room =
     let other : eqb n 15 ≡ false = ne_eqb n 15 (λ e. omega (arith, room)) in
     rw (high, other) refl
@@ -45,7 +44,6 @@ tag_number_again first n own_octet rest high room = rw high refl
 -- ---- what the low bits announce
 
 kind_again : (kind : Kind) (place : LengthPlace) (rest : List ℕ) → LengthHasRoom kind place → kind_at (low_of kind place) (length_octets kind place ++ rest) ≡ Ok (kind, rest)
-unfolding kind_at length_at
 kind_again (Length n) low_bits rest room =
     let not_five : eqb n 5 ≡ false = ne_eqb n 5 (λ e. omega (arith, room)) in
     let not_six : eqb n 6 ≡ false = ne_eqb n 6 (λ e. omega (arith, room)) in
@@ -64,7 +62,6 @@ kind_again Closing place rest room = refl
 
 -- what is encoded so is read, be it reserved or not
 pub header_again : (front : List ℕ) (tag : Tag) (rest : List ℕ) → EncodesTag front tag → header_at (front ++ rest) ≡ Ok (tag, rest)
-unfolding header_at
 header_again front tag rest s =
     let small = low_small tag.kind s.length_place s.length_room in
     let high = high_part (high_of tag.number s.number_place) (low_of tag.kind s.length_place) tag.context small in
@@ -79,5 +76,4 @@ known_tag tag is = rw (lt-ltb tag.number 255 is.numbered) is.classed
 
 -- a tag that is encoded so is read
 pub tag_again : (front : List ℕ) (tag : Tag) (rest : List ℕ) → IsTag tag → EncodesTag front tag → tag_at (front ++ rest) ≡ Ok (tag, rest)
-unfolding tag_at
 tag_again front tag rest is s = rw (header_again front tag rest s, known_tag tag is) refl

@@ -31,7 +31,6 @@ pub record ReadsNumber (first : ℕ) (octets : List ℕ) (n : ℕ) (rest : List 
   pub takes : Takes octets (number_octets n place) rest
 
 pub tag_number_takes : (first : ℕ) (octets : List ℕ) (n : ℕ) (rest : List ℕ) → first < 256 → AreOctets octets → tag_number_at first octets ≡ Ok (n, rest) → ReadsNumber first octets n rest
-unfolding tag_number_at
 tag_number_takes first octets n rest lt fits e = elim (chosen (eqb (first / 16) 15) (octet_at Short octets) (Ok (first / 16, octets)) (Ok (n, rest)) e) [
   | inl own ↦
       let t = octet_takes Short octets n rest fits own.1 in
@@ -62,7 +61,6 @@ stays low octets read place kind rest fits low_is room none e =
     subst (λ (x : Kind × List ℕ). ReadsKind low octets x.0 x.1) (ok_is made (kind, rest) e) (record { place = place; low_is = low_is; room = room; takes = record { parts = rw none refl; rest_octets = fits } })
 
 length_takes : (octets : List ℕ) (n : ℕ) (rest : List ℕ) → AreOctets octets → length_at octets ≡ Ok (n, rest) → ReadsKind 5 octets (Length n) rest
-unfolding length_at
 length_takes [] n rest fits e = absurd cc
 length_takes (first ∷ others) n rest fits e =
     let small : first < 256 = fits 0 in
@@ -86,7 +84,6 @@ length_takes (first ∷ others) n rest fits e =
     ]
 
 pub kind_takes : (low : ℕ) (octets : List ℕ) (kind : Kind) (rest : List ℕ) → low < 8 → AreOctets octets → kind_at low octets ≡ Ok (kind, rest) → ReadsKind low octets kind rest
-unfolding kind_at
 kind_takes low octets kind rest lt fits e =
     elim (chosen (eqb low 6) (Ok (Opening, octets)) (cond (eqb low 7) (Ok (Closing, octets)) (cond (eqb low 5) (length_at octets >>= λ n. Ok (Length n.0, n.1)) (Ok (Length low, octets)))) (Ok (kind, rest)) e) [
       | inl opening ↦ stays low octets Opening low_bits kind rest fits (eqb-true _ _ opening.0) tt refl opening.1
@@ -124,7 +121,6 @@ joined first others n middle kind rest small a b = record {
 
 -- what was read is encoded so
 pub header_takes : (octets : List ℕ) (tag : Tag) (rest : List ℕ) → AreOctets octets → header_at octets ≡ Ok (tag, rest) → BeginsWith octets tag rest
-unfolding header_at
 header_takes [] tag rest fits e = absurd cc
 header_takes (first ∷ others) tag rest fits e =
     let small : first < 256 = fits 0 in
