@@ -42,7 +42,7 @@ kind_number kinds.Object = 12
 -- the low bits and the length of a tag are those of a content so long
 abbrev pub HasBits : LengthBits → ℕ → ℕ → ℕ → Type 0
 HasBits length_of_content low count len = count ≡ len
-HasBits (value_itself n) low count len = (low ≡ n) × (n < 2)
+HasBits (value_itself n) low count len = low ≡ n
 
 -- the octets are the value's content and then the rest
 pub record TakesBody (number low count : ℕ) (octets : List ℕ) (value : Value) (rest : List ℕ) : Type 0 where

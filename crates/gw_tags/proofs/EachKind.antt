@@ -34,14 +34,10 @@ null_fails low count octets fault e = elim (chosen (eqb count 0) (Ok (null, octe
   | inr some ↦ inr (let h = some.1 in cc, λ more. rw some.0 refl)
 ]
 
-bit_small : (said : Bool) → bit_of said < 2
-bit_small false = omega arith
-bit_small true = omega arith
-
 flag : (low count : ℕ) (octets : List ℕ) (value : Value) (rest : List ℕ) (said : Bool) → low ≡ bit_of said → (let r : Read = Ok (boolean said, octets) in r) ≡ Ok (value, rest) → TakesBody 1 low count octets value rest
 flag low count octets value rest said is e =
     let made : Value × List ℕ = (boolean said, octets) in
-    subst (λ (x : Value × List ℕ). TakesBody 1 low count octets x.0 x.1) (ok_is made (value, rest) e) (record { number_is = refl; content = []; parts = refl; is = refl; bits = (is, bit_small said) })
+    subst (λ (x : Value × List ℕ). TakesBody 1 low count octets x.0 x.1) (ok_is made (value, rest) e) (record { number_is = refl; content = []; parts = refl; is = refl; bits = is })
 
 boolean_takes : (low count : ℕ) (octets : List ℕ) (value : Value) (rest : List ℕ) → boolean_at (body low count octets) ≡ Ok (value, rest) → TakesBody 1 low count octets value rest
 boolean_takes low count octets value rest e =
@@ -221,8 +217,8 @@ bits_again low unused own rest known = rw known (ap (λ (r : Result (List ℕ ×
 
 pub body_again : (value : Value) (low count : ℕ) (content rest : List ℕ) → IsContent (layout value).content content → HasBits (layout value).bits low count (length content) → body_at (kind_of value) (body low count (content ++ rest)) ≡ Ok (value, rest)
 body_again null low count content rest s b = rw (b, s) refl
-body_again (boolean false) low count content rest s b = rw (s, b.0) refl
-body_again (boolean true) low count content rest s b = rw (s, b.0) refl
+body_again (boolean false) low count content rest s b = rw (s, b) refl
+body_again (boolean true) low count content rest s b = rw (s, b) refl
 body_again (unsigned n) low count content rest s b = rw b (counted_again one_to_four (λ o. unsigned (big_endian o)) low content rest (one_to_four_holds (length content) s.least s.most) ∙ ap (λ (m : ℕ). Ok (unsigned m, rest)) (sym s.number))
 body_again (signed z) low count content rest s b = rw b (counted_again one_to_four (λ o. signed (twos_complement o)) low content rest (one_to_four_holds (length content) s.least s.most) ∙ ap (λ m. Ok (signed m, rest)) (sym s.number))
 body_again (real own) low count content rest s b = rw b (exactly_again real 4 low content own rest s)

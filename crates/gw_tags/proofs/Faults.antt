@@ -16,7 +16,7 @@ use Rattle.gw_tags.proofs.Tags.{header_again, tag_again}
 use Rattle.gw_tags.proofs.Takes.{header_takes}
 use Rattle.gw_tags.proofs.Cut.{header_cut}
 
-fits_kind : (kind : Kind) (place : LengthPlace) → LengthHasRoom kind place → LengthFits kind
+pub fits_kind : (kind : Kind) (place : LengthPlace) → LengthHasRoom kind place → LengthFits kind
 fits_kind (Length n) low_bits room = omega (arith, room)
 fits_kind (Length n) one_octet room = omega (arith, room)
 fits_kind (Length n) two_octets room = omega (arith, room)
@@ -28,7 +28,7 @@ both_true : (a b : Bool) → (a && b) ≡ true → (a ≡ true) × (b ≡ true)
 both_true true b e = (refl, e)
 both_true false b e = absurd cc
 
-is_written : (tag : Tag) (front : List ℕ) → EncodesTag front tag → is_tag tag ≡ true → IsTag tag
+pub is_written : (tag : Tag) (front : List ℕ) → EncodesTag front tag → is_tag tag ≡ true → IsTag tag
 is_written tag front s e =
     let both = both_true (ltb tag.number 255) (is_length tag.kind || tag.context) e in
     record { numbered = ltb-true _ _ both.0; classed = both.1; length_fits = fits_kind tag.kind s.length_place s.length_room }
@@ -48,7 +48,7 @@ tag_takes octets tag rest fits e =
 pub begins_again : (octets : List ℕ) (tag : Tag) (rest : List ℕ) → BeginsWith octets tag rest → header_at octets ≡ Ok (tag, rest)
 begins_again octets tag rest b = rw b.parts (header_again b.front tag rest b.encodes)
 
-nothing_behind : (rest missing : List ℕ) → [] ≡ rest ++ missing → missing ≡ []
+pub nothing_behind : (rest missing : List ℕ) → [] ≡ rest ++ missing → missing ≡ []
 nothing_behind [] missing e = sym e
 nothing_behind (octet ∷ rest) missing e = absurd cc
 

@@ -8,3 +8,5 @@ pub mod Objects
 pub mod Texts
 pub mod Bodies
 pub mod EachKind
+pub mod Heads
+pub mod ValueLaws

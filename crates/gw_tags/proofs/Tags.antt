@@ -13,7 +13,7 @@ use Rattle.gw_tags.specs.Reading.{tag_number_at, length_at, kind_at, header_at, 
 
 -- ---- the first octet
 
-low_small : (kind : Kind) (place : LengthPlace) → LengthHasRoom kind place → low_of kind place < 8
+pub low_small : (kind : Kind) (place : LengthPlace) → LengthHasRoom kind place → low_of kind place < 8
 low_small (Length n) low_bits room = omega (arith, room)
 low_small (Length n) one_octet room = omega arith
 low_small (Length n) two_octets room = omega arith
@@ -25,7 +25,7 @@ high_part : (high low : ℕ) (context : Bool) → low < 8 → (16 * high + class
 high_part high low true lt = omega arith
 high_part high low false lt = omega arith
 
-low_part : (high low : ℕ) (context : Bool) → low < 8 → (16 * high + class_of context + low) % 8 ≡ low
+pub low_part : (high low : ℕ) (context : Bool) → low < 8 → (16 * high + class_of context + low) % 8 ≡ low
 low_part high low true lt = omega arith
 low_part high low false lt = omega arith
 
@@ -71,7 +71,7 @@ header_again front tag rest s =
     let kind = kind_again tag.kind s.length_place rest s.length_room in
     rw (s.encoded, append_assoc, number, low, class, kind) refl
 
-known_tag : (tag : Tag) → IsTag tag → is_tag tag ≡ true
+pub known_tag : (tag : Tag) → IsTag tag → is_tag tag ≡ true
 known_tag tag is = rw (lt-ltb tag.number 255 is.numbered) is.classed
 
 -- a tag that is encoded so is read
