@@ -53,7 +53,7 @@ nothing_behind [] missing e = sym e
 nothing_behind (octet ∷ rest) missing e = absurd cc
 
 -- octets that end within a tag are no whole header
-cut_is_short : (octets : List ℕ) (read : Result (Tag × List ℕ) TagFault) → AreOctets octets → IsShortTag octets → header_at octets ≡ read → read ≡ Err Short
+pub cut_is_short : (octets : List ℕ) (read : Result (Tag × List ℕ) TagFault) → AreOctets octets → IsShortTag octets → header_at octets ≡ read → read ≡ Err Short
 cut_is_short octets (Err fault) fits c e = ap Err (header_cut octets fault fits e).0
 cut_is_short octets (Ok x) fits c e =
     let begins = header_takes octets x.0 x.1 fits e in

@@ -110,7 +110,7 @@ count_err Opening fault e = (cc, refl)
 count_err Closing fault e = (cc, refl)
 
 -- the value's head, once its tag is read
-abbrev headed : ℕ → Result (Tag × List ℕ) TagFault → Result (Datatype × Body) ValueFault
+abbrev pub headed : ℕ → Result (Tag × List ℕ) TagFault → Result (Datatype × Body) ValueFault
 headed low r = of_tag r >>= λ header. cond header.0.context (Err BadValueTag) (datatype_of header.0.number) >>= λ kind. count_of header.0.kind >>= λ count. Ok (kind, body low count header.1)
 
 -- what was read of a head

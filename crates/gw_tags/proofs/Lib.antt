@@ -10,3 +10,4 @@ pub mod Bodies
 pub mod EachKind
 pub mod Heads
 pub mod ValueLaws
+pub mod ValueFaults

@@ -98,7 +98,7 @@ begins_read octets value rest b = ap raw_at b.parts ∙ raw_again b.front value 
 -- ---- faults that more octets do not cure
 
 -- why nothing is read: the tag ends, the content ends, the tag is none of a value, or the length none of the kind
-data Fault (octets : List ℕ) (fault : ValueFault) : Type 0 where
+pub data Fault (octets : List ℕ) (fault : ValueFault) : Type 0 where
   tag_ends : fault ≡ Short → IsShortTag octets → Fault octets fault
   content_ends : fault ≡ Short → EndsInContent octets → Fault octets fault
   other_tag : fault ≡ BadTag → IsBadValueTag octets → Fault octets fault
@@ -123,7 +123,7 @@ never_cured octets kind low count behind h is stays more value rest b =
   clash : (v : Value) (r : List ℕ) → (let x : Read = Ok (v, r) in x) ≡ Err BadLength → ⊥
   clash v r e = cc
 
-raw_fails : (octets : List ℕ) (fault : ValueFault) → AreOctets octets → raw_at octets ≡ Err fault → Fault octets fault
+pub raw_fails : (octets : List ℕ) (fault : ValueFault) → AreOctets octets → raw_at octets ≡ Err fault → Fault octets fault
 raw_fails octets fault fits e = elim (bind_err (head_at octets) (λ head. body_at head.0 head.1) fault e) [
   | inl here ↦ elim (head_fails octets fault fits here) [
     | inl short ↦ tag_ends short.0 ((tag_is_short octets fits).0 short.1)
