@@ -11,3 +11,4 @@ pub mod EachKind
 pub mod Heads
 pub mod ValueLaws
 pub mod ValueFaults
+pub mod Numbers
