@@ -4,14 +4,13 @@ use Rattle.std.specs.Fmt.{decimal}
 use Rattle.std.specs.Str.{all_ascii_digits}
 use Rattle.std.specs.Str.Parse.{ParsesUnsigned, digits_value}
 use Rattle.std.proofs.lemmas.Fmt.{decimal-digits_value, parse-decimal, digits_decimal, decimal_nonempty, first_decimal, decimal_digit}
-use Rattle.std.proofs.lemmas.Str.Parse.{IsNumeralModel, numerals_by_value, tells_all_ascii_digits, parse_plain, not_in_digits}
+use Rattle.std.proofs.lemmas.Str.Parse.{IsNumeralModel, numerals_by_value, tells_all_ascii_digits, parse_plain}
 use Rattle.std.proofs.lemmas.Bool.Decides.{nat_tests}
 use Rattle.std.specs.Result.{OkIff, result_ok}
 use Rattle.std.specs.Prelude.{IfSome}
-use Rattle.std.specs.Char.{IsAsciiDigit}
-use Rattle.gw_addr.specs.Address.{begins_canonical_of}
+use Rattle.gw_addr.specs.Decimal.{begins_canonical_of}
 
-own : IsNumeralModel (λ ds. all_ascii_digits ds ≡ true) (digits_value 10)
+pub own : IsNumeralModel (λ ds. all_ascii_digits ds ≡ true) (digits_value 10)
 own = numerals_by_value (λ ds. all_ascii_digits ds ≡ true) tells_all_ascii_digits
 
 -- what begins canonically has no plus and no leading zero
@@ -43,7 +42,3 @@ number_found_option text (Err e) h canonical = tt
 
 pub number_only_option : {E : Type 0} (text : List ℕ) (r : Result ℕ E) → ParsesUnsigned 16 10 text r → (n : ℕ) → n < 2 ^ 16 → text ≡ decimal n → result_ok r ≡ Some n
 number_only_option {E} text r h n small e = ap result_ok (parse-decimal {E = E} 16 n text r small (omega arith) e h)
-
--- no digit of a number is a separator
-pub not_in_decimal : (n c : ℕ) → n < 2 ^ 64 → ¬ (IsAsciiDigit c) → (i : ℕ) → i < length (decimal n) → get_or (decimal n) i 0 ≢ c
-not_in_decimal n c h other = not_in_digits own (decimal n) c (digits_decimal own n h) other

@@ -1,3 +1,7 @@
 pub mod Reading
 pub mod Decimal
-pub mod Address
+pub mod Lacking
+pub mod Addresses
+pub mod Entries
+pub mod Writing
+pub mod Stations

@@ -1,11 +1,12 @@
 -- The laws of reading from the front: what was read is spelled so, and what is spelled so is read again.
 -- A codec above joins two of them for each of its fields: `x_takes` and `x_again`.
-use Rattle.std.proofs.Common.{◌≡◌, ℕ, suc, ◌+◌, ◌^◌, ◌<◌, ◌≤◌, Bool, true, false, cond, ltb, List, [], ◌∷◌, ◌++◌, length, take, drop, Result, Ok, Err, refl, sym, ap, ◌∙◌, append_assoc, arith, inl, inr, ◌⊎◌}
+use Rattle.std.proofs.Common.{◌≡◌, ◌↔◌, ℕ, zero, suc, ◌+◌, ◌^◌, ◌<◌, ◌≤◌, Bool, true, false, ◌&&◌, cond, ltb, List, [], ◌∷◌, ◌++◌, length, take, drop, Result, Ok, Err, refl, sym, ap, ◌∙◌, append_assoc, arith, inl, inr, ◌⊎◌}
+use Rattle.std.specs.Prelude.{IfOk, IsOkAnd}
 use Rattle.std.specs.Int.{Width, w16, w32, w64, byte_len, from_be_bytes, to_be_bytes}
 use Rattle.std.proofs.lemmas.Bool.{cases_lt, ltb-false, le-ltb}
 use Rattle.std.proofs.lemmas.List.{take_at, drop_at, take-append-drop, length-append, length-take, get_or-drop, get_or-take, get_or_past}
 use Rattle.std.proofs.lemmas.Nat.{be_bytes_2, be_bytes_4, be_bytes_8, from_be_bytes-to_be_bytes_2, from_be_bytes-to_be_bytes_4, from_be_bytes-to_be_bytes_8}
-use Rattle.gw_addr.specs.Reading.{◌>>=◌, AreOctets, Takes, octet_at, front_at, number_at}
+use Rattle.gw_addr.specs.Reading.{◌>>=◌, Gives, AreOctets, Takes, octet_at, front_at, number_at}
 
 -- ---- octets
 
@@ -21,6 +22,11 @@ AreOctets-take n octets h i =
 
 pub AreOctets-rest : (octet : ℕ) (octets : List ℕ) → AreOctets (octet ∷ octets) → AreOctets octets
 AreOctets-rest octet octets h i = h (suc i)
+
+pub AreOctets-append : (front rest : List ℕ) → AreOctets front → AreOctets rest → AreOctets (front ++ rest)
+AreOctets-append [] rest h k i = k i
+AreOctets-append (octet ∷ front) rest h k zero = h 0
+AreOctets-append (octet ∷ front) rest h k (suc i) = AreOctets-append front rest (AreOctets-rest octet front h) k i
 
 -- ---- steps and tests
 
@@ -49,6 +55,11 @@ pub pass_ok : {A F : Type 0} (b : Bool) (d : F) (r : Result A F) (y : A) → con
 pass_ok true d r y e = absurd cc
 pass_ok false d r y e = (refl, e)
 
+-- two tests that hold together hold each
+pub both_true : (a b : Bool) → (a && b) ≡ true → (a ≡ true) × (b ≡ true)
+both_true true b e = (refl, e)
+both_true false b e = absurd cc
+
 -- which side a choice took
 pub chosen : {A : Type 0} (b : Bool) (x y z : A) → cond b x y ≡ z → ((b ≡ true) × (x ≡ z)) ⊎ ((b ≡ false) × (y ≡ z))
 chosen true x y z e = inl (refl, e)
@@ -59,6 +70,30 @@ done F x = Ok x
 
 pub ok_is : {A F : Type 0} (x y : A) → done F x ≡ done F y → x ≡ y
 ok_is x y e = cc
+
+-- a reading gave a value or a fault
+pub either : {A F : Type 0} (r : Result A F) → ((x : A) × (r ≡ Ok x)) ⊎ ((e : F) × (r ≡ Err e))
+either (Ok x) = inl (x, refl)
+either (Err e) = inr (e, refl)
+
+-- ---- what a function returned, from what its reading gives
+
+-- what was found is as each value that the reading gives
+pub gives_found : {X Y F : Type 0} (view : X → Y) (r : Result X F) (reading : Result Y F) (P : Y → Type 0) → Gives view r reading → ((y : Y) → reading ≡ Ok y → P y) → IfOk r (λ x. P (view x))
+gives_found view (Ok x) reading P given holds = holds (view x) given
+gives_found view (Err e) reading P given holds = tt
+
+-- what the reading gives is what was found
+pub gives_only : {X Y F : Type 0} (view : X → Y) (r : Result X F) (reading : Result Y F) (y : Y) → Gives view r reading → reading ≡ Ok y → IsOkAnd r (λ x. view x ≡ y)
+gives_only {F = F} view (Ok x) reading y given is = ok_is {F = F} (view x) y (sym given ∙ is)
+gives_only view (Err e) reading y given is = absurd (let both = sym given ∙ is in cc)
+
+-- a fault is that of the reading
+pub gives_fault : {X Y F : Type 0} (view : X → Y) (r : Result X F) (reading : Result Y F) (fault : F) (P : Type 0) → Gives view r reading → ((reading ≡ Err fault) ↔ P) → (r ≡ Err fault) ↔ P
+gives_fault view (Ok x) reading fault P given is = (λ e. absurd cc, λ p. absurd (let h = is.1 p in cc))
+gives_fault view (Err e) reading fault P given is = (λ q. is.0 cc, λ p. let h = is.1 p in cc)
+
+-- ---- one text and the next
 
 pub Takes-then : (a x b y c : List ℕ) → Takes a x b → Takes b y c → Takes a (x ++ y) c
 Takes-then a x b y c p q = record { parts = p.parts ∙ ap (λ (t : List ℕ). x ++ t) q.parts ∙ sym (append_assoc x y c); rest_octets = q.rest_octets }
@@ -93,8 +128,20 @@ front_again short front rest =
 
 -- ---- numbers of two, four and eight octets
 
+cells_2 : (a b : ℕ) → a < 256 → b < 256 → AreOctets (a ∷ b ∷ [])
+cells_2 a b ha hb zero = ha
+cells_2 a b ha hb (suc zero) = hb
+cells_2 a b ha hb (suc (suc i)) = omega arith
+
+cells_4 : (a b c d : ℕ) → a < 256 → b < 256 → c < 256 → d < 256 → AreOctets (a ∷ b ∷ c ∷ d ∷ [])
+cells_4 a b c d ha hb hc hd = AreOctets-append (a ∷ b ∷ []) (c ∷ d ∷ []) (cells_2 a b ha hb) (cells_2 c d hc hd)
+
+cells_8 : (a b c d e f g h : ℕ) → AreOctets (a ∷ b ∷ c ∷ d ∷ []) → AreOctets (e ∷ f ∷ g ∷ h ∷ []) → AreOctets (a ∷ b ∷ c ∷ d ∷ e ∷ f ∷ g ∷ h ∷ [])
+cells_8 a b c d e f g h first second = AreOctets-append (a ∷ b ∷ c ∷ d ∷ []) (e ∷ f ∷ g ∷ h ∷ []) first second
+
 pub record IsWide (width : Width) (limit : ℕ) : Type 0 where
   pub len : (n : ℕ) → length (to_be_bytes width n) ≡ byte_len width
+  pub octets : (n : ℕ) → AreOctets (to_be_bytes width n)
   pub back : (octets : List ℕ) → length octets ≡ byte_len width → AreOctets octets → to_be_bytes width (from_be_bytes width octets) ≡ octets
   pub again : (n : ℕ) → n < limit → from_be_bytes width (to_be_bytes width n) ≡ n
   pub below : (octets : List ℕ) → AreOctets octets → from_be_bytes width octets < limit
@@ -102,6 +149,7 @@ pub record IsWide (width : Width) (limit : ℕ) : Type 0 where
 pub wide16 : IsWide w16 (2 ^ 16)
 wide16 = record {
   len = λ n. refl;
+  octets = λ n. cells_2 _ _ (omega arith) (omega arith);
   back = λ octets len fits. be_bytes_2 octets _ len fits refl;
   again = λ n lt. from_be_bytes-to_be_bytes_2 n lt;
   below = λ octets fits. omega (arith, fits 0, fits 1);
@@ -110,6 +158,7 @@ wide16 = record {
 pub wide32 : IsWide w32 (2 ^ 32)
 wide32 = record {
   len = λ n. refl;
+  octets = λ n. cells_4 _ _ _ _ (omega arith) (omega arith) (omega arith) (omega arith);
   back = λ octets len fits. be_bytes_4 octets _ len fits refl;
   again = λ n lt. from_be_bytes-to_be_bytes_4 n lt;
   below = λ octets fits. omega (arith, fits 0, fits 1, fits 2, fits 3);
@@ -118,6 +167,7 @@ wide32 = record {
 pub wide64 : IsWide w64 (2 ^ 64)
 wide64 = record {
   len = λ n. refl;
+  octets = λ n. cells_8 _ _ _ _ _ _ _ _ (cells_4 _ _ _ _ (omega arith) (omega arith) (omega arith) (omega arith)) (cells_4 _ _ _ _ (omega arith) (omega arith) (omega arith) (omega arith));
   back = λ octets len fits. be_bytes_8 octets _ len fits refl;
   again = λ n lt. from_be_bytes-to_be_bytes_8 n lt;
   below = λ octets fits. omega (arith, fits 0, fits 1, fits 2, fits 3, fits 4, fits 5, fits 6, fits 7);

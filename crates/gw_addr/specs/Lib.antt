@@ -1,4 +1,8 @@
 pub mod Reading
+pub mod Decimal
+pub mod Text
 pub mod Address
+pub mod Mask
 pub mod Station
 pub mod Padded
+pub mod Entry

@@ -1,11 +1,17 @@
 //! BACnet/IP addresses (Annex J.1.2): an IPv4 address and a UDP port.
 
-ghost use Rattle.std.specs.Prelude.{◌≡◌, ◌≢◌, ◌<◌, ◌^◌, ◌++◌, ◌∷◌, ℕ, List, length, Some, IfOk, IfErr, IfSome, IsSomeAnd};
-ghost use Rattle.std.specs.Char.{IsAsciiDigit};
-ghost use Rattle.std.specs.Fmt.{decimal};
-ghost use Rattle.gw_addr.specs.Address.{octets_of, address_of, begins_canonical_of, big_endian, text_of, IsAddress};
+ghost use Rattle.std.specs.Prelude.{◌≡◌, ◌≢◌, ◌↔◌, ◌+◌, ◌++◌, ◌≤◌, length, vec_len};
+ghost use Rattle.std.specs.Prelude.{Some, IsTrue, IsOk, IfOk, IfErr, IfSome, OnOk};
+ghost use Rattle.std.specs.Vec.{vec_capacity};
+ghost use Rattle.gw_addr.specs.Address.{octets_of, address_of, address_in, IsAddress};
+ghost use Rattle.gw_addr.specs.Address.{big_endian, text_of};
+ghost use Rattle.gw_addr.specs.Reading.{Keeps};
 
+use crate::digits::{number_in, octet_before, put_decimal, put_four};
 use crate::fault::{OctetsFault, TextFault};
+use crate::station::Mac;
+use crate::writers::put_octet;
+use std::alloc::AllocError;
 use std::fmt;
 
 /// A BACnet/IP address: the IPv4 address of a node and its UDP port, six octets in all.
@@ -15,7 +21,7 @@ use std::fmt;
 /// |   IPv4 address    |   port  |
 /// +----+----+----+----+----+----+
 /// ```
-#[derive(Clone, Copy, Debug, PartialEq, Eq)]
+#[derive(Clone, Copy, Debug, PartialEq, Eq, PartialOrd, Ord, Hash)]
 pub struct BipAddr {
     /// The four octets of the IPv4 address, from left to right as they are written.
     pub ip: [u8; 4],
@@ -33,13 +39,21 @@ pub fn bip_from_slice(octets: &[u8]) -> Result<BipAddr, OctetsFault>
     let [a, b, c, d, high, low] = octets else {
         return Err(OctetsFault::Length);
     };
-    Ok(BipAddr {
-        ip: [*a, *b, *c, *d],
-        udp: u16::from_be_bytes([*high, *low]),
-    })
+    Ok(BipAddr::from_octets(&[*a, *b, *c, *d, *high, *low]))
 }
 
 impl BipAddr {
+    /// The address of six octets (Annex J.1.2).
+    pub fn from_octets(octets: &[u8; 6]) -> BipAddr
+        ensures { result ≡ address_in octets.now }
+    {
+        let [a, b, c, d, high, low] = *octets;
+        BipAddr {
+            ip: [a, b, c, d],
+            udp: u16::from_be_bytes([high, low]),
+        }
+    }
+
     /// The six octets of the address (Annex J.1.2).
     pub fn to_octets(self) -> [u8; 6]
         ensures { result ≡ octets_of self }
@@ -57,13 +71,40 @@ impl BipAddr {
         u64::from_be_bytes([0, 0, a, b, c, d, high, low])
     }
 
+    /// The address as that of a station on its network: its six octets (clause 6.2.2).
+    pub fn mac(self) -> Mac
+        ensures { result ≡ octets_of self }
+    {
+        Mac::of_six(self.to_octets())
+    }
+
+    /// Whether it is that address, its port included.
+    pub fn is_same(self, other: BipAddr) -> bool
+        ensures { IsTrue result ↔ (self ≡ other) }
+    {
+        self == other
+    }
+
     /// Reads an address as it is written, `a.b.c.d:port`, in decimal digits without leading zeros. `Text` where the text is
     /// anything else.
     pub fn parse(text: &str) -> Result<BipAddr, TextFault>
         ensures found { IfOk result (λ a. text.now ≡ text_of a) }
         ensures only { (a : BipAddr) → IsAddress a → text.now ≡ text_of a → result ≡ Ok a }
     {
-        address_in(text).ok_or(TextFault::Text)
+        address_written(text).ok_or(TextFault::Text)
+    }
+
+    /// Appends the address as it is written, `a.b.c.d:port`. An `Err` only where the buffer had no room for it; then a
+    /// front of it may stand there.
+    pub fn put_text(self, out: &mut Vec<u8>) -> Result<(), AllocError>
+        ensures ok { OnOk result (out.new.items ≡ out.old.items ++ text_of self) }
+        ensures front { Keeps out.old.items out.new.items }
+        ensures room { vec_len out.old + length (text_of self) ≤ vec_capacity out.old → IsOk result }
+        ensures capacity { vec_capacity out.old ≤ vec_capacity out.new }
+    {
+        put_four(out, self.ip)?;
+        put_octet(out, b':')?;
+        put_decimal(out, self.udp)
     }
 }
 
@@ -77,49 +118,8 @@ impl fmt::Display for BipAddr {
     }
 }
 
-/// Whether digits begin as a number does that has no leading zeros.
-fn begins_canonical(digits: &[u8]) -> bool
-    ensures { result ≡ begins_canonical_of digits.now }
-{
-    match digits {
-        [] => false,
-        [b'0'] => true,
-        [first, ..] => matches!(first, b'1'..=b'9'),
-    }
-}
-
-/// The number below 65536 that the text is in decimal digits without leading zeros.
-fn number(text: &str) -> Option<u16>
-    ensures found { IfSome result (λ n. text.now ≡ decimal n) }
-    ensures only { (n : ℕ) → n < 2 ^ 16 → text.now ≡ decimal n → result ≡ Some n }
-{
-    if !begins_canonical(text.as_bytes()) {
-        return None;
-    }
-    text.parse().ok()
-}
-
-/// The number below 256 that the text is.
-fn octet(text: &str) -> Option<u8>
-    ensures found { IfSome result (λ n. text.now ≡ decimal n) }
-    ensures only { (n : ℕ) → n < 2 ^ 8 → text.now ≡ decimal n → result ≡ Some n }
-{
-    u8::try_from(number(text)?).ok()
-}
-
-/// The number below 256 before the first separator, and the text behind it.
-fn octet_before(text: &str, separator: char) -> Option<(u8, &str)>
-    requires ascii { separator < 128 }
-    requires no_digit { ¬ IsAsciiDigit separator }
-    ensures found { IfSome result (λ x. text.now ≡ decimal x.0 ++ separator ∷ x.1.now) }
-    ensures only { (n : ℕ) (rest : List ℕ) → n < 2 ^ 8 → text.now ≡ decimal n ++ separator ∷ rest → IsSomeAnd result (λ x. (x.0 ≡ n) × (x.1.now ≡ rest)) }
-{
-    let (front, rest) = text.split_once(separator)?;
-    Some((octet(front)?, rest))
-}
-
 /// The address that the text writes.
-fn address_in(text: &str) -> Option<BipAddr>
+fn address_written(text: &str) -> Option<BipAddr>
     ensures found { IfSome result (λ a. text.now ≡ text_of a) }
     ensures only { (a : BipAddr) → IsAddress a → text.now ≡ text_of a → result ≡ Some a }
 {
@@ -127,7 +127,7 @@ fn address_in(text: &str) -> Option<BipAddr>
     let (b, rest) = octet_before(rest, '.')?;
     let (c, rest) = octet_before(rest, '.')?;
     let (d, port) = octet_before(rest, ':')?;
-    let udp = number(port)?;
+    let udp = number_in(port)?;
     Some(BipAddr {
         ip: [a, b, c, d],
         udp,

@@ -3,16 +3,23 @@
 #![tactic(auto)]
 
 mod bip;
+mod digits;
+mod entry;
 mod fault;
+pub mod laws;
+mod mask;
 mod network;
-mod one_to_one;
+mod readers;
+mod sequence;
 mod station;
+mod writers;
 
 pub use bip::{BipAddr, bip_from_slice};
+pub use entry::{BdtEntry, FdtEntry};
 pub use fault::{OctetsFault, TextFault};
+pub use mask::Mask;
 pub use network::NetNum;
-pub use one_to_one::laws;
+pub use readers::{address, front, long_number, number, octet};
+pub use sequence::Sequence;
 pub use station::{Mac, Source};
-
-#[cfg(test)]
-mod tests;
+pub use writers::{put_long_number, put_number, put_octet, put_slice};

@@ -1,14 +1,19 @@
 //! Network numbers (clause 6.1): 1 to 65534. 0 is no network, and 65535 stands for all of them.
 
-ghost use Rattle.std.specs.Prelude.{◌≡◌, ◌≤◌, Some};
+ghost use Rattle.std.specs.Prelude.{◌≡◌, ◌↔◌, ◌≤◌, ◌+◌, ◌++◌, length, vec_len};
+ghost use Rattle.std.specs.Prelude.{Some, IsTrue, IsOk, OnOk};
 ghost use Rattle.std.specs.Fmt.{decimal};
+ghost use Rattle.std.specs.Vec.{vec_capacity};
+ghost use Rattle.gw_addr.specs.Reading.{Keeps};
 ghost use Rattle.gw_addr.specs.Station.{network_of};
 
+use crate::digits::put_decimal;
+use std::alloc::AllocError;
 use std::fmt;
 use std::marker::Model;
 
 /// The number of a network, 1 to 65534 (clause 6.1).
-#[derive(Clone, Copy, Debug, PartialEq, Eq)]
+#[derive(Clone, Copy, Debug, PartialEq, Eq, PartialOrd, Ord, Hash)]
 pub struct NetNum {
     number: u16,
 }
@@ -44,6 +49,23 @@ impl NetNum {
         ensures high { result ≤ 65534 }
     {
         self.number
+    }
+
+    /// Whether it is that network.
+    pub fn is_same(self, other: NetNum) -> bool
+        ensures { IsTrue result ↔ (self ≡ other) }
+    {
+        self == other
+    }
+
+    /// Appends the decimal digits of the number. An `Err` only where the buffer had no room for them.
+    pub fn put_text(self, out: &mut Vec<u8>) -> Result<(), AllocError>
+        ensures ok { OnOk result (out.new.items ≡ out.old.items ++ decimal self) }
+        ensures front { Keeps out.old.items out.new.items }
+        ensures room { vec_len out.old + length (decimal self) ≤ vec_capacity out.old → IsOk result }
+        ensures capacity { vec_capacity out.old ≤ vec_capacity out.new }
+    {
+        put_decimal(out, self.number)
     }
 }
 

@@ -1,10 +1,15 @@
 //! The addresses of stations (clauses 6.2.2 and 6.3): a network, and 1 to 255 octets on it.
 
-ghost use Rattle.std.specs.Prelude.{◌≡◌, ◌<◌, ◌≤◌, ◌-◌, ◌++◌, length, replicate, Some};
+ghost use Rattle.std.specs.Prelude.{◌≡◌, ◌↔◌, ◌<◌, ◌≤◌, ◌+◌, ◌-◌, ◌++◌, length, replicate, vec_len};
+ghost use Rattle.std.specs.Prelude.{Some, IsTrue, IsOk, OnOk};
 ghost use Rattle.std.specs.List.{flat_map};
+ghost use Rattle.std.specs.Vec.{vec_capacity};
+ghost use Rattle.gw_addr.specs.Reading.{Keeps};
 ghost use Rattle.gw_addr.specs.Station.{station_of, key_of, digit_of, two_digits};
 
 use crate::network::NetNum;
+use crate::writers::put_slice;
+use std::alloc::AllocError;
 use std::fmt;
 use std::marker::Model;
 
@@ -41,8 +46,21 @@ impl Mac {
         if len == 0 {
             return None;
         }
-        let octets = with_zeros(octets);
-        Some(Mac { octets, len })
+        Some(kept(octets, len))
+    }
+
+    /// The station of six octets, as each node of a BACnet/IP network is one.
+    pub fn of_six(octets: [u8; 6]) -> Mac
+        ensures { result ≡ octets }
+    {
+        kept(&octets, 6)
+    }
+
+    /// Whether it is that address.
+    pub fn is_same(&self, other: &Mac) -> bool
+        ensures { IsTrue result ↔ (self.now ≡ other.now) }
+    {
+        *self == *other
     }
 
     /// The octets of the address.
@@ -64,6 +82,21 @@ impl Mac {
             ])),
             _ => None,
         }
+    }
+
+    /// Appends the octets as they are printed, two upper-case hexadecimal digits for each. An `Err` only where the buffer
+    /// had no room for them; then a front of them may stand there.
+    pub fn put_text(&self, out: &mut Vec<u8>) -> Result<(), AllocError>
+        ensures ok { OnOk result (out.new.items ≡ out.old.items ++ flat_map two_digits self.now) }
+        ensures front { Keeps out.old.items out.new.items }
+        ensures room { let text = flat_map two_digits self.now in
+            vec_len out.old + length text ≤ vec_capacity out.old → IsOk result }
+        ensures capacity { vec_capacity out.old ≤ vec_capacity out.new }
+    {
+        for octet in self.as_slice() {
+            put_digits(out, *octet)?;
+        }
+        Ok(())
     }
 }
 
@@ -93,6 +126,28 @@ fn upper_digit(number: u8) -> char
     }
 }
 
+/// The station of these octets, so many.
+fn kept(octets: &[u8], len: u8) -> Mac
+    requires len { length octets.now ≡ len }
+    requires some { 1 ≤ len }
+    ensures { result ≡ octets.now }
+{
+    let octets = with_zeros(octets);
+    Mac { octets, len }
+}
+
+/// Appends an octet as two upper-case hexadecimal digits.
+fn put_digits(out: &mut Vec<u8>, octet: u8) -> Result<(), AllocError>
+    ensures ok { OnOk result (out.new.items ≡ out.old.items ++ two_digits octet) }
+    ensures front { Keeps out.old.items out.new.items }
+    ensures room { vec_len out.old + 2 ≤ vec_capacity out.old → IsOk result }
+    ensures capacity { vec_capacity out.old ≤ vec_capacity out.new }
+{
+    let high = upper_digit(octet >> 4);
+    let low = upper_digit(octet & 15);
+    put_slice(out, &[high as u8, low as u8])
+}
+
 /// The octets, and zeros behind them.
 fn with_zeros(octets: &[u8]) -> [u8; 255]
     requires { length octets.now ≤ 255 }
@@ -111,4 +166,13 @@ pub struct Source {
     pub net: NetNum,
     /// The address on that network.
     pub mac: Mac,
+}
+
+impl Source {
+    /// Whether it is that station on that network.
+    pub fn is_same(&self, other: &Source) -> bool
+        ensures { IsTrue result ↔ (self.now ≡ other.now) }
+    {
+        *self == *other
+    }
 }

@@ -18,6 +18,3 @@ pub use law::laws;
 pub use message::{Bvll, ResultCode};
 pub use reading::decode;
 pub use writing::{MAX_LEN, encode};
-
-#[cfg(test)]
-mod tests;

@@ -12,7 +12,7 @@ use Rattle.std.specs.Fmt.{decimal}
 use Rattle.memchr.specs.Find.{IsFirstByte, is_byte}
 use Rattle.gw_addr.specs.declared.bip.BipAddr.{BipAddr}
 use Rattle.gw_addr.specs.Address.{IsAddress, text_of}
-use Rattle.gw_addr.proofs.Decimal.{not_in_decimal}
+use Rattle.gw_addr.proofs.Lacking.{not_in_decimal}
 use Rattle.gw_core.specs.Script.{Lacks}
 
 -- what no search finds isn't there

@@ -6,7 +6,7 @@ use Rattle.hex.specs.Hex.{decode_of}
 use Rattle.hex.proofs.HexLemmas.{decode_of-same}
 use Rattle.gw_addr.specs.declared.bip.BipAddr.{BipAddr}
 use Rattle.gw_addr.specs.Address.{text_of}
-use Rattle.gw_addr.proofs.Address.{same_texts}
+use Rattle.gw_addr.proofs.Addresses.{same_texts}
 use Rattle.gw_core.specs.declared.event.Event.{Event}
 use Rattle.gw_core.specs.declared.event.Event.TheVariants.{Datagram, Tick}
 use Rattle.gw_core.specs.Script.{lines_of, Lacks, IsLine, AreLines, Writes, WritesOctets}

@@ -35,8 +35,3 @@ pub use replaying::{RunFault, replay};
 pub use script::script_laws;
 pub use setting::setting_s;
 pub use whole_run::run;
-
-#[cfg(test)]
-mod replay_tests;
-#[cfg(test)]
-mod tests;

@@ -20,6 +20,3 @@ pub use onward::{Onward, relay_header};
 pub use reading::decode;
 pub use station::{Destination, Station};
 pub use writing::{MAX_LEN, encode};
-
-#[cfg(test)]
-mod tests;

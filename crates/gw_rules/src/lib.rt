@@ -17,8 +17,6 @@ mod range;
 mod ranges;
 mod rule;
 mod rule_list;
-#[cfg(test)]
-mod tests;
 
 pub use ask::Ask;
 pub use fault::RuleFault;

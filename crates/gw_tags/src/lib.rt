@@ -4,21 +4,23 @@
 mod body;
 mod datatype;
 mod fault;
-
+pub mod laws;
+mod number;
 mod object;
 mod reading;
-mod tag;
 mod strings;
+mod tag;
 mod value;
 mod value_reading;
+mod value_writing;
 mod writing;
 
 pub use fault::{TagFault, ValueFault};
-
 pub use object::ObjectId;
 pub use reading::{Header, read_tag};
-pub use tag::{Kind, Tag};
 pub use strings::{BitString, CharacterString};
+pub use tag::{Kind, Tag};
 pub use value::AppValue;
+pub use value_reading::read_value;
+pub use value_writing::write_value;
 pub use writing::write_tag;
-

@@ -1,0 +1,19 @@
+-- Texts.
+use Rattle.std.specs.Prelude.{◌≢◌, ℕ, ◌<◌, List, ◌∷◌, ◌++◌, length, slice_index}
+use Rattle.std.specs.Fmt.{decimal}
+
+-- the character stands nowhere in the text
+abbrev pub Lacks : ℕ → List ℕ → Type 0
+Lacks c text = (i : ℕ) → i < length text → slice_index text i ≢ c
+
+-- two numbers as they are written, `a.b`
+unfoldable pub pair_text : ℕ → ℕ → List ℕ
+pair_text a b = decimal a ++ 46 ∷ decimal b
+
+-- four octets as they are written, `a.b.c.d`
+unfoldable pub four_text : List ℕ → List ℕ
+four_text octets =
+    decimal (slice_index octets 0)
+    ++ 46 ∷ (decimal (slice_index octets 1)
+    ++ 46 ∷ (decimal (slice_index octets 2)
+    ++ 46 ∷ decimal (slice_index octets 3)))

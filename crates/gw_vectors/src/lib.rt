@@ -1,0 +1,22 @@
+//! Tests of the crates below, a module for each, by their public items alone.
+//!
+//! A crate with tests is proved twice, so they stand here, in the one crate that has nothing else. The proofs say what each
+//! function does; what is tested is octets and texts from outside, each public function once with ample memory, and each growth,
+//! read and write refused in turn.
+#![tactic(auto)]
+
+#[cfg(test)]
+mod addr;
+#[cfg(test)]
+mod bvll;
+mod fakes;
+#[cfg(test)]
+mod gateway;
+#[cfg(test)]
+mod npdu;
+#[cfg(test)]
+mod replay;
+#[cfg(test)]
+mod rules;
+#[cfg(test)]
+mod tags;
