@@ -12,3 +12,4 @@ pub mod Heads
 pub mod ValueLaws
 pub mod ValueFaults
 pub mod Numbers
+pub mod Written

@@ -32,7 +32,7 @@ value_is_judged octets = bound (head_at octets)
 
 -- ---- the length bits that are a value
 
-small_bits : (value : Value) → IsSmall (layout value).bits
+pub small_bits : (value : Value) → IsSmall (layout value).bits
 small_bits null = tt
 small_bits (boolean false) = omega arith
 small_bits (boolean true) = omega arith

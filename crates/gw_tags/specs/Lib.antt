@@ -7,3 +7,4 @@ pub mod Strings
 pub mod Value
 pub mod Reading
 pub mod Body
+pub mod Laws

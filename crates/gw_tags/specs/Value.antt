@@ -158,12 +158,16 @@ abbrev pub announced : LengthBits → ℕ → ℕ
 announced length_of_content count = count
 announced (value_itself n) count = n
 
+-- a content behind the tag of this number
+abbrev pub tagged : ℕ → List ℕ → List ℕ
+tagged number content = canonical (application number (length content)) ++ content
+
 -- a content behind its tag
 abbrev pub behind_tag : ℕ → LengthBits → List ℕ → List ℕ
 behind_tag number bits content = canonical (application number (announced bits (length content))) ++ content
 
 -- the one encoding that is written, with the fewest octets
-unfoldable pub value_encoding : Value → List ℕ
+abbrev pub value_encoding : Value → List ℕ
 value_encoding value = behind_tag (layout value).number (layout value).bits (content_encoding (layout value).content)
 
 -- ---- octets that begin with a value

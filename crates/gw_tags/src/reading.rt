@@ -1,13 +1,13 @@
 //! Reading a tag from the front of octets (clause 20.2.1).
 
 ghost use Rattle.std.specs.Prelude.{◌≡◌, ◌↔◌, ◌%◌, List, ℕ, IfOk, IsOkAnd, nat_lt};
-ghost use Rattle.std.specs.Int.{w16, w32};
-ghost use Rattle.gw_addr.specs.Reading.{Gives, octet_at, number_at};
+ghost use Rattle.gw_addr.specs.Reading.{Gives};
 ghost use Rattle.gw_tags.specs.Tag.{Tag as TagFields, IsTag, tag_view, BeginsWith, IsBadTag, IsShortTag};
 ghost use Rattle.gw_tags.specs.Reading.{tag_number_at, length_at, kind_at, header_at, tag_at, low_bits_at};
 
 use crate::fault::TagFault;
 use crate::tag::{Kind, Tag};
+use gw_addr::{long_number, number, octet};
 
 /// A tag at the front of octets.
 #[derive(Clone, Copy, Debug)]
@@ -30,41 +30,11 @@ struct Whole<'a> {
     rest: &'a [u8],
 }
 
-fn octet(octets: &[u8]) -> Result<(u8, &[u8]), TagFault>
-    ensures { Gives (λ x. (x.0, x.1.now)) result (octet_at TagFault.Short octets.now) }
-{
-    let (first, rest) = octets.split_first().ok_or(TagFault::Short)?;
-    Ok((*first, rest))
-}
-
-fn two_octets(octets: &[u8]) -> Result<(u16, &[u8]), TagFault>
-    ensures { Gives (λ x. (x.0, x.1.now)) result (number_at TagFault.Short w16 octets.now) }
-{
-    if octets.len() < 2 {
-        return Err(TagFault::Short);
-    }
-    let (front, rest) = octets.split_at(2);
-    Ok((u16::from_be_bytes([front[0], front[1]]), rest))
-}
-
-fn four_octets(octets: &[u8]) -> Result<(u32, &[u8]), TagFault>
-    ensures { Gives (λ x. (x.0, x.1.now)) result (number_at TagFault.Short w32 octets.now) }
-{
-    if octets.len() < 4 {
-        return Err(TagFault::Short);
-    }
-    let (front, rest) = octets.split_at(4);
-    Ok((
-        u32::from_be_bytes([front[0], front[1], front[2], front[3]]),
-        rest,
-    ))
-}
-
 fn tag_number(first: u8, rest: &[u8]) -> Result<(u8, &[u8]), TagFault>
     ensures { Gives (λ x. (x.0, x.1.now)) result (tag_number_at first rest.now) }
 {
     match first >> 4 {
-        15 => octet(rest),
+        15 => octet(TagFault::Short, rest),
         number => Ok((number, rest)),
     }
 }
@@ -72,13 +42,13 @@ fn tag_number(first: u8, rest: &[u8]) -> Result<(u8, &[u8]), TagFault>
 fn length(octets: &[u8]) -> Result<(u32, &[u8]), TagFault>
     ensures { Gives (λ x. (x.0, x.1.now)) result (length_at octets.now) }
 {
-    let (first, rest) = octet(octets)?;
+    let (first, rest) = octet(TagFault::Short, octets)?;
     match first {
         254 => {
-            let (length, rest) = two_octets(rest)?;
+            let (length, rest) = number(TagFault::Short, rest)?;
             Ok((u32::from(length), rest))
         }
-        255 => four_octets(rest),
+        255 => long_number(TagFault::Short, rest),
         length => Ok((u32::from(length), rest)),
     }
 }
@@ -108,7 +78,7 @@ fn read_whole(octets: &[u8]) -> Result<Whole<'_>, TagFault>
     ensures exact { Gives (λ p. (record { number = p.number; context = p.context; kind = p.kind }, p.rest.now)) result (header_at octets.now) }
     ensures low_bits { IfOk result (λ p. p.low_bits ≡ low_bits_at octets.now) }
 {
-    let (first, rest) = octet(octets)?;
+    let (first, rest) = octet(TagFault::Short, octets)?;
     let (number, rest) = tag_number(first, rest)?;
     let low_bits = first & 0x07;
     let (kind, rest) = kind(low_bits, rest)?;

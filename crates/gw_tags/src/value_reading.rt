@@ -1,23 +1,25 @@
 //! Reading a value from the front of octets (clause 20.2).
 
-ghost use Rattle.std.specs.Prelude.{◌≡◌, ◌<◌, ◌≤◌, ◌^◌, ◌==◌, nat_lt, true, Ok, ℕ, List, length, IfOk};
+ghost use Rattle.std.specs.Prelude.{◌≡◌, ◌<◌, ◌≤◌, ◌^◌, ◌==◌, nat_lt, true, Ok, ℕ, List, length, IfOk, IsOkAnd, ◌↔◌, Err};
 ghost use Rattle.gw_addr.specs.Reading.{Gives, front_at};
 ghost use Rattle.std.specs.Str.{is_utf8 as utf8};
 ghost use Rattle.gw_addr.specs.Address.{big_endian};
-ghost use Rattle.gw_tags.specs.Number.{twos_complement, unsigned_of, signed_of};
+ghost use Rattle.gw_tags.specs.Number.{twos_complement};
 ghost use Rattle.gw_tags.specs.Object.{object_of};
 ghost use Rattle.gw_tags.specs.Reading.{head_at, octets_at, number_in, judged_text_at, judged_body_at, one_to_four, null_at, boolean_at, text_at, bits_at, body_at, judged, value_at};
-ghost use Rattle.gw_tags.specs.Value.{value_view, real, double, octet_string, date, time, unsigned, signed, enumerated, object_id};
+ghost use Rattle.gw_tags.specs.Value.{Value, value_view, IsValue, BeginsWithValue, IsShortValue, IsBadValueTag, IsBadLength, IsBadText};
 ghost use Rattle.gw_tags.specs.Body.{body_view};
 
 use crate::body::Body;
 use crate::datatype::{Datatype, of_number};
 use crate::fault::ValueFault;
+use crate::number;
 use crate::object::ObjectId;
 use crate::reading::read_tag;
 use crate::strings::{BitString, CharacterString};
 use crate::tag::Kind;
 use crate::value::AppValue;
+use gw_addr::{front, octet};
 
 type Found<'a> = Result<(AppValue<'a>, &'a [u8]), ValueFault>;
 
@@ -47,14 +49,11 @@ fn head(octets: &[u8]) -> Result<(Datatype, Body<'_>), ValueFault>
 fn content(has_length: bool, body: Body<'_>) -> Result<(&[u8], &[u8]), ValueFault>
     ensures { Gives (λ x. (x.0.now, x.1.now)) result (octets_at has_length (body_view body.entry)) }
 {
-    if !has_length {
-        return Err(ValueFault::BadLength);
+    if has_length {
+        front(ValueFault::Short, body.count as usize, body.octets)
+    } else {
+        Err(ValueFault::BadLength)
     }
-    let count = body.count as usize;
-    if body.octets.len() < count {
-        return Err(ValueFault::Short);
-    }
-    Ok(body.octets.split_at(count))
 }
 
 fn null(body: Body<'_>) -> Found<'_>
@@ -76,38 +75,12 @@ fn boolean(body: Body<'_>) -> Found<'_>
     }
 }
 
-/// A number in one to four octets, the most significant first.
-fn number(content: &[u8]) -> Option<u32>
-    ensures { result ≡ unsigned_of content.now }
-{
-    match content {
-        [a] => Some(u32::from(*a)),
-        [a, b] => Some(u32::from_be_bytes([0, 0, *a, *b])),
-        [a, b, c] => Some(u32::from_be_bytes([0, *a, *b, *c])),
-        [a, b, c, d] => Some(u32::from_be_bytes([*a, *b, *c, *d])),
-        _ => None,
-    }
-}
-
-/// A number in one to four octets in two's complement.
-fn signed_number(content: &[u8]) -> Option<i32>
-    ensures { result ≡ signed_of content.now }
-{
-    match content {
-        [a] => Some(i32::from(i8::from_be_bytes([*a]))),
-        [a, b] => Some(i32::from(i16::from_be_bytes([*a, *b]))),
-        [a, b, c] => Some(i32::from_be_bytes([if *a < 128 { 0 } else { 255 }, *a, *b, *c])),
-        [a, b, c, d] => Some(i32::from_be_bytes([*a, *b, *c, *d])),
-        _ => None,
-    }
-}
-
 /// A number in one to four octets, as what its content is.
 fn unsigned(body: Body<'_>) -> Result<(u32, &[u8]), ValueFault>
     ensures { Gives (λ x. (x.0, x.1.now)) result (number_in big_endian (body_view body.entry)) }
 {
     let (content, rest) = content((1..=4).contains(&body.count), body)?;
-    match number(content) {
+    match number::unsigned(content) {
         Some(n) => Ok((n, rest)),
         None => Err(ValueFault::BadLength),
     }
@@ -117,7 +90,7 @@ fn signed(body: Body<'_>) -> Result<(i32, &[u8]), ValueFault>
     ensures { Gives (λ x. (x.0, x.1.now)) result (number_in twos_complement (body_view body.entry)) }
 {
     let (content, rest) = content((1..=4).contains(&body.count), body)?;
-    match signed_number(content) {
+    match number::signed(content) {
         Some(z) => Ok((z, rest)),
         None => Err(ValueFault::BadLength),
     }
@@ -175,11 +148,9 @@ fn bits(body: Body<'_>) -> Result<(BitString<'_>, &[u8]), ValueFault>
     if body.count == 0 {
         return Err(ValueFault::BadLength);
     }
-    let Some((unused, octets)) = body.octets.split_first() else {
-        return Err(ValueFault::Short);
-    };
+    let (unused, octets) = octet(ValueFault::Short, body.octets)?;
     let count = body.count - 1;
-    if *unused > 7 || count == 0 && *unused != 0 {
+    if unused > 7 || count == 0 && unused != 0 {
         return Err(ValueFault::BadLength);
     }
     let rest = Body {
@@ -190,7 +161,7 @@ fn bits(body: Body<'_>) -> Result<(BitString<'_>, &[u8]), ValueFault>
     let (octets, rest) = content(true, rest)?;
     Ok((
         BitString {
-            unused: *unused,
+            unused,
             octets,
         },
         rest,
@@ -257,4 +228,30 @@ fn read(octets: &[u8]) -> Found<'_>
 {
     let (datatype, body) = head(octets)?;
     value(datatype, body)
+}
+
+/// Reads the value at the front of the octets, and lends the octets behind it. A number, a length or a tag number may stand
+/// in more octets than it needs.
+///
+/// # Errors
+///
+/// 1 `Short`, 2 `BadTag`, 3 `BadLength` and 4 `BadText`, as [`ValueFault`] says. The tag is read whole before it is judged,
+/// and a content's length before it is cut.
+pub fn read_value(octets: &[u8]) -> Found<'_>
+    // What is read is encoded so, and can be written.
+    ensures found { IfOk result (λ x. BeginsWithValue octets.now (value_view x.0) x.1.now) }
+    ensures valid { IfOk result (λ x. IsValue (value_view x.0)) }
+    // What is encoded so is read, and the octets behind it are the rest.
+    ensures only { (value : Value) (rest : List ℕ) → IsValue value → BeginsWithValue octets.now value rest
+        → IsOkAnd result (λ x. (value_view x.0 ≡ value) × (x.1.now ≡ rest)) }
+
+    // Which fault it is.
+    ensures short { (result ≡ Err ValueFault.Short) ↔ IsShortValue octets.now }
+    ensures bad_tag { (result ≡ Err ValueFault.BadTag) ↔ IsBadValueTag octets.now }
+    ensures bad_length { (result ≡ Err ValueFault.BadLength) ↔ IsBadLength octets.now }
+    ensures bad_text { (result ≡ Err ValueFault.BadText) ↔ IsBadText octets.now }
+
+    ensures exact { Gives (λ x. (value_view x.0, x.1.now)) result (value_at octets.now) }
+{
+    read(octets)
 }

@@ -1,0 +1,42 @@
+-- What holds of all encodings of tags, objects and values.
+use Rattle.std.specs.Prelude.{◌≡◌, ℕ, ◌≤◌, List, ◌++◌, length, Ok}
+use Rattle.gw_addr.specs.Reading.{AreOctets}
+use Rattle.gw_tags.specs.Tag.{Tag, IsTag, EncodesTag, canonical}
+use Rattle.gw_tags.specs.Reading.{tag_at}
+use Rattle.gw_tags.specs.Object.{Object, IsObject, object_octets, object_of}
+use Rattle.gw_tags.specs.Value.{Value, IsValue, EncodesValue, value_encoding}
+
+-- Where two encodings stand at the front of the same octets, they are one encoding of one tag: none is a proper front of another.
+abbrev pub TagsArePrefixFree : Type 0
+TagsArePrefixFree = (a b x y : List ℕ) (s t : Tag) → EncodesTag a s → EncodesTag b t → a ++ x ≡ b ++ y → (a ≡ b) × (s ≡ t)
+
+-- What is written is an encoding.
+abbrev pub CanonicalEncodes : Type 0
+CanonicalEncodes = (tag : Tag) → IsTag tag → EncodesTag (canonical tag) tag
+
+-- No encoding is shorter than what is written.
+abbrev pub CanonicalIsShortest : Type 0
+CanonicalIsShortest = (octets : List ℕ) (tag : Tag) → EncodesTag octets tag → length (canonical tag) ≤ length octets
+
+-- What is written is read again, whatever follows it.
+abbrev pub CanonicalIsRead : Type 0
+CanonicalIsRead = (tag : Tag) (rest : List ℕ) → IsTag tag → tag_at (canonical tag ++ rest) ≡ Ok (tag, rest)
+
+-- An object identifier and its four octets are one to one.
+abbrev pub ObjectsAreRead : Type 0
+ObjectsAreRead = (object : Object) → IsObject object → object_of (object_octets object) ≡ object
+
+abbrev pub ObjectsAreEncoded : Type 0
+ObjectsAreEncoded = (octets : List ℕ) → length octets ≡ 4 → AreOctets octets → IsObject (object_of octets) × (object_octets (object_of octets) ≡ octets)
+
+-- Where two encodings of values stand at the front of the same octets, they are one encoding of one value.
+abbrev pub ValuesArePrefixFree : Type 0
+ValuesArePrefixFree = (a b x y : List ℕ) (v w : Value) → EncodesValue a v → EncodesValue b w → a ++ x ≡ b ++ y → (a ≡ b) × (v ≡ w)
+
+-- What is written is an encoding.
+abbrev pub ValueEncodingEncodes : Type 0
+ValueEncodingEncodes = (value : Value) → IsValue value → EncodesValue (value_encoding value) value
+
+-- No encoding is shorter than what is written.
+abbrev pub ValueEncodingIsShortest : Type 0
+ValueEncodingIsShortest = (octets : List ℕ) (value : Value) → EncodesValue octets value → length (value_encoding value) ≤ length octets
