@@ -3,7 +3,7 @@ use Rattle.std.proofs.Common.{◌≡◌, ℕ, ◌+◌, ◌^◌, ◌<◌, ◌≤�
 use Rattle.std.proofs.lemmas.Bool.{cases_lt, lt-ltb, le-ltb}
 use Rattle.std.proofs.lemmas.List.{append_cancel_right, length-append}
 use Rattle.gw_addr.proofs.Reading.{ok_is}
-use Rattle.gw_tags.specs.Tag.{Tag, IsTag, LengthFits, EncodesTag, NumberPlace, high_bits, own_octet, LengthPlace, low_bits, one_octet, two_octets, four_octets, number_octets, length_octets, NumberHasRoom, LengthHasRoom, shortest_number, shortest_length, tag_encoding, canonical}
+use Rattle.gw_tags.specs.Tag.{Tag, IsTag, LengthFits, EncodesTag, EncodesInLowBits, NumberPlace, high_bits, own_octet, LengthPlace, low_bits, one_octet, two_octets, four_octets, number_octets, length_octets, NumberHasRoom, LengthHasRoom, shortest_number, shortest_length, tag_encoding, canonical}
 use Rattle.gw_tags.specs.declared.tag.Kind.{Kind}
 use Rattle.gw_tags.specs.declared.tag.Kind.TheVariants.{Length, Opening, Closing}
 use Rattle.gw_tags.specs.Reading.{header_at, tag_at}
@@ -66,6 +66,10 @@ canonical_encodes tag is = record {
   length_room = kind_room tag.kind is.length_fits;
   encoded = refl;
 }
+
+pub canonical_in_low_bits : (tag : Tag) → IsTag tag → shortest_length tag.kind ≡ low_bits → EncodesInLowBits (canonical tag) tag
+unfolding canonical_encodes
+canonical_in_low_bits tag is place = record { encodes = canonical_encodes tag is; place = place }
 
 -- ---- none is shorter
 

@@ -6,7 +6,7 @@ use Rattle.gw_tags.specs.declared.tag.Kind.TheVariants.{Length}
 use Rattle.gw_tags.specs.Tag.{Tag, IsTag, EncodesTag, EncodesInLowBits, LengthPlace, low_bits, one_octet, two_octets, four_octets, NumberPlace, high_bits, own_octet, number_octets, length_octets, LengthHasRoom, shortest_number, shortest_length, canonical}
 use Rattle.gw_tags.specs.Object.{Object, IsObject, object_octets}
 use Rattle.gw_tags.specs.Value.{Value, null, boolean, unsigned, signed, real, double, octet_string, character_string, bit_string, enumerated, date, time, object_id, LengthBits, length_of_content, value_itself, Content, empty, natural, integer, opaque, exactly, bits_of, identifier, layout, application, announced, IsContent, IsHeader, IsWithin, IsValue, LengthFits, is_text, EncodesValue, BeginsWithValue, content_encoding, behind_tag, value_encoding}
-use Rattle.gw_tags.proofs.Canonical.{canonical_encodes, shorter_tag}
+use Rattle.gw_tags.proofs.Canonical.{canonical_encodes, canonical_in_low_bits, shorter_tag}
 use Rattle.gw_tags.specs.Reading.{low_bits_at}
 use Rattle.gw_tags.proofs.Bodies.{HasBits}
 use Rattle.gw_tags.proofs.Faults.{fits_kind}
@@ -68,10 +68,7 @@ low_place n lt = let below : n < 5 = omega arith in rw (lt-ltb n 5 below) refl
 
 header_encodes : (number count : ℕ) (bits : LengthBits) → number < 255 → IsSmall bits → count < 2 ^ 32 → IsHeader (canonical (application number (announced bits count))) number bits count
 header_encodes number count length_of_content below small fits = canonical_encodes (application number count) (is_application number count below fits)
-header_encodes number count (value_itself n) below small fits = record {
-  encodes = canonical_encodes (application number n) (is_application number n below (omega arith));
-  place = low_place n small;
-}
+header_encodes number count (value_itself n) below small fits = canonical_in_low_bits (application number n) (is_application number n below (omega arith)) (low_place n small)
 
 pub value_encoding_encodes : (value : Value) → IsValue value → EncodesValue (value_encoding value) value
 value_encoding_encodes value is =

@@ -81,7 +81,7 @@ fn put_signed(out: &mut Vec<u8>, kind: u8, number: i32) -> Result<(), AllocError
 
 /// Appends the value. After an `Err` a front of it may stand there.
 fn put_value(out: &mut Vec<u8>, value: AppValue<'_>) -> Result<(), AllocError>
-    requires { LengthFits (value_view value.entry) }
+    requires { LengthFits (value_view value) }
     ensures ok { OnOk result (out.new.items ≡ out.old.items ++ value_encoding (value_view value.entry)) }
     ensures front { Keeps out.old.items out.new.items }
     ensures room { vec_len out.old + length (value_encoding (value_view value.entry)) ≤ vec_capacity out.old → IsOk result }
@@ -111,7 +111,7 @@ fn put_value(out: &mut Vec<u8>, value: AppValue<'_>) -> Result<(), AllocError>
 /// 1 Memory, only where the buffer had no room for the value. The buffer then holds what it held.
 pub fn write_value(out: &mut Vec<u8>, value: AppValue<'_>) -> Result<(), AllocError>
     // A content has fewer than 2 to the power of 32 octets.
-    requires { LengthFits (value_view value.entry) }
+    requires { LengthFits (value_view value) }
     ensures ok { OnOk result (out.new.items ≡ out.old.items ++ value_encoding (value_view value.entry)) }
     ensures err { OnErr result (out.new.items ≡ out.old.items) }
     ensures room { vec_len out.old + length (value_encoding (value_view value.entry)) ≤ vec_capacity out.old → IsOk result }
