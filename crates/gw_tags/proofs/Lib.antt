@@ -13,3 +13,4 @@ pub mod ValueLaws
 pub mod ValueFaults
 pub mod Numbers
 pub mod Written
+pub mod Walks

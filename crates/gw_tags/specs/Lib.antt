@@ -8,3 +8,6 @@ pub mod Value
 pub mod Reading
 pub mod Body
 pub mod Laws
+pub mod List
+pub mod Walk
+pub mod Element

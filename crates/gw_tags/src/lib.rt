@@ -3,8 +3,10 @@
 
 mod body;
 mod datatype;
+mod element;
 mod fault;
 pub mod laws;
+mod list;
 mod number;
 mod object;
 mod reading;
