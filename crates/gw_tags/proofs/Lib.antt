@@ -14,3 +14,5 @@ pub mod ValueFaults
 pub mod Numbers
 pub mod Written
 pub mod Walks
+pub mod ListLaws
+pub mod ContextLaws

@@ -11,3 +11,5 @@ pub mod Laws
 pub mod List
 pub mod Walk
 pub mod Element
+pub mod Context
+pub mod ContextReading

@@ -43,3 +43,31 @@ impl From<TagFault> for ValueFault {
         }
     }
 }
+
+/// What is wrong with the octets in the place of a parameter under a context tag.
+#[derive(Clone, Copy, Debug, PartialEq, Eq, Error)]
+pub enum ContextFault {
+    /// 1: the octets end within the tag, or within the content of the parameter.
+    #[error("the octets end within a parameter")]
+    Short,
+    /// 2: the tag is whole and no tag.
+    #[error("no tag stands in the place of a parameter")]
+    BadTag,
+    /// 3: another tag stands there.
+    #[error("another parameter stands there")]
+    OtherTag,
+}
+
+impl From<TagFault> for ContextFault {
+    ghost use Rattle.std.specs.Prelude.{◌≡◌};
+    ghost use Rattle.gw_tags.specs.Fault.{context_fault};
+
+    ghost from_gives = { λ t e. e ≡ context_fault t };
+
+    fn from(fault: TagFault) -> ContextFault {
+        match fault {
+            TagFault::Short => ContextFault::Short,
+            TagFault::BadTag => ContextFault::BadTag,
+        }
+    }
+}

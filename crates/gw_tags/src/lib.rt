@@ -2,6 +2,7 @@
 #![tactic(auto)]
 
 mod body;
+mod context;
 mod datatype;
 mod element;
 mod fault;
@@ -17,7 +18,13 @@ mod value_reading;
 mod value_writing;
 mod writing;
 
-pub use fault::{TagFault, ValueFault};
+pub use context::{
+    read_closing, read_context, read_opening, write_closing, write_context, write_context_unsigned,
+    write_opening,
+};
+pub use fault::{ContextFault, TagFault, ValueFault};
+pub use list::read_list;
+pub use number::unsigned as read_unsigned;
 pub use object::ObjectId;
 pub use reading::{Header, read_tag};
 pub use strings::{BitString, CharacterString};

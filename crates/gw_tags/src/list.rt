@@ -70,3 +70,26 @@ fn close(fuel: usize, depth: u8, number: u8, octets: &[u8]) -> Option<(&[u8], &[
     }
     None
 }
+
+/// The content and what is behind the closing tag, said by the walk alone.
+fn list(number: u8, octets: &[u8]) -> Option<(&[u8], &[u8])>
+    ensures { option_map (λ x. (x.0.now, x.1.now)) result ≡ list_at number octets.now }
+{
+    let (closing, rest) = close(octets.len(), DEEPEST, number, octets)?;
+    Some((&octets[..octets.len() - closing.len()], rest))
+}
+
+/// Reads a list behind its opening tag: the octets before its closing tag of the same number, which are balanced, and those
+/// behind it. Lists nest at most 16 deep inside it, which is our own limit. `None` where no such content and closing tag stand
+/// at the front. A content is stepped over and not looked at.
+pub fn read_list(number: u8, octets: &[u8]) -> Option<(&[u8], &[u8])>
+    // What is read is a balanced content and its closing tag.
+    ensures found { IfSome result (λ x. EndsList number octets.now x.0.now x.1.now) }
+    // Where such octets stand at the front, they are read.
+    ensures only { (content rest : List ℕ) → EndsList number octets.now content rest
+        → IsSomeAnd result (λ x. (x.0.now ≡ content) × (x.1.now ≡ rest)) }
+
+    ensures exact { option_map (λ x. (x.0.now, x.1.now)) result ≡ list_at number octets.now }
+{
+    list(number, octets)
+}
