@@ -110,7 +110,7 @@ pub record Tail (depth number : ℕ) (octets at rest : List ℕ) : Type 0 where
   pub at_is : at ≡ closing ++ rest
   pub parts : octets ≡ content ++ at
 
-behind_octets : (xs ys : List ℕ) → AreOctets (xs ++ ys) → AreOctets ys
+pub behind_octets : (xs ys : List ℕ) → AreOctets (xs ++ ys) → AreOctets ys
 behind_octets [] ys fits = fits
 behind_octets (x ∷ xs) ys fits = behind_octets xs ys (AreOctets-rest x (xs ++ ys) fits)
 

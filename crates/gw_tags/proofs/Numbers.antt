@@ -1,13 +1,13 @@
 -- Numbers in the fewest octets: what is written is an encoding, and none is shorter.
-use Rattle.std.proofs.Common.{◌≡◌, ℕ, suc, ◌+◌, ◌-◌, ◌*◌, ◌/◌, ◌%◌, ◌^◌, ◌<◌, ◌≤◌, cond, ltb, List, [], ◌∷◌, length, drop, ℤ, pos, negsuc, refl, subst, sym, ap, ◌∙◌, arith, inl, inr}
+use Rattle.std.proofs.Common.{◌≡◌, ℕ, suc, ◌+◌, ◌-◌, ◌*◌, ◌/◌, ◌%◌, ◌^◌, ◌<◌, ◌≤◌, cond, ltb, List, [], ◌∷◌, length, drop, ℤ, pos, negsuc, Some, refl, subst, sym, ap, ◌∙◌, arith, inl, inr}
 use Rattle.std.specs.Int.{w32, to_be_bytes, cast_unsigned}
-use Rattle.std.proofs.lemmas.Bool.{cases_lt, lt-ltb, le-ltb}
+use Rattle.std.proofs.lemmas.Bool.{cases_lt, lt-ltb, le-ltb, le-leb}
 use Rattle.std.proofs.lemmas.List.{length-drop}
 use Rattle.gw_addr.specs.Address.{big_endian}
 use Rattle.gw_addr.specs.Reading.{AreOctets}
 use Rattle.gw_addr.proofs.Reading.{AreOctets-drop}
 use Rattle.gw_tags.proofs.Octets.{none, one_more}
-use Rattle.gw_tags.specs.Number.{EncodesUnsigned, EncodesSigned, IsSigned, octet_count, unsigned_encoding, magnitude_count, signed_count, signed_encoding, twos_complement}
+use Rattle.gw_tags.specs.Number.{EncodesUnsigned, EncodesSigned, IsSigned, octet_count, unsigned_encoding, magnitude_count, signed_count, signed_encoding, twos_complement, unsigned_of, signed_of}
 
 -- ---- how many octets
 
@@ -226,3 +226,15 @@ unsigned_length n = omega (arith, length-drop (4 - octet_count n) (to_be_bytes w
 
 pub signed_length : (z : ℤ) → length (signed_encoding z) ≤ signed_count z
 signed_length z = omega (arith, length-drop (4 - signed_count z) (to_be_bytes w32 (cast_unsigned w32 z)))
+
+-- ---- what is written is read again
+
+pub unsigned_again : (n : ℕ) → n < 2 ^ 32 → unsigned_of (unsigned_encoding n) ≡ Some n
+unsigned_again n lt =
+    let s = unsigned_encodes n lt in
+    rw (le-leb 1 (length (unsigned_encoding n)) s.least, le-leb (length (unsigned_encoding n)) 4 s.most) (ap (λ (m : ℕ). Some m) (sym s.number))
+
+pub signed_again : (z : ℤ) → IsSigned z → signed_of (signed_encoding z) ≡ Some z
+signed_again z is =
+    let s = signed_encodes z is in
+    rw (le-leb 1 (length (signed_encoding z)) s.least, le-leb (length (signed_encoding z)) 4 s.most) (ap (λ (y : ℤ). Some y) (sym s.number))

@@ -1,7 +1,7 @@
 -- Which fault reading a value gives, told of the octets.
-use Rattle.std.proofs.Common.{◌≡◌, ◌≢◌, ℕ, Bool, true, false, cond, List, [], ◌∷◌, ◌++◌, length, Result, Ok, Err, refl, sym, ap, subst, ◌∙◌, append_assoc, inl, inr, ◌⊎◌}
+use Rattle.std.proofs.Common.{◌≡◌, ◌≢◌, ℕ, ◌≤◌, arith, Bool, true, false, cond, List, [], ◌∷◌, ◌++◌, length, Result, Ok, Err, refl, sym, ap, subst, ◌∙◌, append_assoc, inl, inr, ◌⊎◌}
 use Rattle.std.specs.Prelude.{◌↔◌}
-use Rattle.std.proofs.lemmas.List.{append-nil, append_cancel_right}
+use Rattle.std.proofs.lemmas.List.{append-nil, append_cancel_left, append_cancel_right, length-append}
 use Rattle.gw_addr.specs.Reading.{◌>>=◌, AreOctets}
 use Rattle.gw_addr.proofs.Reading.{bind_ok, bind_err, chosen, ok_is}
 use Rattle.gw_tags.specs.declared.fault.TagFault.{TagFault}
@@ -9,8 +9,8 @@ use Rattle.gw_tags.specs.declared.fault.TagFault.TheVariants as tags
 use Rattle.gw_tags.specs.declared.fault.ValueFault.{ValueFault}
 use Rattle.gw_tags.specs.declared.fault.ValueFault.TheVariants.{Short, BadTag, BadLength, BadText}
 use Rattle.gw_tags.specs.declared.datatype.Datatype.{Datatype}
-use Rattle.gw_tags.specs.Tag.{Tag, BeginsWith, IsShortTag}
-use Rattle.gw_tags.specs.Value.{Value, application, layout, is_text, is_value_tag, EncodesValue, BeginsWithValue, EndsInContent, IsShortValue, IsBadValueTag, IsBadLength, IsBadText}
+use Rattle.gw_tags.specs.Tag.{Tag, EncodesTag, BeginsWith, IsShortTag}
+use Rattle.gw_tags.specs.Value.{Value, application, layout, is_text, is_value_tag, EncodesValue, EncodeAll, no_values, value_first, BeginsWithValue, EndsInContent, IsShortValue, IsBadValueTag, IsBadLength, IsBadText}
 use Rattle.gw_tags.specs.Reading.{Body, tag_at, header_at, low_bits_at, head_at, body_at, judged, value_at}
 use Rattle.gw_tags.proofs.Faults.{nothing_behind, tag_is_short, begins_again, cut_is_short}
 use Rattle.gw_tags.proofs.Bodies.{Read, kind_number}
@@ -202,3 +202,26 @@ values_are_prefix_free a b x y v w p q e =
     let same = ok_is {F = ValueFault} (v, x) (w, y) (sym (raw_again a v x p) ∙ ap raw_at e ∙ raw_again b w y q) in
     let behind : x ≡ y = ap (λ (r : Value × List ℕ). r.1) same in
     (append_cancel_right a b x (e ∙ ap (λ (o : List ℕ). b ++ o) (sym behind)), ap (λ (r : Value × List ℕ). r.0) same)
+
+header_not_empty : (header : List ℕ) (tag : Tag) → EncodesTag header tag → 1 ≤ length header
+header_not_empty header tag s = omega (arith, ap length s.encoded)
+
+not_empty : (front : List ℕ) (value : Value) → EncodesValue front value → 1 ≤ length front
+not_empty front value s =
+    let t = tag_of_header s.header (layout value).number (length s.content) (layout value).bits s.tagged in
+    omega (arith, header_not_empty s.header (application (layout value).number t.count) t.encodes, ap length s.parts, length-append s.header s.content)
+
+-- a list of values has one reading
+pub one_reading : {octets : List ℕ} {values : List Value} → EncodeAll octets values → (others : List Value) → EncodeAll octets others → values ≡ others
+one_reading no_values others b = nothing_read others [] refl b where
+  nothing_read : (values : List Value) (octets : List ℕ) → octets ≡ [] → EncodeAll octets values → [] ≡ values
+  nothing_read [] octets none no_values = refl
+  nothing_read (value ∷ values) octets none (value_first front rest v vs s parts more) = absurd (omega (arith, not_empty front value s, ap length parts, ap length none, length-append front rest))
+one_reading {octets} (value_first front rest value values s parts more) others b = first_read octets others (λ last t. one_reading more last t) refl b where
+  first_read : (whole : List ℕ) (others : List Value) → ((last : List Value) → EncodeAll rest last → values ≡ last) → whole ≡ octets → EncodeAll whole others → value ∷ values ≡ others
+  first_read whole [] again is no_values = absurd (omega (arith, not_empty front value s, ap length is, ap length parts, length-append front rest))
+  first_read whole (other ∷ last) again is (value_first begins behind o os t split later) =
+      let here : front ++ rest ≡ begins ++ behind = sym parts ∙ sym is ∙ split in
+      let both = values_are_prefix_free front begins rest behind value other s t here in
+      let same : rest ≡ behind = append_cancel_left front rest behind (here ∙ ap (λ (x : List ℕ). x ++ behind) (sym both.0)) in
+      cc (both.1, again last (subst (λ (x : List ℕ). EncodeAll x last) (sym same) later))

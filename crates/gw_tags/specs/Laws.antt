@@ -1,10 +1,11 @@
 -- What holds of all encodings of tags, objects and values.
-use Rattle.std.specs.Prelude.{◌≡◌, ℕ, ◌≤◌, List, ◌++◌, length, Ok}
+use Rattle.std.specs.Prelude.{◌≡◌, ℕ, ◌<◌, ◌≤◌, ◌^◌, ◌↔◌, List, ◌++◌, length, Some, Ok, ℤ}
 use Rattle.gw_addr.specs.Reading.{AreOctets}
-use Rattle.gw_tags.specs.Tag.{Tag, IsTag, EncodesTag, canonical}
-use Rattle.gw_tags.specs.Reading.{tag_at}
+use Rattle.gw_tags.specs.Tag.{Tag, IsTag, EncodesTag, BeginsWith, canonical}
+use Rattle.gw_tags.specs.Reading.{tag_at, value_at}
 use Rattle.gw_tags.specs.Object.{Object, IsObject, object_octets, object_of}
-use Rattle.gw_tags.specs.Value.{Value, IsValue, EncodesValue, value_encoding}
+use Rattle.gw_tags.specs.Value.{Value, IsValue, EncodesValue, BeginsWithValue, EncodeAll, value_encoding}
+use Rattle.gw_tags.specs.Number.{IsSigned, unsigned_of, unsigned_encoding, signed_of, signed_encoding}
 
 -- Where two encodings stand at the front of the same octets, they are one encoding of one tag: none is a proper front of another.
 abbrev pub TagsArePrefixFree : Type 0
@@ -40,3 +41,23 @@ ValueEncodingEncodes = (value : Value) → IsValue value → EncodesValue (value
 -- No encoding is shorter than what is written.
 abbrev pub ValueEncodingIsShortest : Type 0
 ValueEncodingIsShortest = (octets : List ℕ) (value : Value) → EncodesValue octets value → length (value_encoding value) ≤ length octets
+
+-- A number written in the fewest octets is read again (clauses 20.2.4 and 20.2.5).
+abbrev pub UnsignedIsRead : Type 0
+UnsignedIsRead = (n : ℕ) → n < 2 ^ 32 → unsigned_of (unsigned_encoding n) ≡ Some n
+
+abbrev pub SignedIsRead : Type 0
+SignedIsRead = (z : ℤ) → IsSigned z → signed_of (signed_encoding z) ≡ Some z
+
+-- Reading a tag or a value agrees with what its octets are.
+abbrev pub TagAtIsTag : Type 0
+TagAtIsTag = (octets : List ℕ) (tag : Tag) (rest : List ℕ) → AreOctets octets
+    → (tag_at octets ≡ Ok (tag, rest)) ↔ (BeginsWith octets tag rest × IsTag tag)
+
+abbrev pub ValueAtIsValue : Type 0
+ValueAtIsValue = (octets : List ℕ) (value : Value) (rest : List ℕ) → AreOctets octets
+    → (value_at octets ≡ Ok (value, rest)) ↔ (BeginsWithValue octets value rest × IsValue value)
+
+-- A list of values has one reading: octets that encode one list, value after value, encode no other.
+abbrev pub ListsHaveOneReading : Type 0
+ListsHaveOneReading = (octets : List ℕ) (values others : List Value) → EncodeAll octets values → EncodeAll octets others → values ≡ others

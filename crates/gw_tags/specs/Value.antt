@@ -215,3 +215,8 @@ pub record IsBadText (octets : List ℕ) : Type 0 where
   pub rest : List ℕ
   pub begins : BeginsWithValue octets value rest
   pub other : is_text value ≡ false
+
+-- the octets encode these values, one after the other
+pub data EncodeAll : List ℕ → List Value → Type 0 where
+  no_values : EncodeAll [] []
+  value_first : {octets : List ℕ} (front rest : List ℕ) (value : Value) (values : List Value) → EncodesValue front value → octets ≡ front ++ rest → EncodeAll rest values → EncodeAll octets (value ∷ values)

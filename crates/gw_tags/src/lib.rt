@@ -13,6 +13,7 @@ mod object;
 mod reading;
 mod strings;
 mod tag;
+mod utf8;
 mod value;
 mod value_reading;
 mod value_writing;

@@ -2,7 +2,6 @@
 
 ghost use Rattle.std.specs.Prelude.{◌≡◌, ◌<◌, ◌≤◌, ◌^◌, ◌==◌, nat_lt, true, Ok, ℕ, List, length, IfOk, IsOkAnd, ◌↔◌, Err};
 ghost use Rattle.gw_addr.specs.Reading.{Gives, front_at};
-ghost use Rattle.std.specs.Str.{is_utf8 as utf8};
 ghost use Rattle.gw_addr.specs.Address.{big_endian};
 ghost use Rattle.gw_tags.specs.Number.{twos_complement};
 ghost use Rattle.gw_tags.specs.Object.{object_of};
@@ -19,6 +18,7 @@ use crate::reading::read_tag;
 use crate::strings::{BitString, CharacterString};
 use crate::tag::Kind;
 use crate::value::AppValue;
+use crate::utf8::is_utf8;
 use gw_addr::{front, octet};
 
 type Found<'a> = Result<(AppValue<'a>, &'a [u8]), ValueFault>;
@@ -114,13 +114,6 @@ fn eight(body: Body<'_>) -> Result<([u8; 8], &[u8]), ValueFault>
         return Err(ValueFault::BadLength);
     };
     Ok(([*a, *b, *c, *d, *e, *f, *g, *h], rest))
-}
-
-/// Whether the octets are UTF-8.
-fn is_utf8(octets: &[u8]) -> bool
-    ensures { result ≡ utf8 octets.now }
-{
-    str::from_utf8(octets).is_ok()
 }
 
 fn text(body: Body<'_>) -> Result<(CharacterString<'_>, &[u8]), ValueFault>

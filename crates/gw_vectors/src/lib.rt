@@ -20,3 +20,5 @@ mod replay;
 mod rules;
 #[cfg(test)]
 mod tags;
+#[cfg(test)]
+mod tags_more;
