@@ -4,7 +4,7 @@ use Rattle.std.proofs.lemmas.Bool.{ltb-true, eqb-true, eqb-false, le-leb, leb-tr
 use Rattle.std.proofs.lemmas.List.{append-nil, length-append}
 use Rattle.gw_addr.specs.Address.{big_endian}
 use Rattle.gw_addr.specs.Reading.{◌>>=◌, AreOctets, octet_at, front_at}
-use Rattle.gw_addr.proofs.Reading.{AreOctets-rest, bind_ok, bind_err, guard_err, chosen, ok_is, front_takes, front_again}
+use Rattle.gw_addr.proofs.Reading.{AreOctets-append, both_true, bind_ok, bind_err, guard_err, chosen, ok_is, front_takes, front_again}
 use Rattle.gw_tags.specs.declared.fault.ValueFault.{ValueFault}
 use Rattle.gw_tags.specs.declared.fault.ValueFault.TheVariants.{Short as ShortValue, BadLength}
 use Rattle.gw_tags.specs.declared.datatype.Datatype.{Datatype}
@@ -59,12 +59,7 @@ pub record EndsBody (number low count : ℕ) (octets : List ℕ) : Type 0 where
   pub value : Value
   pub takes : TakesBody number low count (octets ++ missing) value []
 
--- ---- octets behind octets
-
-pub append_octets : (xs ys : List ℕ) → AreOctets xs → AreOctets ys → AreOctets (xs ++ ys)
-append_octets [] ys a b = b
-append_octets (x ∷ xs) ys a b = one_more x (xs ++ ys) (a 0) (append_octets xs ys (AreOctets-rest x xs a) b)
-
+-- ---- zeros
 abbrev pub zeros : ℕ → List ℕ
 zeros zero = []
 zeros (suc n) = 0 ∷ zeros n
@@ -118,7 +113,7 @@ completed has make number low count octets t fits known lt = record {
   missing = zeros (count - length octets);
   some_missing = some_zeros (count - length octets) (omega arith);
   value = make (octets ++ zeros (count - length octets));
-  takes = counted has make number low count (octets ++ zeros (count - length octets)) (octets ++ zeros (count - length octets)) [] t (sym (append-nil (octets ++ zeros (count - length octets)))) (omega (arith, length-append octets (zeros (count - length octets)), zeros_length (count - length octets))) (append_octets octets (zeros (count - length octets)) fits (zeros_octets (count - length octets))) known;
+  takes = counted has make number low count (octets ++ zeros (count - length octets)) (octets ++ zeros (count - length octets)) [] t (sym (append-nil (octets ++ zeros (count - length octets)))) (omega (arith, length-append octets (zeros (count - length octets)), zeros_length (count - length octets))) (AreOctets-append octets (zeros (count - length octets)) fits (zeros_octets (count - length octets))) known;
 }
 
 pub counted_fails : (has : ℕ → Bool) (make : List ℕ → Value) (number low count : ℕ) (octets : List ℕ) (fault : ValueFault) → IsCounted has make number → AreOctets octets → content_at has make (body low count octets) ≡ Err fault → Fails number low count octets fault (λ o. content_at has make (body low count o))
@@ -138,10 +133,6 @@ counted_again has make low content rest known = rw known (ap (λ (r : Result (Li
 
 -- ---- the kinds that are so
 
-pub both_hold : (a b : Bool) → (a && b) ≡ true → (a ≡ true) × (b ≡ true)
-both_hold true b e = (refl, e)
-both_hold false b e = absurd cc
-
 pub one_to_four_holds : (n : ℕ) → 1 ≤ n → n ≤ 4 → one_to_four n ≡ true
 one_to_four_holds n least most = rw (le-leb 1 n least, le-leb n 4 most) refl
 
@@ -149,21 +140,21 @@ pub is_unsigned : IsCounted one_to_four (λ o. unsigned (big_endian o)) 2
 is_unsigned = record {
   number_is = λ c. refl;
   bits_are = λ c. refl;
-  content_is = λ c fits has. let b = both_hold _ _ has in record { least = leb-true _ _ b.0; most = leb-true _ _ b.1; octets_fit = fits; number = refl };
+  content_is = λ c fits has. let b = both_true _ _ has in record { least = leb-true _ _ b.0; most = leb-true _ _ b.1; octets_fit = fits; number = refl };
 }
 
 pub is_enumerated : IsCounted one_to_four (λ o. enumerated (big_endian o)) 9
 is_enumerated = record {
   number_is = λ c. refl;
   bits_are = λ c. refl;
-  content_is = λ c fits has. let b = both_hold _ _ has in record { least = leb-true _ _ b.0; most = leb-true _ _ b.1; octets_fit = fits; number = refl };
+  content_is = λ c fits has. let b = both_true _ _ has in record { least = leb-true _ _ b.0; most = leb-true _ _ b.1; octets_fit = fits; number = refl };
 }
 
 pub is_signed : IsCounted one_to_four (λ o. signed (twos_complement o)) 3
 is_signed = record {
   number_is = λ c. refl;
   bits_are = λ c. refl;
-  content_is = λ c fits has. let b = both_hold _ _ has in record { least = leb-true _ _ b.0; most = leb-true _ _ b.1; octets_fit = fits; number = refl };
+  content_is = λ c fits has. let b = both_true _ _ has in record { least = leb-true _ _ b.0; most = leb-true _ _ b.1; octets_fit = fits; number = refl };
 }
 
 pub is_real : IsCounted (λ n. eqb n 4) real 4

@@ -16,9 +16,10 @@ use Rattle.gw_tags.specs.Reading.{tag_at}
 use Rattle.gw_tags.specs.List.{context}
 use Rattle.gw_tags.specs.Context.{BeginsWithContent, BeginsWithOther, is_content}
 use Rattle.gw_tags.specs.ContextReading.{tag_or, content_of, content_at, opening_of, opening_at, closing_of, closing_tag_at}
+use Rattle.gw_tags.proofs.Octets.{behind_octets}
 use Rattle.gw_tags.proofs.Tags.{tag_again}
 use Rattle.gw_tags.proofs.Faults.{fits_kind, tag_takes, tag_is_bad, is_read}
-use Rattle.gw_tags.proofs.ListLaws.{behind_octets, is_bracket}
+use Rattle.gw_tags.proofs.ListLaws.{is_bracket}
 
 tag_or_ok : (r : Result (Tag × List ℕ) TagFault) (x : Tag × List ℕ) → tag_or r ≡ Ok x → r ≡ Ok x
 tag_or_ok (Ok y) x e = ap Ok (ok_is {F = ContextFault} y x e)

@@ -15,7 +15,7 @@ use Rattle.gw_tags.specs.Strings.{is_unused}
 use Rattle.gw_tags.specs.Value.{Value, null, boolean, unsigned, signed, real, double, octet_string, character_string, bit_string, enumerated, date, time, object_id, length_of_content, value_itself, bit_of, layout, IsContent}
 use Rattle.gw_tags.specs.Reading.{Body, null_at, boolean_at, content_at, one_to_four, text_of, bits_at, body_at}
 use Rattle.gw_tags.proofs.Objects.{object_read}
-use Rattle.gw_tags.proofs.Bodies.{Read, body, kind_number, HasBits, TakesBody, EndsBody, Fails, append_octets, zeros, zeros_octets, zeros_length, some_zeros, counted_takes, counted_fails, counted_again, one_to_four_holds, is_unsigned, is_enumerated, is_signed, is_real, is_double, is_date, is_time, is_octets, is_object, is_text_kind}
+use Rattle.gw_tags.proofs.Bodies.{Read, body, kind_number, HasBits, TakesBody, EndsBody, Fails, zeros, zeros_octets, zeros_length, some_zeros, counted_takes, counted_fails, counted_again, one_to_four_holds, is_unsigned, is_enumerated, is_signed, is_real, is_double, is_date, is_time, is_octets, is_object, is_text_kind}
 
 -- ---- what is read
 

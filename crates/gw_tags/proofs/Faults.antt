@@ -4,7 +4,7 @@ use Rattle.std.specs.Prelude.{◌↔◌, IfOk, IsOkAnd}
 use Rattle.std.proofs.lemmas.Bool.{ltb-true}
 use Rattle.std.proofs.lemmas.List.{append-nil}
 use Rattle.gw_addr.specs.Reading.{AreOctets, Gives}
-use Rattle.gw_addr.proofs.Reading.{bind_ok, bind_err, chosen, ok_is}
+use Rattle.gw_addr.proofs.Reading.{both_true, bind_ok, bind_err, chosen, ok_is}
 use Rattle.gw_tags.specs.declared.tag.Kind.{Kind}
 use Rattle.gw_tags.specs.declared.tag.Kind.TheVariants.{Length, Opening, Closing}
 use Rattle.gw_tags.specs.declared.fault.TagFault.{TagFault}
@@ -23,10 +23,6 @@ fits_kind (Length n) two_octets room = omega (arith, room)
 fits_kind (Length n) four_octets room = room
 fits_kind Opening place room = tt
 fits_kind Closing place room = tt
-
-both_true : (a b : Bool) → (a && b) ≡ true → (a ≡ true) × (b ≡ true)
-both_true true b e = (refl, e)
-both_true false b e = absurd cc
 
 pub is_written : (tag : Tag) (front : List ℕ) → EncodesTag front tag → is_tag tag ≡ true → IsTag tag
 is_written tag front s e =
@@ -91,19 +87,9 @@ tag_is_bad octets fits = (
 pub is_read : (octets : List ℕ) (tag : Tag) (rest : List ℕ) → IsTag tag → BeginsWith octets tag rest → tag_at octets ≡ Ok (tag, rest)
 is_read octets tag rest is b = rw b.parts (tag_again b.front tag rest is b.encodes)
 
--- a fault is that of the reading function
-pub gives_fault : {X Y F : Type 0} (view : X → Y) (r : Result X F) (reading : Result Y F) (fault : F) (P : Type 0) → Gives view r reading → ((reading ≡ Err fault) ↔ P) → (r ≡ Err fault) ↔ P
-gives_fault view (Ok x) reading fault P given is = (λ e. absurd cc, λ p. absurd (let h = is.1 p in cc))
-gives_fault view (Err e) reading fault P given is = (λ q. is.0 cc, λ p. let h = is.1 p in cc)
-
 -- what was read is that of the reading function
 pub gives_both : (X Y Z F : Type 0) (first : X → Y) (second : X → Z) (r : Result X F) (reading : Result (Y × Z) F) (y : Y) (z : Z) → Gives (λ x. (first x, second x)) r reading → reading ≡ Ok (y, z) → IsOkAnd r (λ x. (first x ≡ y) × (second x ≡ z))
 gives_both X Y Z F first second (Ok x) reading y z given is =
     let both = ok_is (first x, second x) (y, z) (sym given ∙ is) in
     (ap (λ (p : Y × Z). p.0) both, ap (λ (p : Y × Z). p.1) both)
 gives_both X Y Z F first second (Err e) reading y z given is = absurd cc
-
--- what a call read begins the octets
-pub gives_found : {X : Type 0} (tag : X → Tag) (rest : X → List ℕ) (r : Result X TagFault) (octets : List ℕ) → AreOctets octets → Gives (λ x. (tag x, rest x)) r (tag_at octets) → IfOk r (λ x. BeginsWith octets (tag x) (rest x)) × IfOk r (λ x. IsTag (tag x))
-gives_found tag rest (Ok x) octets fits given = tag_takes octets (tag x) (rest x) fits given
-gives_found tag rest (Err e) octets fits given = (tt, tt)

@@ -14,6 +14,7 @@ use Rattle.gw_tags.specs.Tag.{Tag, IsTag, EncodesTag, BeginsWith}
 use Rattle.gw_tags.specs.Reading.{tag_at}
 use Rattle.gw_tags.specs.List.{context, content_length, IsBalanced, no_more, primitive, nested, deepest, EndsList}
 use Rattle.gw_tags.specs.Walk.{Element, value, opened, closed, stepped, element_of, element, element_at, closing_at, list_of, list_at}
+use Rattle.gw_tags.proofs.Octets.{behind_octets}
 use Rattle.gw_tags.proofs.Tags.{tag_again}
 use Rattle.gw_tags.proofs.Faults.{tag_takes}
 use Rattle.gw_tags.proofs.Walks.{past_nothing, past_value, past_closing, past_list, in_bad_list, too_deep, no_fuel}
@@ -109,10 +110,6 @@ pub record Tail (depth number : ℕ) (octets at rest : List ℕ) : Type 0 where
   pub closes : EncodesTag closing (context number Closing)
   pub at_is : at ≡ closing ++ rest
   pub parts : octets ≡ content ++ at
-
-pub behind_octets : (xs ys : List ℕ) → AreOctets (xs ++ ys) → AreOctets ys
-behind_octets [] ys fits = fits
-behind_octets (x ∷ xs) ys fits = behind_octets xs ys (AreOctets-rest x (xs ++ ys) fits)
 
 abbrev Found : ℕ → Type 0
 Found fuel = (depth number : ℕ) (octets at rest : List ℕ) → AreOctets octets → closing_at fuel depth number octets ≡ Some (at, rest) → Tail depth number octets at rest

@@ -13,6 +13,7 @@ use Rattle.gw_tags.specs.declared.datatype.Datatype.{Datatype}
 use Rattle.gw_tags.specs.Tag.{Tag, is_tag, EncodesTag, BeginsWith, IsShortTag}
 use Rattle.gw_tags.specs.Value.{Value, null, boolean, unsigned, signed, real, double, octet_string, character_string, bit_string, enumerated, date, time, object_id, layout, application, is_text, is_value_tag, IsContent, EncodesValue, BeginsWithValue, EndsInContent, IsShortValue, IsBadValueTag, IsBadLength, IsBadText}
 use Rattle.gw_tags.specs.Reading.{Body, tag_at, header_at, low_bits_at, head_at, body_at, judged, value_at, of_tag, datatype_of, count_of}
+use Rattle.gw_tags.proofs.Octets.{behind_octets}
 use Rattle.gw_tags.proofs.Tags.{header_again}
 use Rattle.gw_tags.proofs.Faults.{nothing_behind, tag_is_short, begins_again}
 use Rattle.gw_tags.proofs.Bodies.{Read, body, kind_number, TakesBody, EndsBody, Fails}
@@ -49,10 +50,6 @@ small_bits (time own) = tt
 small_bits (object_id id) = tt
 
 -- ---- what is read is encoded so
-
-behind_octets : (xs ys : List ℕ) → AreOctets (xs ++ ys) → AreOctets ys
-behind_octets [] ys fits = fits
-behind_octets (x ∷ xs) ys fits = behind_octets xs ys (AreOctets-rest x (xs ++ ys) fits)
 
 joined : (octets : List ℕ) (kind : Datatype) (low count : ℕ) (behind more : List ℕ) (value : Value) (rest : List ℕ) → TakesHead octets kind count behind → low ≡ low_bits_at octets → TakesBody (kind_number kind) low count (behind ++ more) value rest → BeginsWithValue (octets ++ more) value rest
 joined octets kind low count behind more value rest h is t = record {

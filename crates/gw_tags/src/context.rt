@@ -107,7 +107,8 @@ pub fn write_context(out: &mut Vec<u8>, number: u8, content: &[u8]) -> Result<()
     requires fits { length content.now < 2 ^ 32 }
     ensures ok { OnOk result (out.new.items ≡ out.old.items ++ in_context number content.now) }
     ensures err { OnErr result (out.new.items ≡ out.old.items) }
-    ensures room { vec_len out.old + length (in_context number content.now) ≤ vec_capacity out.old → IsOk result }
+    ensures room { vec_len out.old + length (in_context number content.now) ≤ vec_capacity out.old
+        → IsOk result }
     ensures capacity { vec_capacity out.old ≤ vec_capacity out.new }
 {
     let len = out.len();
@@ -136,7 +137,8 @@ pub fn write_context_unsigned(out: &mut Vec<u8>, number: u8, value: u32) -> Resu
     requires { number < 255 }
     ensures ok { OnOk result (out.new.items ≡ out.old.items ++ in_context number (unsigned_encoding value)) }
     ensures err { OnErr result (out.new.items ≡ out.old.items) }
-    ensures room { vec_len out.old + length (in_context number (unsigned_encoding value)) ≤ vec_capacity out.old → IsOk result }
+    ensures room { vec_len out.old + length (in_context number (unsigned_encoding value)) ≤ vec_capacity out.old
+        → IsOk result }
     ensures capacity { vec_capacity out.old ≤ vec_capacity out.new }
 {
     let octets = value.to_be_bytes();
@@ -152,7 +154,8 @@ pub fn write_opening(out: &mut Vec<u8>, number: u8) -> Result<(), AllocError>
     requires { number < 255 }
     ensures ok { OnOk result (out.new.items ≡ out.old.items ++ canonical (context number Opening)) }
     ensures err { OnErr result (out.new.items ≡ out.old.items) }
-    ensures room { vec_len out.old + length (canonical (context number Opening)) ≤ vec_capacity out.old → IsOk result }
+    ensures room { vec_len out.old + length (canonical (context number Opening)) ≤ vec_capacity out.old
+        → IsOk result }
     ensures capacity { vec_capacity out.old ≤ vec_capacity out.new }
 {
     let tag = Tag {
@@ -172,7 +175,8 @@ pub fn write_closing(out: &mut Vec<u8>, number: u8) -> Result<(), AllocError>
     requires { number < 255 }
     ensures ok { OnOk result (out.new.items ≡ out.old.items ++ canonical (context number Closing)) }
     ensures err { OnErr result (out.new.items ≡ out.old.items) }
-    ensures room { vec_len out.old + length (canonical (context number Closing)) ≤ vec_capacity out.old → IsOk result }
+    ensures room { vec_len out.old + length (canonical (context number Closing)) ≤ vec_capacity out.old
+        → IsOk result }
     ensures capacity { vec_capacity out.old ≤ vec_capacity out.new }
 {
     let tag = Tag {

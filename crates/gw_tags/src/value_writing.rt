@@ -19,7 +19,8 @@ fn put_header(out: &mut Vec<u8>, number: u8, count: u32) -> Result<(), AllocErro
     requires { number < 255 }
     ensures ok { OnOk result (out.new.items ≡ out.old.items ++ canonical (application number count)) }
     ensures front { Keeps out.old.items out.new.items }
-    ensures room { vec_len out.old + length (canonical (application number count)) ≤ vec_capacity out.old → IsOk result }
+    ensures room { vec_len out.old + length (canonical (application number count)) ≤ vec_capacity out.old
+        → IsOk result }
     ensures capacity { vec_capacity out.old ≤ vec_capacity out.new }
 {
     let tag = Tag {
@@ -36,7 +37,8 @@ fn put_content(out: &mut Vec<u8>, number: u8, content: &[u8]) -> Result<(), Allo
     requires fits { length content.now < 2 ^ 32 }
     ensures ok { OnOk result (out.new.items ≡ out.old.items ++ tagged number content.now) }
     ensures front { Keeps out.old.items out.new.items }
-    ensures room { vec_len out.old + length (tagged number content.now) ≤ vec_capacity out.old → IsOk result }
+    ensures room { vec_len out.old + length (tagged number content.now) ≤ vec_capacity out.old
+        → IsOk result }
     ensures capacity { vec_capacity out.old ≤ vec_capacity out.new }
 {
     put_header(out, number, content.len() as u32)?;
@@ -49,7 +51,8 @@ fn put_prefixed(out: &mut Vec<u8>, number: u8, first: u8, others: &[u8]) -> Resu
     requires fits { length (first ∷ others.now) < 2 ^ 32 }
     ensures ok { OnOk result (out.new.items ≡ out.old.items ++ tagged number (first ∷ others.now)) }
     ensures front { Keeps out.old.items out.new.items }
-    ensures room { vec_len out.old + length (tagged number (first ∷ others.now)) ≤ vec_capacity out.old → IsOk result }
+    ensures room { vec_len out.old + length (tagged number (first ∷ others.now)) ≤ vec_capacity out.old
+        → IsOk result }
     ensures capacity { vec_capacity out.old ≤ vec_capacity out.new }
 {
     put_header(out, number, others.len() as u32 + 1)?;
@@ -61,7 +64,8 @@ fn put_unsigned(out: &mut Vec<u8>, kind: u8, number: u32) -> Result<(), AllocErr
     requires { kind < 255 }
     ensures ok { OnOk result (out.new.items ≡ out.old.items ++ tagged kind (unsigned_encoding number)) }
     ensures front { Keeps out.old.items out.new.items }
-    ensures room { vec_len out.old + length (tagged kind (unsigned_encoding number)) ≤ vec_capacity out.old → IsOk result }
+    ensures room { vec_len out.old + length (tagged kind (unsigned_encoding number)) ≤ vec_capacity out.old
+        → IsOk result }
     ensures capacity { vec_capacity out.old ≤ vec_capacity out.new }
 {
     let octets = number.to_be_bytes();
@@ -72,7 +76,8 @@ fn put_signed(out: &mut Vec<u8>, kind: u8, number: i32) -> Result<(), AllocError
     requires { kind < 255 }
     ensures ok { OnOk result (out.new.items ≡ out.old.items ++ tagged kind (signed_encoding number)) }
     ensures front { Keeps out.old.items out.new.items }
-    ensures room { vec_len out.old + length (tagged kind (signed_encoding number)) ≤ vec_capacity out.old → IsOk result }
+    ensures room { vec_len out.old + length (tagged kind (signed_encoding number)) ≤ vec_capacity out.old
+        → IsOk result }
     ensures capacity { vec_capacity out.old ≤ vec_capacity out.new }
 {
     let octets = number.to_be_bytes();
@@ -84,7 +89,8 @@ fn put_value(out: &mut Vec<u8>, value: AppValue<'_>) -> Result<(), AllocError>
     requires { LengthFits (value_view value) }
     ensures ok { OnOk result (out.new.items ≡ out.old.items ++ value_encoding (value_view value.entry)) }
     ensures front { Keeps out.old.items out.new.items }
-    ensures room { vec_len out.old + length (value_encoding (value_view value.entry)) ≤ vec_capacity out.old → IsOk result }
+    ensures room { vec_len out.old + length (value_encoding (value_view value.entry)) ≤ vec_capacity out.old
+        → IsOk result }
     ensures capacity { vec_capacity out.old ≤ vec_capacity out.new }
 {
     match value {
@@ -114,7 +120,8 @@ pub fn write_value(out: &mut Vec<u8>, value: AppValue<'_>) -> Result<(), AllocEr
     requires { LengthFits (value_view value) }
     ensures ok { OnOk result (out.new.items ≡ out.old.items ++ value_encoding (value_view value.entry)) }
     ensures err { OnErr result (out.new.items ≡ out.old.items) }
-    ensures room { vec_len out.old + length (value_encoding (value_view value.entry)) ≤ vec_capacity out.old → IsOk result }
+    ensures room { vec_len out.old + length (value_encoding (value_view value.entry)) ≤ vec_capacity out.old
+        → IsOk result }
     ensures capacity { vec_capacity out.old ≤ vec_capacity out.new }
 {
     let len = out.len();

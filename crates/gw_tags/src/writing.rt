@@ -25,7 +25,8 @@ fn put_length(out: &mut Vec<u8>, kind: Kind) -> Result<(), AllocError>
     ensures ok { OnOk result (out.new.items ≡ out.old.items ++ length_octets kind (shortest_length kind)) }
     ensures front { Keeps out.old.items out.new.items }
     ensures capacity { vec_capacity out.old ≤ vec_capacity out.new }
-    ensures room { vec_len out.old + length (length_octets kind (shortest_length kind)) ≤ vec_capacity out.old → IsOk result }
+    ensures room { vec_len out.old + length (length_octets kind (shortest_length kind)) ≤ vec_capacity out.old
+        → IsOk result }
 {
     match kind {
         Kind::Length(length) if length < 5 => {}
@@ -63,7 +64,8 @@ pub fn put_tag(out: &mut Vec<u8>, tag: Tag) -> Result<(), AllocError>
     ensures ok { OnOk result (out.new.items ≡ out.old.items ++ canonical (tag_view tag)) }
     ensures front { Keeps out.old.items out.new.items }
     ensures capacity { vec_capacity out.old ≤ vec_capacity out.new }
-    ensures room { vec_len out.old + length (canonical (tag_view tag)) ≤ vec_capacity out.old → IsOk result }
+    ensures room { vec_len out.old + length (canonical (tag_view tag)) ≤ vec_capacity out.old
+        → IsOk result }
 {
     let low = low_bits(tag.kind);
     if tag.number < 15 {
@@ -75,7 +77,7 @@ pub fn put_tag(out: &mut Vec<u8>, tag: Tag) -> Result<(), AllocError>
     put_length(out, tag.kind)
 }
 
-/// Appends the one tag_encoding of the tag that has the fewest octets. The buffer keeps what it had, and is
+/// Appends the one encoding of the tag that has the fewest octets. The buffer keeps what it had, and is
 /// unchanged after an error.
 ///
 /// # Errors
@@ -84,7 +86,8 @@ pub fn put_tag(out: &mut Vec<u8>, tag: Tag) -> Result<(), AllocError>
 pub fn write_tag(out: &mut Vec<u8>, tag: Tag) -> Result<(), AllocError>
     ensures ok { OnOk result (out.new.items ≡ out.old.items ++ canonical (tag_view tag)) }
     ensures err { OnErr result (out.new.items ≡ out.old.items) }
-    ensures room { vec_len out.old + length (canonical (tag_view tag)) ≤ vec_capacity out.old → IsOk result }
+    ensures room { vec_len out.old + length (canonical (tag_view tag)) ≤ vec_capacity out.old
+        → IsOk result }
     ensures capacity { vec_capacity out.old ≤ vec_capacity out.new }
 {
     let len = out.len();
