@@ -96,16 +96,20 @@ bad_is tags.Short e = absurd cc
 bad_is tags.BadTag e = refl
 
 pub content_is_bad : (number : ℕ) (octets : List ℕ) → AreOctets octets → (content_at number octets ≡ Err BadTag) ↔ IsBadTag octets
-content_is_bad number octets fits = (λ e. elim (bind_err (tag_or (tag_at octets)) (λ x. content_of number x.0 x.0.kind x.1) BadTag e) [
+content_is_bad number octets fits = (
+  λ e. elim (bind_err (tag_or (tag_at octets)) (λ x. content_of number x.0 x.0.kind x.1) BadTag e) [
     | inl here ↦ let t = tag_or_err (tag_at octets) BadTag here in (tag_is_bad octets fits).0 (t.1 ∙ ap Err (bad_is t.0 t.2))
     | inr (x, read, after) ↦ elim (content_of_err number x.0 x.0.kind x.1 BadTag refl after) [
       | inl short ↦ absurd cc
       | inr other ↦ absurd (let h = other.0 in cc)
     ]
-  ], λ b. ap (λ (r : Result (Tag × List ℕ) TagFault). tag_or r >>= λ x. content_of number x.0 x.0.kind x.1) ((tag_is_bad octets fits).1 b))
+  ],
+  λ b. ap (λ (r : Result (Tag × List ℕ) TagFault). tag_or r >>= λ x. content_of number x.0 x.0.kind x.1) ((tag_is_bad octets fits).1 b),
+)
 
 pub content_is_other : (number : ℕ) (octets : List ℕ) → AreOctets octets → (content_at number octets ≡ Err OtherTag) ↔ BeginsWithOther number octets
-content_is_other number octets fits = (λ e. elim (bind_err (tag_or (tag_at octets)) (λ x. content_of number x.0 x.0.kind x.1) OtherTag e) [
+content_is_other number octets fits = (
+  λ e. elim (bind_err (tag_or (tag_at octets)) (λ x. content_of number x.0 x.0.kind x.1) OtherTag e) [
     | inl here ↦ let t = tag_or_err (tag_at octets) OtherTag here in absurd (bad_not_other t.0 t.2)
     | inr (x, read, after) ↦
         let t = tag_takes octets x.0 x.1 fits (tag_or_ok (tag_at octets) x read) in
@@ -113,7 +117,9 @@ content_is_other number octets fits = (λ e. elim (bind_err (tag_or (tag_at octe
           | inl short ↦ absurd cc
           | inr other ↦ record { tag = x.0; rest = x.1; is_tag = t.1; begins = t.0; other = other.1 }
         ]
-  ], λ b. ap (λ (r : Result (Tag × List ℕ) TagFault). tag_or r >>= λ x. content_of number x.0 x.0.kind x.1) (is_read octets b.tag b.rest b.is_tag b.begins) ∙ content_of_other number b.tag b.tag.kind b.rest refl b.other)
+  ],
+  λ b. ap (λ (r : Result (Tag × List ℕ) TagFault). tag_or r >>= λ x. content_of number x.0 x.0.kind x.1) (is_read octets b.tag b.rest b.is_tag b.begins) ∙ content_of_other number b.tag b.tag.kind b.rest refl b.other,
+)
 
 -- ---- an opening and a closing tag
 

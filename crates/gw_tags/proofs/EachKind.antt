@@ -113,6 +113,7 @@ bits_missing low count some = record {
   value = bit_string 0 (zeros (count - 1));
   takes = bits_made low count 0 (zeros (count - 1)) (zeros (count - 1)) [] some (zeros_length (count - 1)) (sym (append-nil (zeros (count - 1)))) (unused_none (count - 1));
 }
+
 own_bits_missing : (low count unused : ℕ) (others : List ℕ) → 0 < count → is_unused unused (count - 1) ≡ true → length others < count - 1 → EndsBody 8 low count (unused ∷ others)
 own_bits_missing low count unused others some known lt =
     let more = zeros (count - 1 - length others) in
@@ -209,8 +210,8 @@ exactly_again : (make : List ℕ → Value) (count low : ℕ) (content own rest 
 exactly_again make count low content own rest s =
     let known : eqb (length content) count ≡ true = rw (s.0, s.1) (same count) in
     counted_again (λ n. eqb n count) make low content rest known ∙ ap (λ (o : List ℕ). Ok (make o, rest)) s.0 where
-  same : (n : ℕ) → eqb n n ≡ true
-  same n = grind arith
+      same : (n : ℕ) → eqb n n ≡ true
+      same n = grind arith
 
 bits_again : (low unused : ℕ) (own rest : List ℕ) → is_unused unused (length own) ≡ true → judged_bits unused (length own) (own ++ rest) ≡ Ok (bit_string unused own, rest)
 bits_again low unused own rest known = rw known (ap (λ (r : Result (List ℕ × List ℕ) ValueFault). r >>= λ x. Ok (bit_string unused x.0, x.1)) (front_again ShortValue own rest))

@@ -186,6 +186,7 @@ head_fails octets fault fits e =
             ]
           ]
     ]
+
 application_is : (header : List ℕ) (kind : Datatype) (count : ℕ) → EncodesTag header (application (kind_number kind) count) → IsTag (application (kind_number kind) count)
 application_is header kind count s = let small = small_number kind in record { numbered = omega arith; classed = refl; length_fits = fits_kind (Length count) s.length_place s.length_room }
 

@@ -146,6 +146,7 @@ some_pair a b c d e = (ap fst e, ap snd e) where
   fst : Option (List ℕ × List ℕ) → List ℕ
   fst None = a
   fst (Some x) = x.0
+
   snd : Option (List ℕ × List ℕ) → List ℕ
   snd None = b
   snd (Some x) = x.1
@@ -181,16 +182,16 @@ step_found fuel depth number octets at rest (Some (closed m behind)) fits more e
       | inl same ↦ closed_here depth number m octets behind at rest b (eqb-true _ _ same.0) (some_pair octets behind at rest same.1)
       | inr other ↦ absurd (let h = other.1 in cc)
     ] where
-  closed_here : (depth number m : ℕ) (octets behind at rest : List ℕ) (b : Bracket Closing m octets behind) → m ≡ number → (octets ≡ at) × (behind ≡ rest) → Tail depth number octets at rest
-  closed_here depth number m octets behind at rest b is both = record {
-    content = [];
-    closing = b.front;
-    balanced = no_more;
-    is = subst (λ (k : ℕ). IsTag (context k Closing)) is b.is;
-    closes = subst (λ (k : ℕ). EncodesTag b.front (context k Closing)) is b.encodes;
-    at_is = sym both.0 ∙ b.parts ∙ ap (λ (o : List ℕ). b.front ++ o) both.1;
-    parts = both.0;
-  }
+      closed_here : (depth number m : ℕ) (octets behind at rest : List ℕ) (b : Bracket Closing m octets behind) → m ≡ number → (octets ≡ at) × (behind ≡ rest) → Tail depth number octets at rest
+      closed_here depth number m octets behind at rest b is both = record {
+        content = [];
+        closing = b.front;
+        balanced = no_more;
+        is = subst (λ (k : ℕ). IsTag (context k Closing)) is b.is;
+        closes = subst (λ (k : ℕ). EncodesTag b.front (context k Closing)) is b.encodes;
+        at_is = sym both.0 ∙ b.parts ∙ ap (λ (o : List ℕ). b.front ++ o) both.1;
+        parts = both.0;
+      }
 
 pub closing_found : (fuel : ℕ) → Found fuel
 closing_found zero depth number octets at rest fits walk = absurd (let h = no_fuel depth number octets in cc)

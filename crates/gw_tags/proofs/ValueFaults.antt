@@ -33,8 +33,8 @@ no_cut octets tag rest fits b c =
     let cut = cut_is_short octets (header_at octets) fits c refl in
     let whole = begins_again octets tag rest b in
     clash (tag, rest) (sym whole ∙ cut) where
-  clash : (x : Tag × List ℕ) → (let r : Result (Tag × List ℕ) TagFault = Ok x in r) ≡ Err tags.Short → ⊥
-  clash x e = cc
+      clash : (x : Tag × List ℕ) → (let r : Result (Tag × List ℕ) TagFault = Ok x in r) ≡ Err tags.Short → ⊥
+      clash x e = cc
 
 -- the tag of a value
 record HasValueTag (octets : List ℕ) : Type 0 where
@@ -147,6 +147,7 @@ value_is_short octets fits = (λ e. why (raw_fails octets Short fits (raw_err oc
   why (content_ends is c) = inr c
   why (other_tag is b) = absurd cc
   why (other_length is l) = absurd cc
+
   back : IsShortValue octets → value_at octets ≡ Err Short
   back (inl s) = value_err octets Short (raw_short_tag octets fits s)
   back (inr c) = value_err octets Short (short_of octets (raw_at octets) fits c refl)
@@ -168,13 +169,16 @@ value_is_bad_length octets fits = (λ e. why (raw_fails octets BadLength fits (r
   why (other_length is l) = l
 
 pub value_is_bad_text : (octets : List ℕ) → AreOctets octets → (value_at octets ≡ Err BadText) ↔ IsBadText octets
-value_is_bad_text octets fits = (λ e. elim (bind_err (raw_at octets) judged BadText (sym (value_is_judged octets) ∙ e)) [
+value_is_bad_text octets fits = (
+  λ e. elim (bind_err (raw_at octets) judged BadText (sym (value_is_judged octets) ∙ e)) [
     | inl here ↦ absurd (why (raw_fails octets BadText fits here))
     | inr (x, read, after) ↦ elim (chosen (is_text x.0) (Ok x) (Err BadText) (Err BadText) after) [
       | inl fine ↦ absurd (let h = fine.1 in cc)
       | inr bad ↦ record { value = x.0; rest = x.1; begins = raw_takes octets x.0 x.1 fits read; other = bad.0 }
     ]
-  ], λ b. value_is_judged octets ∙ ap (λ (r : Read). r >>= judged) (begins_read octets b.value b.rest b.begins) ∙ ap (λ (t : Bool). cond t (Ok (b.value, b.rest)) (Err BadText)) b.other) where
+  ],
+  λ b. value_is_judged octets ∙ ap (λ (r : Read). r >>= judged) (begins_read octets b.value b.rest b.begins) ∙ ap (λ (t : Bool). cond t (Ok (b.value, b.rest)) (Err BadText)) b.other,
+) where
   why : Fault octets BadText → ⊥
   why (tag_ends is s) = cc
   why (content_ends is c) = cc

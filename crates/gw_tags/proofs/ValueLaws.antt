@@ -117,8 +117,8 @@ never_cured octets kind low count behind h is stays more value rest b =
     let read : raw_at (octets ++ more) ≡ Err BadLength = ap raw_at regrouped ∙ raw_here h.front kind count (behind ++ more) h.encodes ∙ ap (λ (l : ℕ). body_at kind (body l count (behind ++ more))) bits ∙ stays more in
     let other = begins_read (octets ++ more) value rest b in
     absurd (clash value rest (sym other ∙ read)) where
-  clash : (v : Value) (r : List ℕ) → (let x : Read = Ok (v, r) in x) ≡ Err BadLength → ⊥
-  clash v r e = cc
+      clash : (v : Value) (r : List ℕ) → (let x : Read = Ok (v, r) in x) ≡ Err BadLength → ⊥
+      clash v r e = cc
 
 pub raw_fails : (octets : List ℕ) (fault : ValueFault) → AreOctets octets → raw_at octets ≡ Err fault → Fault octets fault
 raw_fails octets fault fits e = elim (bind_err (head_at octets) (λ head. body_at head.0 head.1) fault e) [
@@ -132,11 +132,11 @@ raw_fails octets fault fits e = elim (bind_err (head_at octets) (λ head. body_a
       elim (body_fails head.0 head.1.low_bits head.1.count head.1.octets fault behind_fits after) [
         | inl ends ↦ content_ends ends.0 (content_cut octets head.0 head.1.low_bits head.1.count head.1.octets h.0 h.1 ends.1)
         | inr length ↦ other_length length.0 (record {
-            tag = application (kind_number head.0) head.1.count;
-            rest = head.1.octets;
-            begins = record { front = h.0.front; encodes = h.0.encodes; parts = h.0.parts };
-            known = is_value_kind head.0 head.1.count;
-            none = never_cured octets head.0 head.1.low_bits head.1.count head.1.octets h.0 h.1 length.1;
-          })
+          tag = application (kind_number head.0) head.1.count;
+          rest = head.1.octets;
+          begins = record { front = h.0.front; encodes = h.0.encodes; parts = h.0.parts };
+          known = is_value_kind head.0 head.1.count;
+          none = never_cured octets head.0 head.1.low_bits head.1.count head.1.octets h.0 h.1 length.1;
+        })
       ]
 ]

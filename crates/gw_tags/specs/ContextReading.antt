@@ -1,4 +1,5 @@
--- Reading parameters under context tags. This file computes; believe `BeginsWithContent` and `BeginsWith`.
+-- Reading parameters under context tags. This file computes; believe `BeginsWithContent` and
+-- `BeginsWith`.
 use Rattle.std.specs.Prelude.{ℕ, List, Result, Ok, Err, ◌==◌, ◌&&◌, if◌then◌else◌}
 use Rattle.gw_addr.specs.Reading.{◌>>=◌, front_at}
 use Rattle.gw_tags.specs.declared.tag.Kind.{Kind}
@@ -17,7 +18,8 @@ tag_or (Ok x) = Ok x
 tag_or (Err fault) = Err (context_fault fault)
 
 abbrev pub content_of : ℕ → Tag → Kind → List ℕ → Result (List ℕ × List ℕ) ContextFault
-content_of number tag (Length n) rest = if tag.context && tag.number == number then front_at Short n rest else Err OtherTag
+content_of number tag (Length n) rest =
+    if tag.context && tag.number == number then front_at Short n rest else Err OtherTag
 content_of number tag Opening rest = Err OtherTag
 content_of number tag Closing rest = Err OtherTag
 

@@ -7,9 +7,11 @@ use Rattle.gw_tags.specs.Object.{Object, IsObject, object_octets, object_of}
 use Rattle.gw_tags.specs.Value.{Value, IsValue, EncodesValue, BeginsWithValue, EncodeAll, value_encoding}
 use Rattle.gw_tags.specs.Number.{IsSigned, unsigned_of, unsigned_encoding, signed_of, signed_encoding}
 
--- Where two encodings stand at the front of the same octets, they are one encoding of one tag: none is a proper front of another.
+-- Where two encodings stand at the front of the same octets, they are one encoding of one tag: none
+-- is a proper front of another.
 abbrev pub TagsArePrefixFree : Type 0
-TagsArePrefixFree = (a b x y : List ℕ) (s t : Tag) → EncodesTag a s → EncodesTag b t → a ++ x ≡ b ++ y → (a ≡ b) × (s ≡ t)
+TagsArePrefixFree = (a b x y : List ℕ) (s t : Tag) → EncodesTag a s → EncodesTag b t
+    → a ++ x ≡ b ++ y → (a ≡ b) × (s ≡ t)
 
 -- What is written is an encoding.
 abbrev pub CanonicalEncodes : Type 0
@@ -17,22 +19,27 @@ CanonicalEncodes = (tag : Tag) → IsTag tag → EncodesTag (canonical tag) tag
 
 -- No encoding is shorter than what is written.
 abbrev pub CanonicalIsShortest : Type 0
-CanonicalIsShortest = (octets : List ℕ) (tag : Tag) → EncodesTag octets tag → length (canonical tag) ≤ length octets
+CanonicalIsShortest = (octets : List ℕ) (tag : Tag) → EncodesTag octets tag
+    → length (canonical tag) ≤ length octets
 
 -- What is written is read again, whatever follows it.
 abbrev pub CanonicalIsRead : Type 0
-CanonicalIsRead = (tag : Tag) (rest : List ℕ) → IsTag tag → tag_at (canonical tag ++ rest) ≡ Ok (tag, rest)
+CanonicalIsRead = (tag : Tag) (rest : List ℕ) → IsTag tag
+    → tag_at (canonical tag ++ rest) ≡ Ok (tag, rest)
 
 -- An object identifier and its four octets are one to one.
 abbrev pub ObjectsAreRead : Type 0
 ObjectsAreRead = (object : Object) → IsObject object → object_of (object_octets object) ≡ object
 
 abbrev pub ObjectsAreEncoded : Type 0
-ObjectsAreEncoded = (octets : List ℕ) → length octets ≡ 4 → AreOctets octets → IsObject (object_of octets) × (object_octets (object_of octets) ≡ octets)
+ObjectsAreEncoded = (octets : List ℕ) → length octets ≡ 4 → AreOctets octets
+    → IsObject (object_of octets) × (object_octets (object_of octets) ≡ octets)
 
--- Where two encodings of values stand at the front of the same octets, they are one encoding of one value.
+-- Where two encodings of values stand at the front of the same octets, they are one encoding of one
+-- value.
 abbrev pub ValuesArePrefixFree : Type 0
-ValuesArePrefixFree = (a b x y : List ℕ) (v w : Value) → EncodesValue a v → EncodesValue b w → a ++ x ≡ b ++ y → (a ≡ b) × (v ≡ w)
+ValuesArePrefixFree = (a b x y : List ℕ) (v w : Value) → EncodesValue a v → EncodesValue b w
+    → a ++ x ≡ b ++ y → (a ≡ b) × (v ≡ w)
 
 -- What is written is an encoding.
 abbrev pub ValueEncodingEncodes : Type 0
@@ -40,7 +47,8 @@ ValueEncodingEncodes = (value : Value) → IsValue value → EncodesValue (value
 
 -- No encoding is shorter than what is written.
 abbrev pub ValueEncodingIsShortest : Type 0
-ValueEncodingIsShortest = (octets : List ℕ) (value : Value) → EncodesValue octets value → length (value_encoding value) ≤ length octets
+ValueEncodingIsShortest = (octets : List ℕ) (value : Value) → EncodesValue octets value
+    → length (value_encoding value) ≤ length octets
 
 -- A number written in the fewest octets is read again (clauses 20.2.4 and 20.2.5).
 abbrev pub UnsignedIsRead : Type 0
@@ -58,6 +66,8 @@ abbrev pub ValueAtIsValue : Type 0
 ValueAtIsValue = (octets : List ℕ) (value : Value) (rest : List ℕ) → AreOctets octets
     → (value_at octets ≡ Ok (value, rest)) ↔ (BeginsWithValue octets value rest × IsValue value)
 
--- A list of values has one reading: octets that encode one list, value after value, encode no other.
+-- A list of values has one reading: octets that encode one list, value after value, encode no
+-- other.
 abbrev pub ListsHaveOneReading : Type 0
-ListsHaveOneReading = (octets : List ℕ) (values others : List Value) → EncodeAll octets values → EncodeAll octets others → values ≡ others
+ListsHaveOneReading = (octets : List ℕ) (values others : List Value) → EncodeAll octets values
+    → EncodeAll octets others → values ≡ others

@@ -18,12 +18,18 @@ content_length tag (Length n) = if is_boolean tag then Some 0 else Some n
 content_length tag Opening = None
 content_length tag Closing = None
 
--- Contents behind their tags, and lists between an opening and a closing tag of one number, one after the other. No
--- more lists than `depth` are open at once.
+-- Contents behind their tags, and lists between an opening and a closing tag of one number, one
+-- after the other. No more lists than `depth` are open at once.
 pub data IsBalanced : ℕ → List ℕ → Type 0 where
   no_more : {depth : ℕ} → IsBalanced depth []
-  primitive : {depth : ℕ} {octets : List ℕ} (header content rest : List ℕ) (tag : Tag) → IsTag tag → EncodesTag header tag → content_length tag tag.kind ≡ Some (length content) → octets ≡ header ++ (content ++ rest) → IsBalanced depth rest → IsBalanced depth octets
-  nested : {depth : ℕ} {octets : List ℕ} (opening inner closing rest : List ℕ) (number : ℕ) → IsTag (context number Opening) → EncodesTag opening (context number Opening) → EncodesTag closing (context number Closing) → octets ≡ opening ++ (inner ++ (closing ++ rest)) → IsBalanced depth inner → IsBalanced (suc depth) rest → IsBalanced (suc depth) octets
+  primitive : {depth : ℕ} {octets : List ℕ} (header content rest : List ℕ) (tag : Tag) → IsTag tag
+      → EncodesTag header tag → content_length tag tag.kind ≡ Some (length content)
+      → octets ≡ header ++ (content ++ rest) → IsBalanced depth rest → IsBalanced depth octets
+  nested : {depth : ℕ} {octets : List ℕ} (opening inner closing rest : List ℕ) (number : ℕ)
+      → IsTag (context number Opening) → EncodesTag opening (context number Opening)
+      → EncodesTag closing (context number Closing)
+      → octets ≡ opening ++ (inner ++ (closing ++ rest)) → IsBalanced depth inner
+      → IsBalanced (suc depth) rest → IsBalanced (suc depth) octets
 
 -- how deep lists may nest inside a list (our own limit)
 abbrev pub deepest : ℕ

@@ -11,7 +11,8 @@ pub record EncodesUnsigned (octets : List ℕ) (n : ℕ) : Type 0 where
   pub octets_fit : AreOctets octets
   pub number : n ≡ big_endian octets
 
--- the number of octets in two's complement: where the highest bit is set, less the next power of 256
+-- the number of octets in two's complement: where the highest bit is set, less the next power of
+-- 256
 abbrev pub twos_complement : List ℕ → ℤ
 twos_complement octets =
     if nat_lt (2 * big_endian octets) (256 ^ length octets) then pos (big_endian octets)
@@ -26,7 +27,8 @@ pub record EncodesSigned (octets : List ℕ) (z : ℤ) : Type 0 where
 
 -- the fewest octets that hold a number
 abbrev pub octet_count : ℕ → ℕ
-octet_count n = if nat_lt n 256 then 1 else (if nat_lt n 65536 then 2 else (if nat_lt n 16777216 then 3 else 4))
+octet_count n = if nat_lt n 256 then 1 else (if nat_lt n 65536 then 2
+    else (if nat_lt n 16777216 then 3 else 4))
 
 -- a number without leading zero octets
 abbrev pub unsigned_encoding : ℕ → List ℕ
@@ -34,7 +36,8 @@ unsigned_encoding n = drop (4 - octet_count n) (to_be_bytes w32 n)
 
 -- the fewest octets that hold a number and its sign
 abbrev pub magnitude_count : ℕ → ℕ
-magnitude_count n = if nat_lt n 128 then 1 else (if nat_lt n 32768 then 2 else (if nat_lt n 8388608 then 3 else 4))
+magnitude_count n = if nat_lt n 128 then 1 else (if nat_lt n 32768 then 2
+    else (if nat_lt n 8388608 then 3 else 4))
 
 abbrev pub signed_count : ℤ → ℕ
 signed_count (pos n) = magnitude_count n
@@ -51,7 +54,11 @@ IsSigned (negsuc n) = n < 2 ^ 31
 
 -- the number of octets, where there are one to four
 abbrev pub unsigned_of : List ℕ → Option ℕ
-unsigned_of octets = if nat_le 1 (length octets) && nat_le (length octets) 4 then Some (big_endian octets) else None
+unsigned_of octets =
+    if nat_le 1 (length octets) && nat_le (length octets) 4 then Some (big_endian octets)
+    else None
 
 abbrev pub signed_of : List ℕ → Option ℤ
-signed_of octets = if nat_le 1 (length octets) && nat_le (length octets) 4 then Some (twos_complement octets) else None
+signed_of octets =
+    if nat_le 1 (length octets) && nat_le (length octets) 4 then Some (twos_complement octets)
+    else None

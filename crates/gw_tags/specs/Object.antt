@@ -23,4 +23,8 @@ object_octets object = to_be_bytes w32 (object.kind * 2 ^ 22 + object.instance)
 
 -- the object of four octets
 abbrev pub object_of : List ℕ → Object
-object_of octets = record { kind = from_be_bytes w32 octets / 2 ^ 22; instance = from_be_bytes w32 octets % 2 ^ 22 }
+object_of octets = record {
+  kind = from_be_bytes w32 octets / 2 ^ 22;
+  instance =
+    from_be_bytes w32 octets % 2 ^ 22;
+}

@@ -1,5 +1,5 @@
--- Reading tags and values from the front of octets (ISO 16484-5, clause 20.2). This file computes; believe `BeginsWith`,
--- `BeginsWithValue` and what is said of the faults.
+-- Reading tags and values from the front of octets (ISO 16484-5, clause 20.2). This file computes;
+-- believe `BeginsWith`, `BeginsWithValue` and what is said of the faults.
 use Rattle.std.specs.Prelude.{◌≡◌, ℕ, ◌+◌, ◌-◌, ◌*◌, ◌/◌, ◌%◌, Bool, true, false, List, [], ◌∷◌, length, Result, Ok, Err, nat_lt, nat_le, ◌==◌, ◌||◌, ◌&&◌, if◌then◌else◌}
 use Rattle.std.specs.Int.{w16, w32}
 use Rattle.gw_addr.specs.Address.{big_endian}
@@ -29,11 +29,14 @@ tag_number_at first rest = if first / 16 == 15 then octet_at Short rest else Ok 
 abbrev pub length_at : List ℕ → Result (ℕ × List ℕ) TagFault
 length_at octets = do
   first ← octet_at Short octets
-  if first.0 == 254 then number_at Short w16 first.1 else (if first.0 == 255 then number_at Short w32 first.1 else Ok first)
+  if first.0 == 254 then number_at Short w16 first.1
+      else (if first.0 == 255 then number_at Short w32 first.1 else Ok first)
 
 -- what the three low bits announce
 abbrev pub kind_at : ℕ → List ℕ → Result (Kind × List ℕ) TagFault
-kind_at low rest = if low == 6 then Ok (Opening, rest) else (if low == 7 then Ok (Closing, rest) else (if low == 5 then (length_at rest >>= λ n. Ok (Length n.0, n.1)) else Ok (Length low, rest)))
+kind_at low rest = if low == 6 then Ok (Opening, rest) else (if low == 7 then Ok (Closing, rest)
+    else (if low == 5 then (length_at rest >>= λ n. Ok (Length n.0, n.1))
+    else Ok (Length low, rest)))
 
 -- number, class and kind as they stand, and the octets behind them
 abbrev pub header_at : List ℕ → Result (Tag × List ℕ) TagFault
@@ -49,7 +52,8 @@ tag_at octets = do
   header ← header_at octets
   if is_tag header.0 then Ok header else Err BadTag
 
--- the three low bits of the first octet, which of an application Boolean are the value (clause 20.2.3)
+-- the three low bits of the first octet, which of an application Boolean are the value (clause
+-- 20.2.3)
 abbrev pub low_bits_at : List ℕ → ℕ
 low_bits_at [] = 0
 low_bits_at (first ∷ rest) = first % 8
@@ -78,7 +82,8 @@ datatype_of number =
     else (if number == 12 then Ok kinds.Object
     else Err BadValueTag))))))))))))
 
--- what is behind a value's tag: the three low bits of the tag's first octet, the length, and the octets
+-- what is behind a value's tag: the three low bits of the tag's first octet, the length, and the
+-- octets
 pub record Body : Type 0 where
   pub low_bits : ℕ
   pub count : ℕ
@@ -100,11 +105,13 @@ head_at octets = do
 
 -- the content, where the kind has one of this length
 abbrev pub octets_at : Bool → Body → Result (List ℕ × List ℕ) ValueFault
-octets_at has_length body = if has_length then front_at ShortValue body.count body.octets else Err BadLength
+octets_at has_length body = if has_length then front_at ShortValue body.count body.octets
+    else Err BadLength
 
 -- a value that its content is
 abbrev pub content_at : (ℕ → Bool) → (List ℕ → Value) → Body → Result (Value × List ℕ) ValueFault
-content_at has_length value body = octets_at (has_length body.count) body >>= λ x. Ok (value x.0, x.1)
+content_at has_length value body = octets_at (has_length body.count) body
+    >>= λ x. Ok (value x.0, x.1)
 
 abbrev pub one_to_four : ℕ → Bool
 one_to_four count = nat_le 1 count && nat_le count 4
@@ -134,9 +141,10 @@ abbrev pub bits_at : Body → Result (Value × List ℕ) ValueFault
 bits_at body =
     if body.count == 0 then Err BadLength
     else (octet_at ShortValue body.octets >>= λ unused.
-      if is_unused unused.0 (body.count - 1)
-      then (front_at ShortValue (body.count - 1) unused.1 >>= λ x. Ok (bit_string unused.0 x.0, x.1))
-      else Err BadLength)
+    if is_unused unused.0 (body.count - 1)
+    then (front_at ShortValue (body.count - 1) unused.1
+    >>= λ x. Ok (bit_string unused.0 x.0, x.1))
+    else Err BadLength)
 
 -- a character string of set 0 has to be UTF-8
 abbrev pub judged : Value × List ℕ → Result (Value × List ℕ) ValueFault

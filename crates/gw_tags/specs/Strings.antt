@@ -1,4 +1,5 @@
--- Which octets a character string and a bit string may have (ISO 16484-5, clauses 20.2.9 and 20.2.10).
+-- Which octets a character string and a bit string may have (ISO 16484-5, clauses 20.2.9 and
+-- 20.2.10).
 use Rattle.std.specs.Prelude.{◌≡◌, ℕ, Bool, true, List, nat_lt, ◌==◌, ◌||◌, ◌&&◌}
 use Rattle.std.specs.Str.{is_utf8}
 

@@ -40,7 +40,8 @@ pub data NumberPlace : Type 0 where
   high_bits : NumberPlace
   own_octet : NumberPlace
 
--- where a length stands: in the three low bits of the first octet, or behind it in one, two or four octets
+-- where a length stands: in the three low bits of the first octet, or behind it in one, two or four
+-- octets
 pub data LengthPlace : Type 0 where
   low_bits : LengthPlace
   one_octet : LengthPlace
@@ -99,8 +100,8 @@ tag_encoding number_place length_place tag =
     (16 * high_of tag.number number_place + class_of tag.context + low_of tag.kind length_place)
     ∷ (number_octets tag.number number_place ++ length_octets tag.kind length_place)
 
--- The octets encode the tag, be its number and class reserved or not. A number or length may stand in
--- more octets than it needs.
+-- The octets encode the tag, be its number and class reserved or not. A number or length may stand
+-- in more octets than it needs.
 pub record EncodesTag (octets : List ℕ) (tag : Tag) : Type 0 where
   pub number_place : NumberPlace
   pub length_place : LengthPlace

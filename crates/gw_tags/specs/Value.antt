@@ -72,8 +72,8 @@ abbrev pub bit_of : Bool → ℕ
 bit_of false = 0
 bit_of true = 1
 
--- The thirteen kinds: the number of the tag, what its length bits are, and the content (clauses 20.2.1.4 and
--- 20.2.2 to 20.2.14).
+-- The thirteen kinds: the number of the tag, what its length bits are, and the content (clauses
+-- 20.2.1.4 and 20.2.2 to 20.2.14).
 abbrev pub layout : Value → Layout
 layout null = tag 0 length_of_content empty
 layout (boolean b) = tag 1 (value_itself (bit_of b)) empty
@@ -98,7 +98,8 @@ IsContent (natural n) octets = EncodesUnsigned octets n
 IsContent (integer z) octets = EncodesSigned octets z
 IsContent (opaque own) octets = octets ≡ own
 IsContent (exactly count own) octets = (octets ≡ own) × (length own ≡ count)
-IsContent (bits_of unused own) octets = (octets ≡ unused ∷ own) × (is_unused unused (length own) ≡ true)
+IsContent (bits_of unused own) octets =
+    (octets ≡ unused ∷ own) × (is_unused unused (length own) ≡ true)
 IsContent (identifier id) octets = (octets ≡ object_octets id) × IsObject id
 
 -- a tag of application class
@@ -164,11 +165,13 @@ tagged number content = canonical (application number (length content)) ++ conte
 
 -- a content behind its tag
 abbrev pub behind_tag : ℕ → LengthBits → List ℕ → List ℕ
-behind_tag number bits content = canonical (application number (announced bits (length content))) ++ content
+behind_tag number bits content = canonical (application number (announced bits (length content)))
+    ++ content
 
 -- the one encoding that is written, with the fewest octets
 abbrev pub value_encoding : Value → List ℕ
-value_encoding value = behind_tag (layout value).number (layout value).bits (content_encoding (layout value).content)
+value_encoding value =
+    behind_tag (layout value).number (layout value).bits (content_encoding (layout value).content)
 
 -- ---- octets that begin with a value
 
@@ -200,14 +203,15 @@ pub record IsBadValueTag (octets : List ℕ) : Type 0 where
   pub begins : BeginsWith octets tag rest
   pub other : is_value_tag tag ≡ false
 
--- 3: The tag is that of a value, and no encoding begins so, whatever follows: the kind has no such length, or
--- the bit string no such count of unused bits.
+-- 3: The tag is that of a value, and no encoding begins so, whatever follows: the kind has no such
+-- length, or the bit string no such count of unused bits.
 pub record IsBadLength (octets : List ℕ) : Type 0 where
   pub tag : Tag
   pub rest : List ℕ
   pub begins : BeginsWith octets tag rest
   pub known : is_value_tag tag ≡ true
-  pub none : (more : List ℕ) (value : Value) (behind : List ℕ) → BeginsWithValue (octets ++ more) value behind → ⊥
+  pub none : (more : List ℕ) (value : Value) (behind : List ℕ)
+      → BeginsWithValue (octets ++ more) value behind → ⊥
 
 -- 4: a character string of set 0 that isn't UTF-8
 pub record IsBadText (octets : List ℕ) : Type 0 where
@@ -219,4 +223,6 @@ pub record IsBadText (octets : List ℕ) : Type 0 where
 -- the octets encode these values, one after the other
 pub data EncodeAll : List ℕ → List Value → Type 0 where
   no_values : EncodeAll [] []
-  value_first : {octets : List ℕ} (front rest : List ℕ) (value : Value) (values : List Value) → EncodesValue front value → octets ≡ front ++ rest → EncodeAll rest values → EncodeAll octets (value ∷ values)
+  value_first : {octets : List ℕ} (front rest : List ℕ) (value : Value) (values : List Value)
+      → EncodesValue front value → octets ≡ front ++ rest → EncodeAll rest values
+      → EncodeAll octets (value ∷ values)

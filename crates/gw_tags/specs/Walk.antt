@@ -30,7 +30,8 @@ element (Err fault) = None
 abbrev pub element_at : List ℕ → Option Element
 element_at octets = element (tag_at octets)
 
--- The octets from the closing tag of this number on, and those behind it. A step takes at least an octet.
+-- The octets from the closing tag of this number on, and those behind it. A step takes at least an
+-- octet.
 unfoldable pub closing_at : ℕ → ℕ → ℕ → List ℕ → Option (List ℕ × List ℕ)
 closing_at zero depth number octets = None
 closing_at (suc fuel) depth number octets = elim (element_at octets) [

@@ -34,7 +34,8 @@ fn content(number: u8, octets: &[u8]) -> Result<(&[u8], &[u8]), ContextFault>
 ///
 /// # Errors
 ///
-/// 1 `Short`, 2 `BadTag` and 3 `OtherTag`, as [`ContextFault`] says. The content of another tag is not looked at.
+/// 1 `Short`, 2 `BadTag` and 3 `OtherTag`, as [`ContextFault`] says. The content of another tag is
+/// not looked at.
 pub fn read_context(number: u8, octets: &[u8]) -> Result<(&[u8], &[u8]), ContextFault>
     requires { number < 255 }
     ensures found { IfOk result (λ x. BeginsWithContent number octets.now x.0.now x.1.now) }
@@ -97,7 +98,8 @@ pub fn read_closing(number: u8, octets: &[u8]) -> Result<&[u8], ContextFault>
     closing(number, octets)
 }
 
-/// Appends a content under the context tag of this number. The buffer keeps what it held, also after an error.
+/// Appends a content under the context tag of this number. The buffer keeps what it held, also
+/// after an error.
 ///
 /// # Errors
 ///
@@ -127,17 +129,19 @@ pub fn write_context(out: &mut Vec<u8>, number: u8, content: &[u8]) -> Result<()
     written
 }
 
-/// Appends a number in the fewest octets under the context tag of this number. The buffer keeps what it held, also after an
-/// error.
+/// Appends a number in the fewest octets under the context tag of this number. The buffer keeps
+/// what it held, also after an error.
 ///
 /// # Errors
 ///
 /// 1 Memory, only where the buffer had no room.
 pub fn write_context_unsigned(out: &mut Vec<u8>, number: u8, value: u32) -> Result<(), AllocError>
     requires { number < 255 }
-    ensures ok { OnOk result (out.new.items ≡ out.old.items ++ in_context number (unsigned_encoding value)) }
+    ensures ok { OnOk result (out.new.items ≡ out.old.items
+        ++ in_context number (unsigned_encoding value)) }
     ensures err { OnErr result (out.new.items ≡ out.old.items) }
-    ensures room { vec_len out.old + length (in_context number (unsigned_encoding value)) ≤ vec_capacity out.old
+    ensures room { vec_len out.old + length (in_context number (unsigned_encoding value))
+        ≤ vec_capacity out.old
         → IsOk result }
     ensures capacity { vec_capacity out.old ≤ vec_capacity out.new }
 {
@@ -154,7 +158,8 @@ pub fn write_opening(out: &mut Vec<u8>, number: u8) -> Result<(), AllocError>
     requires { number < 255 }
     ensures ok { OnOk result (out.new.items ≡ out.old.items ++ canonical (context number Opening)) }
     ensures err { OnErr result (out.new.items ≡ out.old.items) }
-    ensures room { vec_len out.old + length (canonical (context number Opening)) ≤ vec_capacity out.old
+    ensures room { vec_len out.old + length (canonical (context number Opening))
+        ≤ vec_capacity out.old
         → IsOk result }
     ensures capacity { vec_capacity out.old ≤ vec_capacity out.new }
 {
@@ -175,7 +180,8 @@ pub fn write_closing(out: &mut Vec<u8>, number: u8) -> Result<(), AllocError>
     requires { number < 255 }
     ensures ok { OnOk result (out.new.items ≡ out.old.items ++ canonical (context number Closing)) }
     ensures err { OnErr result (out.new.items ≡ out.old.items) }
-    ensures room { vec_len out.old + length (canonical (context number Closing)) ≤ vec_capacity out.old
+    ensures room { vec_len out.old + length (canonical (context number Closing))
+        ≤ vec_capacity out.old
         → IsOk result }
     ensures capacity { vec_capacity out.old ≤ vec_capacity out.new }
 {

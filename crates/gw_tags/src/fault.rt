@@ -8,7 +8,8 @@ pub enum TagFault {
     /// 1: the octets end within the tag, also where there are none.
     #[error("the octets end within a tag")]
     Short,
-    /// 2: the tag is whole, and has the number 255, or is an opening or closing of application class.
+    /// 2: the tag is whole, and has the number 255, or is an opening or closing of application
+    /// class.
     #[error("no tag has number 255 or brackets of application class")]
     BadTag,
 }

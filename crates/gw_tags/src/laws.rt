@@ -1,5 +1,5 @@
-//! Laws of the definitions that the contracts cite. The functions change nothing and answer nothing: their contracts are the
-//! laws.
+//! Laws of the definitions that the contracts cite. The functions change nothing and answer
+//! nothing: their contracts are the laws.
 
 ghost use Rattle.gw_tags.specs.Laws.{TagsArePrefixFree, CanonicalEncodes, CanonicalIsShortest, CanonicalIsRead, ObjectsAreRead, ObjectsAreEncoded, ValuesArePrefixFree, ValueEncodingEncodes, ValueEncodingIsShortest, UnsignedIsRead, SignedIsRead, TagAtIsTag, ValueAtIsValue, ListsHaveOneReading};
 

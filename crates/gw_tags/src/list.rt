@@ -17,7 +17,8 @@ const DEEPEST: u8 = 16;
 
 /// The octets behind a value's content. A Boolean of application class has none.
 fn behind_content(is_boolean: bool, count: u32, octets: &[u8]) -> Option<&[u8]>
-    ensures { option_map (λ x. value x.now) result ≡ stepped (if is_boolean then Some 0 else Some count) octets.now }
+    ensures { option_map (λ x. value x.now) result
+        ≡ stepped (if is_boolean then Some 0 else Some count) octets.now }
 {
     let count = if is_boolean { 0 } else { count as usize };
     let (_, rest) = front(TagFault::Short, count, octets).ok()?;
@@ -41,9 +42,11 @@ fn element(octets: &[u8]) -> Option<Element<'_>>
     }
 }
 
-/// The octets from the closing tag of the list on, and those behind it. Each step takes at least an octet.
+/// The octets from the closing tag of the list on, and those behind it. Each step takes at least an
+/// octet.
 fn close(fuel: usize, depth: u8, number: u8, octets: &[u8]) -> Option<(&[u8], &[u8])>
-    ensures { option_map (λ x. (x.0.now, x.1.now)) result ≡ closing_at fuel depth number octets.now }
+    ensures { option_map (λ x. (x.0.now, x.1.now)) result
+        ≡ closing_at fuel depth number octets.now }
 {
     let mut rest = octets;
     for done in 0..fuel {
@@ -79,9 +82,10 @@ fn list(number: u8, octets: &[u8]) -> Option<(&[u8], &[u8])>
     Some((&octets[..octets.len() - closing.len()], rest))
 }
 
-/// Reads a list behind its opening tag: the octets before its closing tag of the same number, which are balanced, and those
-/// behind it. Lists nest at most 16 deep inside it, which is our own limit. `None` where no such content and closing tag stand
-/// at the front. A content is stepped over and not looked at.
+/// Reads a list behind its opening tag: the octets before its closing tag of the same number, which
+/// are balanced, and those behind it. Lists nest at most 16 deep inside it, which is our own limit.
+/// `None` where no such content and closing tag stand at the front. A content is stepped over and
+/// not looked at.
 pub fn read_list(number: u8, octets: &[u8]) -> Option<(&[u8], &[u8])>
     // What is read is a balanced content and its closing tag.
     ensures found { IfSome result (λ x. EndsList number octets.now x.0.now x.1.now) }

@@ -23,12 +23,7 @@ pub fn signed(content: &[u8]) -> Option<i32>
     match content {
         [a] => Some(i32::from(i8::from_be_bytes([*a]))),
         [a, b] => Some(i32::from(i16::from_be_bytes([*a, *b]))),
-        [a, b, c] => Some(i32::from_be_bytes([
-            if *a < 128 { 0 } else { 255 },
-            *a,
-            *b,
-            *c,
-        ])),
+        [a, b, c] => Some(i32::from_be_bytes([if *a < 128 { 0 } else { 255 }, *a, *b, *c])),
         [a, b, c, d] => Some(i32::from_be_bytes([*a, *b, *c, *d])),
         _ => None,
     }

@@ -27,7 +27,8 @@ impl ObjectId {
     /// The object of this type and instance, if they fit 10 and 22 bits.
     pub fn new(kind: u16, instance: u32) -> Option<ObjectId>
         ensures fits { IsSome result ↔ IsObject (record { kind = kind; instance = instance }) }
-        ensures value { IfSome result (λ o. object_view o ≡ record { kind = kind; instance = instance }) }
+        ensures value { IfSome
+            result (λ o. object_view o ≡ record { kind = kind; instance = instance }) }
     {
         if kind < 1 << 10 && instance < 1 << 22 {
             Some(ObjectId { kind, instance })

@@ -14,8 +14,8 @@ use gw_addr::{long_number, number, octet};
 pub struct Header<'a> {
     /// The tag.
     pub tag: Tag,
-    /// The three low bits of the first octet, 0 to 7. Of an application Boolean they are the value, and
-    /// not the length, which may also stand in octets of its own (clause 20.2.3).
+    /// The three low bits of the first octet, 0 to 7. Of an application Boolean they are the value,
+    /// and not the length, which may also stand in octets of its own (clause 20.2.3).
     pub low_bits: u8,
     /// The octets behind the tag.
     pub rest: &'a [u8],
@@ -75,7 +75,9 @@ fn is_context(first: u8) -> bool
 }
 
 fn read_whole(octets: &[u8]) -> Result<Whole<'_>, TagFault>
-    ensures exact { Gives (λ p. (record { number = p.number; context = p.context; kind = p.kind }, p.rest.now)) result (header_at octets.now) }
+    ensures exact { Gives
+        (λ p. (record { number = p.number; context = p.context; kind = p.kind }, p.rest.now))
+        result (header_at octets.now) }
     ensures low_bits { IfOk result (λ p. p.low_bits ≡ low_bits_at octets.now) }
 {
     let (first, rest) = octet(TagFault::Short, octets)?;
@@ -93,7 +95,8 @@ fn read_whole(octets: &[u8]) -> Result<Whole<'_>, TagFault>
 
 /// What `read_tag` gives, said by the reading function alone.
 fn read(octets: &[u8]) -> Result<Header<'_>, TagFault>
-    ensures exact { Gives (λ header. (tag_view header.tag, header.rest.now)) result (tag_at octets.now) }
+    ensures exact { Gives (λ header. (tag_view header.tag, header.rest.now))
+        result (tag_at octets.now) }
     ensures low_bits { IfOk result (λ header. header.low_bits ≡ low_bits_at octets.now) }
 {
     let Whole {
@@ -118,25 +121,29 @@ fn read(octets: &[u8]) -> Result<Header<'_>, TagFault>
     })
 }
 
-/// Reads the tag at the front of the octets. A number or a length may stand in more octets than it needs.
+/// Reads the tag at the front of the octets. A number or a length may stand in more octets than it
+/// needs.
 ///
 /// # Errors
 ///
-/// 1 `Short` where the octets end within the tag, and 2 `BadTag` where the tag is whole and its number is
-/// 255, or it opens or closes a list and its class is application.
+/// 1 `Short` where the octets end within the tag, and 2 `BadTag` where the tag is whole and its
+/// number is 255, or it opens or closes a list and its class is application.
 pub fn read_tag(octets: &[u8]) -> Result<Header<'_>, TagFault>
     // What is read is encoded so, and can be written.
-    ensures found { IfOk result (λ header. BeginsWith octets.now (tag_view header.tag) header.rest.now) }
+    ensures found { IfOk
+        result (λ header. BeginsWith octets.now (tag_view header.tag) header.rest.now) }
     ensures valid { IfOk result (λ header. IsTag (tag_view header.tag)) }
     // What is encoded so is read, and the octets behind it are the rest.
-    ensures only { (tag : TagFields) (rest : List ℕ) → IsTag tag → BeginsWith octets.now tag rest → IsOkAnd result (λ header. (tag_view header.tag ≡ tag) × (header.rest.now ≡ rest)) }
+    ensures only { (tag : TagFields) (rest : List ℕ) → IsTag tag → BeginsWith octets.now tag rest
+        → IsOkAnd result (λ header. (tag_view header.tag ≡ tag) × (header.rest.now ≡ rest)) }
 
     // Which fault it is.
     ensures short { (result ≡ Err TagFault.Short) ↔ IsShortTag octets.now }
     ensures bad_tag { (result ≡ Err TagFault.BadTag) ↔ IsBadTag octets.now }
 
     ensures low_bits { IfOk result (λ header. header.low_bits ≡ low_bits_at octets.now) }
-    ensures exact { Gives (λ header. (tag_view header.tag, header.rest.now)) result (tag_at octets.now) }
+    ensures exact { Gives (λ header. (tag_view header.tag, header.rest.now))
+        result (tag_at octets.now) }
 {
     read(octets)
 }

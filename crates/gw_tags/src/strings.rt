@@ -5,8 +5,8 @@ ghost use Rattle.gw_tags.specs.Strings.{IsText, is_unused};
 
 use crate::utf8::is_utf8;
 
-/// A character string, lent from the octets that it was read from. In character set 0 it is UTF-8; the octets of
-/// another set are not looked at.
+/// A character string, lent from the octets that it was read from. In character set 0 it is UTF-8;
+/// the octets of another set are not looked at.
 ///
 /// ```text
 /// +---------------+--------------+
@@ -22,7 +22,8 @@ pub struct CharacterString<'a> {
     pub ghost text: { IsText charset octets.now },
 }
 
-/// A bit string, lent from the octets that it was read from: the first bit is the highest of the first octet.
+/// A bit string, lent from the octets that it was read from: the first bit is the highest of the
+/// first octet.
 ///
 /// ```text
 /// +-------------+--------------+
@@ -42,7 +43,8 @@ impl<'a> CharacterString<'a> {
     ghost use Rattle.std.specs.Prelude.{◌≡◌, ◌↔◌, IsSome, IfSome};
     ghost use Rattle.gw_tags.specs.Strings.{IsText};
 
-    /// The character string of this set and these octets. `None` where the set is 0 and the octets aren't UTF-8.
+    /// The character string of this set and these octets. `None` where the set is 0 and the octets
+    /// aren't UTF-8.
     pub fn new(charset: u8, octets: &'a [u8]) -> Option<CharacterString<'a>>
         ensures fits { IsSome result ↔ IsText charset octets.now }
         ensures value { IfSome result (λ s. (s.charset ≡ charset) × (s.octets.now ≡ octets.now)) }
@@ -58,8 +60,8 @@ impl<'a> BitString<'a> {
     ghost use Rattle.std.specs.Prelude.{◌≡◌, ◌↔◌, true, length, IsSome, IfSome};
     ghost use Rattle.gw_tags.specs.Strings.{is_unused};
 
-    /// The bit string of these octets with so many unused bits. `None` where there are more than 7, or any where there are no
-    /// octets.
+    /// The bit string of these octets with so many unused bits. `None` where there are more than 7,
+    /// or any where there are no octets.
     pub fn new(unused: u8, octets: &'a [u8]) -> Option<BitString<'a>>
         ensures fits { IsSome result ↔ is_unused unused (length octets.now) ≡ true }
         ensures value { IfSome result (λ s. (s.unused ≡ unused) × (s.octets.now ≡ octets.now)) }

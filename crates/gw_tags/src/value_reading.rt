@@ -17,8 +17,8 @@ use crate::object::ObjectId;
 use crate::reading::read_tag;
 use crate::strings::{BitString, CharacterString};
 use crate::tag::Kind;
-use crate::value::AppValue;
 use crate::utf8::is_utf8;
+use crate::value::AppValue;
 use gw_addr::{front, octet};
 
 type Found<'a> = Result<(AppValue<'a>, &'a [u8]), ValueFault>;
@@ -87,7 +87,8 @@ fn unsigned(body: Body<'_>) -> Result<(u32, &[u8]), ValueFault>
 }
 
 fn signed(body: Body<'_>) -> Result<(i32, &[u8]), ValueFault>
-    ensures { Gives (λ x. (x.0, x.1.now)) result (number_in twos_complement (body_view body.entry)) }
+    ensures { Gives (λ x. (x.0, x.1.now))
+        result (number_in twos_complement (body_view body.entry)) }
 {
     let (content, rest) = content((1..=4).contains(&body.count), body)?;
     match number::signed(content) {
@@ -97,7 +98,8 @@ fn signed(body: Body<'_>) -> Result<(i32, &[u8]), ValueFault>
 }
 
 fn four(body: Body<'_>) -> Result<([u8; 4], &[u8]), ValueFault>
-    ensures { Gives (λ x. (x.0, x.1.now)) result (octets_at (body.entry.count == 4) (body_view body.entry)) }
+    ensures { Gives (λ x. (x.0, x.1.now))
+        result (octets_at (body.entry.count == 4) (body_view body.entry)) }
 {
     let (content, rest) = content(body.count == 4, body)?;
     let [a, b, c, d] = content else {
@@ -107,7 +109,8 @@ fn four(body: Body<'_>) -> Result<([u8; 4], &[u8]), ValueFault>
 }
 
 fn eight(body: Body<'_>) -> Result<([u8; 8], &[u8]), ValueFault>
-    ensures { Gives (λ x. (x.0, x.1.now)) result (octets_at (body.entry.count == 8) (body_view body.entry)) }
+    ensures { Gives (λ x. (x.0, x.1.now))
+        result (octets_at (body.entry.count == 8) (body_view body.entry)) }
 {
     let (content, rest) = content(body.count == 8, body)?;
     let [a, b, c, d, e, f, g, h] = content else {
@@ -117,7 +120,8 @@ fn eight(body: Body<'_>) -> Result<([u8; 8], &[u8]), ValueFault>
 }
 
 fn text(body: Body<'_>) -> Result<(CharacterString<'_>, &[u8]), ValueFault>
-    ensures { Gives (λ x. (value_view (AppValue.Text x.0), x.1.now)) result (judged_text_at (body_view body.entry)) }
+    ensures { Gives (λ x. (value_view (AppValue.Text x.0), x.1.now))
+        result (judged_text_at (body_view body.entry)) }
 {
     let (content, rest) = content(body.count > 0, body)?;
     let [charset, octets @ ..] = content else {
@@ -136,7 +140,8 @@ fn text(body: Body<'_>) -> Result<(CharacterString<'_>, &[u8]), ValueFault>
 }
 
 fn bits(body: Body<'_>) -> Result<(BitString<'_>, &[u8]), ValueFault>
-    ensures { Gives (λ x. (value_view (AppValue.Bits x.0), x.1.now)) result (bits_at (body_view body.entry)) }
+    ensures { Gives (λ x. (value_view (AppValue.Bits x.0), x.1.now))
+        result (bits_at (body_view body.entry)) }
 {
     if body.count == 0 {
         return Err(ValueFault::BadLength);
@@ -152,18 +157,13 @@ fn bits(body: Body<'_>) -> Result<(BitString<'_>, &[u8]), ValueFault>
         octets,
     };
     let (octets, rest) = content(true, rest)?;
-    Ok((
-        BitString {
-            unused,
-            octets,
-        },
-        rest,
-    ))
+    Ok((BitString { unused, octets }, rest))
 }
 
 /// The content of a kind.
 fn value(datatype: Datatype, body: Body<'_>) -> Found<'_>
-    ensures { Gives (λ x. (value_view x.0, x.1.now)) result (judged_body_at datatype (body_view body.entry)) }
+    ensures { Gives (λ x. (value_view x.0, x.1.now))
+        result (judged_body_at datatype (body_view body.entry)) }
 {
     match datatype {
         Datatype::Null => null(body),
@@ -223,19 +223,20 @@ fn read(octets: &[u8]) -> Found<'_>
     value(datatype, body)
 }
 
-/// Reads the value at the front of the octets, and lends the octets behind it. A number, a length or a tag number may stand
-/// in more octets than it needs.
+/// Reads the value at the front of the octets, and lends the octets behind it. A number, a length
+/// or a tag number may stand in more octets than it needs.
 ///
 /// # Errors
 ///
-/// 1 `Short`, 2 `BadTag`, 3 `BadLength` and 4 `BadText`, as [`ValueFault`] says. The tag is read whole before it is judged,
-/// and a content's length before it is cut.
+/// 1 `Short`, 2 `BadTag`, 3 `BadLength` and 4 `BadText`, as [`ValueFault`] says. The tag is read
+/// whole before it is judged, and a content's length before it is cut.
 pub fn read_value(octets: &[u8]) -> Found<'_>
     // What is read is encoded so, and can be written.
     ensures found { IfOk result (λ x. BeginsWithValue octets.now (value_view x.0) x.1.now) }
     ensures valid { IfOk result (λ x. IsValue (value_view x.0)) }
     // What is encoded so is read, and the octets behind it are the rest.
-    ensures only { (value : Value) (rest : List ℕ) → IsValue value → BeginsWithValue octets.now value rest
+    ensures only { (value : Value) (rest : List ℕ) → IsValue value
+        → BeginsWithValue octets.now value rest
         → IsOkAnd result (λ x. (value_view x.0 ≡ value) × (x.1.now ≡ rest)) }
 
     // Which fault it is.

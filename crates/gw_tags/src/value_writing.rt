@@ -17,9 +17,11 @@ use std::alloc::AllocError;
 /// A tag of application class that announces so many octets.
 fn put_header(out: &mut Vec<u8>, number: u8, count: u32) -> Result<(), AllocError>
     requires { number < 255 }
-    ensures ok { OnOk result (out.new.items ≡ out.old.items ++ canonical (application number count)) }
+    ensures ok { OnOk result (out.new.items ≡ out.old.items
+        ++ canonical (application number count)) }
     ensures front { Keeps out.old.items out.new.items }
-    ensures room { vec_len out.old + length (canonical (application number count)) ≤ vec_capacity out.old
+    ensures room { vec_len out.old + length (canonical (application number count))
+        ≤ vec_capacity out.old
         → IsOk result }
     ensures capacity { vec_capacity out.old ≤ vec_capacity out.new }
 {
@@ -51,7 +53,8 @@ fn put_prefixed(out: &mut Vec<u8>, number: u8, first: u8, others: &[u8]) -> Resu
     requires fits { length (first ∷ others.now) < 2 ^ 32 }
     ensures ok { OnOk result (out.new.items ≡ out.old.items ++ tagged number (first ∷ others.now)) }
     ensures front { Keeps out.old.items out.new.items }
-    ensures room { vec_len out.old + length (tagged number (first ∷ others.now)) ≤ vec_capacity out.old
+    ensures room { vec_len out.old + length (tagged number (first ∷ others.now))
+        ≤ vec_capacity out.old
         → IsOk result }
     ensures capacity { vec_capacity out.old ≤ vec_capacity out.new }
 {
@@ -62,9 +65,11 @@ fn put_prefixed(out: &mut Vec<u8>, number: u8, first: u8, others: &[u8]) -> Resu
 
 fn put_unsigned(out: &mut Vec<u8>, kind: u8, number: u32) -> Result<(), AllocError>
     requires { kind < 255 }
-    ensures ok { OnOk result (out.new.items ≡ out.old.items ++ tagged kind (unsigned_encoding number)) }
+    ensures ok { OnOk result (out.new.items ≡ out.old.items
+        ++ tagged kind (unsigned_encoding number)) }
     ensures front { Keeps out.old.items out.new.items }
-    ensures room { vec_len out.old + length (tagged kind (unsigned_encoding number)) ≤ vec_capacity out.old
+    ensures room { vec_len out.old + length (tagged kind (unsigned_encoding number))
+        ≤ vec_capacity out.old
         → IsOk result }
     ensures capacity { vec_capacity out.old ≤ vec_capacity out.new }
 {
@@ -74,9 +79,11 @@ fn put_unsigned(out: &mut Vec<u8>, kind: u8, number: u32) -> Result<(), AllocErr
 
 fn put_signed(out: &mut Vec<u8>, kind: u8, number: i32) -> Result<(), AllocError>
     requires { kind < 255 }
-    ensures ok { OnOk result (out.new.items ≡ out.old.items ++ tagged kind (signed_encoding number)) }
+    ensures ok { OnOk result (out.new.items ≡ out.old.items
+        ++ tagged kind (signed_encoding number)) }
     ensures front { Keeps out.old.items out.new.items }
-    ensures room { vec_len out.old + length (tagged kind (signed_encoding number)) ≤ vec_capacity out.old
+    ensures room { vec_len out.old + length (tagged kind (signed_encoding number))
+        ≤ vec_capacity out.old
         → IsOk result }
     ensures capacity { vec_capacity out.old ≤ vec_capacity out.new }
 {
@@ -87,9 +94,11 @@ fn put_signed(out: &mut Vec<u8>, kind: u8, number: i32) -> Result<(), AllocError
 /// Appends the value. After an `Err` a front of it may stand there.
 fn put_value(out: &mut Vec<u8>, value: AppValue<'_>) -> Result<(), AllocError>
     requires { LengthFits (value_view value) }
-    ensures ok { OnOk result (out.new.items ≡ out.old.items ++ value_encoding (value_view value.entry)) }
+    ensures ok { OnOk result (out.new.items ≡ out.old.items
+        ++ value_encoding (value_view value.entry)) }
     ensures front { Keeps out.old.items out.new.items }
-    ensures room { vec_len out.old + length (value_encoding (value_view value.entry)) ≤ vec_capacity out.old
+    ensures room { vec_len out.old + length (value_encoding (value_view value.entry))
+        ≤ vec_capacity out.old
         → IsOk result }
     ensures capacity { vec_capacity out.old ≤ vec_capacity out.new }
 {
@@ -118,9 +127,11 @@ fn put_value(out: &mut Vec<u8>, value: AppValue<'_>) -> Result<(), AllocError>
 pub fn write_value(out: &mut Vec<u8>, value: AppValue<'_>) -> Result<(), AllocError>
     // A content has fewer than 2 to the power of 32 octets.
     requires { LengthFits (value_view value) }
-    ensures ok { OnOk result (out.new.items ≡ out.old.items ++ value_encoding (value_view value.entry)) }
+    ensures ok { OnOk result (out.new.items ≡ out.old.items
+        ++ value_encoding (value_view value.entry)) }
     ensures err { OnErr result (out.new.items ≡ out.old.items) }
-    ensures room { vec_len out.old + length (value_encoding (value_view value.entry)) ≤ vec_capacity out.old
+    ensures room { vec_len out.old + length (value_encoding (value_view value.entry))
+        ≤ vec_capacity out.old
         → IsOk result }
     ensures capacity { vec_capacity out.old ≤ vec_capacity out.new }
 {

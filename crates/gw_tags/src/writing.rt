@@ -22,10 +22,12 @@ fn low_bits(kind: Kind) -> u8
 }
 
 fn put_length(out: &mut Vec<u8>, kind: Kind) -> Result<(), AllocError>
-    ensures ok { OnOk result (out.new.items ≡ out.old.items ++ length_octets kind (shortest_length kind)) }
+    ensures ok { OnOk result (out.new.items ≡ out.old.items
+        ++ length_octets kind (shortest_length kind)) }
     ensures front { Keeps out.old.items out.new.items }
     ensures capacity { vec_capacity out.old ≤ vec_capacity out.new }
-    ensures room { vec_len out.old + length (length_octets kind (shortest_length kind)) ≤ vec_capacity out.old
+    ensures room { vec_len out.old + length (length_octets kind (shortest_length kind))
+        ≤ vec_capacity out.old
         → IsOk result }
 {
     match kind {
@@ -77,8 +79,8 @@ pub fn put_tag(out: &mut Vec<u8>, tag: Tag) -> Result<(), AllocError>
     put_length(out, tag.kind)
 }
 
-/// Appends the one encoding of the tag that has the fewest octets. The buffer keeps what it had, and is
-/// unchanged after an error.
+/// Appends the one encoding of the tag that has the fewest octets. The buffer keeps what it had,
+/// and is unchanged after an error.
 ///
 /// # Errors
 ///
