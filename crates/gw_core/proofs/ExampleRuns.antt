@@ -2,8 +2,8 @@
 use Rattle.std.specs.Prelude.{⊤}
 use Rattle.std.proofs.Common.{refl}
 use Rattle.gw_tags.specs.Object.{object_octets, object_of}
-use Rattle.gw_tags.specs.Tag.{tag_number_at, length_at, kind_at, header_at, tag_at}
-use Rattle.gw_tags.specs.Value.{value_text}
+use Rattle.gw_tags.specs.Reading.{tag_number_at, length_at, kind_at, header_at, tag_at}
+use Rattle.gw_tags.specs.Value.{value_encoding}
 use Rattle.gw_rules.specs.Rule.{matches}
 use Rattle.gw_rules.specs.RuleList.{first, allows}
 use Rattle.gw_core.specs.Arrival.{comes_in, frame_in, npdu_in, is_direct, arrived_on, arrived}
@@ -23,7 +23,7 @@ frames = tt
 
 -- all that a read runs through
 unfoldable reads : ⊤
-unfolding object_octets object_of tag_number_at length_at kind_at header_at tag_at value_text tagged content_at object_at number_of property_at index_at Read.body_at read_at binary_value property_of property_value answer context read_ack read_error reply_apdu reply_npdu
+unfolding object_octets object_of tag_number_at length_at kind_at header_at tag_at value_encoding tagged content_at object_at number_of property_at index_at Read.body_at read_at binary_value property_of property_value answer context read_ack read_error reply_apdu reply_npdu
 reads = tt
 
 -- all that an event runs through

@@ -7,7 +7,8 @@ use Rattle.gw_rules.specs.RuleList.{allows}
 use Rattle.gw_tags.specs.declared.tag.Kind.TheVariants.{Length, Opening, Closing}
 use Rattle.gw_tags.specs.Tag.{canonical}
 use Rattle.gw_tags.specs.Object.{Object, object_octets}
-use Rattle.gw_tags.specs.Value.{enumerated, number_text, value_text}
+use Rattle.gw_tags.specs.Number.{unsigned_encoding}
+use Rattle.gw_tags.specs.Value.{enumerated, value_encoding}
 use Rattle.gw_npdu.specs.Npdu.{Fields, Address, Destination, apdu}
 use Rattle.gw_core.specs.declared.config.BinaryValue.{BinaryValue}
 use Rattle.gw_core.specs.declared.reply.Failure.{Failure}
@@ -68,17 +69,17 @@ binary true = 1
 -- the array index, where one was asked for
 abbrev pub index_part : Option ℕ → List ℕ
 index_part None = []
-index_part (Some index) = context 2 (number_text index)
+index_part (Some index) = context 2 (unsigned_encoding index)
 
 -- ComplexACK: PDU type 3, the invoke id, the service, the object, the property and its value
 unfoldable pub read_ack : Read → Bool → List ℕ
 read_ack read active =
-    48 ∷ read.invoke ∷ 12 ∷ [] ++ context 0 (object_octets read.object) ++ context 1 (number_text read.property) ++ index_part read.index
-    ++ opening 3 ++ value_text (enumerated (binary active)) ++ closing 3
+    48 ∷ read.invoke ∷ 12 ∷ [] ++ context 0 (object_octets read.object) ++ context 1 (unsigned_encoding read.property) ++ index_part read.index
+    ++ opening 3 ++ value_encoding (enumerated (binary active)) ++ closing 3
 
 -- Error: PDU type 5, the invoke id, the service, class and code
 unfoldable pub read_error : ℕ → Failure → List ℕ
-read_error invoke failure = 80 ∷ invoke ∷ 12 ∷ [] ++ value_text (enumerated failure.class) ++ value_text (enumerated failure.code)
+read_error invoke failure = 80 ∷ invoke ∷ 12 ∷ [] ++ value_encoding (enumerated failure.class) ++ value_encoding (enumerated failure.code)
 
 -- the answer's APDU
 unfoldable pub reply_apdu : Read → Result Bool Failure → List ℕ

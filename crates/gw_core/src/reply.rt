@@ -4,7 +4,7 @@ ghost use Rattle.std.specs.Prelude.{◌≡◌, ◌==◌, true, find, ◌<◌, �
 ghost use Rattle.gw_addr.specs.Reading.{Gives};
 ghost use Rattle.gw_tags.specs.Object.{object_view};
 ghost use Rattle.gw_tags.specs.Tag.{canonical};
-ghost use Rattle.gw_tags.specs.Value.{number_text, octet_count};
+ghost use Rattle.gw_tags.specs.Number.{unsigned_encoding, octet_count};
 ghost use Rattle.gw_core.specs.Reply.{access_denied, answer, binary_value, closing, context, index_part, opening, property_of, property_value, read_ack, read_error, reply_apdu};
 ghost use Rattle.gw_core.specs.Read.{read_of};
 
@@ -141,7 +141,7 @@ fn number_len(number: u32) -> usize
 
 fn put_number(out: &mut Vec<u8>, tag: u8, number: u32) -> Result<(), AllocError>
     requires { tag < 255 }
-    ensures { OnOk result (out.new.items ≡ out.old.items ++ context tag (number_text number)) }
+    ensures { OnOk result (out.new.items ≡ out.old.items ++ context tag (unsigned_encoding number)) }
 {
     let octets = number.to_be_bytes();
     put_context(out, tag, &octets[4 - number_len(number)..])

@@ -26,3 +26,5 @@ mod rules;
 mod script;
 #[cfg(test)]
 mod tags;
+#[cfg(test)]
+mod tags_more;
