@@ -1,0 +1,4 @@
+pub mod Same
+pub mod Order
+pub mod Rows
+pub mod Ends
