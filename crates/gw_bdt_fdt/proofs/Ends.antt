@@ -1,5 +1,5 @@
 -- The ends of leases, as leases come and go.
-use Rattle.std.proofs.Common.{◌≡◌, ◌∙◌, ℕ, ◌<◌, ◌≤◌, Bool, true, false, cond, ◌||◌, ◌&&◌, List, [], ◌∷◌, ◌++◌, map, Option, Some, None, is_some, if◌then◌else◌, nat_lt, nat_eq, ◌==◌, refl, sym, ap, ap₂, subst, true≢false, filter, arith, IsTrue}
+use Rattle.std.proofs.Common.{◌≡◌, ◌∙◌, ℕ, ◌<◌, ◌≤◌, Bool, true, false, cond, not, ◌||◌, ◌&&◌, List, [], ◌∷◌, ◌++◌, map, Option, Some, None, is_some, if◌then◌else◌, nat_lt, nat_eq, ◌==◌, refl, sym, ap, ap₂, subst, true≢false, filter, arith, Result, Ok, OnOk}
 use Rattle.std.specs.List.{list_any, AllByRecursion, IsDistinct}
 use Rattle.std.specs.Map.{lookup, remove_entry, keys_of}
 use Rattle.std.specs.Ordering.{is_eq, is_gt, nat_cmp, ordering_then}
@@ -222,3 +222,27 @@ later_of now k lt (x ∷ ks) le = (one (nat_lt k.0 x.0) refl (k.0 == x.0) refl l
     one true p c r h = let l = ltb-true k.0 x.0 p in omega (arith, lt, l)
     one false p true r h = let e = eqb-true k.0 x.0 r in omega (arith, lt, e)
     one false p false r h = absurd (true≢false h)
+
+-- the old end goes, unless it is the new one
+pub end_moved : (a : BipAddr) (o n : ℕ) (q : End) (b : Bool)
+    → cond (not (nat_eq o n) && tied (o, a) q) false (cond (tied (n, a) q) true b) ≡ cond (tied (n, a) q) true (cond (tied (o, a) q) false b)
+end_moved a o n q b = by (nat_eq o n) refl
+  where
+    over : (x y : Bool) → cond x true y ≡ cond x true (cond x false y)
+    over true y = refl
+    over false y = refl
+
+    apart : (x y : Bool) → tied (o, a) q ≡ x → tied (n, a) q ≡ y → nat_eq o n ≡ false → cond x false (cond y true b) ≡ cond y true (cond x false b)
+    apart true true p r e =
+        absurd (true≢false (sym (eq-eqb o n (ap (λ z. z.0) (tied_to (o, a) q p) ∙ sym (ap (λ z. z.0) (tied_to (n, a) q r)))) ∙ e))
+    apart true false p r e = refl
+    apart false true p r e = refl
+    apart false false p r e = refl
+
+    by : (x : Bool) → nat_eq o n ≡ x → cond (not x && tied (o, a) q) false (cond (tied (n, a) q) true b) ≡ cond (tied (n, a) q) true (cond (tied (o, a) q) false b)
+    by true e = over (tied (n, a) q) b ∙ ap (λ m. cond (tied (n, a) q) true (cond (tied (m, a) q) false b)) (sym (eqb-true o n e))
+    by false e = apart (tied (o, a) q) (tied (n, a) q) refl refl e
+
+-- what holds where a call succeeds
+pub on_ok : {T E P : Type 0} {r : Result T E} {x : T} → r ≡ Ok x → OnOk r P → P
+on_ok {T} {E} {P} e h = subst (λ s. OnOk s P) e h

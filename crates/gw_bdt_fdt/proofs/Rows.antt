@@ -1,7 +1,7 @@
 -- What the leases that are kept say of the table.
 use Rattle.std.proofs.Common.{◌≡◌, ◌∙◌, ℕ, ◌+◌, ◌-◌, ◌<◌, ◌≤◌, ◌^◌, Bool, true, false, cond, ◌||◌, not, List, [], ◌∷◌, length, map, Option, Some, None, is_some, if◌then◌else◌, nat_lt, refl, sym, ap, true≢false, filter, filter_map, arith, option_map, IsTrue}
 use Rattle.std.specs.List.{AllByRecursion, cons_option}
-use Rattle.std.specs.Map.{lookup, remove_entry}
+use Rattle.std.specs.Map.{lookup, remove_entry, keys_of}
 use Rattle.std.proofs.lemmas.Bool.{ltb-true, ltb-false, lt-ltb, le-ltb}
 use Rattle.std.proofs.lemmas.Map.Made.{lookup-map_values}
 use Rattle.indexmap.specs.IndexMap.{insert_entry}
@@ -10,6 +10,14 @@ use Rattle.gw_bdt_fdt.specs.declared.leases.Lease.{Lease}
 use Rattle.gw_bdt_fdt.specs.declared.fdt.TheConstants.{GRACE, MAX_REGISTRATIONS}
 use Rattle.gw_bdt_fdt.specs.Registrations.{Registration, Registered, Registrations, same, contains, has_room, granted, with_registration, without, with_less, row_later, with_tick}
 use Rattle.gw_bdt_fdt.specs.Internal.{LeaseList, row_at, table_at, holds_at, AreKept}
+
+pub keyed : (t : ℕ) (es : LeaseList) → keys_of (map (row_at t) es) ≡ keys_of es
+keyed t [] = refl
+keyed t (e ∷ es) = ap (λ ks. e.0 ∷ ks) (keyed t es)
+
+-- a lease of a time to live that starts to be due with a tick, before its grace
+abbrev pub lease_with : ℕ → ℕ → Lease
+lease_with ttl due = record { time_to_live = ttl; deadline = due + GRACE }
 
 -- the lease of a registration that is granted after so many ticks
 abbrev pub lease_of : ℕ → ℕ → Lease
@@ -79,10 +87,12 @@ hold-insert t (e ∷ es) a l lt hold = by (same a e.0) (hold-insert t es a l lt 
 
 -- leases stay kept where there is room for the one that is granted
 pub kept_registered : (t : ℕ) (es : LeaseList) (a : BipAddr) (ttl : ℕ)
-    → is_some (lookup (same a) es) || nat_lt (length es) MAX_REGISTRATIONS ≡ true
+    → has_room (table_at t es) a ≡ true
     → AreKept t es → AreKept t (insert_entry same es a (lease_of t ttl))
 kept_registered t es a ttl room kept = record {
-  few = by (is_some (lookup (same a) es)) room (length-insert_entry es a (lease_of t ttl));
+  few = by (is_some (lookup (same a) es))
+      ((λ j. sym (contained t es a) j || nat_lt (sym (counted t es) j) MAX_REGISTRATIONS) ∙ room)
+      (length-insert_entry es a (lease_of t ttl));
   below = kept.below;
   hold = hold-insert t es a (lease_of t ttl) (omega arith) kept.hold;
 }

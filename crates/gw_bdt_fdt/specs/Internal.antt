@@ -1,6 +1,7 @@
 -- How registrations are kept: by the tick with which each ends.
 use Rattle.std.specs.Prelude.{◌≡◌, ℕ, ◌+◌, ◌-◌, ◌^◌, ◌≤◌, ◌<◌, ◌++◌, Bool, nat_lt, List, length, map, IsTrue}
-use Rattle.std.specs.List.{AllByRecursion, list_any}
+use Rattle.std.specs.List.{AllByRecursion, IsDistinct, list_any}
+use Rattle.std.specs.Map.{keys_of}
 use Rattle.std.specs.Cmp.Lexicographic.{slice_cmp}
 use Rattle.std.specs.Ordering.{is_eq, nat_cmp, ordering_then}
 use Rattle.std.specs.declared.cmp.Ordering.{Ordering}
@@ -9,7 +10,7 @@ use Rattle.gw_addr.specs.declared.entry.BdtEntry.{BdtEntry}
 use Rattle.gw_bdt_fdt.specs.declared.bdt.Peers.{Peers}
 use Rattle.gw_bdt_fdt.specs.declared.leases.Lease.{Lease}
 use Rattle.gw_bdt_fdt.specs.declared.fdt.TheConstants.{MAX_REGISTRATIONS}
-use Rattle.gw_bdt_fdt.specs.Registrations.{Registration, Registered, Registrations}
+use Rattle.gw_bdt_fdt.specs.Registrations.{same, Registration, Registered, Registrations}
 
 -- addresses, each with its lease, in order
 abbrev pub LeaseList : Type 0
@@ -61,3 +62,8 @@ tied x y = is_eq (end_cmp x y)
 -- the ends are exactly those of the leases
 abbrev pub AreEnds : List End → LeaseList → Type 0
 AreEnds ends leases = (q : End) → list_any (tied q) ends ≡ list_any (tied q) (map end_of leases)
+
+-- what is kept of leases and their ends: the ends are theirs, and no address has two
+pub record AreTied (ordered : List End) (leases : LeaseList) : Type 0 where
+  pub ends : AreEnds ordered leases
+  pub once : IsDistinct same (keys_of leases)

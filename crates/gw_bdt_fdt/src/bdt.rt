@@ -1,5 +1,6 @@
 //! The broadcast distribution table.
-ghost use Rattle.std.specs.Prelude.{◌≡◌, ◌↔◌, ◌<◌, ◌&&◌, [], length, not, position};
+ghost use Rattle.std.specs.Prelude.{◌≡◌, ◌↔◌, ◌<◌, ◌+◌, ◌&&◌, [], length, not};
+ghost use Rattle.std.specs.Prelude.{position, find, take, drop, option_copied};
 ghost use Rattle.std.specs.Prelude.{IsTrue, IsFalse, IfOk, IfSome, IsOk, IsErrOf};
 ghost use Rattle.std.specs.List.{list_any};
 ghost use Rattle.std.specs.Iterator.{YieldsFirstRef, item_count};
@@ -77,8 +78,8 @@ impl Bdt {
         let entries = self.entries.as_slice();
         match place_of(entries, own) {
             Some(place) => Peers {
-                before: &entries[..place],
-                behind: &entries[place + 1..],
+                before: entries_before(entries, place),
+                behind: entries_behind(entries, place),
             },
             None => Peers {
                 before: entries,
@@ -91,8 +92,8 @@ impl Bdt {
     pub fn own_mask(&self, own: BipAddr) -> [u8; 4]
         ensures { result ≡ own_mask own self.now }
     {
-        match place_of(&self.entries, own) {
-            Some(place) => self.entries[place].mask,
+        match entry_of(&self.entries, own) {
+            Some(entry) => entry.mask,
             None => ALL_ONES,
         }
     }
@@ -131,6 +132,29 @@ fn place_of(entries: &[BdtEntry], address: BipAddr) -> Option<usize>
     ensures within { IfSome result (λ place. place < length entries.now) }
 {
     entries.iter().position(|entry| address == entry.address)
+}
+
+/// The entries before a place.
+fn entries_before(entries: &[BdtEntry], place: usize) -> &[BdtEntry]
+    requires { place < length entries.now }
+    ensures { result.now ≡ take place entries.now }
+{
+    &entries[..place]
+}
+
+/// The entries behind a place.
+fn entries_behind(entries: &[BdtEntry], place: usize) -> &[BdtEntry]
+    requires { place < length entries.now }
+    ensures { result.now ≡ drop (place + 1) entries.now }
+{
+    &entries[place + 1..]
+}
+
+/// The entry of an address.
+fn entry_of(entries: &[BdtEntry], address: BipAddr) -> Option<&BdtEntry>
+    ensures { option_copied result ≡ find (is_of address) entries.now }
+{
+    entries.iter().find(|entry| address == entry.address)
 }
 
 /// Whether an address has an entry.

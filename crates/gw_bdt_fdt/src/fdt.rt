@@ -1,8 +1,10 @@
 //! The foreign device table.
 ghost use Rattle.std.specs.Prelude.{◌≡◌, ◌<◌, ◌≤◌, ◌↔◌, ◌∷◌, ◌^◌, [], length, map};
 ghost use Rattle.std.specs.Prelude.{IsTrue, IsFalse, IfOk, OnOk, OnErr, IsErrOf};
+ghost use Rattle.std.specs.List.{IsDistinct};
+ghost use Rattle.std.specs.Map.{keys_of};
 ghost use Rattle.gw_bdt_fdt.specs.Internal.{AreKept, table_at};
-ghost use Rattle.gw_bdt_fdt.specs.Registrations.{contains, has_room, no_registration, shown};
+ghost use Rattle.gw_bdt_fdt.specs.Registrations.{contains, has_room, no_registration, same, shown};
 ghost use Rattle.gw_bdt_fdt.specs.Registrations.{with_registration, with_tick, without};
 ghost use Rattle.gw_bdt_fdt.specs.History.{Delete, History, IsStateAfter, Register, Tick};
 
@@ -65,9 +67,8 @@ impl Fdt {
             IsStateAfter self.new (Register address time_to_live ∷ h)) }
         ensures full { IsErrOf result RegisterFault.Full ↔ IsFalse (has_room self.old address) }
         ensures err { OnErr result (self.new ≡ self.old) }
-        ensures limit { length self.new.rows ≤ MAX_REGISTRATIONS }
     {
-        if !self.leases.contains(address) && self.leases.len() >= MAX_REGISTRATIONS {
+        if !self.has_room(address) {
             return Err(RegisterFault::Full);
         }
         let deadline = self.ticks + u64::from(time_to_live) + GRACE;
@@ -75,10 +76,17 @@ impl Fdt {
             time_to_live,
             deadline,
         };
-        match self.leases.put(address, lease) {
-            Ok(()) => Ok(()),
-            Err(_) => Err(RegisterFault::Memory),
-        }
+        let Ok(()) = self.leases.put(address, lease) else {
+            return Err(RegisterFault::Memory);
+        };
+        Ok(())
+    }
+
+    /// Whether there is room for an address.
+    fn has_room(&self, address: BipAddr) -> bool
+        ensures { result ≡ has_room self.now address }
+    {
+        self.contains(address) || self.count() < MAX_REGISTRATIONS
     }
 
     /// Deletes the registration of a foreign device (Annex J.5.2.1). `Absent` where it isn't
@@ -90,9 +98,10 @@ impl Fdt {
         ensures absent { IsErrOf result DeleteFault.Absent ↔ IsFalse (contains self.old address) }
         ensures err { OnErr result (self.new ≡ self.old) }
     {
-        if !self.leases.take(address) {
+        if !self.contains(address) {
             return Err(DeleteFault::Absent);
         }
+        self.leases.take(address);
         Ok(())
     }
 
@@ -122,9 +131,11 @@ impl Fdt {
         self.leases.contains(address)
     }
 
-    /// How many foreign devices are registered.
+    /// How many foreign devices are registered. No two registrations are of one address.
     pub fn count(&self) -> usize
-        ensures { result ≡ length self.now.rows }
+        ensures count { result ≡ length self.now.rows }
+        ensures few { result ≤ MAX_REGISTRATIONS }
+        ensures once { IsDistinct same (keys_of self.now.rows) }
     {
         self.leases.len()
     }

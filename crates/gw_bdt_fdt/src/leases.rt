@@ -1,11 +1,11 @@
 //! How registrations are kept: by address in their order, and beside it by the tick with which each
 //! ends, so that a tick looks only at what ends first.
-ghost use Rattle.std.specs.Prelude.{◌≡◌, ◌<◌, ◌+◌, [], length, filter};
+ghost use Rattle.std.specs.Prelude.{◌≡◌, ◌<◌, ◌&&◌, [], length, filter, not, cond, false, nat_eq};
 ghost use Rattle.std.specs.Prelude.{is_some, Some, None, IsTrue, IsFalse, OnOk, OnErr};
-ghost use Rattle.std.specs.List.{AllByRecursion};
+ghost use Rattle.std.specs.List.{AllByRecursion, IsDistinct, list_any};
 ghost use Rattle.std.specs.Map.{keys_of, lookup, remove_entry};
 ghost use Rattle.indexmap.specs.IndexMap.{get, insert_entry};
-ghost use Rattle.gw_bdt_fdt.specs.Internal.{AreEnds, end_of, holds_at};
+ghost use Rattle.gw_bdt_fdt.specs.Internal.{AreTied, End, holds_at, tied};
 ghost use Rattle.gw_bdt_fdt.specs.Registrations.{same};
 
 use gw_addr::BipAddr;
@@ -31,13 +31,13 @@ pub(crate) struct Leases {
 }
 
 impl Model for Leases {
-    ghost use Rattle.gw_bdt_fdt.specs.Internal.{AreEnds, LeaseList};
+    ghost use Rattle.gw_bdt_fdt.specs.Internal.{AreTied, LeaseList};
 
     ghost Value = { LeaseList };
 
     ghost view = { λ a. a.by_address.entries };
 
-    ghost invariant = { λ a. AreEnds a.ends.keys a.by_address.entries };
+    ghost invariant = { λ a. AreTied a.ends.keys a.by_address.entries };
 }
 
 impl Leases {
@@ -67,7 +67,8 @@ impl Leases {
 
     /// How many there are.
     pub(crate) fn len(&self) -> usize
-        ensures { result ≡ length self.now }
+        ensures len { result ≡ length self.now }
+        ensures once { IsDistinct same (keys_of self.now) }
     {
         self.by_address.len()
     }
@@ -84,16 +85,14 @@ impl Leases {
         }
     }
 
-    /// Takes the lease of an address, and answers whether there was one.
-    pub(crate) fn take(&mut self, address: BipAddr) -> bool
-        ensures taken { self.new ≡ remove_entry (same address) self.old }
-        ensures answer { result ≡ is_some (lookup (same address) self.old) }
+    /// Takes the lease of an address, if it has one.
+    pub(crate) fn take(&mut self, address: BipAddr)
+        ensures { self.new ≡ remove_entry (same address) self.old }
     {
         let Some(lease) = self.by_address.shift_remove(&address) else {
-            return false;
+            return;
         };
         self.ends.remove(&(lease.deadline, address));
-        true
     }
 
     /// Takes the leases that end with a tick or before it. Where none does, it looks at the first
@@ -123,8 +122,8 @@ fn take_ended(
     ends: &mut BTreeSet<(u64, BipAddr)>,
     now: u64,
 )
-    requires ends { AreEnds ends.old.keys by_address.old.entries }
-    ensures ends { AreEnds ends.new.keys by_address.new.entries }
+    requires kept { AreTied ends.old.keys by_address.old.entries }
+    ensures kept { AreTied ends.new.keys by_address.new.entries }
     ensures leases { by_address.new.entries ≡ filter (holds_at now) by_address.old.entries }
 {
     by_address.retain(|_, lease| now < lease.deadline);
@@ -138,9 +137,9 @@ fn add(
     address: BipAddr,
     lease: Lease,
 ) -> Result<(), AllocError>
-    requires ends { AreEnds ends.old.keys by_address.old.entries }
+    requires kept { AreTied ends.old.keys by_address.old.entries }
     requires absent { get same by_address.old address ≡ None }
-    ensures ends { AreEnds ends.new.keys by_address.new.entries }
+    ensures kept { AreTied ends.new.keys by_address.new.entries }
     ensures ok { OnOk result
         (by_address.new.entries ≡ insert_entry same by_address.old.entries address lease) }
     ensures err { OnErr result (by_address.new.entries ≡ by_address.old.entries) }
@@ -159,17 +158,26 @@ fn renew(
     old: Lease,
     lease: Lease,
 ) -> Result<(), AllocError>
-    requires ends { AreEnds ends.old.keys by_address.old.entries }
+    requires kept { AreTied ends.old.keys by_address.old.entries }
     requires there { get same by_address.old address ≡ Some old }
-    ensures ends { AreEnds ends.new.keys by_address.new.entries }
+    ensures kept { AreTied ends.new.keys by_address.new.entries }
     ensures ok { OnOk result
         (by_address.new.entries ≡ insert_entry same by_address.old.entries address lease) }
     ensures err { OnErr result (by_address.new.entries ≡ by_address.old.entries) }
 {
     ends.insert((lease.deadline, address))?;
-    if old.deadline != lease.deadline {
-        ends.remove(&(old.deadline, address));
-    }
+    forget(ends, address, old.deadline, lease.deadline);
     by_address.insert(address, lease).unwrap();
     Ok(())
+}
+
+/// Takes the old end of an address, if its new one is another.
+fn forget(ends: &mut BTreeSet<(u64, BipAddr)>, address: BipAddr, old: u64, new: u64)
+    ensures { (q : End) → list_any (tied q) ends.new.keys ≡
+        cond (not (nat_eq old new) && tied (old, address) q) false (list_any (tied q) ends.old.keys) }
+{
+    if old == new {
+        return;
+    }
+    ends.remove(&(old, address));
 }
