@@ -1,6 +1,6 @@
 #!/usr/bin/env bash
 # How fast `bacgw replay` is, and how much memory it takes, at 100,000 and at 1,000,000 lines: reads, denied reads, broken
-# datagrams and ticks, mixed by a fixed seed. It wants the built program, as `(cd crates/bacgw && rt run)` leaves it.
+# datagrams and ticks, mixed by a fixed seed. It wants the program built, as `./bacgw --help` leaves it.
 #
 #     bench/replay.sh [RUNS]      # 5 runs of each length unless told otherwise
 set -euo pipefail
@@ -11,7 +11,7 @@ program=$top/crates/bacgw/out/bacgw
 work=$(mktemp -d)
 trap 'rm -rf "$work"' EXIT
 
-[ -x "$program" ] || { echo "build bacgw first: (cd crates/bacgw && rt run)" >&2; exit 1; }
+[ -x "$program" ] || { echo "build bacgw first: ./bacgw --help" >&2; exit 1; }
 [ -x /usr/bin/time ] || { echo "this wants /usr/bin/time" >&2; exit 1; }
 
 python3 - "$work" <<'PYTHON'

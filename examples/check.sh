@@ -1,6 +1,6 @@
 #!/usr/bin/env bash
 # Runs the built `bacgw` on each script beside this one and on faulty calls, and compares what it prints, what it tells on standard
-# error, and its exit status. It wants the program as `(cd crates/bacgw && rt run)` leaves it. The last line says how many agreed.
+# error, and its exit status. It wants the program built, as `./bacgw --help` leaves it. The last line says how many agreed.
 set -uo pipefail
 
 here=$(cd "$(dirname "$0")" && pwd)
@@ -10,7 +10,7 @@ trap 'rm -rf "$work"' EXIT
 passed=0
 failed=0
 
-[ -x "$program" ] || { echo "build bacgw first: (cd crates/bacgw && rt run)" >&2; exit 1; }
+[ -x "$program" ] || { echo "build bacgw first: ./bacgw --help" >&2; exit 1; }
 
 # agrees WHAT STATUS OUT ERR: the last run ended so
 agrees() {

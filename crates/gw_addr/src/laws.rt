@@ -5,6 +5,13 @@ ghost use Rattle.std.specs.Prelude.{◌≡◌, ◌<◌, ◌^◌};
 ghost use Rattle.gw_addr.specs.declared.bip.BipAddr.{BipAddr};
 ghost use Rattle.gw_addr.specs.Address.{octets_of, big_endian, text_of, IsAddress};
 
+use crate::bip::BipAddr;
+
+/// Each value of the type has four octets and a port.
+pub fn fits(address: BipAddr)
+    ensures { IsAddress address }
+{}
+
 /// No two addresses have the same octets, or one key, or are written alike; and a key is below 2 to
 /// the power of 48 (Annex J.1.2).
 pub fn one_to_one()

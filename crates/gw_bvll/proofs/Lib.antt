@@ -1,3 +1,2 @@
-pub mod EntryLemmas
+pub mod EntryLists
 pub mod Messages
-pub mod Decoded

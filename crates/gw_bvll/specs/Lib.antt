@@ -1,3 +1,6 @@
+pub mod Tens
 pub mod Entries
 pub mod Bvll
+pub mod Reading
 pub mod Shape
+pub mod internal

@@ -35,21 +35,21 @@ FitsFunction functions.OriginalUnicast size = Unit {0}
 FitsFunction functions.OriginalBroadcast size = Unit {0}
 
 -- four octets or more, the first of them not 81
-pub record LacksMarker (octets : List ℕ) : Type 0 where
+pub record IsBadMarker (octets : List ℕ) : Type 0 where
   pub whole : 4 ≤ length octets
   pub marker : slice_index octets 0 ≢ 0x81
 
 -- fewer than four octets, or a header that tells another length than that of all the octets
-abbrev pub LacksLength : List ℕ → Type 0
-LacksLength octets = (length octets < 4) ⊎ (IsMarked octets × (told_length octets ≢ length octets))
+abbrev pub IsBadLength : List ℕ → Type 0
+IsBadLength octets = (length octets < 4) ⊎ (IsMarked octets × (told_length octets ≢ length octets))
 
 -- a whole header with an octet that is no function
-pub record LacksFunction (octets : List ℕ) : Type 0 where
+pub record IsBadFunction (octets : List ℕ) : Type 0 where
   pub framed : IsFramed octets
   pub function : 0x0B < slice_index octets 1
 
 -- a whole header with a function, and a body of a length that the function does not have
-pub record LacksBody (octets : List ℕ) : Type 0 where
+pub record IsBadBody (octets : List ℕ) : Type 0 where
   pub framed : IsFramed octets
   pub function : Function
   pub named : slice_index octets 1 ≡ octet_of function

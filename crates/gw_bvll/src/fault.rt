@@ -2,8 +2,8 @@
 
 use thiserror::Error;
 
-/// Why a datagram is no message of the virtual link layer: the first of these that holds. A datagram of fewer than four octets is
-/// `Length`, whatever they are.
+/// Why a datagram is no message of the virtual link layer: the first of these that holds. A
+/// datagram of fewer than four octets is `Length`, whatever they are.
 #[derive(Clone, Copy, Debug, PartialEq, Eq, Error)]
 pub enum BvllFault {
     /// 1: the first octet is not `81`.

@@ -1,7 +1,8 @@
 //! The functions of the virtual link layer (Annex J.2), the second octet of each message.
 
 ghost use Rattle.std.specs.Prelude.{◌≡◌};
-ghost use Rattle.gw_bvll.specs.Bvll.{octet_of, function_at};
+ghost use Rattle.gw_bvll.specs.Bvll.{octet_of};
+ghost use Rattle.gw_bvll.specs.Reading.{function_at};
 
 use crate::fault::BvllFault;
 

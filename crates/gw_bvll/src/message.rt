@@ -1,20 +1,22 @@
 //! The messages of the virtual link layer (Annex J.2).
 
-ghost use Rattle.std.specs.Prelude.{◌≡◌};
+ghost use Rattle.std.specs.Prelude.{◌≡◌, ◌↔◌, IsTrue, option_map};
 
-use crate::bdt::BdtEntries;
-use crate::fdt::FdtEntries;
+use crate::entries::{BdtEntries, FdtEntries};
 use crate::function::Function;
 use gw_addr::BipAddr;
 
 /// The first octet of each message: BVLL for BACnet/IP.
 pub(crate) const MARKER: u8 = 0x81;
 
-/// The code of a BVLC-Result (Annex J.2.1). Each number of two octets is one; the named ones are those of the standard.
+/// The code of a BVLC-Result (Annex J.2.1). Each number of two octets is one; the named ones are
+/// those of the standard.
 #[derive(Clone, Copy, Debug, PartialEq, Eq)]
 pub struct ResultCode(pub u16);
 
 impl ResultCode {
+    ghost use Rattle.gw_bvll.specs.Bvll.{refusal, success};
+
     /// Successful completion.
     pub const SUCCESS: ResultCode = ResultCode(0x0000);
     /// Write-Broadcast-Distribution-Table NAK.
@@ -29,9 +31,33 @@ impl ResultCode {
     pub const DELETE_NAK: ResultCode = ResultCode(0x0050);
     /// Distribute-Broadcast-To-Network NAK.
     pub const DISTRIBUTE_NAK: ResultCode = ResultCode(0x0060);
+
+    /// The code by which what a function asks for is refused (Annex J.2.1), or `None` where it asks
+    /// for nothing.
+    pub fn refusal(function: Function) -> Option<ResultCode>
+        ensures { option_map (λ code. code.0) result ≡ refusal function }
+    {
+        match function {
+            Function::WriteBdt => Some(ResultCode::WRITE_BDT_NAK),
+            Function::ReadBdt => Some(ResultCode::READ_BDT_NAK),
+            Function::Register => Some(ResultCode::REGISTER_NAK),
+            Function::ReadFdt => Some(ResultCode::READ_FDT_NAK),
+            Function::Delete => Some(ResultCode::DELETE_NAK),
+            Function::Distribute => Some(ResultCode::DISTRIBUTE_NAK),
+            _ => None,
+        }
+    }
+
+    /// Whether what was asked for was done.
+    pub fn is_success(self) -> bool
+        ensures { IsTrue result ↔ (self.0 ≡ success) }
+    {
+        self == ResultCode::SUCCESS
+    }
 }
 
-/// A message of the virtual link layer, by its function. NPDUs and tables are lent from where they lie.
+/// A message of the virtual link layer, by its function. NPDUs and tables are lent from where they
+/// lie.
 ///
 /// ```text
 /// +----+----------+----+----+------ .. ------+

@@ -1,16 +1,20 @@
 //! Writing a message into a datagram (Annex J.2).
 
-ghost use Rattle.std.specs.Prelude.{◌≡◌, ◌++◌, ◌+◌, ◌∷◌, [], ◌<◌, ◌≤◌, ◌↔◌, ◌^◌, length, vec_len, IsOk, OnOk, OnErr};
+ghost use Rattle.std.specs.Prelude.{◌≡◌, ◌++◌, ◌+◌, ◌∷◌, ◌<◌, ◌≤◌, ◌↔◌, length, vec_len};
+ghost use Rattle.std.specs.Prelude.{IsOk, OnOk, OnErr};
 ghost use Rattle.std.specs.Vec.{vec_capacity};
 ghost use Rattle.std.specs.Int.{w16, to_be_bytes};
 ghost use Rattle.gw_addr.specs.Reading.{Keeps};
-ghost use Rattle.gw_bvll.specs.Bvll.{view, body_of, octet_of, function_of, spelling};
+ghost use Rattle.gw_bvll.specs.Bvll.{view, body_of, octet_of, function_of, encoding, IsValid};
 
 use crate::fault::EncodeFault;
+use crate::laws;
 use crate::message::{Bvll, MARKER};
+use gw_addr::{put_number, put_octet, put_slice};
 use std::alloc::AllocError;
 
-/// The most octets of a message: an NPDU of 1497 octets behind the ten of a Forwarded-NPDU.
+/// The most octets of a message, a rule of ours: an NPDU of 1497 octets behind the ten of a
+/// Forwarded-NPDU.
 pub const MAX_LEN: usize = 1507;
 
 /// How many octets the body of the message has.
@@ -34,47 +38,59 @@ fn body_len(message: &Bvll<'_>) -> usize
 fn put_body(message: &Bvll<'_>, out: &mut Vec<u8>) -> Result<(), AllocError>
     ensures ok { OnOk result (out.new.items ≡ out.old.items ++ body_of (view message.now)) }
     ensures front { Keeps out.old.items out.new.items }
-    ensures room { vec_len out.old + length (body_of (view message.now)) ≤ vec_capacity out.old → IsOk result }
+    ensures room { let body = body_of (view message.now) in
+        vec_len out.old + length body ≤ vec_capacity out.old → IsOk result }
+    ensures capacity { vec_capacity out.old ≤ vec_capacity out.new }
 {
     match message {
-        Bvll::Result(code) => out.extend_from_slice(&code.0.to_be_bytes()),
-        Bvll::WriteBdt(entries) | Bvll::ReadBdtAck(entries) => {
-            out.extend_from_slice(entries.as_octets())
-        }
-        Bvll::ReadFdtAck(entries) => out.extend_from_slice(entries.as_octets()),
+        Bvll::Result(code) => put_number(out, code.0),
+        Bvll::WriteBdt(entries) | Bvll::ReadBdtAck(entries) => put_slice(out, entries.as_octets()),
+        Bvll::ReadFdtAck(entries) => put_slice(out, entries.as_octets()),
         Bvll::ReadBdt | Bvll::ReadFdt => Ok(()),
-        Bvll::Register { time_to_live } => out.extend_from_slice(&time_to_live.to_be_bytes()),
-        Bvll::Delete(address) => out.extend_from_slice(&address.to_octets()),
+        Bvll::Register { time_to_live } => put_number(out, *time_to_live),
+        Bvll::Delete(address) => put_slice(out, &address.to_octets()),
         Bvll::Forwarded { originator, npdu } => {
-            out.extend_from_slice(&originator.to_octets())?;
-            out.extend_from_slice(npdu)
+            put_slice(out, &originator.to_octets())?;
+            put_slice(out, npdu)
         }
         Bvll::Distribute(npdu) | Bvll::OriginalUnicast(npdu) | Bvll::OriginalBroadcast(npdu) => {
-            out.extend_from_slice(npdu)
+            put_slice(out, npdu)
         }
     }
 }
 
 /// Appends the header, with the length of the whole message, and the body.
 fn put_message(message: &Bvll<'_>, len: u16, out: &mut Vec<u8>) -> Result<(), AllocError>
-    ensures ok { OnOk result (out.new.items ≡ out.old.items ++ (0x81 ∷ octet_of (function_of (view message.now)) ∷ to_be_bytes w16 len ++ body_of (view message.now))) }
+    ensures ok { let m = view message.now in
+        let header = 0x81 ∷ octet_of (function_of m) ∷ to_be_bytes w16 len in
+        OnOk result (out.new.items ≡ out.old.items ++ (header ++ body_of m)) }
     ensures front { Keeps out.old.items out.new.items }
-    ensures room { vec_len out.old + (4 + length (body_of (view message.now))) ≤ vec_capacity out.old → IsOk result }
+    ensures room { let body = body_of (view message.now) in
+        vec_len out.old + (4 + length body) ≤ vec_capacity out.old → IsOk result }
+    ensures capacity { vec_capacity out.old ≤ vec_capacity out.new }
 {
-    let [high, low] = len.to_be_bytes();
-    out.extend_from_slice(&[MARKER, message.function().octet(), high, low])?;
+    put_octet(out, MARKER)?;
+    put_octet(out, message.function().octet())?;
+    put_number(out, len)?;
     put_body(message, out)
 }
 
-/// Appends the octets of a message (Annex J.2). `TooLong` where they would be over 1507, and `Memory` where a growth of the buffer was
-/// refused. After a fault the buffer is as it was.
+/// Appends the octets of a message (Annex J.2). `TooLong` where they would be over 1507, and
+/// `Memory` where a growth of the buffer was refused. After a fault the buffer holds what it held,
+/// and no room is given back.
 pub fn encode(message: &Bvll<'_>, out: &mut Vec<u8>) -> Result<(), EncodeFault>
-    ensures ok { OnOk result (out.new.items ≡ out.old.items ++ spelling (view message.now)) }
-    ensures too_long { (result ≡ Err EncodeFault.TooLong) ↔ (MAX_LEN < length (spelling (view message.now))) }
+    ensures ok { OnOk result (out.new.items ≡ out.old.items ++ encoding (view message.now)) }
+    // What was written is read again: the message is a valid one.
+    ensures valid { OnOk result (IsValid (view message.now)) }
+    ensures too_long { let octets = encoding (view message.now) in
+        (result ≡ Err EncodeFault.TooLong) ↔ (1507 < length octets) }
     // Memory only where the buffer had no room for the message.
-    ensures memory { result ≡ Err EncodeFault.Memory → vec_capacity out.old < vec_len out.old + length (spelling (view message.now)) }
+    ensures memory { let octets = encoding (view message.now) in
+        result ≡ Err EncodeFault.Memory → vec_capacity out.old < vec_len out.old + length octets }
     ensures err { OnErr result (out.new.items ≡ out.old.items) }
+    ensures capacity { vec_capacity out.old ≤ vec_capacity out.new }
 {
+    laws::fields(message);
     let body = body_len(message);
     if body > MAX_LEN - 4 {
         return Err(EncodeFault::TooLong);

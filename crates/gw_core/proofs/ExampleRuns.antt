@@ -1,10 +1,9 @@
 -- The worked examples, computed.
 use Rattle.std.specs.Prelude.{⊤}
 use Rattle.std.proofs.Common.{refl}
-use Rattle.gw_bvll.specs.Bvll.{number_body, address_at, address_body, body_at, bvll_at}
 use Rattle.gw_tags.specs.Object.{object_octets, object_of}
-use Rattle.gw_tags.specs.Tag.{tag_number_at, length_at, kind_at, header_at, tag_at}
-use Rattle.gw_tags.specs.Value.{value_text}
+use Rattle.gw_tags.specs.Reading.{tag_number_at, length_at, kind_at, header_at, tag_at}
+use Rattle.gw_tags.specs.Value.{value_encoding}
 use Rattle.gw_rules.specs.Rule.{matches}
 use Rattle.gw_rules.specs.RuleList.{first, allows}
 use Rattle.gw_core.specs.Asks.{asks}
@@ -18,12 +17,12 @@ use Rattle.gw_core.specs.Examples.{ReadIsAnswered, HiddenReadIsDenied, LocalRead
 
 -- all that a frame runs through
 unfoldable frames : ⊤
-unfolding number_body address_at address_body body_at bvll_at npdu_of receive_on receive
+unfolding npdu_of receive_on receive
 frames = tt
 
 -- all that a read runs through
 unfoldable reads : ⊤
-unfolding object_octets object_of tag_number_at length_at kind_at header_at tag_at value_text request_of property_value read_value read_ack error_apdu
+unfolding object_octets object_of tag_number_at length_at kind_at header_at tag_at value_encoding request_of property_value read_value read_ack error_apdu
 reads = tt
 
 -- all that an event runs through

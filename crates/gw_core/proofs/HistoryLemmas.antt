@@ -1,7 +1,8 @@
 -- A history goes on by one event, and a list of events is history_after one after the other.
 use Rattle.std.proofs.Common.{◌≡◌, ℕ, ◌+◌, ◌-◌, ◌<◌, ◌≤◌, List, [], ◌∷◌, ◌++◌, length, get_or, take, drop, Some, refl, sym, ap, ◌∙◌, arith, add_assoc, add-zero, append_assoc}
 use Rattle.std.specs.Prelude.{map, slice_get}
-use Rattle.std.proofs.lemmas.List.{take_at, take-length}
+use Rattle.std.proofs.lemmas.List.{take_at}
+use Rattle.std.proofs.Math.Seq.{take-length}
 use Rattle.gw_addr.specs.declared.bip.BipAddr.{BipAddr}
 use Rattle.gw_core.specs.declared.effects.Effects.{Effects}
 use Rattle.gw_core.specs.declared.event.Counts.{Counts}

@@ -9,7 +9,8 @@ use Rattle.gw_rules.specs.RuleList.{allows}
 use Rattle.gw_tags.specs.declared.tag.Kind.TheVariants.{Length, Opening, Closing}
 use Rattle.gw_tags.specs.Tag.{canonical}
 use Rattle.gw_tags.specs.Object.{Object, object_octets}
-use Rattle.gw_tags.specs.Value.{enumerated, number_text, value_text}
+use Rattle.gw_tags.specs.Number.{unsigned_encoding}
+use Rattle.gw_tags.specs.Value.{enumerated, value_encoding}
 use Rattle.gw_core.specs.declared.device.Context.{Context}
 use Rattle.gw_core.specs.declared.dropped.Dropped.{Dropped}
 use Rattle.gw_core.specs.declared.dropped.Dropped.TheVariants.{Silently}
@@ -101,7 +102,7 @@ binary_value objects object =
 -- the octets of a property of a Binary Value: Present_Value, which is no array
 abbrev pub binary_value_property : ObjectState → ℕ → Option ℕ → Result (List ℕ) Failure
 binary_value_property object property None =
-    if property == present_value then Ok (value_text (enumerated (binary object.present_value))) else Err UnknownProperty
+    if property == present_value then Ok (value_encoding (enumerated (binary object.present_value))) else Err UnknownProperty
 binary_value_property object property (Some index) =
     if property == present_value then Err NotArray else Err UnknownProperty
 
@@ -121,8 +122,8 @@ read_value device rules objects context read =
     then property_value objects read.object read.property read.index else Err AccessDenied
 
 -- a content under the context tag of this number (clause 20.2.1)
-abbrev pub context_text : ℕ → List ℕ → List ℕ
-context_text number content =
+abbrev pub context_encoding : ℕ → List ℕ → List ℕ
+context_encoding number content =
     canonical (record { number = number; context = true; kind = Length (length content) }) ++ content
 
 abbrev pub opening : ℕ → List ℕ
@@ -134,7 +135,7 @@ closing number = canonical (record { number = number; context = true; kind = Clo
 -- the array index, where one was asked for
 abbrev pub index_part : Option ℕ → List ℕ
 index_part None = []
-index_part (Some index) = context_text 2 (number_text index)
+index_part (Some index) = context_encoding 2 (unsigned_encoding index)
 
 -- the PDU types of the answers, in the high four bits of an APDU's first octet (clause 20.1)
 abbrev pub complex_ack : ℕ
@@ -147,14 +148,14 @@ error_pdu = 0x50
 unfoldable pub read_ack : Read → List ℕ → List ℕ
 read_ack read value =
     complex_ack ∷ read.invoke ∷ read_property ∷ []
-    ++ context_text 0 (object_octets read.object) ++ context_text 1 (number_text read.property)
+    ++ context_encoding 0 (object_octets read.object) ++ context_encoding 1 (unsigned_encoding read.property)
     ++ index_part read.index ++ opening 3 ++ value ++ closing 3
 
 -- Error: the invoke id, the service, class and code (clause 20.1.7)
 unfoldable pub error_apdu : ℕ → ErrorCode → List ℕ
 error_apdu invoke error =
     error_pdu ∷ invoke ∷ read_property ∷ []
-    ++ value_text (enumerated error.class) ++ value_text (enumerated error.code)
+    ++ value_encoding (enumerated error.class) ++ value_encoding (enumerated error.code)
 
 -- the answer's octets
 abbrev pub read_answer : Read → Result (List ℕ) Failure → List ℕ

@@ -4,7 +4,8 @@ use Rattle.gw_addr.specs.Address.{big_endian}
 use Rattle.gw_addr.specs.Reading.{◌>>=◌, front_at}
 use Rattle.gw_tags.specs.declared.tag.Kind.{Kind}
 use Rattle.gw_tags.specs.declared.tag.Kind.TheVariants.{Length, Opening, Closing}
-use Rattle.gw_tags.specs.Tag.{Tag, tag_at}
+use Rattle.gw_tags.specs.Tag.{Tag}
+use Rattle.gw_tags.specs.Reading.{tag_at}
 use Rattle.gw_tags.specs.Object.{Object, object_of, object_view}
 use Rattle.gw_core.specs.declared.read.Read.{Read as ReadRequest}
 use Rattle.gw_core.specs.declared.dropped.Dropped.{Dropped}

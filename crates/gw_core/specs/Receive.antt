@@ -4,7 +4,8 @@ use Rattle.std.specs.List.{list_any}
 use Rattle.gw_addr.specs.declared.bip.BipAddr.{BipAddr}
 use Rattle.gw_addr.specs.declared.station.Source.{Source}
 use Rattle.gw_addr.specs.Address.{octets_of, big_endian}
-use Rattle.gw_bvll.specs.Bvll.{bvll_at, write_bdt, read_bdt, register, read_fdt, delete, distribute, original_unicast, original_broadcast}
+use Rattle.gw_bvll.specs.Reading.{bvll_at}
+use Rattle.gw_bvll.specs.Bvll.{write_bdt, read_bdt, register, read_fdt, delete, distribute, original_unicast, original_broadcast}
 use Rattle.gw_bvll.specs.Bvll.{Message as Frame}
 use Rattle.gw_npdu.specs.Npdu.{Fields, Address}
 use Rattle.gw_npdu.specs.Reading.{npdu_at}

@@ -96,14 +96,14 @@ is_local_broadcast request answer = answer.broadcast && not (is_some request.sou
 
 -- an NPDU to one address
 abbrev pub unicast : ℕ → BipAddr → List ℕ → Sending
-unicast port to octets = record { port = port; to = to; octets = bvll.spelling (original_unicast octets) }
+unicast port to octets = record { port = port; to = to; octets = bvll.encoding (original_unicast octets) }
 
 -- an NPDU to everyone on a port's network
 abbrev pub broadcast_on : ℕ → Port → List ℕ → Sending
 broadcast_on number port octets = record {
   port = number;
   to = port.broadcast;
-  octets = bvll.spelling (original_broadcast octets);
+  octets = bvll.encoding (original_broadcast octets);
 }
 
 abbrev pub reply_sending : Message → Answer → List ℕ → Sending

@@ -2,8 +2,7 @@
 use Rattle.std.specs.Prelude.{ℕ, List, Result, Ok, Err}
 use Rattle.gw_bvll.specs.Bvll.{view as frame_view}
 use Rattle.gw_npdu.specs.Npdu.{view as npdu_view}
-use Rattle.gw_tags.specs.declared.value.AppValue.{AppValue}
-use Rattle.gw_tags.specs.Value.{value_text, value_view}
+use Rattle.gw_tags.specs.Value.{enumerated, value_encoding}
 use Rattle.gw_core.specs.declared.apdu.Answer.{Answer as OwnedAnswer}
 use Rattle.gw_core.specs.declared.failure.Failure.{Failure}
 use Rattle.gw_core.specs.declared.message.Message.{Message as LentMessage}
@@ -24,10 +23,11 @@ received_view (lent.Message m) = message (message_view m)
 abbrev pub answer_view : OwnedAnswer → Answer
 answer_view a = record { apdu = a.apdu; broadcast = a.broadcast }
 
-abbrev pub value_octets : AppValue → List ℕ
-value_octets value = value_text (value_view value)
+-- the octets of an enumeration of this number
+abbrev pub enumeration : ℕ → List ℕ
+enumeration number = value_encoding (enumerated number)
 
 -- what a property reads as, in octets
-abbrev pub octets_of : Result AppValue Failure → Result (List ℕ) Failure
-octets_of (Ok value) = Ok (value_octets value)
+abbrev pub octets_of : Result ℕ Failure → Result (List ℕ) Failure
+octets_of (Ok number) = Ok (enumeration number)
 octets_of (Err failure) = Err failure

@@ -2,11 +2,11 @@
 
 ghost use Rattle.std.specs.Prelude.{◌≡◌, ◌<◌, ◌≤◌, ◌^◌, ◌++◌, true, length, OnOk};
 ghost use Rattle.gw_tags.specs.Tag.{canonical};
-ghost use Rattle.gw_tags.specs.Value.{number_text, octet_count};
-ghost use Rattle.gw_core.specs.Device.{context_text, error_apdu, index_part, read_ack, read_answer};
+ghost use Rattle.gw_tags.specs.Number.{unsigned_encoding, octet_count};
+ghost use Rattle.gw_core.specs.Device.{context_encoding, error_apdu, index_part, read_ack, read_answer};
 ghost use Rattle.gw_core.specs.Failure.{error_of};
 ghost use Rattle.gw_core.specs.Read.{read_of};
-ghost use Rattle.gw_core.specs.View.{octets_of, value_octets};
+ghost use Rattle.gw_core.specs.View.{enumeration, octets_of};
 
 use crate::failure::Failure;
 use crate::octets::Octets;
@@ -31,7 +31,7 @@ const ERROR: u8 = 0x50;
 fn put_context(out: &mut Vec<u8>, number: u8, content: &[u8]) -> Result<(), AllocError>
     requires numbered { number < 255 }
     requires fits { length content.now < 2 ^ 32 }
-    ensures { OnOk result (out.new.items ≡ out.old.items ++ context_text number content.now) }
+    ensures { OnOk result (out.new.items ≡ out.old.items ++ context_encoding number content.now) }
 {
     let tag = Tag {
         number,
@@ -71,7 +71,7 @@ fn number_len(number: u32) -> usize
 
 fn put_number(out: &mut Vec<u8>, tag: u8, number: u32) -> Result<(), AllocError>
     requires { tag < 255 }
-    ensures { OnOk result (out.new.items ≡ out.old.items ++ context_text tag (number_text number)) }
+    ensures { OnOk result (out.new.items ≡ out.old.items ++ context_encoding tag (unsigned_encoding number)) }
 {
     let octets = number.to_be_bytes();
     put_context(out, tag, &octets[4 - number_len(number)..])
@@ -87,15 +87,15 @@ fn put_index(out: &mut Vec<u8>, index: Option<u32>) -> Result<(), AllocError>
 }
 
 #[tactic(auto, unfolding(crate::specs::Device::read_ack))]
-fn put_read_ack(out: &mut Vec<u8>, read: &Read, value: AppValue) -> Result<(), AllocError>
-    ensures { OnOk result (out.new.items ≡ out.old.items ++ read_ack (read_of read.now) (value_octets value)) }
+fn put_read_ack(out: &mut Vec<u8>, read: &Read, value: u32) -> Result<(), AllocError>
+    ensures { OnOk result (out.new.items ≡ out.old.items ++ read_ack (read_of read.now) (enumeration value)) }
 {
     out.extend_from_slice(&[COMPLEX_ACK, read.invoke, READ_PROPERTY])?;
     put_context(out, 0, &read.object.to_octets())?;
     put_number(out, 1, read.property)?;
     put_index(out, read.index)?;
     put_list_tag(out, 3, Kind::Opening)?;
-    write_value(out, value)?;
+    write_value(out, AppValue::Enumerated(value))?;
     put_list_tag(out, 3, Kind::Closing)
 }
 
@@ -112,7 +112,7 @@ fn put_error(out: &mut Vec<u8>, invoke: u8, failure: Failure) -> Result<(), Allo
 pub fn put_read_answer(
     out: &mut Vec<u8>,
     read: &Read,
-    value: Result<AppValue, Failure>,
+    value: Result<u32, Failure>,
 ) -> Result<(), AllocError>
     ensures { OnOk result (out.new.items ≡ out.old.items ++ read_answer (read_of read.now) (octets_of value)) }
 {

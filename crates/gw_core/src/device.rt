@@ -19,7 +19,7 @@ use crate::object::ObjectState;
 use crate::octets::Octets;
 use crate::read::{READ_PROPERTY, Read, read_request};
 use gw_rules::{Ask, Authorizer, Judge, Operation};
-use gw_tags::{AppValue, ObjectId};
+use gw_tags::ObjectId;
 use std::alloc::{AllocError, Global};
 
 /// What the device knows of a request beside its octets.
@@ -101,26 +101,26 @@ fn of_instance(objects: &[ObjectState], instance: u32) -> Option<ObjectState>
     objects.iter().copied().find(|o| o.instance == instance)
 }
 
-/// What a property of a Binary Value reads as.
+/// What a property of a Binary Value reads as, an enumeration by its number.
 fn binary_value_property(
     object: ObjectState,
     property: u32,
     index: Option<u32>,
-) -> Result<AppValue, Failure>
+) -> Result<u32, Failure>
     ensures { octets_of result ≡ binary_value_property object property index }
 {
     if property != PRESENT_VALUE {
         return Err(Failure::UnknownProperty);
     }
     match index {
-        None => Ok(AppValue::Enumerated(u32::from(object.present_value))),
+        None => Ok(u32::from(object.present_value)),
         Some(_) => Err(Failure::NotArray),
     }
 }
 
-/// What a property reads as.
+/// What a property reads as, an enumeration by its number.
 #[tactic(auto, unfolding(crate::specs::Device::property_value))]
-fn property_value(objects: &[ObjectState], read: &Read) -> Result<AppValue, Failure>
+fn property_value(objects: &[ObjectState], read: &Read) -> Result<u32, Failure>
     ensures { let read = read_of read.now in octets_of result ≡ property_value objects.now read.object read.property read.index }
 {
     match find_binary_value(objects, read.object) {
@@ -137,7 +137,7 @@ fn read_value<J: Judge>(
     authorizer: &mut Authorizer<'_, J>,
     context: &Context,
     read: &Read,
-) -> Result<Result<AppValue, Failure>, AllocError>
+) -> Result<Result<u32, Failure>, AllocError>
     ensures value { (rules : List Rule) → J.StandsFor authorizer.old.judge rules →
         IfOk result (λ value. octets_of value ≡ read_value device rules objects.now context.now (read_of read.now)) }
     ensures denied { (rules : List Rule) → J.StandsFor authorizer.old.judge rules →

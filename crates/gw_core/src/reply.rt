@@ -2,7 +2,7 @@
 
 ghost use Rattle.std.specs.Prelude.{◌≡◌, ◌≤◌, [], ◌∷◌, length, is_some, ◌&&◌, not, IfOk, IfSome, IsOk, None};
 ghost use Rattle.std.specs.Option.{option_map};
-ghost use Rattle.gw_bvll.specs.Bvll.{spelling, original_broadcast, original_unicast, view as frame_view};
+ghost use Rattle.gw_bvll.specs.Bvll.{encoding, original_broadcast, original_unicast, view as frame_view};
 ghost use Rattle.gw_core.specs.Effects.{answer_sends};
 ghost use Rattle.gw_npdu.specs.Npdu.{destination_view, payload_view, address_view, view as npdu_view};
 ghost use Rattle.gw_core.specs.Reply.{apdu_for, apdu_of, context_of, goes_to_all, is_broadcast, is_device, is_local_broadcast, reply_npdu, reply_sending, reply_sends, mac_back, way_back, within};
@@ -100,22 +100,22 @@ fn octets_within(alloc: Global, npdu: &Npdu<'_>) -> Result<Option<Octets>, Alloc
 
 fn original_unicast(alloc: Global, npdu: &[u8]) -> Result<Octets, AllocError>
     requires { length npdu.now ≤ 1497 }
-    ensures { IfOk result (λ octets. octets ≡ spelling (original_unicast npdu.now)) }
+    ensures { IfOk result (λ octets. octets ≡ encoding (original_unicast npdu.now)) }
 {
     datagram_of(alloc, &Bvll::OriginalUnicast(npdu))
 }
 
 fn original_broadcast(alloc: Global, npdu: &[u8]) -> Result<Octets, AllocError>
     requires { length npdu.now ≤ 1497 }
-    ensures { IfOk result (λ octets. octets ≡ spelling (original_broadcast npdu.now)) }
+    ensures { IfOk result (λ octets. octets ≡ encoding (original_broadcast npdu.now)) }
 {
     datagram_of(alloc, &Bvll::OriginalBroadcast(npdu))
 }
 
 /// The octets of a frame whose NPDU is within its length.
 fn datagram_of(alloc: Global, frame: &Bvll<'_>) -> Result<Octets, AllocError>
-    requires { length (spelling (frame_view frame.now)) ≤ 1507 }
-    ensures { IfOk result (λ octets. octets ≡ spelling (frame_view frame.now)) }
+    requires { length (encoding (frame_view frame.now)) ≤ 1507 }
+    ensures { IfOk result (λ octets. octets ≡ encoding (frame_view frame.now)) }
 {
     let mut octets = Vec::with_capacity(alloc, REPLY_LEN)?;
     match gw_bvll::encode(frame, &mut octets) {

@@ -58,16 +58,16 @@ module _ (h : History) (n : ℕ) (r : Route) where
       by b e None s further_on = absurd (true≢false (sym a.0 ∙ ap is_some s))
       by true e (Some route) s further_on =
           let apart : AllByRecursion (λ x. nat_eq n x ≡ false) nets =
-              subst (λ k. AllByRecursion (λ x. nat_eq k x ≡ false) nets) (sym (equal_of n m e)) (IsDistinct-head nat_eq m nets d) in
+          subst (λ k. AllByRecursion (λ x. nat_eq k x ≡ false) nets) (sym (equal_of n m e)) (IsDistinct-head nat_eq m nets d) in
           ap (filter_map (last_learning ((n, r) ∷ h))) (there nets m e)
           ∙ (λ j. cons_option (newest m e j) (others nets apart j))
           ∙ sym (ap (λ o. insert_entry nat_eq (cons_option o (filter_map (last_learning h) nets)) n r) (learned route s)
-              ∙ ap (λ b. if b then (m, r) ∷ filter_map (last_learning h) nets else (m, route) ∷ insert_entry nat_eq (filter_map (last_learning h) nets) n r) e)
+          ∙ ap (λ b. if b then (m, r) ∷ filter_map (last_learning h) nets else (m, route) ∷ insert_entry nat_eq (filter_map (last_learning h) nets) n r) e)
       by false e (Some route) s further_on =
           ap (filter_map (last_learning ((n, r) ∷ h))) (further nets m e)
           ∙ (λ j. cons_option ((other m e ∙ learned route s) j) (further_on j))
           ∙ sym (ap (λ o. insert_entry nat_eq (cons_option o (filter_map (last_learning h) nets)) n r) (learned route s)
-              ∙ ap (λ b. if b then (m, r) ∷ filter_map (last_learning h) nets else (m, route) ∷ insert_entry nat_eq (filter_map (last_learning h) nets) n r) e)
+          ∙ ap (λ b. if b then (m, r) ∷ filter_map (last_learning h) nets else (m, route) ∷ insert_entry nat_eq (filter_map (last_learning h) nets) n r) e)
 
 -- the networks of a history are each there once
 pub learned_once : (h : History) → IsDistinct nat_eq (networks_learned h)

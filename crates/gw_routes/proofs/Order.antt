@@ -31,7 +31,7 @@ joined : (front routes : Routed) → IsDistinct nat_eq (keys_of (front ++ routes
 joined front [] d = sym (append-nil front)
 joined front (e ∷ routes) d =
     let last : insert_entry nat_eq front e.0 e.1 ≡ front ++ e ∷ [] =
-        insert_entry-absent nat_eq e.0 e.1 front (absent_from_lookup (nat_eq e.0) front (absent_before nat_eq_equiv front routes e d)) in
+    insert_entry-absent nat_eq e.0 e.1 front (absent_from_lookup (nat_eq e.0) front (absent_before nat_eq_equiv front routes e d)) in
     let regrouped : (front ++ e ∷ []) ++ routes ≡ front ++ e ∷ routes = append_assoc front (e ∷ []) routes in
     ap (λ es. insert_all nat_eq es routes) last
     ∙ joined (front ++ e ∷ []) routes (subst (λ es. IsDistinct nat_eq (keys_of es)) (sym regrouped) d)

@@ -32,7 +32,7 @@ length-insert_entry (e ∷ es) n r = by (nat_eq n e.0) (length-insert_entry es n
   where
     by : (b : Bool) → length (insert_entry nat_eq es n r) ≡ length es + (if is_some (lookup (nat_eq n) es) then 0 else 1)
         → length (if b then (e.0, r) ∷ es else e ∷ insert_entry nat_eq es n r)
-            ≡ length (e ∷ es) + (if is_some (cond b (Some e.1) (lookup (nat_eq n) es)) then 0 else 1)
+        ≡ length (e ∷ es) + (if is_some (cond b (Some e.1) (lookup (nat_eq n) es)) then 0 else 1)
     by true ih = omega arith
     by false ih = omega (arith, ih)
 
@@ -59,14 +59,14 @@ module _ (t : Table) (n : ℕ) (r : Route) where
       let parts = and_parts (not (is_fixed t m)) (not (is_learned (with_learned t n r) m)) h in
       let not_then : is_learned (with_learned t n r) m ≡ false = not-true _ parts.1 in
       let not_before : is_learned t m ≡ false =
-          false_from_ne_true _ (λ e. true≢false (sym (still_learned t.learned n r m e) ∙ not_then)) in
+      false_from_ne_true _ (λ e. true≢false (sym (still_learned t.learned n r m e) ∙ not_then)) in
       and_from (not (is_fixed t m)) (not (is_learned t m)) parts.0 (ap not not_before)
 
   -- the room that a list needs is what its first network takes and what the others need then
   pub growth_step : (nets : List ℕ) → growth (with_granted t n r) nets + places t n ≤ growth t (n ∷ nets)
   growth_step nets =
       subst (λ c. growth (with_granted t n r) nets + places t n ≤ min c (MAX_ROUTES - routes_held t)) (sym (count_by-cons (is_new t) n nets))
-          (by (is_fixed t n) (is_learned t n) refl (nat_lt (routes_held t) MAX_ROUTES) refl)
+      (by (is_fixed t n) (is_learned t n) refl (nat_lt (routes_held t) MAX_ROUTES) refl)
     where
       u : Table
       u = with_learned t n r
@@ -79,7 +79,7 @@ module _ (t : Table) (n : ℕ) (r : Route) where
 
       by : (f l : Bool) → is_learned t n ≡ l → (b : Bool) → nat_lt (routes_held t) MAX_ROUTES ≡ b
           → growth (if not f && (l || b) then with_learned t n r else t) nets + (if (not f && (l || b)) && not l then 1 else 0)
-              ≤ min (cond (not f && not l) 1 0 + count_by (is_new t) nets) (MAX_ROUTES - routes_held t)
+          ≤ min (cond (not f && not l) 1 0 + count_by (is_new t) nets) (MAX_ROUTES - routes_held t)
       by true l e b k = omega arith
       by false true e b k =
           let rows : length (insert_entry nat_eq t.learned n r) ≡ length t.learned + 0 = held ∙ ap (λ x. length t.learned + (if x then 0 else 1)) e in
@@ -95,7 +95,7 @@ pub room_left : (t u : Table) (n : ℕ) (r : Route) (nets left : List ℕ) → n
     → growth u left + places t n ≤ growth t nets
 room_left t u n r nets left e s =
     subst (λ ns. growth u left + places t n ≤ growth t ns) (sym e)
-        (subst (λ w. growth w left + places t n ≤ growth t (n ∷ left)) (sym s) (growth_step t n r left))
+    (subst (λ w. growth w left + places t n ≤ growth t (n ∷ left)) (sym s) (growth_step t n r left))
 
 pub rows_left : (t u : Table) (n : ℕ) (r : Route) (nets left : List ℕ) → nets ≡ n ∷ left → u ≡ with_granted t n r
     → with_each u left r ≡ with_each t nets r

@@ -76,15 +76,15 @@ lookup-insert_entry (e ∷ es) n r m = by (nat_eq n e.0) refl (lookup-insert_ent
     by : (b : Bool) → nat_eq n e.0 ≡ b
         → lookup (nat_eq m) (insert_entry nat_eq es n r) ≡ cond (nat_eq m n) (Some r) (lookup (nat_eq m) es)
         → lookup (nat_eq m) (if b then (e.0, r) ∷ es else e ∷ insert_entry nat_eq es n r)
-            ≡ cond (nat_eq m n) (Some r) (cond (nat_eq m e.0) (Some e.1) (lookup (nat_eq m) es))
+        ≡ cond (nat_eq m n) (Some r) (cond (nat_eq m e.0) (Some e.1) (lookup (nat_eq m) es))
     by true q ih =
         over (nat_eq m e.0) (Some e.1) (lookup (nat_eq m) es)
         ∙ ap (λ k. cond (nat_eq m k) (Some r) (cond (nat_eq m e.0) (Some e.1) (lookup (nat_eq m) es))) (sym (equal_of n e.0 q))
     by false q ih =
         ap (cond (nat_eq m e.0) (Some e.1)) ih
         ∙ crossed (nat_eq m e.0) (nat_eq m n)
-            (λ a b. sym (ap (λ k. nat_eq k e.0) (sym (equal_of m n b)) ∙ a) ∙ q)
-            (Some e.1) (lookup (nat_eq m) es)
+        (λ a b. sym (ap (λ k. nat_eq k e.0) (sym (equal_of m n b)) ∙ a) ∙ q)
+        (Some e.1) (lookup (nat_eq m) es)
 
 pub last_learning_holds : (h : History) (m : ℕ) → route_of (learned_after h) m ≡ route_of h m
 unfolding learned_after networks_learned
@@ -102,7 +102,7 @@ fixed_network direct configured learned n h = by (position (nat_eq n) direct) (r
   where
     by : (place : Option ℕ) (route : Option Route) → is_some place || is_some route ≡ true
         → option_map_or (direct_way direct) place (option_map_or Router route (option_map_or Router (route_of learned n) Unknown))
-            ≡ option_map_or (direct_way direct) place (option_map_or Router route (option_map_or Router (route_of [] n) Unknown))
+        ≡ option_map_or (direct_way direct) place (option_map_or Router route (option_map_or Router (route_of [] n) Unknown))
     by (Some place) route h = refl
     by None (Some route) h = refl
     by None None h = absurd (true≢false (sym h))
@@ -113,7 +113,7 @@ fixed_ways_stay direct configured learned n h = by (n == EVERYWHERE) (is_network
   where
     by : (a b : Bool)
         → (if a then Everywhere else option_map_or (network_way (table_of direct configured learned)) (if b then Some n else None) Unknown)
-            ≡ (if a then Everywhere else option_map_or (network_way (table_of direct configured [])) (if b then Some n else None) Unknown)
+        ≡ (if a then Everywhere else option_map_or (network_way (table_of direct configured [])) (if b then Some n else None) Unknown)
     by true b = refl
     by false true = fixed_network direct configured learned n h
     by false false = refl

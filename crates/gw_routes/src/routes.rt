@@ -135,16 +135,11 @@ impl Routes {
     /// router there (clause 6.6). One that is fixed or finds the table full is passed over (our
     /// own rule). The only fault is want of memory for those that are new; then nothing changed,
     /// so all are learned or none.
-    pub fn learn_all(
-        &mut self,
-        nets: &[NetNum],
-        port: u8,
-        next: BipAddr,
-    ) -> Result<(), AllocError>
+    pub fn learn_all(&mut self, nets: &[NetNum], port: u8, next: BipAddr) -> Result<(), AllocError>
         ensures rows { OnOk result (self.new ≡ with_each self.old nets.now (route_by port next)) }
         ensures stands { OnOk result ((direct : List ℕ) (configured : Routed) (h : History) →
             IsStateAfter self.old direct configured h → IsStateAfter self.new direct configured
-                (history_with self.old nets.now (route_by port next) h)) }
+            (history_with self.old nets.now (route_by port next) h)) }
         // Where none is new, or the table is full, there is no growth.
         ensures no_growth { growth self.old nets.now ≡ 0 → IsOk result }
         ensures err { OnErr result (self.new ≡ self.old) }

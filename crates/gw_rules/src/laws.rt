@@ -54,7 +54,7 @@ pub fn refusals()
         map (λ r. r.ask) (denied_of rules asks) ≡ filter (λ ask. not (allows rules ask)) asks }
     ensures by { (rules : List Rule) (asks : List Ask) →
         map (λ r. r.by) (denied_of rules asks)
-            ≡ map (λ r. first rules r.ask) (denied_of rules asks) }
+        ≡ map (λ r. first rules r.ask) (denied_of rules asks) }
     ensures joined { (rules : List Rule) (asks more : List Ask) →
         denied_of rules (asks ++ more) ≡ denied_of rules asks ++ denied_of rules more }
 {}

@@ -8,8 +8,10 @@ use Rattle.gw_addr.specs.declared.bip.BipAddr.{BipAddr}
 use Rattle.gw_addr.specs.Address.{text_of}
 use Rattle.gw_addr.proofs.Addresses.{same_texts}
 use Rattle.gw_script.specs.Event.{Event, Datagram, Tick}
-use Rattle.gw_script.specs.Script.{lines_of, Lacks, IsLine, AreLines, Writes, WritesOctets}
-use Rattle.gw_script.proofs.SearchLemmas.{same_split, address_lacks}
+use Rattle.gw_script.specs.Script.{lines_of, IsLine, AreLines, Writes, WritesOctets}
+use Rattle.gw_addr.specs.Text.{Lacks}
+use Rattle.gw_script.proofs.SearchLemmas.{no_space}
+use Rattle.gw_addr.proofs.Lacking.{same_split}
 use Rattle.gw_script.proofs.LineLemmas.{lines_of-line, lines_of-last, lines_of-nil}
 
 no_digits : (octets : List ℕ) → decode_of (45 ∷ []) ≡ Ok octets → ⊥
@@ -38,7 +40,7 @@ same_event ports line (Datagram port from octets) (Datagram other sender others)
     let spelled : (48 + port) ∷ 32 ∷ (text_of from ++ 32 ∷ h.written) ≡ (48 + other) ∷ 32 ∷ (text_of sender ++ 32 ∷ k.written) = sym h.spelled ∙ k.spelled in
     let heads : 48 + port ≡ 48 + other = ap (λ (l : List ℕ). get_or l 0 0) spelled in
     let tails : text_of from ++ 32 ∷ h.written ≡ text_of sender ++ 32 ∷ k.written = ap (λ (l : List ℕ). drop 2 l) spelled in
-    let parts = same_split 32 (text_of from) (text_of sender) h.written k.written (address_lacks from h.address) (address_lacks sender k.address) tails in
+    let parts = same_split 32 (text_of from) (text_of sender) h.written k.written (no_space from h.address) (no_space sender k.address) tails in
     let same_port : port ≡ other = omega (arith, heads) in
     same_datagram port other from sender octets others same_port (same_texts from sender h.address k.address parts.0)
     (same_octets k.written octets others (subst (λ (t : List ℕ). WritesOctets t octets) parts.1 h.writes) k.writes)

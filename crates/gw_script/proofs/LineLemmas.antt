@@ -3,7 +3,8 @@ use Rattle.std.proofs.Common.{◌≡◌, ◌≢◌, ℕ, suc, ◌+◌, ◌<◌, 
 use Rattle.std.proofs.lemmas.List.{length-take-le, length-append}
 use Rattle.std.proofs.lemmas.Bool.Decides.{nat_tests}
 use Rattle.memchr.specs.Find.{IsFirstByte, is_byte}
-use Rattle.gw_script.specs.Script.{lines_of, onto_first, Lacks}
+use Rattle.gw_script.specs.Script.{lines_of, onto_first}
+use Rattle.gw_addr.specs.Text.{Lacks}
 use Rattle.gw_script.specs.Reader.{BeginsLong}
 use Rattle.gw_script.proofs.SearchLemmas.{found_parts}
 

@@ -1,13 +1,9 @@
 -- A script: the text of a list of events, a line for each.
-use Rattle.std.specs.Prelude.{◌≡◌, ◌≢◌, ℕ, ◌+◌, ◌<◌, ◌≤◌, slice_index, List, [], ◌∷◌, ◌++◌, length, codes, Ok, ⊤, ◌==◌, ◌⊎◌, if◌then◌else◌}
+use Rattle.std.specs.Prelude.{◌≡◌, ℕ, ◌+◌, ◌≤◌, List, [], ◌∷◌, ◌++◌, length, codes, Ok, ⊤, ◌==◌, ◌⊎◌, if◌then◌else◌}
 use Rattle.hex.specs.Hex.{decode_of}
 use Rattle.gw_addr.specs.declared.bip.BipAddr.{BipAddr}
 use Rattle.gw_addr.specs.Address.{IsAddress, text_of}
 use Rattle.gw_script.specs.Event.{Event, Datagram, Tick}
-
--- the character stands nowhere in the text
-abbrev pub Lacks : ℕ → List ℕ → Type 0
-Lacks c text = (i : ℕ) → i < length text → slice_index text i ≢ c
 
 -- a character in front of the first line
 abbrev pub onto_first : ℕ → List (List ℕ) → List (List ℕ)

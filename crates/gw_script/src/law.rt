@@ -3,7 +3,8 @@
 ghost use Rattle.std.specs.Prelude.{◌≡◌, ◌≤◌, ◌++◌, ◌∷◌, ℕ, List, [], length};
 ghost use Rattle.std.specs.List.{AllByRecursion, flat_map};
 ghost use Rattle.gw_script.specs.Event.{Event};
-ghost use Rattle.gw_script.specs.Script.{AreLines, IsLine, Lacks, lines_of};
+ghost use Rattle.gw_script.specs.Script.{AreLines, IsLine, lines_of};
+ghost use Rattle.gw_addr.specs.Text.{Lacks};
 
 /// What holds of all scripts: a line writes one event at most, so the events of a script are the only ones; the lines that end at a
 /// line feed are the lines of the text that they make, and a last line may lack its line feed.

@@ -4,7 +4,8 @@ ghost use Rattle.std.specs.Prelude.{◌≡◌, ◌≢◌, ◌+◌, ◌≤◌, �
 ghost use Rattle.gw_addr.specs.declared.bip.BipAddr.{BipAddr};
 ghost use Rattle.gw_addr.specs.Address.{IsAddress, text_of};
 ghost use Rattle.gw_script.specs.Event.{Event as PlainEvent, IsOnPort, event_view};
-ghost use Rattle.gw_script.specs.Script.{IsLine, Lacks, Writes, WritesDatagram, WritesOctets};
+ghost use Rattle.gw_script.specs.Script.{IsLine, Writes, WritesDatagram, WritesOctets};
+ghost use Rattle.gw_addr.specs.Text.{Lacks};
 
 use crate::event::Event;
 use gw_addr::BipAddr;

@@ -2,7 +2,7 @@
 
 ghost use Rattle.std.specs.Prelude.{◌≡◌, ◌+◌, ◌-◌, ◌≤◌, ◌<◌, ℕ, List, [], length, slice_range, take, drop, IsOk, OnErr, IfOk, IfSome, IsNone};
 ghost use Rattle.std.specs.Io.KnownBytes.{Keeps, IsAtEnd, prepend_known};
-ghost use Rattle.gw_script.specs.Script.{Lacks};
+ghost use Rattle.gw_addr.specs.Text.{Lacks};
 ghost use Rattle.gw_script.specs.Reader.{IsGiven, IsNextLine, IsPaid, IsWithin};
 
 use crate::source::{OctetSource, ReadFailed};

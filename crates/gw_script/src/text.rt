@@ -1,13 +1,13 @@
 //! The pieces of the text that a replay writes, each appended to a buffer.
 
-ghost use Rattle.std.specs.Prelude.{◌≡◌, ◌+◌, ◌≤◌, ◌++◌, ◌∷◌, [], length, IsOk, OnOk, OnErr, vec_len, vec_capacity};
+ghost use Rattle.std.specs.Prelude.{◌≡◌, ◌+◌, ◌≤◌, ◌++◌, length, IsOk, OnOk, OnErr, vec_len, vec_capacity};
 ghost use Rattle.std.specs.Fmt.{decimal};
 ghost use Rattle.hex.specs.Hex.{encode_upper};
-ghost use Rattle.gw_addr.specs.Address.{text_of};
 ghost use Rattle.gw_addr.specs.Reading.{Keeps};
 ghost use Rattle.gw_script.specs.Text.{end_line, send_head, send_line};
 
-use gw_addr::BipAddr;
+use gw_addr::{BipAddr, put_octet, put_slice};
+use itoa::Buffer;
 use std::alloc::AllocError;
 
 const DIGITS: &[u8; 16] = b"0123456789ABCDEF";
@@ -52,7 +52,7 @@ fn put_send(out: &mut Vec<u8>, port: u8, to: BipAddr, octets: &[u8]) -> Result<(
 {
     put_head(out, port, to)?;
     put_octets(out, octets)?;
-    out.extend_from_slice(b"\n")
+    put_octet(out, b'\n')
 }
 
 /// Appends what stands before the octets in the line of a datagram that is sent.
@@ -62,60 +62,21 @@ fn put_head(out: &mut Vec<u8>, port: u8, to: BipAddr) -> Result<(), AllocError>
     ensures front { Keeps out.old.items out.new.items }
     ensures capacity { vec_capacity out.old ≤ vec_capacity out.new }
 {
-    out.extend_from_slice(b"send ")?;
-    put_number(out, u16::from(port), b' ')?;
-    put_address(out, to)?;
-    out.extend_from_slice(b" ")
+    put_slice(out, b"send ")?;
+    put_decimal(out, u64::from(port))?;
+    put_octet(out, b' ')?;
+    to.put_text(out)?;
+    put_octet(out, b' ')
 }
 
-/// Appends an address.
-fn put_address(out: &mut Vec<u8>, address: BipAddr) -> Result<(), AllocError>
-    ensures ok { OnOk result (out.new.items ≡ out.old.items ++ text_of address) }
-    ensures room { vec_len out.old + length (text_of address) ≤ vec_capacity out.old → IsOk result }
-    ensures front { Keeps out.old.items out.new.items }
-    ensures capacity { vec_capacity out.old ≤ vec_capacity out.new }
-{
-    let [a, b, c, d] = address.ip;
-    put_pair(out, a, b'.', b, b'.')?;
-    put_pair(out, c, b'.', d, b':')?;
-    put_decimal(out, address.udp)
-}
-
-/// Appends two numbers in decimal digits, each with what stands behind it.
-fn put_pair(out: &mut Vec<u8>, first: u8, middle: u8, last: u8, end: u8) -> Result<(), AllocError>
-    ensures ok { OnOk result (out.new.items ≡ out.old.items ++ (decimal first ++ middle ∷ (decimal last ++ end ∷ []))) }
-    ensures room { vec_len out.old + (length (decimal first) + 1 + (length (decimal last) + 1)) ≤ vec_capacity out.old → IsOk result }
-    ensures front { Keeps out.old.items out.new.items }
-    ensures capacity { vec_capacity out.old ≤ vec_capacity out.new }
-{
-    put_number(out, u16::from(first), middle)?;
-    put_number(out, u16::from(last), end)
-}
-
-/// Appends a number in decimal digits, and what stands behind it.
-fn put_number(out: &mut Vec<u8>, number: u16, behind: u8) -> Result<(), AllocError>
-    ensures ok { OnOk result (out.new.items ≡ out.old.items ++ (decimal number ++ behind ∷ [])) }
-    ensures room { vec_len out.old + (length (decimal number) + 1) ≤ vec_capacity out.old → IsOk result }
-    ensures front { Keeps out.old.items out.new.items }
-    ensures capacity { vec_capacity out.old ≤ vec_capacity out.new }
-{
-    put_decimal(out, number)?;
-    out.extend_from_slice(&[behind])
-}
-
-/// Appends a number in decimal digits.
-#[tactic(auto, using(crate::proofs::DigitLemmas::decimal_one))]
-fn put_decimal(out: &mut Vec<u8>, number: u16) -> Result<(), AllocError>
+/// Appends the decimal digits of a number.
+fn put_decimal(out: &mut Vec<u8>, number: u64) -> Result<(), AllocError>
     ensures ok { OnOk result (out.new.items ≡ out.old.items ++ decimal number) }
     ensures room { vec_len out.old + length (decimal number) ≤ vec_capacity out.old → IsOk result }
     ensures front { Keeps out.old.items out.new.items }
     ensures capacity { vec_capacity out.old ≤ vec_capacity out.new }
 {
-    if number < 10 {
-        return out.extend_from_slice(&[b'0' + number as u8]);
-    }
-    put_decimal(out, number / 10)?;
-    out.extend_from_slice(&[b'0' + (number % 10) as u8])
+    out.extend_from_slice(Buffer::new().format(number).as_bytes())
 }
 
 /// Appends octets in upper-case digits.

@@ -1,4 +1,4 @@
--- Octets that end within a tag can be completed to a spelling of one.
+-- Octets that end within a tag can be completed to a tag_encoding of one.
 use Rattle.std.proofs.Common.{◌≡◌, ◌≢◌, ℕ, zero, suc, ◌+◌, ◌*◌, ◌/◌, ◌%◌, ◌^◌, ◌<◌, false, cond, eqb, ltb, List, [], ◌∷◌, ◌++◌, length, take, drop, Ok, Err, refl, sym, ap, ◌∙◌, append_assoc, arith, inl, inr}
 use Rattle.std.specs.Int.{Width, w16, w32, byte_len, from_be_bytes, to_be_bytes}
 use Rattle.std.proofs.lemmas.Bool.{eqb-true, ltb-true}
@@ -8,7 +8,8 @@ use Rattle.gw_tags.specs.declared.tag.Kind.{Kind}
 use Rattle.gw_tags.specs.declared.tag.Kind.TheVariants.{Length, Opening, Closing}
 use Rattle.gw_tags.specs.declared.fault.TagFault.{TagFault}
 use Rattle.gw_tags.specs.declared.fault.TagFault.TheVariants.{Short}
-use Rattle.gw_tags.specs.Tag.{high_bits, own_octet, LengthPlace, low_bits, one_octet, two_octets, four_octets, high_of, class_of, low_of, number_octets, length_octets, LengthHasRoom, IsCut, tag_number_at, length_at, kind_at, header_at}
+use Rattle.gw_tags.specs.Tag.{high_bits, own_octet, LengthPlace, low_bits, one_octet, two_octets, four_octets, high_of, class_of, low_of, number_octets, length_octets, LengthHasRoom, IsShortTag}
+use Rattle.gw_tags.specs.Reading.{tag_number_at, length_at, kind_at, header_at}
 use Rattle.gw_tags.proofs.Octets.{none, one_more}
 use Rattle.gw_tags.proofs.Takes.{first_made, ReadsNumber, tag_number_takes}
 
@@ -67,7 +68,6 @@ behind_255 : (first : ℕ) (others : List ℕ) → first ≡ 255 → IsFrontOfNu
 behind_255 first others is f = record { n = f.n; place = four_octets; missing = f.missing; some_missing = f.some_missing; low = refl; room = f.room; whole = rw is (ap (λ (o : List ℕ). 255 ∷ o) f.whole) }
 
 length_cut : (octets : List ℕ) (fault : TagFault) → AreOctets octets → length_at octets ≡ Err fault → (fault ≡ Short) × IsFrontOfLength octets
-unfolding length_at
 length_cut [] fault fits e = (cc, record { n = 0; place = one_octet; missing = 0 ∷ []; some_missing = λ e. cc; low = refl; room = omega arith; whole = refl })
 length_cut (first ∷ others) fault fits e =
     let others_fit = AreOctets-rest first others fits in
@@ -86,7 +86,6 @@ length_cut (first ∷ others) fault fits e =
     ]
 
 kind_cut : (low : ℕ) (octets : List ℕ) (fault : TagFault) → AreOctets octets → kind_at low octets ≡ Err fault → (fault ≡ Short) × (low ≡ 5) × IsFrontOfLength octets
-unfolding kind_at
 kind_cut low octets fault fits e =
     elim (chosen (eqb low 6) (Ok (Opening, octets)) (cond (eqb low 7) (Ok (Closing, octets)) (cond (eqb low 5) (length_at octets >>= λ n. Ok (Length n.0, n.1)) (Ok (Length low, octets)))) (Err fault) e) [
       | inl opening ↦ absurd (let h = opening.1 in cc)
@@ -125,47 +124,46 @@ octet_cut [] fault e = (cc, refl)
 octet_cut (octet ∷ octets) fault e = absurd cc
 
 number_cut : (first : ℕ) (octets : List ℕ) (fault : TagFault) → tag_number_at first octets ≡ Err fault → (fault ≡ Short) × (first / 16 ≡ 15) × (octets ≡ [])
-unfolding tag_number_at
 number_cut first octets fault e = elim (chosen (eqb (first / 16) 15) (octet_at Short octets) (Ok (first / 16, octets)) (Err fault) e) [
   | inl own ↦ let f = octet_cut octets fault own.1 in (f.0, eqb-true _ _ own.0, f.1)
   | inr bits ↦ absurd (let h = bits.1 in cc)
 ]
 
-empty_cut : IsCut []
+empty_cut : IsShortTag []
 empty_cut = record {
   tag = record { number = 0; context = false; kind = Length 0 };
   missing = 0 ∷ [];
   some_missing = λ e. cc;
-  spells = record { number_place = high_bits; length_place = low_bits; number_room = omega arith; length_room = omega arith; spelled = refl };
+  encodes = record { number_place = high_bits; length_place = low_bits; number_room = omega arith; length_room = omega arith; encoded = refl };
 }
 
 -- the octet of the number is missing, and what follows it
-cut_at_number : (first : ℕ) (others : List ℕ) → first < 256 → first / 16 ≡ 15 → others ≡ [] → Announces (first % 8) → IsCut (first ∷ others)
+cut_at_number : (first : ℕ) (others : List ℕ) → first < 256 → first / 16 ≡ 15 → others ≡ [] → Announces (first % 8) → IsShortTag (first ∷ others)
 cut_at_number first others small high ends a = record {
   tag = record { number = 0; context = ltb 7 (first % 16); kind = a.kind };
   missing = 0 ∷ length_octets a.kind a.place;
   some_missing = λ e. cc;
-  spells = record {
+  encodes = record {
     number_place = own_octet;
     length_place = a.place;
     number_room = omega arith;
     length_room = a.room;
-    spelled = rw ends (ap (λ (o : ℕ). o ∷ 0 ∷ length_octets a.kind a.place) (first_made first 15 (low_of a.kind a.place) small high a.low_is));
+    encoded = rw ends (ap (λ (o : ℕ). o ∷ 0 ∷ length_octets a.kind a.place) (first_made first 15 (low_of a.kind a.place) small high a.low_is));
   };
 }
 
 -- octets of the length are missing
-cut_at_length : (first : ℕ) (others : List ℕ) (n : ℕ) (middle : List ℕ) → first < 256 → ReadsNumber first others n middle → first % 8 ≡ 5 → IsFrontOfLength middle → IsCut (first ∷ others)
+cut_at_length : (first : ℕ) (others : List ℕ) (n : ℕ) (middle : List ℕ) → first < 256 → ReadsNumber first others n middle → first % 8 ≡ 5 → IsFrontOfLength middle → IsShortTag (first ∷ others)
 cut_at_length first others n middle small a low b = record {
   tag = record { number = n; context = ltb 7 (first % 16); kind = Length b.n };
   missing = b.missing;
   some_missing = b.some_missing;
-  spells = record {
+  encodes = record {
     number_place = a.place;
     length_place = b.place;
     number_room = a.room;
     length_room = b.room;
-    spelled =
+    encoded =
         let octets : others ++ b.missing ≡ number_octets n a.place ++ length_octets (Length b.n) b.place = ap (λ (o : List ℕ). o ++ b.missing) a.takes.parts ∙ append_assoc (number_octets n a.place) middle b.missing ∙ ap (λ (o : List ℕ). number_octets n a.place ++ o) b.whole in
         let octet : first ≡ 16 * high_of n a.place + class_of (ltb 7 (first % 16)) + low_of (Length b.n) b.place = first_made first (high_of n a.place) (low_of (Length b.n) b.place) small a.high (low ∙ sym b.low) in
         ap (λ (o : List ℕ). first ∷ o) octets ∙ ap (λ (o : ℕ). o ∷ (number_octets n a.place ++ length_octets (Length b.n) b.place)) octet;
@@ -173,8 +171,7 @@ cut_at_length first others n middle small a low b = record {
 }
 
 -- what ends within a tag is cut
-pub header_cut : (octets : List ℕ) (fault : TagFault) → AreOctets octets → header_at octets ≡ Err fault → (fault ≡ Short) × IsCut octets
-unfolding header_at
+pub header_cut : (octets : List ℕ) (fault : TagFault) → AreOctets octets → header_at octets ≡ Err fault → (fault ≡ Short) × IsShortTag octets
 header_cut [] fault fits e = (cc, empty_cut)
 header_cut (first ∷ others) fault fits e =
     let small : first < 256 = fits 0 in

@@ -4,18 +4,19 @@ use Rattle.std.specs.Prelude.{◌↔◌, IfOk, IsOkAnd}
 use Rattle.std.proofs.lemmas.Bool.{ltb-true}
 use Rattle.std.proofs.lemmas.List.{append-nil}
 use Rattle.gw_addr.specs.Reading.{AreOctets, Gives}
-use Rattle.gw_addr.proofs.Reading.{bind_ok, bind_err, chosen, ok_is}
+use Rattle.gw_addr.proofs.Reading.{both_true, bind_ok, bind_err, chosen, ok_is}
 use Rattle.gw_tags.specs.declared.tag.Kind.{Kind}
 use Rattle.gw_tags.specs.declared.tag.Kind.TheVariants.{Length, Opening, Closing}
 use Rattle.gw_tags.specs.declared.fault.TagFault.{TagFault}
 use Rattle.gw_tags.specs.declared.fault.TagFault.TheVariants.{Short, BadTag}
 use Rattle.gw_tags.specs.Kind.{is_length}
-use Rattle.gw_tags.specs.Tag.{Tag, IsTag, is_tag, LengthFits, LengthPlace, low_bits, one_octet, two_octets, four_octets, LengthHasRoom, Spells, BeginsWith, BeginsWithNoTag, IsCut, header_at, tag_at}
+use Rattle.gw_tags.specs.Tag.{Tag, IsTag, is_tag, LengthFits, LengthPlace, low_bits, one_octet, two_octets, four_octets, LengthHasRoom, EncodesTag, BeginsWith, IsBadTag, IsShortTag}
+use Rattle.gw_tags.specs.Reading.{header_at, tag_at}
 use Rattle.gw_tags.proofs.Tags.{header_again, tag_again}
 use Rattle.gw_tags.proofs.Takes.{header_takes}
 use Rattle.gw_tags.proofs.Cut.{header_cut}
 
-fits_kind : (kind : Kind) (place : LengthPlace) → LengthHasRoom kind place → LengthFits kind
+pub fits_kind : (kind : Kind) (place : LengthPlace) → LengthHasRoom kind place → LengthFits kind
 fits_kind (Length n) low_bits room = omega (arith, room)
 fits_kind (Length n) one_octet room = omega (arith, room)
 fits_kind (Length n) two_octets room = omega (arith, room)
@@ -23,48 +24,42 @@ fits_kind (Length n) four_octets room = room
 fits_kind Opening place room = tt
 fits_kind Closing place room = tt
 
-both_true : (a b : Bool) → (a && b) ≡ true → (a ≡ true) × (b ≡ true)
-both_true true b e = (refl, e)
-both_true false b e = absurd cc
-
-is_written : (tag : Tag) (front : List ℕ) → Spells front tag → is_tag tag ≡ true → IsTag tag
+pub is_written : (tag : Tag) (front : List ℕ) → EncodesTag front tag → is_tag tag ≡ true → IsTag tag
 is_written tag front s e =
     let both = both_true (ltb tag.number 255) (is_length tag.kind || tag.context) e in
     record { numbered = ltb-true _ _ both.0; classed = both.1; length_fits = fits_kind tag.kind s.length_place s.length_room }
 
 -- what was read can be written
 pub tag_takes : (octets : List ℕ) (tag : Tag) (rest : List ℕ) → AreOctets octets → tag_at octets ≡ Ok (tag, rest) → BeginsWith octets tag rest × IsTag tag
-unfolding tag_at
 tag_takes octets tag rest fits e =
     let a = bind_ok (header_at octets) (λ header. cond (is_tag header.0) (Ok header) (Err BadTag)) (tag, rest) e in
     elim (chosen (is_tag a.0.0) (Ok a.0) (Err BadTag) (Ok (tag, rest)) a.2) [
       | inl known ↦
           let both = ok_is a.0 (tag, rest) known.1 in
           let begins = header_takes octets a.0.0 a.0.1 fits a.1 in
-          subst (λ (x : Tag × List ℕ). BeginsWith octets x.0 x.1 × IsTag x.0) both (begins, is_written a.0.0 begins.front begins.spells known.0)
+          subst (λ (x : Tag × List ℕ). BeginsWith octets x.0 x.1 × IsTag x.0) both (begins, is_written a.0.0 begins.front begins.encodes known.0)
       | inr reserved ↦ absurd (let h = reserved.1 in cc)
     ]
 
 pub begins_again : (octets : List ℕ) (tag : Tag) (rest : List ℕ) → BeginsWith octets tag rest → header_at octets ≡ Ok (tag, rest)
-begins_again octets tag rest b = rw b.parts (header_again b.front tag rest b.spells)
+begins_again octets tag rest b = rw b.parts (header_again b.front tag rest b.encodes)
 
-nothing_behind : (rest missing : List ℕ) → [] ≡ rest ++ missing → missing ≡ []
+pub nothing_behind : (rest missing : List ℕ) → [] ≡ rest ++ missing → missing ≡ []
 nothing_behind [] missing e = sym e
 nothing_behind (octet ∷ rest) missing e = absurd cc
 
 -- octets that end within a tag are no whole header
-cut_is_short : (octets : List ℕ) (read : Result (Tag × List ℕ) TagFault) → AreOctets octets → IsCut octets → header_at octets ≡ read → read ≡ Err Short
+pub cut_is_short : (octets : List ℕ) (read : Result (Tag × List ℕ) TagFault) → AreOctets octets → IsShortTag octets → header_at octets ≡ read → read ≡ Err Short
 cut_is_short octets (Err fault) fits c e = ap Err (header_cut octets fault fits e).0
 cut_is_short octets (Ok x) fits c e =
     let begins = header_takes octets x.0 x.1 fits e in
-    let whole = header_again (octets ++ c.missing) c.tag [] c.spells in
-    let front = header_again begins.front x.0 (x.1 ++ c.missing) begins.spells in
+    let whole = header_again (octets ++ c.missing) c.tag [] c.encodes in
+    let front = header_again begins.front x.0 (x.1 ++ c.missing) begins.encodes in
     let regrouped : (octets ++ c.missing) ++ [] ≡ begins.front ++ (x.1 ++ c.missing) = append-nil (octets ++ c.missing) ∙ ap (λ (o : List ℕ). o ++ c.missing) begins.parts ∙ append_assoc begins.front x.1 c.missing in
     let same = ok_is (c.tag, []) (x.0, x.1 ++ c.missing) (sym whole ∙ ap header_at regrouped ∙ front) in
     absurd (c.some_missing (nothing_behind x.1 c.missing (ap (λ (y : Tag × List ℕ). y.1) same)))
 
-pub tag_is_short : (octets : List ℕ) → AreOctets octets → (tag_at octets ≡ Err Short) ↔ IsCut octets
-unfolding tag_at
+pub tag_is_short : (octets : List ℕ) → AreOctets octets → (tag_at octets ≡ Err Short) ↔ IsShortTag octets
 tag_is_short octets fits = (
   λ e. elim (bind_err (header_at octets) (λ header. cond (is_tag header.0) (Ok header) (Err BadTag)) Short e) [
     | inl here ↦ (header_cut octets Short fits here).1
@@ -76,8 +71,7 @@ tag_is_short octets fits = (
   λ c. rw (cut_is_short octets (header_at octets) fits c refl) refl,
 )
 
-pub tag_is_bad : (octets : List ℕ) → AreOctets octets → (tag_at octets ≡ Err BadTag) ↔ BeginsWithNoTag octets
-unfolding tag_at
+pub tag_is_bad : (octets : List ℕ) → AreOctets octets → (tag_at octets ≡ Err BadTag) ↔ IsBadTag octets
 tag_is_bad octets fits = (
   λ e. elim (bind_err (header_at octets) (λ header. cond (is_tag header.0) (Ok header) (Err BadTag)) BadTag e) [
     | inl here ↦ absurd (let h = (header_cut octets BadTag fits here).0 in cc)
@@ -89,14 +83,9 @@ tag_is_bad octets fits = (
   λ b. rw (begins_again octets b.tag b.rest b.begins, b.reserved) refl,
 )
 
--- what is spelled so is read
+-- what is encoded so is read
 pub is_read : (octets : List ℕ) (tag : Tag) (rest : List ℕ) → IsTag tag → BeginsWith octets tag rest → tag_at octets ≡ Ok (tag, rest)
-is_read octets tag rest is b = rw b.parts (tag_again b.front tag rest is b.spells)
-
--- a fault is that of the reading function
-pub gives_fault : {X Y F : Type 0} (view : X → Y) (r : Result X F) (reading : Result Y F) (fault : F) (P : Type 0) → Gives view r reading → ((reading ≡ Err fault) ↔ P) → (r ≡ Err fault) ↔ P
-gives_fault view (Ok x) reading fault P given is = (λ e. absurd cc, λ p. absurd (let h = is.1 p in cc))
-gives_fault view (Err e) reading fault P given is = (λ q. is.0 cc, λ p. let h = is.1 p in cc)
+is_read octets tag rest is b = rw b.parts (tag_again b.front tag rest is b.encodes)
 
 -- what was read is that of the reading function
 pub gives_both : (X Y Z F : Type 0) (first : X → Y) (second : X → Z) (r : Result X F) (reading : Result (Y × Z) F) (y : Y) (z : Z) → Gives (λ x. (first x, second x)) r reading → reading ≡ Ok (y, z) → IsOkAnd r (λ x. (first x ≡ y) × (second x ≡ z))
@@ -104,8 +93,3 @@ gives_both X Y Z F first second (Ok x) reading y z given is =
     let both = ok_is (first x, second x) (y, z) (sym given ∙ is) in
     (ap (λ (p : Y × Z). p.0) both, ap (λ (p : Y × Z). p.1) both)
 gives_both X Y Z F first second (Err e) reading y z given is = absurd cc
-
--- what a call read begins the octets
-pub gives_found : {X : Type 0} (tag : X → Tag) (rest : X → List ℕ) (r : Result X TagFault) (octets : List ℕ) → AreOctets octets → Gives (λ x. (tag x, rest x)) r (tag_at octets) → IfOk r (λ x. BeginsWith octets (tag x) (rest x)) × IfOk r (λ x. IsTag (tag x))
-gives_found tag rest (Ok x) octets fits given = tag_takes octets (tag x) (rest x) fits given
-gives_found tag rest (Err e) octets fits given = (tt, tt)

@@ -5,4 +5,14 @@ pub mod Cut
 pub mod Faults
 pub mod Canonical
 pub mod Objects
-pub mod Values
+pub mod Texts
+pub mod Bodies
+pub mod EachKind
+pub mod Heads
+pub mod ValueLaws
+pub mod ValueFaults
+pub mod Numbers
+pub mod Written
+pub mod Walks
+pub mod ListLaws
+pub mod ContextLaws

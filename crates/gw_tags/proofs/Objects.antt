@@ -22,15 +22,13 @@ same_object : (kind instance : ℕ) (object : Object) → kind ≡ object.kind �
 same_object kind instance object kinds instances = rw (kinds, instances) refl
 
 pub object_read : (object : Object) → IsObject object → object_of (object_octets object) ≡ object
-unfolding object_of object_octets
 object_read object is =
     let n = object.kind * 2 ^ 22 + object.instance in
     let back : from_be_bytes w32 (to_be_bytes w32 n) ≡ n = from_be_bytes-to_be_bytes_4 n (omega (arith, is.kind, is.instance)) in
     let parts = split (from_be_bytes w32 (to_be_bytes w32 n)) object.kind object.instance is.instance back in
     same_object (from_be_bytes w32 (to_be_bytes w32 n) / 4194304) (from_be_bytes w32 (to_be_bytes w32 n) % 4194304) object parts.0 parts.1
 
-pub object_spelled : (octets : List ℕ) → length octets ≡ 4 → AreOctets octets → IsObject (object_of octets) × (object_octets (object_of octets) ≡ octets)
-unfolding object_of object_octets
-object_spelled octets len fits =
+pub object_encoded : (octets : List ℕ) → length octets ≡ 4 → AreOctets octets → IsObject (object_of octets) × (object_octets (object_of octets) ≡ octets)
+object_encoded octets len fits =
     let n = from_be_bytes w32 octets in
     (record { kind = high_small n (wide32.below octets fits); instance = low_small n }, ap (to_be_bytes w32) (whole n) ∙ wide32.back octets len fits)

@@ -1,8 +1,9 @@
 -- Facts about one octet, as tables.
-use Rattle.std.proofs.Common.{◌≡◌, ℕ, zero, suc, ◌+◌, ◌*◌, ◌/◌, ◌%◌, ◌<◌, Bool, true, false, List, [], ◌∷◌, not, eqb, ltb, refl, arith}
+use Rattle.std.proofs.Common.{◌≡◌, ℕ, zero, suc, ◌+◌, ◌*◌, ◌/◌, ◌%◌, ◌<◌, Bool, true, false, List, [], ◌∷◌, ◌++◌, not, eqb, ltb, refl, arith}
 use Rattle.std.specs.Int.RustNames.{bit_and, bit_or}
 use Rattle.std.proofs.lemmas.Bool.{agree_below_at, eqb-true}
 use Rattle.gw_addr.specs.Reading.{AreOctets}
+use Rattle.gw_addr.proofs.Reading.{AreOctets-rest}
 use Rattle.gw_tags.specs.Tag.{class_of}
 
 -- the class bit is set where the low four bits are 8 or more
@@ -27,3 +28,8 @@ none i = omega arith
 pub one_more : (octet : ℕ) (octets : List ℕ) → octet < 256 → AreOctets octets → AreOctets (octet ∷ octets)
 one_more octet octets lt fits zero = lt
 one_more octet octets lt fits (suc i) = fits i
+
+-- what stands behind octets are octets
+pub behind_octets : (xs ys : List ℕ) → AreOctets (xs ++ ys) → AreOctets ys
+behind_octets [] ys fits = fits
+behind_octets (x ∷ xs) ys fits = behind_octets xs ys (AreOctets-rest x (xs ++ ys) fits)

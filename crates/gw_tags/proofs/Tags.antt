@@ -1,4 +1,4 @@
--- The laws of reading a tag: what was read is spelled so, what is spelled so is read again, and what is cut can be completed.
+-- The laws of reading a tag: what was read is encoded so, what is encoded so is read again, and what is cut can be completed.
 use Rattle.std.proofs.Common.{◌≡◌, ℕ, ◌+◌, ◌*◌, ◌/◌, ◌%◌, ◌^◌, ◌<◌, Bool, true, false, eqb, ltb, List, ◌++◌, Result, Ok, refl, ap, append_assoc, arith}
 use Rattle.std.specs.Int.{w16, w32}
 use Rattle.std.proofs.lemmas.Bool.{ne_eqb, le-ltb, lt-ltb}
@@ -8,11 +8,12 @@ use Rattle.gw_tags.specs.declared.tag.Kind.{Kind}
 use Rattle.gw_tags.specs.declared.tag.Kind.TheVariants.{Length, Opening, Closing}
 use Rattle.gw_tags.specs.declared.fault.TagFault.{TagFault}
 use Rattle.gw_tags.specs.declared.fault.TagFault.TheVariants.{Short}
-use Rattle.gw_tags.specs.Tag.{Tag, IsTag, is_tag, NumberPlace, high_bits, own_octet, LengthPlace, low_bits, one_octet, two_octets, four_octets, high_of, class_of, low_of, number_octets, length_octets, NumberHasRoom, LengthHasRoom, Spells, tag_number_at, length_at, kind_at, header_at, tag_at}
+use Rattle.gw_tags.specs.Tag.{Tag, IsTag, is_tag, NumberPlace, high_bits, own_octet, LengthPlace, low_bits, one_octet, two_octets, four_octets, high_of, class_of, low_of, number_octets, length_octets, NumberHasRoom, LengthHasRoom, EncodesTag}
+use Rattle.gw_tags.specs.Reading.{tag_number_at, length_at, kind_at, header_at, tag_at}
 
 -- ---- the first octet
 
-low_small : (kind : Kind) (place : LengthPlace) → LengthHasRoom kind place → low_of kind place < 8
+pub low_small : (kind : Kind) (place : LengthPlace) → LengthHasRoom kind place → low_of kind place < 8
 low_small (Length n) low_bits room = omega (arith, room)
 low_small (Length n) one_octet room = omega arith
 low_small (Length n) two_octets room = omega arith
@@ -24,7 +25,7 @@ high_part : (high low : ℕ) (context : Bool) → low < 8 → (16 * high + class
 high_part high low true lt = omega arith
 high_part high low false lt = omega arith
 
-low_part : (high low : ℕ) (context : Bool) → low < 8 → (16 * high + class_of context + low) % 8 ≡ low
+pub low_part : (high low : ℕ) (context : Bool) → low < 8 → (16 * high + class_of context + low) % 8 ≡ low
 low_part high low true lt = omega arith
 low_part high low false lt = omega arith
 
@@ -35,7 +36,6 @@ class_part high low false lt = le-ltb _ _ (omega arith)
 -- ---- the number
 
 tag_number_again : (first n : ℕ) (place : NumberPlace) (rest : List ℕ) → first / 16 ≡ high_of n place → NumberHasRoom n place → tag_number_at first (number_octets n place ++ rest) ≡ Ok (n, rest)
-unfolding tag_number_at
 tag_number_again first n high_bits rest high room =
     let other : eqb n 15 ≡ false = ne_eqb n 15 (λ e. omega (arith, room)) in
     rw (high, other) refl
@@ -44,7 +44,6 @@ tag_number_again first n own_octet rest high room = rw high refl
 -- ---- what the low bits announce
 
 kind_again : (kind : Kind) (place : LengthPlace) (rest : List ℕ) → LengthHasRoom kind place → kind_at (low_of kind place) (length_octets kind place ++ rest) ≡ Ok (kind, rest)
-unfolding kind_at length_at
 kind_again (Length n) low_bits rest room =
     let not_five : eqb n 5 ≡ false = ne_eqb n 5 (λ e. omega (arith, room)) in
     let not_six : eqb n 6 ≡ false = ne_eqb n 6 (λ e. omega (arith, room)) in
@@ -61,9 +60,8 @@ kind_again Closing place rest room = refl
 
 -- ---- the whole tag
 
--- what is spelled so is read, be it reserved or not
-pub header_again : (front : List ℕ) (tag : Tag) (rest : List ℕ) → Spells front tag → header_at (front ++ rest) ≡ Ok (tag, rest)
-unfolding header_at
+-- what is encoded so is read, be it reserved or not
+pub header_again : (front : List ℕ) (tag : Tag) (rest : List ℕ) → EncodesTag front tag → header_at (front ++ rest) ≡ Ok (tag, rest)
 header_again front tag rest s =
     let small = low_small tag.kind s.length_place s.length_room in
     let high = high_part (high_of tag.number s.number_place) (low_of tag.kind s.length_place) tag.context small in
@@ -71,12 +69,11 @@ header_again front tag rest s =
     let class = class_part (high_of tag.number s.number_place) (low_of tag.kind s.length_place) tag.context small in
     let number = tag_number_again (16 * high_of tag.number s.number_place + class_of tag.context + low_of tag.kind s.length_place) tag.number s.number_place (length_octets tag.kind s.length_place ++ rest) high s.number_room in
     let kind = kind_again tag.kind s.length_place rest s.length_room in
-    rw (s.spelled, append_assoc, number, low, class, kind) refl
+    rw (s.encoded, append_assoc, number, low, class, kind) refl
 
-known_tag : (tag : Tag) → IsTag tag → is_tag tag ≡ true
+pub known_tag : (tag : Tag) → IsTag tag → is_tag tag ≡ true
 known_tag tag is = rw (lt-ltb tag.number 255 is.numbered) is.classed
 
--- a tag that is spelled so is read
-pub tag_again : (front : List ℕ) (tag : Tag) (rest : List ℕ) → IsTag tag → Spells front tag → tag_at (front ++ rest) ≡ Ok (tag, rest)
-unfolding tag_at
+-- a tag that is encoded so is read
+pub tag_again : (front : List ℕ) (tag : Tag) (rest : List ℕ) → IsTag tag → EncodesTag front tag → tag_at (front ++ rest) ≡ Ok (tag, rest)
 tag_again front tag rest is s = rw (header_again front tag rest s, known_tag tag is) refl

@@ -1,4 +1,4 @@
--- What was read as a tag is a spelling of it, and what ends within a tag can be completed to one.
+-- What was read as a tag is a tag_encoding of it, and what ends within a tag can be completed to one.
 use Rattle.std.proofs.Common.{◌≡◌, ◌≢◌, ℕ, ◌+◌, ◌*◌, ◌/◌, ◌%◌, ◌^◌, ◌<◌, cond, eqb, ltb, List, [], ◌∷◌, ◌++◌, length, Result, Ok, refl, ap, subst, ◌∙◌, arith, inl, inr}
 use Rattle.std.specs.Int.{w16, w32, to_be_bytes}
 use Rattle.std.proofs.lemmas.Bool.{cases_lt, eqb-false, eqb-true, le-ltb, lt-ltb}
@@ -8,7 +8,8 @@ use Rattle.gw_tags.specs.declared.tag.Kind.{Kind}
 use Rattle.gw_tags.specs.declared.tag.Kind.TheVariants.{Length, Opening, Closing}
 use Rattle.gw_tags.specs.declared.fault.TagFault.{TagFault}
 use Rattle.gw_tags.specs.declared.fault.TagFault.TheVariants.{Short}
-use Rattle.gw_tags.specs.Tag.{Tag, NumberPlace, high_bits, own_octet, LengthPlace, low_bits, one_octet, two_octets, four_octets, high_of, class_of, low_of, number_octets, length_octets, NumberHasRoom, LengthHasRoom, BeginsWith, tag_number_at, length_at, kind_at, header_at}
+use Rattle.gw_tags.specs.Tag.{Tag, NumberPlace, high_bits, own_octet, LengthPlace, low_bits, one_octet, two_octets, four_octets, high_of, class_of, low_of, number_octets, length_octets, NumberHasRoom, LengthHasRoom, BeginsWith}
+use Rattle.gw_tags.specs.Reading.{tag_number_at, length_at, kind_at, header_at}
 
 -- the parts of a first octet make it up
 first_is : (first : ℕ) → first < 256 → first ≡ 16 * (first / 16) + class_of (ltb 7 (first % 16)) + first % 8
@@ -30,7 +31,6 @@ pub record ReadsNumber (first : ℕ) (octets : List ℕ) (n : ℕ) (rest : List 
   pub takes : Takes octets (number_octets n place) rest
 
 pub tag_number_takes : (first : ℕ) (octets : List ℕ) (n : ℕ) (rest : List ℕ) → first < 256 → AreOctets octets → tag_number_at first octets ≡ Ok (n, rest) → ReadsNumber first octets n rest
-unfolding tag_number_at
 tag_number_takes first octets n rest lt fits e = elim (chosen (eqb (first / 16) 15) (octet_at Short octets) (Ok (first / 16, octets)) (Ok (n, rest)) e) [
   | inl own ↦
       let t = octet_takes Short octets n rest fits own.1 in
@@ -61,7 +61,6 @@ stays low octets read place kind rest fits low_is room none e =
     subst (λ (x : Kind × List ℕ). ReadsKind low octets x.0 x.1) (ok_is made (kind, rest) e) (record { place = place; low_is = low_is; room = room; takes = record { parts = rw none refl; rest_octets = fits } })
 
 length_takes : (octets : List ℕ) (n : ℕ) (rest : List ℕ) → AreOctets octets → length_at octets ≡ Ok (n, rest) → ReadsKind 5 octets (Length n) rest
-unfolding length_at
 length_takes [] n rest fits e = absurd cc
 length_takes (first ∷ others) n rest fits e =
     let small : first < 256 = fits 0 in
@@ -85,7 +84,6 @@ length_takes (first ∷ others) n rest fits e =
     ]
 
 pub kind_takes : (low : ℕ) (octets : List ℕ) (kind : Kind) (rest : List ℕ) → low < 8 → AreOctets octets → kind_at low octets ≡ Ok (kind, rest) → ReadsKind low octets kind rest
-unfolding kind_at
 kind_takes low octets kind rest lt fits e =
     elim (chosen (eqb low 6) (Ok (Opening, octets)) (cond (eqb low 7) (Ok (Closing, octets)) (cond (eqb low 5) (length_at octets >>= λ n. Ok (Length n.0, n.1)) (Ok (Length low, octets)))) (Ok (kind, rest)) e) [
       | inl opening ↦ stays low octets Opening low_bits kind rest fits (eqb-true _ _ opening.0) tt refl opening.1
@@ -107,23 +105,22 @@ kind_takes low octets kind rest lt fits e =
       ]
     ]
 
--- a number and a kind that were read make a spelling
+-- a number and a kind that were read make a tag_encoding
 joined : (first : ℕ) (others : List ℕ) (n : ℕ) (middle : List ℕ) (kind : Kind) (rest : List ℕ) → first < 256 → ReadsNumber first others n middle → ReadsKind (first % 8) middle kind rest → BeginsWith (first ∷ others) (record { number = n; context = ltb 7 (first % 16); kind = kind }) rest
 joined first others n middle kind rest small a b = record {
   front = first ∷ (number_octets n a.place ++ length_octets kind b.place);
-  spells = record {
+  encodes = record {
     number_place = a.place;
     length_place = b.place;
     number_room = a.room;
     length_room = b.room;
-    spelled = ap (λ (o : ℕ). o ∷ (number_octets n a.place ++ length_octets kind b.place)) (first_made first (high_of n a.place) (low_of kind b.place) small a.high b.low_is);
+    encoded = ap (λ (o : ℕ). o ∷ (number_octets n a.place ++ length_octets kind b.place)) (first_made first (high_of n a.place) (low_of kind b.place) small a.high b.low_is);
   };
   parts = ap (λ (o : List ℕ). first ∷ o) (Takes-then others (number_octets n a.place) middle (length_octets kind b.place) rest a.takes b.takes).parts;
 }
 
--- what was read is spelled so
+-- what was read is encoded so
 pub header_takes : (octets : List ℕ) (tag : Tag) (rest : List ℕ) → AreOctets octets → header_at octets ≡ Ok (tag, rest) → BeginsWith octets tag rest
-unfolding header_at
 header_takes [] tag rest fits e = absurd cc
 header_takes (first ∷ others) tag rest fits e =
     let small : first < 256 = fits 0 in

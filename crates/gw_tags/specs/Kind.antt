@@ -1,4 +1,5 @@
--- What a tag announces (ISO 16484-5, clause 20.2.1.3): a content of so many octets, or an opening or closing of a list.
+-- What a tag announces (ISO 16484-5, clause 20.2.1.3): a content of so many octets, or an opening
+-- or closing of a list.
 use Rattle.std.specs.Prelude.{Bool, true, false}
 use Rattle.gw_tags.specs.declared.tag.Kind.{Kind}
 use Rattle.gw_tags.specs.declared.tag.Kind.TheVariants.{Length, Opening, Closing}

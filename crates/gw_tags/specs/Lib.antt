@@ -1,5 +1,15 @@
 pub mod Kind
+pub mod Fault
 pub mod Tag
 pub mod Object
+pub mod Number
+pub mod Strings
 pub mod Value
+pub mod Reading
+pub mod Body
 pub mod Laws
+pub mod List
+pub mod Walk
+pub mod Element
+pub mod Context
+pub mod ContextReading

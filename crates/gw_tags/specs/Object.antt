@@ -18,9 +18,13 @@ pub record IsObject (object : Object) : Type 0 where
   pub instance : object.instance < 2 ^ 22
 
 -- the four octets: the type in the ten high bits, the instance in the 22 below
-unfoldable pub object_octets : Object → List ℕ
+abbrev pub object_octets : Object → List ℕ
 object_octets object = to_be_bytes w32 (object.kind * 2 ^ 22 + object.instance)
 
 -- the object of four octets
-unfoldable pub object_of : List ℕ → Object
-object_of octets = record { kind = from_be_bytes w32 octets / 2 ^ 22; instance = from_be_bytes w32 octets % 2 ^ 22 }
+abbrev pub object_of : List ℕ → Object
+object_of octets = record {
+  kind = from_be_bytes w32 octets / 2 ^ 22;
+  instance =
+    from_be_bytes w32 octets % 2 ^ 22;
+}

@@ -10,7 +10,7 @@ ghost use Rattle.std.specs.Prelude.{◌<◌, ◌^◌};
 /// |    type    |        instance         |    four octets, the most significant first
 /// +------------+-------------------------+
 /// ```
-#[derive(Clone, Copy, Debug, PartialEq, Eq, PartialOrd, Ord, Hash)]
+#[derive(Clone, Copy, Debug, PartialEq, Eq, Hash)]
 pub struct ObjectId {
     /// The number of the type, 0 to 1023.
     pub kind: u16,
@@ -27,7 +27,8 @@ impl ObjectId {
     /// The object of this type and instance, if they fit 10 and 22 bits.
     pub fn new(kind: u16, instance: u32) -> Option<ObjectId>
         ensures fits { IsSome result ↔ IsObject (record { kind = kind; instance = instance }) }
-        ensures value { IfSome result (λ o. object_view o ≡ record { kind = kind; instance = instance }) }
+        ensures value { IfSome
+            result (λ o. object_view o ≡ record { kind = kind; instance = instance }) }
     {
         if kind < 1 << 10 && instance < 1 << 22 {
             Some(ObjectId { kind, instance })
@@ -37,7 +38,6 @@ impl ObjectId {
     }
 
     /// The object that four octets stand for.
-    #[tactic(auto, unfolding(crate::specs::Object::object_of))]
     pub fn from_octets(octets: [u8; 4]) -> ObjectId
         ensures { object_view result ≡ object_of octets }
     {
@@ -49,7 +49,6 @@ impl ObjectId {
     }
 
     /// The four octets that stand for the object.
-    #[tactic(auto, unfolding(crate::specs::Object::object_octets))]
     pub fn to_octets(self) -> [u8; 4]
         ensures { result ≡ object_octets (object_view self) }
     {

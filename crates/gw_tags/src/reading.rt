@@ -1,20 +1,21 @@
 //! Reading a tag from the front of octets (clause 20.2.1).
 
 ghost use Rattle.std.specs.Prelude.{◌≡◌, ◌↔◌, ◌%◌, List, ℕ, IfOk, IsOkAnd, nat_lt};
-ghost use Rattle.std.specs.Int.{w16, w32};
-ghost use Rattle.gw_addr.specs.Reading.{Gives, octet_at, number_at};
-ghost use Rattle.gw_tags.specs.Tag.{Tag as TagFields, IsTag, tag_view, BeginsWith, BeginsWithNoTag, IsCut, tag_number_at, length_at, kind_at, header_at, tag_at, low_bits_at};
+ghost use Rattle.gw_addr.specs.Reading.{Gives};
+ghost use Rattle.gw_tags.specs.Tag.{Tag as TagFields, IsTag, tag_view, BeginsWith, IsBadTag, IsShortTag};
+ghost use Rattle.gw_tags.specs.Reading.{tag_number_at, length_at, kind_at, header_at, tag_at, low_bits_at};
 
 use crate::fault::TagFault;
 use crate::tag::{Kind, Tag};
+use gw_addr::{long_number, number, octet};
 
 /// A tag at the front of octets.
 #[derive(Clone, Copy, Debug)]
 pub struct Header<'a> {
     /// The tag.
     pub tag: Tag,
-    /// The three low bits of the first octet, 0 to 7. Of an application Boolean they are the value, and
-    /// not the length, which may also stand in octets of its own (clause 20.2.3).
+    /// The three low bits of the first octet, 0 to 7. Of an application Boolean they are the value,
+    /// and not the length, which may also stand in octets of its own (clause 20.2.3).
     pub low_bits: u8,
     /// The octets behind the tag.
     pub rest: &'a [u8],
@@ -29,62 +30,29 @@ struct Whole<'a> {
     rest: &'a [u8],
 }
 
-fn octet(octets: &[u8]) -> Result<(u8, &[u8]), TagFault>
-    ensures { Gives (λ x. (x.0, x.1.now)) result (octet_at TagFault.Short octets.now) }
-{
-    let (first, rest) = octets.split_first().ok_or(TagFault::Short)?;
-    Ok((*first, rest))
-}
-
-fn two_octets(octets: &[u8]) -> Result<(u16, &[u8]), TagFault>
-    ensures { Gives (λ x. (x.0, x.1.now)) result (number_at TagFault.Short w16 octets.now) }
-{
-    if octets.len() < 2 {
-        return Err(TagFault::Short);
-    }
-    let (front, rest) = octets.split_at(2);
-    Ok((u16::from_be_bytes([front[0], front[1]]), rest))
-}
-
-fn four_octets(octets: &[u8]) -> Result<(u32, &[u8]), TagFault>
-    ensures { Gives (λ x. (x.0, x.1.now)) result (number_at TagFault.Short w32 octets.now) }
-{
-    if octets.len() < 4 {
-        return Err(TagFault::Short);
-    }
-    let (front, rest) = octets.split_at(4);
-    Ok((
-        u32::from_be_bytes([front[0], front[1], front[2], front[3]]),
-        rest,
-    ))
-}
-
-#[tactic(auto, unfolding(crate::specs::Tag::tag_number_at))]
 fn tag_number(first: u8, rest: &[u8]) -> Result<(u8, &[u8]), TagFault>
     ensures { Gives (λ x. (x.0, x.1.now)) result (tag_number_at first rest.now) }
 {
     match first >> 4 {
-        15 => octet(rest),
+        15 => octet(TagFault::Short, rest),
         number => Ok((number, rest)),
     }
 }
 
-#[tactic(auto, unfolding(crate::specs::Tag::length_at))]
 fn length(octets: &[u8]) -> Result<(u32, &[u8]), TagFault>
     ensures { Gives (λ x. (x.0, x.1.now)) result (length_at octets.now) }
 {
-    let (first, rest) = octet(octets)?;
+    let (first, rest) = octet(TagFault::Short, octets)?;
     match first {
         254 => {
-            let (length, rest) = two_octets(rest)?;
+            let (length, rest) = number(TagFault::Short, rest)?;
             Ok((u32::from(length), rest))
         }
-        255 => four_octets(rest),
+        255 => long_number(TagFault::Short, rest),
         length => Ok((u32::from(length), rest)),
     }
 }
 
-#[tactic(auto, unfolding(crate::specs::Tag::kind_at))]
 fn kind(low_bits: u8, rest: &[u8]) -> Result<(Kind, &[u8]), TagFault>
     ensures { Gives (λ x. (x.0, x.1.now)) result (kind_at low_bits rest.now) }
 {
@@ -106,12 +74,13 @@ fn is_context(first: u8) -> bool
     first & 0x08 != 0
 }
 
-#[tactic(auto, unfolding(crate::specs::Tag::header_at))]
 fn read_whole(octets: &[u8]) -> Result<Whole<'_>, TagFault>
-    ensures exact { Gives (λ p. (record { number = p.number; context = p.context; kind = p.kind }, p.rest.now)) result (header_at octets.now) }
+    ensures exact { Gives
+        (λ p. (record { number = p.number; context = p.context; kind = p.kind }, p.rest.now))
+        result (header_at octets.now) }
     ensures low_bits { IfOk result (λ p. p.low_bits ≡ low_bits_at octets.now) }
 {
-    let (first, rest) = octet(octets)?;
+    let (first, rest) = octet(TagFault::Short, octets)?;
     let (number, rest) = tag_number(first, rest)?;
     let low_bits = first & 0x07;
     let (kind, rest) = kind(low_bits, rest)?;
@@ -125,9 +94,9 @@ fn read_whole(octets: &[u8]) -> Result<Whole<'_>, TagFault>
 }
 
 /// What `read_tag` gives, said by the reading function alone.
-#[tactic(auto, unfolding(crate::specs::Tag::tag_at))]
 fn read(octets: &[u8]) -> Result<Header<'_>, TagFault>
-    ensures exact { Gives (λ header. (tag_view header.tag, header.rest.now)) result (tag_at octets.now) }
+    ensures exact { Gives (λ header. (tag_view header.tag, header.rest.now))
+        result (tag_at octets.now) }
     ensures low_bits { IfOk result (λ header. header.low_bits ≡ low_bits_at octets.now) }
 {
     let Whole {
@@ -152,25 +121,29 @@ fn read(octets: &[u8]) -> Result<Header<'_>, TagFault>
     })
 }
 
-/// Reads the tag at the front of the octets. A number or a length may stand in more octets than it needs.
+/// Reads the tag at the front of the octets. A number or a length may stand in more octets than it
+/// needs.
 ///
 /// # Errors
 ///
-/// 1 `Short` where the octets end within the tag, and 2 `BadTag` where the tag is whole and its number is
-/// 255, or it opens or closes a list and its class is application.
+/// 1 `Short` where the octets end within the tag, and 2 `BadTag` where the tag is whole and its
+/// number is 255, or it opens or closes a list and its class is application.
 pub fn read_tag(octets: &[u8]) -> Result<Header<'_>, TagFault>
-    // What is read is spelled so, and can be written.
-    ensures found { IfOk result (λ header. BeginsWith octets.now (tag_view header.tag) header.rest.now) }
+    // What is read is encoded so, and can be written.
+    ensures found { IfOk
+        result (λ header. BeginsWith octets.now (tag_view header.tag) header.rest.now) }
     ensures valid { IfOk result (λ header. IsTag (tag_view header.tag)) }
-    // What is spelled so is read, and the octets behind it are the rest.
-    ensures only { (tag : TagFields) (rest : List ℕ) → IsTag tag → BeginsWith octets.now tag rest → IsOkAnd result (λ header. (tag_view header.tag ≡ tag) × (header.rest.now ≡ rest)) }
+    // What is encoded so is read, and the octets behind it are the rest.
+    ensures only { (tag : TagFields) (rest : List ℕ) → IsTag tag → BeginsWith octets.now tag rest
+        → IsOkAnd result (λ header. (tag_view header.tag ≡ tag) × (header.rest.now ≡ rest)) }
 
     // Which fault it is.
-    ensures short { (result ≡ Err TagFault.Short) ↔ IsCut octets.now }
-    ensures bad_tag { (result ≡ Err TagFault.BadTag) ↔ BeginsWithNoTag octets.now }
+    ensures short { (result ≡ Err TagFault.Short) ↔ IsShortTag octets.now }
+    ensures bad_tag { (result ≡ Err TagFault.BadTag) ↔ IsBadTag octets.now }
 
     ensures low_bits { IfOk result (λ header. header.low_bits ≡ low_bits_at octets.now) }
-    ensures exact { Gives (λ header. (tag_view header.tag, header.rest.now)) result (tag_at octets.now) }
+    ensures exact { Gives (λ header. (tag_view header.tag, header.rest.now))
+        result (tag_at octets.now) }
 {
     read(octets)
 }

@@ -6,6 +6,7 @@ ghost use Rattle.gw_addr.specs.Reading.{Keeps};
 ghost use Rattle.gw_tags.specs.Tag.{tag_view, class_of, low_of, length_octets, shortest_length, canonical};
 
 use crate::tag::{Kind, Tag};
+use gw_addr::{put_long_number, put_number, put_octet};
 use std::alloc::AllocError;
 
 fn low_bits(kind: Kind) -> u8
@@ -21,21 +22,24 @@ fn low_bits(kind: Kind) -> u8
 }
 
 fn put_length(out: &mut Vec<u8>, kind: Kind) -> Result<(), AllocError>
-    ensures ok { OnOk result (out.new.items ≡ out.old.items ++ length_octets kind (shortest_length kind)) }
+    ensures ok { OnOk result (out.new.items ≡ out.old.items
+        ++ length_octets kind (shortest_length kind)) }
     ensures front { Keeps out.old.items out.new.items }
     ensures capacity { vec_capacity out.old ≤ vec_capacity out.new }
-    ensures room { vec_len out.old + length (length_octets kind (shortest_length kind)) ≤ vec_capacity out.old → IsOk result }
+    ensures room { vec_len out.old + length (length_octets kind (shortest_length kind))
+        ≤ vec_capacity out.old
+        → IsOk result }
 {
     match kind {
         Kind::Length(length) if length < 5 => {}
-        Kind::Length(length) if length < 254 => out.push(length as u8)?,
+        Kind::Length(length) if length < 254 => put_octet(out, length as u8)?,
         Kind::Length(length) if length < 0x1_0000 => {
-            out.push(254)?;
-            out.extend_from_slice(&(length as u16).to_be_bytes())?;
+            put_octet(out, 254)?;
+            put_number(out, length as u16)?;
         }
         Kind::Length(length) => {
-            out.push(255)?;
-            out.extend_from_slice(&length.to_be_bytes())?;
+            put_octet(out, 255)?;
+            put_long_number(out, length)?;
         }
         Kind::Opening | Kind::Closing => {}
     }
@@ -57,33 +61,36 @@ fn first_octet(high: u8, context: bool, low: u8) -> u8
     high << 4 | class_bit(context) | low
 }
 
-/// Appends the shortest spelling of the tag. After an `Err` a front of it may stand there.
+/// Appends the shortest tag_encoding of the tag. After an `Err` a front of it may stand there.
 pub fn put_tag(out: &mut Vec<u8>, tag: Tag) -> Result<(), AllocError>
     ensures ok { OnOk result (out.new.items ≡ out.old.items ++ canonical (tag_view tag)) }
     ensures front { Keeps out.old.items out.new.items }
     ensures capacity { vec_capacity out.old ≤ vec_capacity out.new }
-    ensures room { vec_len out.old + length (canonical (tag_view tag)) ≤ vec_capacity out.old → IsOk result }
+    ensures room { vec_len out.old + length (canonical (tag_view tag)) ≤ vec_capacity out.old
+        → IsOk result }
 {
     let low = low_bits(tag.kind);
     if tag.number < 15 {
-        out.push(first_octet(tag.number, tag.context, low))?;
+        put_octet(out, first_octet(tag.number, tag.context, low))?;
     } else {
-        out.extend_from_slice(&[first_octet(15, tag.context, low), tag.number])?;
+        put_octet(out, first_octet(15, tag.context, low))?;
+        put_octet(out, tag.number)?;
     }
     put_length(out, tag.kind)
 }
 
-/// Appends the one spelling of the tag that has the fewest octets. The buffer keeps what it had, and is
-/// unchanged after an error.
+/// Appends the one encoding of the tag that has the fewest octets. The buffer keeps what it had,
+/// and is unchanged after an error.
 ///
 /// # Errors
 ///
-/// 1 Memory, where the buffer can't grow.
+/// 1 Memory, only where the buffer had no room for the tag.
 pub fn write_tag(out: &mut Vec<u8>, tag: Tag) -> Result<(), AllocError>
     ensures ok { OnOk result (out.new.items ≡ out.old.items ++ canonical (tag_view tag)) }
-    // Memory only where the buffer had no room for the tag.
-    ensures memory { IsErr result → vec_capacity out.old < vec_len out.old + length (canonical (tag_view tag)) }
     ensures err { OnErr result (out.new.items ≡ out.old.items) }
+    ensures room { vec_len out.old + length (canonical (tag_view tag)) ≤ vec_capacity out.old
+        → IsOk result }
+    ensures capacity { vec_capacity out.old ≤ vec_capacity out.new }
 {
     let len = out.len();
     let written = put_tag(out, tag);

@@ -1,10 +1,12 @@
 //! The messages of the virtual link layer: frames from outside, faults, and a refused growth.
 ghost use Rattle.std.specs.Prelude.{◌≡◌, IfOk};
-ghost use Rattle.gw_bvll.specs.Entries.{bdt_of};
+ghost use Rattle.gw_addr.specs.Entry.{bdt_entry};
+ghost use Rattle.gw_bvll.specs.Entries.{lent};
 
-use gw_addr::BipAddr;
+use gw_addr::{BdtEntry, BipAddr, FdtEntry};
 use gw_bvll::{
-    BdtEntries, BdtEntry, Bvll, BvllFault, EncodeFault, FdtEntries, ResultCode, decode, encode,
+    BdtEntries, Bvll, BvllFault, EncodeFault, FdtEntries, Function, ResultCode, decode, encode,
+    put_entries,
 };
 use std::alloc::{AllocError, Global};
 use std::test::*;
@@ -151,9 +153,63 @@ fn longest_message(rt: HostRuntime) -> Result<(), Fail> {
 
 /// The entries in a buffer of their own: their list comes through the iterator's clauses alone.
 fn copied(alloc: Global, entries: BdtEntries<'_>) -> Result<Vec<BdtEntry>, AllocError>
-    ensures { IfOk result (λ copy. copy.items ≡ bdt_of entries.entry) }
+    ensures { IfOk result (λ copy. copy.items ≡ lent bdt_entry entries.entry) }
 {
     entries.iter().collect(alloc)
+}
+
+#[test]
+fn result_codes(rt: HostRuntime) -> Result<(), Fail> {
+    for (code, high, low) in [
+        (ResultCode::SUCCESS, 0x00, 0x00),
+        (ResultCode::WRITE_BDT_NAK, 0x00, 0x10),
+        (ResultCode::READ_BDT_NAK, 0x00, 0x20),
+        (ResultCode::REGISTER_NAK, 0x00, 0x30),
+        (ResultCode::READ_FDT_NAK, 0x00, 0x40),
+        (ResultCode::DELETE_NAK, 0x00, 0x50),
+        (ResultCode::DISTRIBUTE_NAK, 0x00, 0x60),
+    ] {
+        let frame = [0x81, 0x00, 0x00, 0x06, high, low];
+        assert!(rt; both_ways(rt.alloc(), &frame, Bvll::Result(code))?);
+        assert_eq!(rt; code.is_success(), low == 0);
+    }
+    assert_eq!(rt;
+        ResultCode::refusal(Function::Register),
+        Some(ResultCode::REGISTER_NAK)
+    );
+    assert_eq!(rt; ResultCode::refusal(Function::OriginalUnicast), None);
+    Ok(())
+}
+
+#[test]
+fn answers_from_entries(rt: HostRuntime) -> Result<(), Fail> {
+    let entries = [
+        BdtEntry {
+            address: BipAddr::parse("192.168.1.10:47808")?,
+            mask: [0xFF; 4],
+        },
+        BdtEntry {
+            address: BipAddr::parse("192.168.4.1:47808")?,
+            mask: [0xFF; 4],
+        },
+    ];
+    let mut octets = Vec::new(rt.alloc());
+    put_entries(&mut octets, &entries)?;
+    let table = BdtEntries::from_octets(&octets).ok_or("tens")?;
+    assert!(rt; both_ways(rt.alloc(), &READ_BDT_ACK, Bvll::ReadBdtAck(table))?);
+    let devices = [FdtEntry {
+        address: DEVICE,
+        time_to_live: 60,
+        remaining: 1,
+    }];
+    octets.clear();
+    put_entries(&mut octets, &devices)?;
+    let frame = [
+        0x81, 0x07, 0x00, 0x0E, 0xC0, 0xA8, 0x03, 0x09, 0xBA, 0xC0, 0x00, 0x3C, 0x00, 0x01,
+    ];
+    let table = FdtEntries::from_octets(&octets).ok_or("tens")?;
+    assert!(rt; both_ways(rt.alloc(), &frame, Bvll::ReadFdtAck(table))?);
+    Ok(())
 }
 
 #[test]

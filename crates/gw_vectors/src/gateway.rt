@@ -1,7 +1,7 @@
 //! The gateway of the built-in configuration: worked frames, the ends of its counts, and a refused growth.
 
 use gw_addr::BipAddr;
-use gw_core::{Counts, Event, Gateway, Octets, StepFault, run, setting_s};
+use gw_core::{Counts, Event, Gateway, StepFault, run, setting_s};
 use std::alloc::Global;
 use std::process::Abort;
 use std::test::*;

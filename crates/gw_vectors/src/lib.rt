@@ -23,4 +23,8 @@ mod routes;
 #[cfg(test)]
 mod rules;
 #[cfg(test)]
+mod script;
+#[cfg(test)]
 mod tags;
+#[cfg(test)]
+mod tags_more;

@@ -2,8 +2,8 @@
 //! and a refused growth.
 
 use gw_npdu::{
-    AddressRef, Destination, EncodeFault, MessageKind, NetMessage, Npdu, NpduFault, Onward, Payload,
-    Priority, decode, encode, relay_header,
+    AddressRef, Destination, EncodeFault, MessageKind, NetMessage, Npdu, NpduFault, Onward,
+    Payload, Priority, decode, encode, relay_header,
 };
 use std::test::*;
 
@@ -359,7 +359,11 @@ fn messages_that_differ_in_one_field(rt: HostRuntime) -> Result<(), Fail> {
     ];
     for one in rows {
         for other in rows {
-            assert_eq!(rt; decode(one)? == decode(other)?, one == other, "{one:?} {other:?}");
+            assert_eq!(rt;
+                decode(one)? == decode(other)?,
+                one == other,
+                "{one:?} {other:?}"
+            );
         }
     }
     Ok(())
@@ -381,7 +385,11 @@ fn network_layer_messages_that_differ_in_one_field(rt: HostRuntime) -> Result<()
     ];
     for one in rows {
         for other in rows {
-            assert_eq!(rt; decode(one)? == decode(other)?, one == other, "{one:?} {other:?}");
+            assert_eq!(rt;
+                decode(one)? == decode(other)?,
+                one == other,
+                "{one:?} {other:?}"
+            );
         }
     }
     Ok(())

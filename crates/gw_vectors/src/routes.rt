@@ -51,7 +51,11 @@ fn table(alloc: Global) -> Result<Routes, AllocError> {
 
 /// Whether these are the networks, in this order.
 fn are(nets: &[NetNum], numbers: &[u16]) -> bool {
-    nets.len() == numbers.len() && nets.iter().zip(numbers).all(|(net, number)| net.get() == *number)
+    nets.len() == numbers.len()
+        && nets
+            .iter()
+            .zip(numbers)
+            .all(|(net, number)| net.get() == *number)
 }
 
 /// The networks from a first number on, so many.
@@ -121,7 +125,12 @@ fn what_is_learned_is_reachable_from_the_other_port(rt: HostRuntime) -> Result<(
     assert!(rt; are(&routes.reachable_from(rt.alloc(), 1)?, &[2, 100, 300, 400]));
     assert!(rt; are(&routes.reachable_from(rt.alloc(), 2)?, &[1, 100]));
     for none in [0, 3, 255] {
-        assert!(rt; are(&routes.reachable_from(rt.alloc(), none)?, &[1, 2, 100, 300, 400]));
+        assert!(rt;
+            are(
+                &routes.reachable_from(rt.alloc(), none)?,
+                &[1, 2, 100, 300, 400]
+            )
+        );
     }
     Ok(())
 }
@@ -138,7 +147,12 @@ fn a_renewed_route_keeps_its_place(rt: HostRuntime) -> Result<(), Fail> {
         next: router(9),
     };
     assert_eq!(rt; routes.find(400), Way::Router(renewed));
-    assert!(rt; are(&routes.reachable_from(rt.alloc(), 3)?, &[1, 2, 100, 300, 400, 401, 402]));
+    assert!(rt;
+        are(
+            &routes.reachable_from(rt.alloc(), 3)?,
+            &[1, 2, 100, 300, 400, 401, 402]
+        )
+    );
     assert!(rt; are(&routes.reachable_from(rt.alloc(), 2)?, &[1, 100, 400]));
     Ok(())
 }
@@ -182,7 +196,12 @@ fn a_copy_is_equal_and_apart(rt: HostRuntime) -> Result<(), Fail> {
     let copy = routes.copy()?;
     routes.learn(net(401), 2, NEXT)?;
     assert!(rt; are(&copy.reachable_from(rt.alloc(), 1)?, &[2, 100, 300, 400]));
-    assert!(rt; are(&routes.reachable_from(rt.alloc(), 1)?, &[2, 100, 300, 400, 401]));
+    assert!(rt;
+        are(
+            &routes.reachable_from(rt.alloc(), 1)?,
+            &[2, 100, 300, 400, 401]
+        )
+    );
     assert!(rt; are(copy.direct(), &[1, 2, 100]));
     Ok(())
 }
@@ -288,7 +307,11 @@ fn ten_thousand_acts_beside_a_plain_list(rt: HostRuntime) -> Result<(), Fail> {
             "act {act}: {net}"
         );
         let number = chosen.below(700) as u16 + 1000;
-        assert_eq!(rt; routes.find(number), plain.find(number), "act {act}: {number}");
+        assert_eq!(rt;
+            routes.find(number),
+            plain.find(number),
+            "act {act}: {number}"
+        );
         assert_eq!(rt;
             routes.find(net.get()) == plain.find(net.get()),
             !matches!(net.get(), 1 | 2 | 100 | 300),

@@ -231,7 +231,11 @@ fn an_ask_is_decided_by_one_walk(rt: HostRuntime) -> Result<(), Fail> {
     ] {
         assert_eq!(rt; rules.decide(&ask), decision, "at {ask:?}");
         assert_eq!(rt; Judge::decide(&rules, &ask), decision, "at {ask:?}");
-        assert_eq!(rt; rules.allows(&ask), decision == Decision::Allow, "at {ask:?}");
+        assert_eq!(rt;
+            rules.allows(&ask),
+            decision == Decision::Allow,
+            "at {ask:?}"
+        );
     }
     Ok(())
 }
@@ -258,9 +262,16 @@ fn what_is_denied_is_kept_in_order(rt: HostRuntime) -> Result<(), Fail> {
     assert_eq!(rt;
         kept.as_slice(),
         [
-            Refusal { ask: write, by: None },
-            Refusal { ask: read_of(9), by: Some(1) },
-        ].as_slice()
+            Refusal {
+                ask: write,
+                by: None
+            },
+            Refusal {
+                ask: read_of(9),
+                by: Some(1)
+            },
+        ]
+        .as_slice()
     );
     let mut authorizer = Authorizer::new(alloc, &rules);
     assert!(rt; authorizer.authorize(&read_of(1))?);
@@ -314,10 +325,27 @@ fn each_kind_of_service_has_its_base(rt: HostRuntime) {
 fn unequal_values_differ(rt: HostRuntime) {
     let ask = Ask::new(Operation::Read);
     for field in FieldName::ALL {
-        assert_eq!(rt; *ask.get(field), if field == FieldName::Operation { Some(9) } else { None });
+        assert_eq!(rt;
+            *ask.get(field),
+            if field == FieldName::Operation {
+                Some(9)
+            } else {
+                None
+            }
+        );
     }
-    assert!(rt; ask != Ask { priority: Some(16), ..ask });
-    assert!(rt; ask != Ask { operation: None, ..ask });
+    assert!(rt;
+        ask != Ask {
+            priority: Some(16),
+            ..ask
+        }
+    );
+    assert!(rt;
+        ask != Ask {
+            operation: None,
+            ..ask
+        }
+    );
     assert!(rt; Range { low: 1, high: 2 } != Range { low: 1, high: 3 });
     assert!(rt; Decision::Deny { by: None } != Decision::Deny { by: Some(1) });
     assert!(rt; Refusal { ask, by: None } != Refusal { ask, by: Some(1) });

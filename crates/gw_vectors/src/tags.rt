@@ -17,7 +17,10 @@ fn context(number: u8, kind: Kind) -> Tag
 
 #[test]
 fn tags_are_written_and_read(rt: HostRuntime) -> Result<(), Fail> {
-    laws();
+    laws::tags();
+    laws::objects();
+    laws::values();
+    laws::numbers();
     let rows: [(Tag, &[u8]); 11] = [
         (context(3, Kind::Opening), &[0x3E]),
         (context(3, Kind::Closing), &[0x3F]),

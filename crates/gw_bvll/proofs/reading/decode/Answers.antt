@@ -1,9 +1,11 @@
 use Rattle.std.proofs.Common.{arith}
 use Rattle.gw_addr.specs.Reading.{AreOctets}
+use Rattle.gw_addr.proofs.Reading.{gives_found, gives_only, gives_fault}
 use Rattle.gw_bvll.specs.declared.fault.BvllFault.TheVariants.{Marker, Length, Function, Body}
-use Rattle.gw_bvll.specs.Shape.{LacksMarker, LacksLength, LacksFunction, LacksBody}
-use Rattle.gw_bvll.proofs.Messages.{marker_is, length_is, function_is, body_is}
-use Rattle.gw_bvll.proofs.Decoded.{is_found, is_only, is_fault}
+use Rattle.gw_bvll.specs.Bvll.{view, IsBvll}
+use Rattle.gw_bvll.specs.Reading.{bvll_at}
+use Rattle.gw_bvll.specs.Shape.{IsBadMarker, IsBadLength, IsBadFunction, IsBadBody}
+use Rattle.gw_bvll.proofs.Messages.{reads_as, marker_is, length_is, function_is, body_is}
 use Rattle.gw_bvll.proofs.reading.decode.Goals as goal
 
 pub returns : goal.returns
@@ -13,11 +15,11 @@ returns c =
     let given = c.message_at.ensures in
     let fits : AreOctets octets = λ i. omega (arith, c.type_inv.octets i) in
     record {
-      found = is_found octets r fits given;
-      only = is_only octets r given;
-      marker = is_fault octets r Marker (LacksMarker octets) given (marker_is octets fits);
-      size = is_fault octets r Length (LacksLength octets) given (length_is octets fits);
-      function = is_fault octets r Function (LacksFunction octets) given (function_is octets fits);
-      body = is_fault octets r Body (LacksBody octets) given (body_is octets fits);
+      found = gives_found view r (bvll_at octets) (IsBvll octets) given (λ m e. (reads_as octets m fits).0 e);
+      only = λ m is. gives_only view r (bvll_at octets) m given ((reads_as octets m fits).1 is);
+      marker = gives_fault view r (bvll_at octets) Marker (IsBadMarker octets) given (marker_is octets fits);
+      size = gives_fault view r (bvll_at octets) Length (IsBadLength octets) given (length_is octets fits);
+      function = gives_fault view r (bvll_at octets) Function (IsBadFunction octets) given (function_is octets fits);
+      body = gives_fault view r (bvll_at octets) Body (IsBadBody octets) given (body_is octets fits);
       exact = given;
     }

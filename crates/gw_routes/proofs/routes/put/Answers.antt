@@ -8,7 +8,7 @@ pub returns-in-Some-clause-entries : goal.returns-in-Some-clause-entries
 returns-in-Some-clause-entries c =
     let es = c.args.routes.now.entries in
     sym (insert_entry-first nat_eq c.args.net c.args.route es c.in-Some.place
-        (Found-position (nat_eq c.args.net) es c.in-Some.place (sym (c.in-Some.ensures.index))).first)
+    (Found-position (nat_eq c.args.net) es c.in-Some.place (sym (c.in-Some.ensures.index))).first)
 
 pub returns-in-Some-clause-len : goal.returns-in-Some-clause-len
 returns-in-Some-clause-len c =

@@ -13,7 +13,7 @@ loop-net-preserved c =
     let nets : List ℕ = drop place c.args.nets.now in
     let left : List ℕ = drop (place + 1) c.args.nets.now in
     let first : nets ≡ net ∷ left =
-        first_left c.args.nets.now place net c.loop-net-test.true c.net-item.is in
+    first_left c.args.nets.now place net c.loop-net-test.true c.net-item.is in
     let step = c.learn_one.ensures in
     let room = room_left t u net c.args.route nets left first step.rows in
     record {

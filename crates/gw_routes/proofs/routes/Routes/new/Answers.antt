@@ -8,12 +8,12 @@ use Rattle.gw_routes.proofs.routes.Routes.new.Goals as goal
 pub invariant_of-result : goal.invariant_of-result
 invariant_of-result c =
     let rows : c.in_ok-configured.configured.entries ≡ c.args.configured.items =
-        c.in_ok-configured.ensures.entries ∙ ap (insert_all nat_eq []) c.deref.ensures.value ∙ in_turn c.args.direct.items c.args.configured.items c.requires.distinct in
+    c.in_ok-configured.ensures.entries ∙ ap (insert_all nat_eq []) c.deref.ensures.value ∙ in_turn c.args.direct.items c.args.configured.items c.requires.distinct in
     omega (arith, ap length rows, ap length c.new-learned.ensures.empty, c.requires.few)
 
 pub returns-clause-made : goal.returns-clause-made
 unfolding learned_after networks_learned
 returns-clause-made c = λ j.
     table_of c.args.direct.items
-        ((c.in_ok-configured.ensures.entries ∙ ap (insert_all nat_eq []) c.deref.ensures.value ∙ in_turn c.args.direct.items c.args.configured.items c.requires.distinct) j)
-        (c.new-learned.ensures.empty j)
+    ((c.in_ok-configured.ensures.entries ∙ ap (insert_all nat_eq []) c.deref.ensures.value ∙ in_turn c.args.direct.items c.args.configured.items c.requires.distinct) j)
+    (c.new-learned.ensures.empty j)

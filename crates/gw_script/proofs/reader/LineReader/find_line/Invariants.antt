@@ -1,6 +1,6 @@
 use Rattle.std.proofs.Common.{◌-◌, ◌≤◌, length}
 use Rattle.std.specs.Io.KnownBytes.{Keeps, prepend_known}
-use Rattle.gw_script.specs.Script.{Lacks}
+use Rattle.gw_addr.specs.Text.{Lacks}
 use Rattle.gw_script.specs.Reader.{IsGiven}
 use Rattle.gw_script.proofs.reader.LineReader.find_line.Given as goal
 

@@ -1,0 +1,5 @@
+pub mod Same
+pub mod Order
+pub mod Rows
+pub mod Ends
+pub mod Entries

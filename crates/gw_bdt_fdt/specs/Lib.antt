@@ -1,0 +1,4 @@
+pub mod Registrations
+pub mod History
+pub mod Peers
+pub mod Internal

@@ -1,0 +1,158 @@
+//! The foreign device table.
+ghost use Rattle.std.specs.Prelude.{◌≡◌, ◌<◌, ◌≤◌, ◌↔◌, ◌∷◌, ◌^◌, [], length, map};
+ghost use Rattle.std.specs.Prelude.{IsTrue, IsFalse, IfOk, OnOk, OnErr, IsErrOf};
+ghost use Rattle.std.specs.List.{IsDistinct};
+ghost use Rattle.std.specs.Map.{keys_of};
+ghost use Rattle.gw_bdt_fdt.specs.Internal.{AreKept, table_at};
+ghost use Rattle.gw_bdt_fdt.specs.Registrations.{contains, has_room, no_registration, same, shown};
+ghost use Rattle.gw_bdt_fdt.specs.Registrations.{with_registration, with_tick, without};
+ghost use Rattle.gw_bdt_fdt.specs.History.{Delete, History, IsStateAfter, Register, Tick};
+
+use crate::fault::{DeleteFault, RegisterFault};
+use crate::leases::{Lease, Leases};
+use gw_addr::{BipAddr, FdtEntry};
+use std::alloc::{AllocError, Global};
+use std::marker::Model;
+
+/// How many foreign devices may be registered at a time (a limit of our own).
+pub const MAX_REGISTRATIONS: usize = 128;
+
+/// The seconds of grace that a registration lives behind its time to live (Annex J.5.2.3).
+pub const GRACE: u64 = 30;
+
+/// The most seconds that are shown to remain: those that 16 bits can say (our own rule).
+pub const MAX_REMAINING: u64 = 65535;
+
+/// The foreign devices of a port, at most 128, each registered for its time to live and 30 seconds
+/// of grace from its last registration on (Annex J.5.2). They stand in the order in which their
+/// unbroken times of being registered began (our own rule). A tick is one second.
+#[derive(Debug, Drop)]
+pub struct Fdt {
+    leases: Leases,
+    ticks: u64,
+}
+
+impl Model for Fdt {
+    ghost use Rattle.gw_bdt_fdt.specs.Registrations.{Registrations};
+    ghost use Rattle.gw_bdt_fdt.specs.Internal.{AreKept, table_at};
+
+    ghost Value = { Registrations };
+
+    ghost view = { λ a. table_at a.ticks a.leases };
+
+    ghost invariant = { λ a. AreKept a.ticks a.leases };
+}
+
+impl Fdt {
+    /// A table in which nobody is registered, before the first tick.
+    pub fn new(alloc: Global) -> Self
+        ensures rows { result ≡ no_registration }
+        ensures stands { IsStateAfter result [] }
+    {
+        Fdt {
+            leases: Leases::new(alloc),
+            ticks: 0,
+        }
+    }
+
+    /// Registers a foreign device for `time_to_live` seconds and 30 of grace from now on (Annex
+    /// J.5.2). One that is registered keeps its place and takes the new time, also where that is
+    /// shorter; another goes last.
+    ///
+    /// `Full` where 128 others are registered; `Memory` where there is none for the registration.
+    /// Then nothing changed.
+    pub fn register(&mut self, address: BipAddr, time_to_live: u16) -> Result<(), RegisterFault>
+        ensures rows { OnOk result (self.new ≡ with_registration self.old address time_to_live) }
+        ensures stands { OnOk result ((h : History) → IsStateAfter self.old h →
+            IsStateAfter self.new (Register address time_to_live ∷ h)) }
+        ensures full { IsErrOf result RegisterFault.Full ↔ IsFalse (has_room self.old address) }
+        ensures err { OnErr result (self.new ≡ self.old) }
+    {
+        if !self.has_room(address) {
+            return Err(RegisterFault::Full);
+        }
+        let deadline = self.ticks + u64::from(time_to_live) + GRACE;
+        let lease = Lease {
+            time_to_live,
+            deadline,
+        };
+        let Ok(()) = self.leases.put(address, lease) else {
+            return Err(RegisterFault::Memory);
+        };
+        Ok(())
+    }
+
+    /// Whether there is room for an address.
+    fn has_room(&self, address: BipAddr) -> bool
+        ensures { result ≡ has_room self.now address }
+    {
+        self.contains(address) || self.count() < MAX_REGISTRATIONS
+    }
+
+    /// Deletes the registration of a foreign device (Annex J.5.2.1). `Absent` where it isn't
+    /// registered; then nothing changed.
+    pub fn delete(&mut self, address: BipAddr) -> Result<(), DeleteFault>
+        ensures rows { OnOk result (self.new ≡ without self.old address) }
+        ensures stands { OnOk result ((h : History) → IsStateAfter self.old h →
+            IsStateAfter self.new (Delete address ∷ h)) }
+        ensures absent { IsErrOf result DeleteFault.Absent ↔ IsFalse (contains self.old address) }
+        ensures err { OnErr result (self.new ≡ self.old) }
+    {
+        if !self.contains(address) {
+            return Err(DeleteFault::Absent);
+        }
+        self.leases.take(address);
+        Ok(())
+    }
+
+    /// One second passes: who has no tick more to come is gone with it (Annex J.5.2.3). The caller
+    /// sees to it that there are no more than 2 to the power of 63 ticks.
+    pub fn tick(&mut self)
+        requires { self.old.ticks < 2 ^ 63 }
+        ensures rows { self.new ≡ with_tick self.old }
+        ensures stands { (h : History) → IsStateAfter self.old h → IsStateAfter self.new (Tick ∷ h) }
+    {
+        let now = self.ticks + 1;
+        self.leases.end_by(now);
+        self.ticks = now;
+    }
+
+    /// How many ticks have passed.
+    pub fn ticks(&self) -> u64
+        ensures { result ≡ self.now.ticks }
+    {
+        self.ticks
+    }
+
+    /// Whether a foreign device is registered.
+    pub fn contains(&self, address: BipAddr) -> bool
+        ensures { result ≡ contains self.now address }
+    {
+        self.leases.contains(address)
+    }
+
+    /// How many foreign devices are registered. No two registrations are of one address.
+    pub fn count(&self) -> usize
+        ensures count { result ≡ length self.now.rows }
+        ensures few { result ≤ MAX_REGISTRATIONS }
+        ensures once { IsDistinct same (keys_of self.now.rows) }
+    {
+        self.leases.len()
+    }
+
+    /// The foreign devices in their order, each with its time to live and the seconds that remain,
+    /// the grace among them, shown as at most 65535. The only fault is want of memory for the list.
+    pub fn rows(&self, alloc: Global) -> Result<Vec<FdtEntry>, AllocError>
+        ensures { IfOk result (λ rows. rows.items ≡ map shown self.now.rows) }
+    {
+        let mut rows = Vec::with_capacity(alloc, self.leases.len())?;
+        for (address, lease) in self.leases.by_address() {
+            rows.push(FdtEntry {
+                address: *address,
+                time_to_live: lease.time_to_live,
+                remaining: (lease.deadline - self.ticks).min(MAX_REMAINING) as u16,
+            })?;
+        }
+        Ok(rows)
+    }
+}

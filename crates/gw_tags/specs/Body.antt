@@ -1,0 +1,7 @@
+-- What is behind a value's tag.
+use Rattle.std.specs.Prelude.{ℕ, List}
+use Rattle.gw_tags.specs.declared.body.Body.{Body as RustBody}
+use Rattle.gw_tags.specs.Reading.{Body}
+
+abbrev pub body_view : RustBody → Body
+body_view body = record { low_bits = body.low_bits; count = body.count; octets = body.octets.now }

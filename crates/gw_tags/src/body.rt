@@ -1,0 +1,12 @@
+//! What is behind a value's tag.
+
+/// The octets behind a value's tag, and what the tag says of them.
+#[derive(Clone, Copy, Debug)]
+pub struct Body<'a> {
+    /// The three low bits of the tag's first octet.
+    pub low_bits: u8,
+    /// The length of the content.
+    pub count: u32,
+    /// The octets behind the tag.
+    pub octets: &'a [u8],
+}
