@@ -1,9 +1,6 @@
 -- The worked examples, computed.
 use Rattle.std.specs.Prelude.{⊤}
 use Rattle.std.proofs.Common.{refl}
-use Rattle.gw_tags.specs.Object.{object_octets, object_of}
-use Rattle.gw_tags.specs.Reading.{tag_number_at, length_at, kind_at, header_at, tag_at}
-use Rattle.gw_tags.specs.Value.{value_encoding}
 use Rattle.gw_rules.specs.Rule.{matches}
 use Rattle.gw_rules.specs.RuleList.{first, allows}
 use Rattle.gw_core.specs.Asks.{asks}
@@ -22,7 +19,7 @@ frames = tt
 
 -- all that a read runs through
 unfoldable reads : ⊤
-unfolding object_octets object_of tag_number_at length_at kind_at header_at tag_at value_encoding request_of property_value read_value read_ack error_apdu
+unfolding request_of property_value read_value read_ack error_apdu
 reads = tt
 
 -- all that an event runs through

@@ -1,6 +1,7 @@
 -- A history goes on by one event, and a list of events is history_after one after the other.
-use Rattle.std.proofs.Common.{◌≡◌, ℕ, ◌+◌, ◌-◌, ◌<◌, ◌≤◌, List, [], ◌∷◌, ◌++◌, length, get_or, take, drop, Some, refl, sym, ap, ◌∙◌, arith, add_assoc, add-zero, append_assoc}
-use Rattle.std.specs.Prelude.{map, slice_get}
+use Rattle.std.proofs.Common.{◌≡◌, ℕ, ◌+◌, ◌-◌, ◌<◌, ◌≤◌, List, [], ◌∷◌, ◌++◌, length, get_or, take, drop, Some, true, refl, sym, ap, ◌∙◌, arith, add_assoc, add-zero, append_assoc}
+use Rattle.std.specs.Prelude.{map, slice_get, IsErrOf, Result, Err}
+use Rattle.gw_core.specs.declared.fault.StepFault.{StepFault}
 use Rattle.std.proofs.lemmas.List.{take_at}
 use Rattle.std.proofs.Math.Seq.{take-length}
 use Rattle.gw_addr.specs.declared.bip.BipAddr.{BipAddr}
@@ -10,8 +11,8 @@ use Rattle.gw_script.specs.declared.event.Event.{Event as LentEvent}
 use Rattle.gw_script.specs.Event.{Event, Datagram, Tick, event_view}
 use Rattle.gw_core.specs.Configuration.{Configuration}
 use Rattle.gw_core.specs.Denials.{denials_at}
-use Rattle.gw_core.specs.Effects.{effects_at, ticks_of}
-use Rattle.gw_core.specs.History.{acts_of, state_after, next, IsStateAfter, run_after, run_from, state_from, history_after}
+use Rattle.gw_core.specs.Effects.{effects_at, passes_end, ticks_of}
+use Rattle.gw_core.specs.History.{acts_of, state_after, next, IsStateAfter, run_after, run_from, state_from, history_after, StopsAtEnd}
 use Rattle.gw_core.specs.Laws.{StepsExtendHistories, RunsExtendHistories}
 use Rattle.gw_core.specs.Receive.{receive}
 use Rattle.gw_core.specs.State.{State, initial}
@@ -100,6 +101,23 @@ first_events all done rest parts = ap (take (length done)) parts ∙ take_at don
 pub next_event : (done : List Event) (e : Event) (later : List Event) → slice_get (done ++ e ∷ later) (length done) ≡ Some e
 next_event [] e later = refl
 next_event (d ∷ done) e later = next_event done e later
+
+fault_is : {T : Type 0} (fault other : StepFault) → IsErrOf {T = T} {E = StepFault} (Err fault) other → fault ≡ other
+fault_is fault other e = cc
+
+-- a fault of one call as that of another
+pub fault_as : {S T : Type 0} (fault other : StepFault) → IsErrOf {T = S} {E = StepFault} (Err fault) other → IsErrOf {T = T} {E = StepFault} (Err fault) other
+fault_as {S} {T} fault other e = ap Err (fault_is {T = S} fault other e)
+
+-- where the next event would pass the end of a count
+pub run_stops : (first w v : State) (all rest later : List Event) (given : List Effects) (e : Event) → RunProgress first w all rest given → rest ≡ e ∷ later → v ≡ w → passes_end w e ≡ true → StopsAtEnd first all v
+run_stops first w v all rest later given e p split same passes = record {
+  count = length p.done;
+  event = e;
+  took = same ∙ p.state ∙ ap (state_from first) (sym (first_events all p.done rest p.parts));
+  next_is = ap (λ (l : List Event). slice_get l (length p.done)) (p.parts ∙ ap (λ (l : List Event). p.done ++ l) split) ∙ next_event p.done e later;
+  passes = ap (λ (s : State). passes_end s e) same ∙ passes;
+}
 
 -- the first of some events that are lent, and the later ones
 pub first_split : (events : List LentEvent) (d : LentEvent) → 1 ≤ length events → map event_view events ≡ event_view (get_or events 0 d) ∷ map event_view (take (length events - 1) (drop 1 events))

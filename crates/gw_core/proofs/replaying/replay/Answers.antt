@@ -136,3 +136,9 @@ returns-in_default-with_capacity-clause-part g c = λ which script before known 
 
 pub returns-in_default-with_capacity-clause-memory : goal.returns-in_default-with_capacity-clause-memory
 returns-in_default-with_capacity-clause-memory g c = λ which script before known written. ends_before c.args.config script before _ written
+
+pub returns-in_default-clause-part : goal.returns-in_default-clause-part
+returns-in_default-clause-part g c = λ _ script before known written. part_before c.args.config script before _ written
+
+pub returns-in_default-clause-memory : goal.returns-in_default-clause-memory
+returns-in_default-clause-memory g c = λ _ script before known written. ends_before c.args.config script before _ written

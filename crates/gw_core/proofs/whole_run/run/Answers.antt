@@ -1,9 +1,11 @@
 use Rattle.std.proofs.Common.{◌≡◌, ◌++◌, [], ◌∷◌, List, length, map, sym, ap, ◌∙◌, refl, arith}
-use Rattle.std.specs.Prelude.{slice_get}
 use Rattle.std.proofs.lemmas.List.{append-nil}
 use Rattle.gw_script.specs.Event.{Event, event_view}
 use Rattle.gw_core.specs.History.{run_from, state_from}
-use Rattle.gw_core.proofs.HistoryLemmas.{RunProgress, run_begins, run_goes_on, first_events, next_event, first_split, none_left}
+use Rattle.std.proofs.Common.{Vec, Global}
+use Rattle.gw_core.specs.declared.effects.Effects.{Effects}
+use Rattle.gw_core.specs.declared.fault.StepFault.TheVariants.{CountEnd}
+use Rattle.gw_core.proofs.HistoryLemmas.{fault_as, RunProgress, run_begins, run_goes_on, run_stops, first_events, first_split, none_left}
 use Rattle.gw_core.proofs.whole_run.run.Goals as goal
 
 pub loop-rest-init : goal.loop-rest-init
@@ -11,16 +13,8 @@ loop-rest-init c = run_begins c.args.gateway.now (map event_view c.args.events.n
 
 pub returns-in-Err-clause-count_end : goal.returns-in-Err-clause-count_end
 returns-in-Err-clause-count_end c = λ ended.
-    let p = c.loop-rest.invariant in
     let split = first_split c.loop-rest.rest.now _ c.in-len1-up.len_at_least in
-    let all = map event_view c.args.events.now in
-    record {
-      count = length p.done;
-      event = _;
-      took = c.in-Err.ensures.err ∙ p.state ∙ ap (state_from c.args.gateway.now) (sym (first_events all p.done (map event_view c.loop-rest.rest.now) p.parts));
-      next_is = ap (λ (l : List Event). slice_get l (length p.done)) (p.parts ∙ ap (λ (l : List Event). p.done ++ l) split) ∙ next_event p.done _ _;
-      passes = rw c.in-Err.ensures.err (c.in-Err.ensures.count_end.0 ended);
-    }
+    run_stops c.args.gateway.now c.loop-rest.gateway c.take_event.new.gateway (map event_view c.args.events.now) (map event_view c.loop-rest.rest.now) _ c.loop-rest.given.items _ c.loop-rest.invariant split c.in-Err.ensures.err (c.in-Err.ensures.count_end.0 (fault_as {S = Vec Effects Global} {T = Effects} c.in-Err.fault CountEnd ended))
 
 pub returns-in-Err-clause-err : goal.returns-in-Err-clause-err
 returns-in-Err-clause-err c =
