@@ -1,21 +1,20 @@
 -- What reading the content of each kind gives: a content of the kind, or a fault that more octets do not cure but one.
-use Rattle.std.proofs.Common.{◌≡◌, ◌≢◌, ℕ, zero, suc, ◌+◌, ◌-◌, ◌*◌, ◌^◌, ◌<◌, ◌≤◌, Bool, true, false, cond, eqb, ltb, ◌&&◌, List, [], ◌∷◌, ◌++◌, length, take, drop, Result, Ok, Err, refl, sym, ap, subst, ◌∙◌, append_assoc, arith, inl, inr, ◌⊎◌}
-use Rattle.std.proofs.lemmas.Bool.{ltb-true, eqb-true, eqb-false, le-leb, leb-true}
+use Rattle.std.proofs.Common.{◌≡◌, ◌≢◌, ℕ, zero, suc, ◌-◌, ◌<◌, ◌≤◌, Bool, true, eqb, ltb, List, [], ◌∷◌, ◌++◌, length, take, drop, Result, Ok, Err, refl, sym, ap, subst, ◌∙◌, arith, inl, inr, ◌⊎◌}
+use Rattle.std.proofs.lemmas.Bool.{ltb-true, eqb-true, le-leb, leb-true}
 use Rattle.std.proofs.lemmas.List.{append-nil, length-append}
 use Rattle.gw_addr.specs.Address.{big_endian}
-use Rattle.gw_addr.specs.Reading.{◌>>=◌, AreOctets, octet_at, front_at}
+use Rattle.gw_addr.specs.Reading.{◌>>=◌, AreOctets, front_at}
 use Rattle.gw_addr.proofs.Reading.{AreOctets-append, both_true, bind_ok, bind_err, guard_err, chosen, ok_is, front_takes, front_again}
 use Rattle.gw_tags.specs.declared.fault.ValueFault.{ValueFault}
 use Rattle.gw_tags.specs.declared.fault.ValueFault.TheVariants.{Short as ShortValue, BadLength}
 use Rattle.gw_tags.specs.declared.datatype.Datatype.{Datatype}
 use Rattle.gw_tags.specs.declared.datatype.Datatype.TheVariants as kinds
-use Rattle.gw_tags.specs.Object.{object_of, object_octets}
+use Rattle.gw_tags.specs.Object.{object_of}
 use Rattle.gw_tags.specs.Number.{twos_complement}
-use Rattle.gw_tags.specs.Strings.{is_unused}
-use Rattle.gw_tags.specs.Value.{Value, null, boolean, unsigned, signed, real, double, octet_string, character_string, bit_string, enumerated, date, time, object_id, LengthBits, length_of_content, value_itself, Layout, layout, IsContent}
-use Rattle.gw_tags.specs.Reading.{Body, octets_at, content_at, one_to_four, text_of, bits_at, body_at}
+use Rattle.gw_tags.specs.Value.{Value, unsigned, signed, real, double, octet_string, enumerated, date, time, object_id, LengthBits, length_of_content, value_itself, layout, IsContent}
+use Rattle.gw_tags.specs.Reading.{Body, octets_at, content_at, one_to_four, text_of}
 use Rattle.gw_tags.proofs.Octets.{none, one_more}
-use Rattle.gw_tags.proofs.Objects.{object_read, object_encoded}
+use Rattle.gw_tags.proofs.Objects.{object_encoded}
 
 abbrev pub Read : Type 0
 Read = Result (Value × List ℕ) ValueFault

@@ -1,8 +1,8 @@
 -- Reading parameters under context tags: what is read is encoded so, and what is encoded so is read.
-use Rattle.std.proofs.Common.{◌≡◌, ◌≢◌, ℕ, ◌<◌, ◌≤◌, ◌^◌, Bool, true, false, cond, eqb, ltb, ◌&&◌, List, ◌++◌, length, take, drop, Result, Ok, Err, refl, sym, ap, subst, ◌∙◌, arith, inl, inr, ◌⊎◌}
-use Rattle.std.specs.Prelude.{◌↔◌, IfOk, IsOkAnd}
+use Rattle.std.proofs.Common.{◌≡◌, ℕ, ◌<◌, true, false, eqb, ltb, ◌&&◌, List, ◌++◌, length, take, drop, Result, Ok, Err, refl, sym, ap, subst, ◌∙◌, inl, inr, ◌⊎◌}
+use Rattle.std.specs.Prelude.{◌↔◌}
 use Rattle.std.proofs.lemmas.Bool.{eq-eqb, eqb-true}
-use Rattle.gw_addr.specs.Reading.{◌>>=◌, AreOctets, front_at, Gives}
+use Rattle.gw_addr.specs.Reading.{◌>>=◌, AreOctets, front_at}
 use Rattle.gw_addr.proofs.Reading.{bind_ok, bind_err, chosen, ok_is, both_true, front_takes, front_again, guard_err}
 use Rattle.gw_tags.specs.declared.tag.Kind.{Kind}
 use Rattle.gw_tags.specs.declared.tag.Kind.TheVariants.{Length, Opening, Closing}

@@ -1,21 +1,21 @@
 -- Reading the content of each of the thirteen kinds.
-use Rattle.std.proofs.Common.{◌≡◌, ◌≢◌, ℕ, zero, suc, ◌+◌, ◌-◌, ◌<◌, ◌≤◌, Bool, true, false, not, cond, eqb, ltb, ◌&&◌, ◌||◌, List, [], ◌∷◌, ◌++◌, length, take, drop, Result, Ok, Err, refl, sym, ap, subst, ◌∙◌, append_assoc, arith, inl, inr, ◌⊎◌}
+use Rattle.std.proofs.Common.{◌≡◌, ◌≢◌, ℕ, suc, ◌-◌, ◌<◌, Bool, true, false, cond, eqb, ltb, ◌||◌, List, [], ◌∷◌, ◌++◌, length, take, drop, Result, Ok, Err, refl, sym, ap, subst, ◌∙◌, arith, inl, inr}
 use Rattle.std.proofs.lemmas.Bool.{ltb-true, lt-ltb, eqb-true, eqb-false, ne_eqb}
 use Rattle.std.proofs.lemmas.List.{append-nil, length-append}
 use Rattle.gw_addr.specs.Address.{big_endian}
-use Rattle.gw_addr.specs.Reading.{◌>>=◌, AreOctets, octet_at, front_at}
-use Rattle.gw_addr.proofs.Reading.{AreOctets-rest, bind_ok, bind_err, guard_err, chosen, ok_is, octet_takes, front_takes, front_again}
+use Rattle.gw_addr.specs.Reading.{◌>>=◌, AreOctets, front_at}
+use Rattle.gw_addr.proofs.Reading.{AreOctets-rest, bind_ok, bind_err, guard_err, chosen, ok_is, front_takes, front_again}
 use Rattle.gw_tags.specs.declared.fault.ValueFault.{ValueFault}
 use Rattle.gw_tags.specs.declared.fault.ValueFault.TheVariants.{Short as ShortValue, BadLength}
 use Rattle.gw_tags.specs.declared.datatype.Datatype.{Datatype}
 use Rattle.gw_tags.specs.declared.datatype.Datatype.TheVariants as kinds
-use Rattle.gw_tags.specs.Object.{Object, object_of, object_octets}
+use Rattle.gw_tags.specs.Object.{Object, object_of}
 use Rattle.gw_tags.specs.Number.{twos_complement}
 use Rattle.gw_tags.specs.Strings.{is_unused}
-use Rattle.gw_tags.specs.Value.{Value, null, boolean, unsigned, signed, real, double, octet_string, character_string, bit_string, enumerated, date, time, object_id, length_of_content, value_itself, bit_of, layout, IsContent}
-use Rattle.gw_tags.specs.Reading.{Body, null_at, boolean_at, content_at, one_to_four, text_of, bits_at, body_at}
+use Rattle.gw_tags.specs.Value.{Value, null, boolean, unsigned, signed, real, double, octet_string, character_string, bit_string, enumerated, date, time, object_id, bit_of, layout, IsContent}
+use Rattle.gw_tags.specs.Reading.{null_at, boolean_at, content_at, one_to_four, text_of, bits_at, body_at}
 use Rattle.gw_tags.proofs.Objects.{object_read}
-use Rattle.gw_tags.proofs.Bodies.{Read, body, kind_number, HasBits, TakesBody, EndsBody, Fails, zeros, zeros_octets, zeros_length, some_zeros, counted_takes, counted_fails, counted_again, one_to_four_holds, is_unsigned, is_enumerated, is_signed, is_real, is_double, is_date, is_time, is_octets, is_object, is_text_kind}
+use Rattle.gw_tags.proofs.Bodies.{Read, body, kind_number, HasBits, TakesBody, EndsBody, Fails, zeros, zeros_length, some_zeros, counted_takes, counted_fails, counted_again, one_to_four_holds, is_unsigned, is_enumerated, is_signed, is_real, is_double, is_date, is_time, is_octets, is_object, is_text_kind}
 
 -- ---- what is read
 

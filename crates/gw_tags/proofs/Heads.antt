@@ -1,8 +1,8 @@
 -- Reading the tag of a value: which kind it is, and what is behind it.
-use Rattle.std.proofs.Common.{◌≡◌, ◌≢◌, ℕ, zero, suc, ◌+◌, ◌*◌, ◌%◌, ◌^◌, ◌<◌, ◌≤◌, Bool, true, false, not, cond, eqb, ltb, ◌&&◌, ◌||◌, List, [], ◌∷◌, ◌++◌, length, Result, Ok, Err, refl, sym, ap, subst, ◌∙◌, append_assoc, arith, inl, inr, ◌⊎◌}
+use Rattle.std.proofs.Common.{◌≡◌, ℕ, zero, suc, ◌<◌, ◌≤◌, Bool, true, false, not, cond, ◌&&◌, ◌||◌, List, ◌++◌, Result, Ok, Err, refl, sym, ap, subst, ◌∙◌, arith, inl, inr, ◌⊎◌}
 use Rattle.std.proofs.lemmas.Bool.{cases_lt, lt-ltb, le-ltb, ne_eqb}
 use Rattle.gw_addr.specs.Reading.{◌>>=◌, AreOctets}
-use Rattle.gw_addr.proofs.Reading.{AreOctets-rest, bind_ok, bind_err, chosen, ok_is}
+use Rattle.gw_addr.proofs.Reading.{bind_ok, bind_err, chosen, ok_is}
 use Rattle.gw_tags.specs.declared.tag.Kind.{Kind}
 use Rattle.gw_tags.specs.declared.tag.Kind.TheVariants.{Length, Opening, Closing}
 use Rattle.gw_tags.specs.declared.fault.TagFault.{TagFault}
@@ -13,7 +13,7 @@ use Rattle.gw_tags.specs.declared.datatype.Datatype.{Datatype}
 use Rattle.gw_tags.specs.declared.datatype.Datatype.TheVariants as kinds
 use Rattle.gw_tags.specs.Fault.{fault_of_tag}
 use Rattle.gw_tags.specs.Kind.{is_length}
-use Rattle.gw_tags.specs.Tag.{Tag, is_tag, IsTag, LengthFits as KindFits, LengthPlace, low_bits, one_octet, two_octets, four_octets, high_of, class_of, low_of, number_octets, length_octets, EncodesTag, EncodesInLowBits, BeginsWith, IsBadTag}
+use Rattle.gw_tags.specs.Tag.{Tag, is_tag, IsTag, LengthPlace, low_bits, one_octet, two_octets, four_octets, high_of, low_of, EncodesTag, EncodesInLowBits, BeginsWith}
 use Rattle.gw_tags.specs.Value.{application, is_value_tag, IsBadValueTag, LengthBits, length_of_content, value_itself, IsHeader}
 use Rattle.gw_tags.specs.Reading.{Body, tag_at, low_bits_at, of_tag, datatype_of, count_of, head_at}
 use Rattle.gw_tags.proofs.Tags.{low_small, low_part, tag_again, known_tag}

@@ -9,7 +9,7 @@ use Rattle.gw_tags.specs.declared.tag.Kind.TheVariants.{Length, Opening, Closing
 use Rattle.gw_tags.specs.declared.fault.TagFault.{TagFault}
 use Rattle.gw_tags.specs.declared.fault.TagFault.TheVariants.{Short}
 use Rattle.gw_tags.specs.Tag.{Tag, IsTag, is_tag, NumberPlace, high_bits, own_octet, LengthPlace, low_bits, one_octet, two_octets, four_octets, high_of, class_of, low_of, number_octets, length_octets, NumberHasRoom, LengthHasRoom, EncodesTag}
-use Rattle.gw_tags.specs.Reading.{tag_number_at, length_at, kind_at, header_at, tag_at}
+use Rattle.gw_tags.specs.Reading.{tag_number_at, kind_at, header_at, tag_at}
 
 -- ---- the first octet
 

@@ -1,5 +1,5 @@
 -- Which fault reading a value gives, told of the octets.
-use Rattle.std.proofs.Common.{◌≡◌, ◌≢◌, ℕ, ◌≤◌, arith, Bool, true, false, cond, List, [], ◌∷◌, ◌++◌, length, Result, Ok, Err, refl, sym, ap, subst, ◌∙◌, append_assoc, inl, inr, ◌⊎◌}
+use Rattle.std.proofs.Common.{◌≡◌, ◌≢◌, ℕ, ◌≤◌, arith, Bool, true, false, cond, List, [], ◌∷◌, ◌++◌, length, Result, Ok, Err, refl, sym, ap, subst, ◌∙◌, append_assoc, inl, inr}
 use Rattle.std.specs.Prelude.{◌↔◌}
 use Rattle.std.proofs.lemmas.List.{append-nil, append_cancel_left, append_cancel_right, length-append}
 use Rattle.gw_addr.specs.Reading.{◌>>=◌, AreOctets}
@@ -8,14 +8,13 @@ use Rattle.gw_tags.specs.declared.fault.TagFault.{TagFault}
 use Rattle.gw_tags.specs.declared.fault.TagFault.TheVariants as tags
 use Rattle.gw_tags.specs.declared.fault.ValueFault.{ValueFault}
 use Rattle.gw_tags.specs.declared.fault.ValueFault.TheVariants.{Short, BadTag, BadLength, BadText}
-use Rattle.gw_tags.specs.declared.datatype.Datatype.{Datatype}
 use Rattle.gw_tags.specs.Tag.{Tag, EncodesTag, BeginsWith, IsShortTag}
 use Rattle.gw_tags.specs.Value.{Value, application, layout, is_text, is_value_tag, EncodesValue, EncodeAll, no_values, value_first, BeginsWithValue, EndsInContent, IsShortValue, IsBadValueTag, IsBadLength, IsBadText}
-use Rattle.gw_tags.specs.Reading.{Body, tag_at, header_at, low_bits_at, head_at, body_at, judged, value_at}
+use Rattle.gw_tags.specs.Reading.{header_at, low_bits_at, body_at, judged, value_at}
 use Rattle.gw_tags.proofs.Faults.{nothing_behind, tag_is_short, begins_again, cut_is_short}
-use Rattle.gw_tags.proofs.Bodies.{Read, kind_number}
+use Rattle.gw_tags.proofs.Bodies.{Read}
 use Rattle.gw_tags.proofs.EachKind.{kind_of, kind_number-of}
-use Rattle.gw_tags.proofs.Heads.{headed, HasTag, tag_of_header, is_value_kind}
+use Rattle.gw_tags.proofs.Heads.{headed, tag_of_header, is_value_kind}
 use Rattle.gw_tags.proofs.ValueLaws.{raw_at, value_is_judged, raw_takes, raw_again, begins_read, Fault, tag_ends, content_ends, other_tag, other_length, raw_fails}
 
 -- ---- one tag stands at the front

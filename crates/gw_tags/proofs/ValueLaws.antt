@@ -1,24 +1,19 @@
 -- Reading a value: what is read is encoded so, what is encoded so is read, and what is wrong with the octets at a fault.
-use Rattle.std.proofs.Common.{◌≡◌, ◌≢◌, ℕ, ◌+◌, ◌<◌, ◌^◌, Bool, true, false, not, cond, ltb, ◌&&◌, List, [], ◌∷◌, ◌++◌, length, Result, Ok, Err, refl, sym, ap, subst, ◌∙◌, append_assoc, arith, inl, inr, ◌⊎◌}
-use Rattle.std.specs.Prelude.{◌↔◌}
-use Rattle.std.proofs.lemmas.List.{append-nil, append_cancel_right}
+use Rattle.std.proofs.Common.{◌≡◌, ℕ, true, false, List, [], ◌++◌, length, Result, Ok, Err, refl, sym, ap, subst, ◌∙◌, append_assoc, arith, inl, inr}
+use Rattle.std.proofs.lemmas.List.{append-nil}
 use Rattle.gw_addr.specs.Reading.{◌>>=◌, AreOctets}
-use Rattle.gw_addr.proofs.Reading.{AreOctets-rest, bind_ok, bind_err, chosen, ok_is}
-use Rattle.gw_tags.specs.declared.tag.Kind.TheVariants.{Length}
-use Rattle.gw_tags.specs.declared.fault.TagFault.{TagFault}
-use Rattle.gw_tags.specs.declared.fault.TagFault.TheVariants as tags
+use Rattle.gw_addr.proofs.Reading.{bind_ok, bind_err}
 use Rattle.gw_tags.specs.declared.fault.ValueFault.{ValueFault}
-use Rattle.gw_tags.specs.declared.fault.ValueFault.TheVariants.{Short, BadTag, BadLength, BadText}
+use Rattle.gw_tags.specs.declared.fault.ValueFault.TheVariants.{Short, BadTag, BadLength}
 use Rattle.gw_tags.specs.declared.datatype.Datatype.{Datatype}
-use Rattle.gw_tags.specs.Tag.{Tag, is_tag, EncodesTag, BeginsWith, IsShortTag}
-use Rattle.gw_tags.specs.Value.{Value, null, boolean, unsigned, signed, real, double, octet_string, character_string, bit_string, enumerated, date, time, object_id, layout, application, is_text, is_value_tag, IsContent, EncodesValue, BeginsWithValue, EndsInContent, IsShortValue, IsBadValueTag, IsBadLength, IsBadText}
-use Rattle.gw_tags.specs.Reading.{Body, tag_at, header_at, low_bits_at, head_at, body_at, judged, value_at, of_tag, datatype_of, count_of}
+use Rattle.gw_tags.specs.Tag.{Tag, EncodesTag, IsShortTag}
+use Rattle.gw_tags.specs.Value.{Value, null, boolean, unsigned, signed, real, double, octet_string, character_string, bit_string, enumerated, date, time, object_id, layout, application, EncodesValue, BeginsWithValue, EndsInContent, IsBadValueTag, IsBadLength}
+use Rattle.gw_tags.specs.Reading.{Body, low_bits_at, head_at, body_at, judged, value_at}
 use Rattle.gw_tags.proofs.Octets.{behind_octets}
-use Rattle.gw_tags.proofs.Tags.{header_again}
-use Rattle.gw_tags.proofs.Faults.{nothing_behind, tag_is_short, begins_again}
-use Rattle.gw_tags.proofs.Bodies.{Read, body, kind_number, TakesBody, EndsBody, Fails}
+use Rattle.gw_tags.proofs.Faults.{tag_is_short}
+use Rattle.gw_tags.proofs.Bodies.{Read, body, kind_number, TakesBody, EndsBody}
 use Rattle.gw_tags.proofs.EachKind.{kind_of, kind_number-of, body_takes, body_fails, body_again}
-use Rattle.gw_tags.proofs.Heads.{TakesHead, IsSmall, HasTag, head_takes, head_fails, head_again, header_is, tag_of_header, is_value_kind}
+use Rattle.gw_tags.proofs.Heads.{TakesHead, IsSmall, head_takes, head_fails, head_again, header_is, tag_of_header, is_value_kind}
 
 -- a value, whatever its text is
 abbrev pub raw_at : List ℕ → Read

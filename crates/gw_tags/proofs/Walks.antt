@@ -1,6 +1,6 @@
 -- Each step of the walk over a list.
 use Rattle.std.proofs.Common.{◌≡◌, ℕ, zero, suc, ◌-◌, ◌<◌, List, Option, Some, None, refl, sym, ap, ◌∙◌, eqb, cond, arith}
-use Rattle.gw_tags.specs.Walk.{Element, value, opened, closed, element_at, closing_at}
+use Rattle.gw_tags.specs.Walk.{value, opened, closed, element_at, closing_at}
 
 pub past_value : (fuel depth number : ℕ) (octets rest : List ℕ) → element_at octets ≡ Some (value rest) → closing_at (suc fuel) depth number octets ≡ closing_at fuel depth number rest
 unfolding closing_at

@@ -1,16 +1,15 @@
 -- What is written for a value is an encoding of it, and none is shorter.
-use Rattle.std.proofs.Common.{◌≡◌, ℕ, suc, ◌+◌, ◌-◌, ◌*◌, ◌^◌, ◌<◌, ◌≤◌, Bool, true, false, ltb, List, [], ◌∷◌, ◌++◌, length, refl, sym, ap, subst, ◌∙◌, arith, inl, inr}
-use Rattle.std.proofs.lemmas.Bool.{cases_lt, lt-ltb, le-ltb}
+use Rattle.std.proofs.Common.{◌≡◌, ℕ, ◌^◌, ◌<◌, ◌≤◌, true, List, [], ◌++◌, length, refl, ap, arith}
+use Rattle.std.proofs.lemmas.Bool.{lt-ltb}
 use Rattle.std.proofs.lemmas.List.{length-append}
 use Rattle.gw_tags.specs.declared.tag.Kind.TheVariants.{Length}
-use Rattle.gw_tags.specs.Tag.{Tag, IsTag, EncodesTag, EncodesInLowBits, LengthPlace, low_bits, one_octet, two_octets, four_octets, NumberPlace, high_bits, own_octet, number_octets, length_octets, LengthHasRoom, shortest_number, shortest_length, canonical}
-use Rattle.gw_tags.specs.Object.{Object, IsObject, object_octets}
-use Rattle.gw_tags.specs.Value.{Value, null, boolean, unsigned, signed, real, double, octet_string, character_string, bit_string, enumerated, date, time, object_id, LengthBits, length_of_content, value_itself, Content, empty, natural, integer, opaque, exactly, bits_of, identifier, layout, application, announced, IsContent, IsHeader, IsWithin, IsValue, LengthFits, is_text, EncodesValue, BeginsWithValue, content_encoding, behind_tag, value_encoding}
+use Rattle.gw_tags.specs.Tag.{IsTag, low_bits, shortest_length, canonical}
+use Rattle.gw_tags.specs.Value.{Value, null, boolean, unsigned, signed, real, double, octet_string, character_string, bit_string, enumerated, date, time, object_id, LengthBits, length_of_content, value_itself, Content, empty, natural, integer, opaque, exactly, bits_of, identifier, layout, application, announced, IsContent, IsHeader, IsWithin, IsValue, LengthFits, is_text, EncodesValue, BeginsWithValue, content_encoding, value_encoding}
 use Rattle.gw_tags.proofs.Canonical.{canonical_encodes, canonical_in_low_bits, shorter_tag}
 use Rattle.gw_tags.specs.Reading.{low_bits_at}
 use Rattle.gw_tags.proofs.Bodies.{HasBits}
 use Rattle.gw_tags.proofs.Faults.{fits_kind}
-use Rattle.gw_tags.proofs.Heads.{IsSmall, HasTag, tag_of_header}
+use Rattle.gw_tags.proofs.Heads.{IsSmall, tag_of_header}
 use Rattle.gw_tags.proofs.ValueLaws.{small_bits}
 use Rattle.gw_tags.proofs.Numbers.{unsigned_encodes, signed_encodes, unsigned_fits, signed_fits, count_is_least, signed_is_least, unsigned_length, signed_length}
 

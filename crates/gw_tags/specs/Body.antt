@@ -1,5 +1,4 @@
 -- What is behind a value's tag.
-use Rattle.std.specs.Prelude.{ℕ, List}
 use Rattle.gw_tags.specs.declared.body.Body.{Body as RustBody}
 use Rattle.gw_tags.specs.Reading.{Body}
 

@@ -1,7 +1,6 @@
 -- Parameters of a body: contents under context tags (ISO 16484-5, clauses 20.2.1.1 and 20.2.1.3).
-use Rattle.std.specs.Prelude.{◌≡◌, ℕ, Bool, true, false, List, ◌++◌, length, ◌==◌, ◌&&◌}
-use Rattle.gw_tags.specs.declared.tag.Kind.{Kind}
-use Rattle.gw_tags.specs.declared.tag.Kind.TheVariants.{Length, Opening, Closing}
+use Rattle.std.specs.Prelude.{◌≡◌, ℕ, Bool, false, List, ◌++◌, length, ◌==◌, ◌&&◌}
+use Rattle.gw_tags.specs.declared.tag.Kind.TheVariants.{Length}
 use Rattle.gw_tags.specs.Kind.{is_length}
 use Rattle.gw_tags.specs.Tag.{Tag, IsTag, EncodesTag, BeginsWith, canonical}
 use Rattle.gw_tags.specs.List.{context}

@@ -5,9 +5,8 @@ use Rattle.gw_addr.specs.Reading.{◌>>=◌, front_at}
 use Rattle.gw_tags.specs.declared.tag.Kind.{Kind}
 use Rattle.gw_tags.specs.declared.tag.Kind.TheVariants.{Length, Opening, Closing}
 use Rattle.gw_tags.specs.declared.fault.TagFault.{TagFault}
-use Rattle.gw_tags.specs.declared.fault.TagFault.TheVariants as tags
 use Rattle.gw_tags.specs.declared.fault.ContextFault.{ContextFault}
-use Rattle.gw_tags.specs.declared.fault.ContextFault.TheVariants.{Short, BadTag, OtherTag}
+use Rattle.gw_tags.specs.declared.fault.ContextFault.TheVariants.{Short, OtherTag}
 use Rattle.gw_tags.specs.Fault.{context_fault}
 use Rattle.gw_tags.specs.Tag.{Tag}
 use Rattle.gw_tags.specs.Reading.{tag_at}

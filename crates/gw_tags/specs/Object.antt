@@ -26,5 +26,5 @@ abbrev pub object_of : List ℕ → Object
 object_of octets = record {
   kind = from_be_bytes w32 octets / 2 ^ 22;
   instance =
-    from_be_bytes w32 octets % 2 ^ 22;
+      from_be_bytes w32 octets % 2 ^ 22;
 }

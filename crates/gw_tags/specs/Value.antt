@@ -1,5 +1,5 @@
 -- Application values (ISO 16484-5, clause 20.2): the encodings of each of the thirteen kinds.
-use Rattle.std.specs.Prelude.{◌≡◌, ◌≢◌, ℕ, ◌+◌, ◌<◌, ◌^◌, Bool, true, false, List, [], ◌∷◌, ◌++◌, length, nat_lt, ◌==◌, ◌&&◌, ◌||◌, not, ◌⊎◌, ℤ}
+use Rattle.std.specs.Prelude.{◌≡◌, ◌≢◌, ℕ, ◌<◌, ◌^◌, Bool, true, false, List, [], ◌∷◌, ◌++◌, length, nat_lt, ◌==◌, ◌&&◌, ◌||◌, not, ◌⊎◌, ℤ}
 use Rattle.std.specs.Str.{is_utf8}
 use Rattle.gw_tags.specs.declared.tag.Kind.TheVariants.{Length}
 use Rattle.gw_tags.specs.declared.value.AppValue.{AppValue}

@@ -1,5 +1,4 @@
-use Rattle.std.proofs.Common.{◌≡◌, ◌∙◌}
-use Rattle.std.specs.Str.{IsValidUpTo}
+use Rattle.std.proofs.Common.{◌∙◌}
 use Rattle.gw_tags.proofs.Texts.{tells_utf8}
 use Rattle.gw_tags.proofs.utf8.is_utf8.Goals as goal
 
