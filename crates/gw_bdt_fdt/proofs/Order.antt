@@ -16,13 +16,13 @@ use Rattle.gw_bdt_fdt.proofs.Same.{own, equal_of, flipped, same_equiv}
 abbrev pub AreRegistered : History → List BipAddr → Type 0
 AreRegistered h = AllByRecursion (λ a. is_registered h a ≡ true)
 
-abbrev paired : BipAddr → Option Registration → Option (BipAddr × Registration)
+abbrev pub paired : BipAddr → Option Registration → Option (BipAddr × Registration)
 paired a r = option_map (λ registration. (a, registration)) r
 
 -- ---- a registration
 
 -- a grant of now
-fresh : (ttl : ℕ) → registration_by (record { time_to_live = ttl; ago = 0 }) ≡ Some (granted ttl)
+pub fresh : (ttl : ℕ) → registration_by (record { time_to_live = ttl; ago = 0 }) ≡ Some (granted ttl)
 fresh ttl = λ j. if soon j then Some (record { time_to_live = ttl; left = whole j }) else None
   where
     soon : nat_lt 0 (ttl + GRACE) ≡ true
