@@ -51,7 +51,8 @@ fn table(alloc: Global) -> Result<Routes, AllocError> {
 
 /// Whether these are the networks, in this order.
 fn are(nets: &[NetNum], numbers: &[u16]) -> bool {
-    nets.len() == numbers.len() && nets.iter().zip(numbers).all(|(net, number)| net.get() == *number)
+    nets.len() == numbers.len()
+        && nets.iter().zip(numbers).all(|(net, number)| net.get() == *number)
 }
 
 /// The networks from a first number on, so many.
