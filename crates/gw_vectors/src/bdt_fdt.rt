@@ -366,10 +366,10 @@ fn refused_entries_are_no_table(rt: HostRuntime) -> Result<(), Fail> {
 
 #[test]
 fn faults_in_words(rt: HostRuntime) -> Result<(), Fail> {
-    assert_eq!(rt; BdtFault::Duplicate.to_string(rt.alloc())?, "an address has two entries");
-    assert_eq!(rt; DeleteFault::Absent.to_string(rt.alloc())?, "the foreign device is not registered");
+    assert_eq!(rt; BdtFault::Duplicate.to_string(rt.alloc())?.as_str(), "an address has two entries");
+    assert_eq!(rt; DeleteFault::Absent.to_string(rt.alloc())?.as_str(), "the foreign device is not registered");
     assert_eq!(rt;
-        RegisterFault::Full.to_string(rt.alloc())?,
+        RegisterFault::Full.to_string(rt.alloc())?.as_str(),
         "128 other foreign devices are registered"
     );
     laws::last_grants();
