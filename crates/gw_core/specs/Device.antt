@@ -6,7 +6,9 @@ use Rattle.gw_rules.specs.Ask.{Ask, ask_of}
 use Rattle.gw_rules.specs.declared.operation.Operation.TheVariants as operation
 use Rattle.gw_rules.specs.declared.rule.Rule.{Rule}
 use Rattle.gw_rules.specs.RuleList.{allows}
-use Rattle.gw_tags.specs.declared.tag.Kind.TheVariants.{Length, Opening, Closing}
+use Rattle.gw_tags.specs.declared.tag.Kind.TheVariants.{Opening, Closing}
+use Rattle.gw_tags.specs.Context.{in_context}
+use Rattle.gw_tags.specs.List.{context}
 use Rattle.gw_tags.specs.Tag.{canonical}
 use Rattle.gw_tags.specs.Object.{Object, object_octets}
 use Rattle.gw_tags.specs.Number.{unsigned_encoding}
@@ -121,21 +123,17 @@ read_value device rules objects context read =
     if allows rules (read_ask device context read)
     then property_value objects read.object read.property read.index else Err AccessDenied
 
--- a content under the context tag of this number (clause 20.2.1)
-abbrev pub context_encoding : ℕ → List ℕ → List ℕ
-context_encoding number content =
-    canonical (record { number = number; context = true; kind = Length (length content) }) ++ content
-
+-- the tags around a list of parameters (clause 20.2.1.3.2)
 abbrev pub opening : ℕ → List ℕ
-opening number = canonical (record { number = number; context = true; kind = Opening })
+opening number = canonical (context number Opening)
 
 abbrev pub closing : ℕ → List ℕ
-closing number = canonical (record { number = number; context = true; kind = Closing })
+closing number = canonical (context number Closing)
 
 -- the array index, where one was asked for
 abbrev pub index_part : Option ℕ → List ℕ
 index_part None = []
-index_part (Some index) = context_encoding 2 (unsigned_encoding index)
+index_part (Some index) = in_context 2 (unsigned_encoding index)
 
 -- the PDU types of the answers, in the high four bits of an APDU's first octet (clause 20.1)
 abbrev pub complex_ack : ℕ
@@ -148,7 +146,7 @@ error_pdu = 0x50
 unfoldable pub read_ack : Read → List ℕ → List ℕ
 read_ack read value =
     complex_ack ∷ read.invoke ∷ read_property ∷ []
-    ++ context_encoding 0 (object_octets read.object) ++ context_encoding 1 (unsigned_encoding read.property)
+    ++ in_context 0 (object_octets read.object) ++ in_context 1 (unsigned_encoding read.property)
     ++ index_part read.index ++ opening 3 ++ value ++ closing 3
 
 -- Error: the invoke id, the service, class and code (clause 20.1.7)
