@@ -1,15 +1,15 @@
 -- The definitions of a history in plain words.
-use Rattle.std.proofs.Common.{◌≡◌, ◌∙◌, ◌↔◌, ℕ, ◌+◌, ◌-◌, ◌<◌, ◌≤◌, Bool, true, false, cond, ◌||◌, ◌&&◌, not, List, [], ◌∷◌, ◌++◌, length, map, Option, Some, None, is_some, if◌then◌else◌, nat_lt, refl, sym, ap, ap₂, subst, true≢false, filter, filter_map, arith, option_map, IsTrue, IsFalse}
-use Rattle.std.specs.List.{list_any, IsDistinct, AllByRecursion, cons_option}
+use Rattle.std.proofs.Common.{◌≡◌, ◌∙◌, ◌↔◌, ℕ, ◌+◌, ◌-◌, ◌<◌, Bool, true, false, cond, ◌||◌, ◌&&◌, not, List, [], ◌∷◌, ◌++◌, length, Option, Some, None, is_some, if◌then◌else◌, nat_lt, refl, sym, ap, subst, true≢false, filter, filter_map, arith, option_map}
+use Rattle.std.specs.List.{list_any, AllByRecursion, cons_option}
 use Rattle.std.specs.Option.{option_and_then}
 use Rattle.std.specs.Map.{lookup}
 use Rattle.std.proofs.lemmas.Bool.{ltb-true, ltb-false}
 use Rattle.gw_addr.specs.declared.bip.BipAddr.{BipAddr}
 use Rattle.gw_bdt_fdt.specs.declared.fdt.TheConstants.{GRACE}
-use Rattle.gw_bdt_fdt.specs.Registrations.{Registration, Registered, same}
-use Rattle.gw_bdt_fdt.specs.History.{Act, Register, Delete, Tick, History, Grant, longer_ago, last_grant, registration_by, registration_after, is_registered, with_address, order_after, row_after, ticks_in, table_after}
+use Rattle.gw_bdt_fdt.specs.Registrations.{Registration, same}
+use Rattle.gw_bdt_fdt.specs.History.{Register, Delete, Tick, History, Grant, longer_ago, last_grant, registration_by, registration_after, is_registered, with_address, order_after, row_after, ticks_in, table_after}
 use Rattle.gw_bdt_fdt.specs.Laws.{is_about, IsLastGrant, began_after, BeganInTurn}
-use Rattle.gw_bdt_fdt.proofs.Same.{own, equal_of, flipped, same_equiv}
+use Rattle.gw_bdt_fdt.proofs.Same.{own, equal_of}
 use Rattle.gw_bdt_fdt.proofs.Order.{fresh, registered, AreRegistered, paired}
 
 pub same_is_equal : (a b : BipAddr) → (same a b ≡ true) ↔ (a ≡ b)
@@ -90,10 +90,11 @@ grant_at (Delete b ∷ newer) older a ttl since =
 grant_at (Tick ∷ newer) older a ttl since = ap (option_map longer_ago) (grant_at newer older a ttl since.1)
 
 pub last_grant_found : (h : History) (a : BipAddr) (g : Grant) → (last_grant h a ≡ Some g) ↔ IsLastGrant h a g
-last_grant_found h a g =
-    (last_found h a g,
-     λ it. ap (λ acts. last_grant acts a) it.whole ∙ grant_at it.newer it.older a g.time_to_live it.since
-         ∙ ap (λ n. Some (record { time_to_live = g.time_to_live; ago = n })) (sym it.ago))
+last_grant_found h a g = (
+  last_found h a g,
+  λ it. ap (λ acts. last_grant acts a) it.whole ∙ grant_at it.newer it.older a g.time_to_live it.since
+      ∙ ap (λ n. Some (record { time_to_live = g.time_to_live; ago = n })) (sym it.ago),
+)
 
 -- ---- who stands in the order
 
@@ -204,7 +205,7 @@ found_in h a (b ∷ bs) = by (registration_after h b) refl (same a b) refl (foun
     by : (o : Option Registration) → registration_after h b ≡ o → (x : Bool) → same a b ≡ x
         → lookup (same a) (filter_map (row_after h) bs) ≡ (if list_any (same a) bs then registration_after h a else None)
         → lookup (same a) (cons_option (row_after h b) (filter_map (row_after h) bs))
-            ≡ (if same a b || list_any (same a) bs then registration_after h a else None)
+        ≡ (if same a b || list_any (same a) bs then registration_after h a else None)
     by None s true q ih =
         ap (λ o. lookup (same a) (cons_option (paired b o) (filter_map (row_after h) bs))) s ∙ ih
         ∙ ap (λ o. if list_any (same a) bs then o else None) (here q ∙ s) ∙ none (list_any (same a) bs)
@@ -311,10 +312,10 @@ order_of_beginnings (Register a ttl ∷ h) = by (list_any (same a) (order_after 
     by true e turn = turn
     by false e turn =
         turn_push (Register a ttl ∷ h) (order_after h) a turn
-            (under (began_after (Register a ttl ∷ h) a) (begins (sym (registered_stand h a) ∙ e)) (order_after h) (registered h))
+        (under (began_after (Register a ttl ∷ h) a) (begins (sym (registered_stand h a) ∙ e)) (order_after h) (registered h))
 order_of_beginnings (Delete a ∷ h) =
     turn_filter (Delete a ∷ h) (is_registered (Delete a ∷ h)) (order_after h)
-        (turn_alike (Delete a ∷ h) h (λ b r. refl) (order_after h) (registered h) (order_of_beginnings h))
+    (turn_alike (Delete a ∷ h) h (λ b r. refl) (order_after h) (registered h) (order_of_beginnings h))
 order_of_beginnings (Tick ∷ h) =
     turn_filter (Tick ∷ h) (is_registered (Tick ∷ h)) (order_after h)
-        (turn_alike (Tick ∷ h) h (λ b r. refl) (order_after h) (registered h) (order_of_beginnings h))
+    (turn_alike (Tick ∷ h) h (λ b r. refl) (order_after h) (registered h) (order_of_beginnings h))

@@ -1,5 +1,5 @@
-//! What the words of registrations mean, proved of every history, for a reader of the definitions that
-//! contracts here and in the crates above cite. The functions do nothing.
+//! What the words of registrations mean, proved of every history, for a reader of the definitions
+//! that contracts here and in the crates above cite. The functions do nothing.
 ghost use Rattle.gw_bdt_fdt.specs.Laws.{EachStandsOnce, LastGrantIsFound, OrderIsOfBeginnings};
 ghost use Rattle.gw_bdt_fdt.specs.Laws.{RegisteredStand, SameIsEqual, TableHoldsRegistrations};
 

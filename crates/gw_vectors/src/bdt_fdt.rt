@@ -2,7 +2,9 @@
 ghost use Rattle.std.specs.Prelude.{◌<◌};
 
 use gw_addr::{BdtEntry, BipAddr, FdtEntry};
-use gw_bdt_fdt::{Bdt, BdtFault, DeleteFault, Fdt, MAX_ENTRIES, MAX_REGISTRATIONS, RegisterFault, laws};
+use gw_bdt_fdt::{
+    Bdt, BdtFault, DeleteFault, Fdt, MAX_ENTRIES, MAX_REGISTRATIONS, RegisterFault, laws,
+};
 use std::alloc::{AllocError, Global};
 use std::test::*;
 
@@ -29,12 +31,22 @@ fn entry(network: u8, mask: [u8; 4]) -> BdtEntry {
 }
 
 /// So many entries of different addresses.
-fn entries_of(alloc: Global, count: usize) -> Result<Vec<BdtEntry>, AllocError> {
+fn entries_of(alloc: Global, count: u8) -> Result<Vec<BdtEntry>, AllocError> {
     let mut entries = Vec::new(alloc);
     for network in 0..count {
-        entries.push(entry(network as u8, ALL_ONES))?;
+        entries.push(entry(network, ALL_ONES))?;
     }
     Ok(entries)
+}
+
+/// Whether a registration is granted, and not refused because the table is full. Want of memory ends
+/// a test.
+fn is_granted(fdt: &mut Fdt, address: BipAddr, time_to_live: u16) -> Result<bool, RegisterFault> {
+    match fdt.register(address, time_to_live) {
+        Ok(()) => Ok(true),
+        Err(RegisterFault::Full) => Ok(false),
+        Err(RegisterFault::Memory) => Err(RegisterFault::Memory),
+    }
 }
 
 /// Seconds pass.
@@ -59,7 +71,11 @@ fn shows(fdt: &Fdt, alloc: Global, wanted: &[(u8, u16, u16)]) -> Result<bool, Al
 
 #[test]
 fn entries_and_peers(rt: HostRuntime) -> Result<(), Fail> {
-    let entries = [entry(1, [255, 255, 255, 0]), entry(4, ALL_ONES), entry(5, [0, 0, 0, 1])];
+    let entries = [
+        entry(1, [255, 255, 255, 0]),
+        entry(4, ALL_ONES),
+        entry(5, [0, 0, 0, 1]),
+    ];
     let bdt = Bdt::from_entries(rt.alloc(), &entries)?;
     assert!(rt; bdt.entries() == entries.as_slice());
     for own in 0..3 {
@@ -84,22 +100,40 @@ fn an_own_entry_is_found_by_all_six_octets(rt: HostRuntime) -> Result<(), Fail> 
     };
     assert_eq!(rt; bdt.own_mask(other_port), ALL_ONES);
     assert_eq!(rt; bdt.peers(other_port).count(), 1);
-    assert_eq!(rt; bdt.own_mask(entry(1, ALL_ONES).address), [255, 255, 255, 0]);
+    assert_eq!(rt;
+        bdt.own_mask(entry(1, ALL_ONES).address),
+        [255, 255, 255, 0]
+    );
     assert_eq!(rt; bdt.peers(entry(1, ALL_ONES).address).count(), 0);
     Ok(())
 }
 
 #[test]
 fn entries_that_are_no_table(rt: HostRuntime) -> Result<(), Fail> {
-    let many = entries_of(rt.alloc(), MAX_ENTRIES + 1)?;
-    assert_eq!(rt; Bdt::from_entries(rt.alloc(), &many).err(), Some(BdtFault::Full));
+    let many = entries_of(rt.alloc(), 65)?;
+    assert_eq!(rt; many.len(), MAX_ENTRIES + 1);
+    assert_eq!(rt;
+        Bdt::from_entries(rt.alloc(), &many).err(),
+        Some(BdtFault::Full)
+    );
     assert!(rt; Bdt::from_entries(rt.alloc(), &many[1..])?.entries() == &many[1..]);
-    let twice = [entry(1, ALL_ONES), entry(4, ALL_ONES), entry(1, [255, 255, 255, 0])];
-    assert_eq!(rt; Bdt::from_entries(rt.alloc(), &twice).err(), Some(BdtFault::Duplicate));
+    let twice = [
+        entry(1, ALL_ONES),
+        entry(4, ALL_ONES),
+        entry(1, [255, 255, 255, 0]),
+    ];
+    assert_eq!(rt;
+        Bdt::from_entries(rt.alloc(), &twice).err(),
+        Some(BdtFault::Duplicate)
+    );
     // Too many is told before twice.
-    let mut both = entries_of(rt.alloc(), MAX_ENTRIES + 1)?;
+    let mut both = entries_of(rt.alloc(), 65)?;
+    assert_eq!(rt; both.len(), MAX_ENTRIES + 1);
     both[1] = both[0];
-    assert_eq!(rt; Bdt::from_entries(rt.alloc(), &both).err(), Some(BdtFault::Full));
+    assert_eq!(rt;
+        Bdt::from_entries(rt.alloc(), &both).err(),
+        Some(BdtFault::Full)
+    );
     let none = Bdt::from_entries(rt.alloc(), &[])?;
     assert!(rt; none.entries().is_empty());
     assert_eq!(rt; none.own_mask(device(9)), ALL_ONES);
@@ -109,7 +143,7 @@ fn entries_that_are_no_table(rt: HostRuntime) -> Result<(), Fail> {
 #[test]
 fn a_registration_ends_after_its_time_and_thirty_seconds(rt: HostRuntime) -> Result<(), Fail> {
     let mut fdt = Fdt::new(rt.alloc());
-    assert_eq!(rt; fdt.register(device(9), 60), Ok(()));
+    fdt.register(device(9), 60)?;
     pass(&mut fdt, 89);
     assert!(rt; shows(&fdt, rt.alloc(), &[(9, 60, 1)])?);
     pass(&mut fdt, 1);
@@ -144,10 +178,10 @@ fn a_full_table_renews_and_takes_no_stranger(rt: HostRuntime) -> Result<(), Fail
     assert_eq!(rt; fdt.register(device(129), 60), Err(RegisterFault::Full));
     assert!(rt; !fdt.contains(device(129)));
     for last in 1..129 {
-        assert_eq!(rt; fdt.register(device(last), 0), Ok(()));
+        fdt.register(device(last), 0)?;
     }
     assert_eq!(rt; fdt.delete(device(64)), Ok(()));
-    assert_eq!(rt; fdt.register(device(129), 60), Ok(()));
+    fdt.register(device(129), 60)?;
     assert_eq!(rt; fdt.register(device(64), 60), Err(RegisterFault::Full));
     Ok(())
 }
@@ -215,12 +249,11 @@ fn an_old_end_is_of_no_effect(rt: HostRuntime) -> Result<(), Fail> {
 fn a_flood_passes_with_its_time(rt: HostRuntime) -> Result<(), Fail> {
     let mut fdt = Fdt::new(rt.alloc());
     for last in 0..200 {
-        let wanted = if last < 128 { Ok(()) } else { Err(RegisterFault::Full) };
-        assert_eq!(rt; fdt.register(device(last), 60), wanted);
+        assert_eq!(rt; is_granted(&mut fdt, device(last), 60)?, last < 128);
     }
     pass(&mut fdt, 90);
     assert!(rt; shows(&fdt, rt.alloc(), &[])?);
-    assert_eq!(rt; fdt.register(device(200), 60), Ok(()));
+    fdt.register(device(200), 60)?;
     Ok(())
 }
 
@@ -256,27 +289,31 @@ impl Plain {
         self.rows.iter().position(|row| row.0 == last)
     }
 
-    /// What a table answers to a registration, by a walk over the list.
-    fn register(&mut self, last: u8, time_to_live: u16) -> Result<Result<(), RegisterFault>, AllocError> {
+    /// Whether a table grants a registration, by a walk over the list.
+    fn is_granted(&mut self, last: u8, time_to_live: u16) -> Result<bool, AllocError> {
         let row = (last, time_to_live, u32::from(time_to_live) + 30);
         for i in 0..self.rows.len() {
             if self.rows[i].0 == last {
                 self.rows[i] = row;
-                return Ok(Ok(()));
+                return Ok(true);
             }
         }
         if self.rows.len() >= MAX_REGISTRATIONS {
-            return Ok(Err(RegisterFault::Full));
+            return Ok(false);
         }
         self.rows.push(row)?;
-        Ok(Ok(()))
+        Ok(true)
     }
 
     /// What it answers to a deletion.
     fn delete(&mut self, last: u8) -> Result<(), DeleteFault> {
         let len = self.rows.len();
         self.rows.retain(|row| row.0 != last);
-        if self.rows.len() < len { Ok(()) } else { Err(DeleteFault::Absent) }
+        if self.rows.len() < len {
+            Ok(())
+        } else {
+            Err(DeleteFault::Absent)
+        }
     }
 
     /// One second less for each.
@@ -309,9 +346,16 @@ fn ten_thousand_acts_beside_a_plain_list(rt: HostRuntime) -> Result<(), Fail> {
         let last = chosen.below(160) as u8;
         match chosen.below(16) {
             0..=11 => {
-                let time_to_live = if chosen.below(50) == 0 { 65535 } else { chosen.below(90) as u16 };
-                let wanted = plain.register(last, time_to_live)?;
-                assert_eq!(rt; fdt.register(device(last), time_to_live), wanted, "act {act}");
+                let time_to_live = if chosen.below(50) == 0 {
+                    65535
+                } else {
+                    chosen.below(90) as u16
+                };
+                assert_eq!(rt;
+                    is_granted(&mut fdt, device(last), time_to_live)?,
+                    plain.is_granted(last, time_to_live)?,
+                    "act {act}"
+                );
             },
             12 => assert_eq!(rt; fdt.delete(device(last)), plain.delete(last), "act {act}"),
             _ => {
@@ -319,7 +363,11 @@ fn ten_thousand_acts_beside_a_plain_list(rt: HostRuntime) -> Result<(), Fail> {
                 pass(&mut fdt, 1);
             },
         }
-        assert_eq!(rt; fdt.contains(device(last)), plain.place(last).is_some(), "act {act}");
+        assert_eq!(rt;
+            fdt.contains(device(last)),
+            plain.place(last).is_some(),
+            "act {act}"
+        );
         assert_eq!(rt; fdt.count(), plain.rows.len(), "act {act}");
         if act % 10 == 0 {
             assert!(rt; plain.is(&fdt.rows(rt.alloc())?), "act {act}");
@@ -338,7 +386,7 @@ fn a_refused_growth_changes_nothing(rt: HostRuntime) -> Result<(), Fail> {
         for time_to_live in [last as u16, 200 - last as u16] {
             match fdt.register(device(last), time_to_live) {
                 Ok(()) => {
-                    let _answer = plain.register(last, time_to_live)?;
+                    let _granted = plain.is_granted(last, time_to_live)?;
                 },
                 Err(fault) => assert_eq!(rt; fault, RegisterFault::Memory),
             }
@@ -356,7 +404,7 @@ fn a_refused_growth_changes_nothing(rt: HostRuntime) -> Result<(), Fail> {
 
 #[test]
 fn refused_entries_are_no_table(rt: HostRuntime) -> Result<(), Fail> {
-    let entries = entries_of(rt.alloc(), MAX_ENTRIES)?;
+    let entries = entries_of(rt.alloc(), 64)?;
     match Bdt::from_entries(rt.alloc(), &entries) {
         Ok(bdt) => assert!(rt; bdt.entries() == entries.as_slice()),
         Err(fault) => assert_eq!(rt; fault, BdtFault::Memory),
@@ -366,8 +414,14 @@ fn refused_entries_are_no_table(rt: HostRuntime) -> Result<(), Fail> {
 
 #[test]
 fn faults_in_words(rt: HostRuntime) -> Result<(), Fail> {
-    assert_eq!(rt; BdtFault::Duplicate.to_string(rt.alloc())?.as_str(), "an address has two entries");
-    assert_eq!(rt; DeleteFault::Absent.to_string(rt.alloc())?.as_str(), "the foreign device is not registered");
+    assert_eq!(rt;
+        BdtFault::Duplicate.to_string(rt.alloc())?.as_str(),
+        "an address has two entries"
+    );
+    assert_eq!(rt;
+        DeleteFault::Absent.to_string(rt.alloc())?.as_str(),
+        "the foreign device is not registered"
+    );
     assert_eq!(rt;
         RegisterFault::Full.to_string(rt.alloc())?.as_str(),
         "128 other foreign devices are registered"
