@@ -38,7 +38,7 @@ object_at octets = do
 
 -- a number has one to four octets (clause 20.2.4)
 abbrev pub number_of : List ℕ → Result ℕ Dropped
-number_of content = ok_or Silently (unsigned_of content)
+number_of content = ok_or (unsigned_of content) Silently
 
 -- the property: at most 4194303
 abbrev pub property_at : List ℕ → Result (ℕ × List ℕ) Dropped
