@@ -2,7 +2,9 @@
 ghost use Rattle.std.specs.Prelude.{◌<◌};
 
 use gw_addr::{BdtEntry, BipAddr, FdtEntry};
-use gw_bdt_fdt::{Bdt, BdtFault, DeleteFault, Fdt, MAX_ENTRIES, MAX_REGISTRATIONS, RegisterFault, laws};
+use gw_bdt_fdt::{
+    Bdt, BdtFault, DeleteFault, Fdt, MAX_ENTRIES, MAX_REGISTRATIONS, RegisterFault, laws,
+};
 use std::alloc::{AllocError, Global};
 use std::test::*;
 
@@ -59,7 +61,11 @@ fn shows(fdt: &Fdt, alloc: Global, wanted: &[(u8, u16, u16)]) -> Result<bool, Al
 
 #[test]
 fn entries_and_peers(rt: HostRuntime) -> Result<(), Fail> {
-    let entries = [entry(1, [255, 255, 255, 0]), entry(4, ALL_ONES), entry(5, [0, 0, 0, 1])];
+    let entries = [
+        entry(1, [255, 255, 255, 0]),
+        entry(4, ALL_ONES),
+        entry(5, [0, 0, 0, 1]),
+    ];
     let bdt = Bdt::from_entries(rt.alloc(), &entries)?;
     assert!(rt; bdt.entries() == entries.as_slice());
     for own in 0..3 {
@@ -84,7 +90,10 @@ fn an_own_entry_is_found_by_all_six_octets(rt: HostRuntime) -> Result<(), Fail> 
     };
     assert_eq!(rt; bdt.own_mask(other_port), ALL_ONES);
     assert_eq!(rt; bdt.peers(other_port).count(), 1);
-    assert_eq!(rt; bdt.own_mask(entry(1, ALL_ONES).address), [255, 255, 255, 0]);
+    assert_eq!(rt;
+        bdt.own_mask(entry(1, ALL_ONES).address),
+        [255, 255, 255, 0]
+    );
     assert_eq!(rt; bdt.peers(entry(1, ALL_ONES).address).count(), 0);
     Ok(())
 }
@@ -92,14 +101,27 @@ fn an_own_entry_is_found_by_all_six_octets(rt: HostRuntime) -> Result<(), Fail> 
 #[test]
 fn entries_that_are_no_table(rt: HostRuntime) -> Result<(), Fail> {
     let many = entries_of(rt.alloc(), MAX_ENTRIES + 1)?;
-    assert_eq!(rt; Bdt::from_entries(rt.alloc(), &many).err(), Some(BdtFault::Full));
+    assert_eq!(rt;
+        Bdt::from_entries(rt.alloc(), &many).err(),
+        Some(BdtFault::Full)
+    );
     assert!(rt; Bdt::from_entries(rt.alloc(), &many[1..])?.entries() == &many[1..]);
-    let twice = [entry(1, ALL_ONES), entry(4, ALL_ONES), entry(1, [255, 255, 255, 0])];
-    assert_eq!(rt; Bdt::from_entries(rt.alloc(), &twice).err(), Some(BdtFault::Duplicate));
+    let twice = [
+        entry(1, ALL_ONES),
+        entry(4, ALL_ONES),
+        entry(1, [255, 255, 255, 0]),
+    ];
+    assert_eq!(rt;
+        Bdt::from_entries(rt.alloc(), &twice).err(),
+        Some(BdtFault::Duplicate)
+    );
     // Too many is told before twice.
     let mut both = entries_of(rt.alloc(), MAX_ENTRIES + 1)?;
     both[1] = both[0];
-    assert_eq!(rt; Bdt::from_entries(rt.alloc(), &both).err(), Some(BdtFault::Full));
+    assert_eq!(rt;
+        Bdt::from_entries(rt.alloc(), &both).err(),
+        Some(BdtFault::Full)
+    );
     let none = Bdt::from_entries(rt.alloc(), &[])?;
     assert!(rt; none.entries().is_empty());
     assert_eq!(rt; none.own_mask(device(9)), ALL_ONES);
@@ -215,7 +237,11 @@ fn an_old_end_is_of_no_effect(rt: HostRuntime) -> Result<(), Fail> {
 fn a_flood_passes_with_its_time(rt: HostRuntime) -> Result<(), Fail> {
     let mut fdt = Fdt::new(rt.alloc());
     for last in 0..200 {
-        let wanted = if last < 128 { Ok(()) } else { Err(RegisterFault::Full) };
+        let wanted = if last < 128 {
+            Ok(())
+        } else {
+            Err(RegisterFault::Full)
+        };
         assert_eq!(rt; fdt.register(device(last), 60), wanted);
     }
     pass(&mut fdt, 90);
@@ -257,7 +283,11 @@ impl Plain {
     }
 
     /// What a table answers to a registration, by a walk over the list.
-    fn register(&mut self, last: u8, time_to_live: u16) -> Result<Result<(), RegisterFault>, AllocError> {
+    fn register(
+        &mut self,
+        last: u8,
+        time_to_live: u16,
+    ) -> Result<Result<(), RegisterFault>, AllocError> {
         let row = (last, time_to_live, u32::from(time_to_live) + 30);
         for i in 0..self.rows.len() {
             if self.rows[i].0 == last {
@@ -276,7 +306,11 @@ impl Plain {
     fn delete(&mut self, last: u8) -> Result<(), DeleteFault> {
         let len = self.rows.len();
         self.rows.retain(|row| row.0 != last);
-        if self.rows.len() < len { Ok(()) } else { Err(DeleteFault::Absent) }
+        if self.rows.len() < len {
+            Ok(())
+        } else {
+            Err(DeleteFault::Absent)
+        }
     }
 
     /// One second less for each.
@@ -309,9 +343,17 @@ fn ten_thousand_acts_beside_a_plain_list(rt: HostRuntime) -> Result<(), Fail> {
         let last = chosen.below(160) as u8;
         match chosen.below(16) {
             0..=11 => {
-                let time_to_live = if chosen.below(50) == 0 { 65535 } else { chosen.below(90) as u16 };
+                let time_to_live = if chosen.below(50) == 0 {
+                    65535
+                } else {
+                    chosen.below(90) as u16
+                };
                 let wanted = plain.register(last, time_to_live)?;
-                assert_eq!(rt; fdt.register(device(last), time_to_live), wanted, "act {act}");
+                assert_eq!(rt;
+                    fdt.register(device(last), time_to_live),
+                    wanted,
+                    "act {act}"
+                );
             },
             12 => assert_eq!(rt; fdt.delete(device(last)), plain.delete(last), "act {act}"),
             _ => {
@@ -319,7 +361,11 @@ fn ten_thousand_acts_beside_a_plain_list(rt: HostRuntime) -> Result<(), Fail> {
                 pass(&mut fdt, 1);
             },
         }
-        assert_eq!(rt; fdt.contains(device(last)), plain.place(last).is_some(), "act {act}");
+        assert_eq!(rt;
+            fdt.contains(device(last)),
+            plain.place(last).is_some(),
+            "act {act}"
+        );
         assert_eq!(rt; fdt.count(), plain.rows.len(), "act {act}");
         if act % 10 == 0 {
             assert!(rt; plain.is(&fdt.rows(rt.alloc())?), "act {act}");
@@ -366,10 +412,16 @@ fn refused_entries_are_no_table(rt: HostRuntime) -> Result<(), Fail> {
 
 #[test]
 fn faults_in_words(rt: HostRuntime) -> Result<(), Fail> {
-    assert_eq!(rt; BdtFault::Duplicate.to_string(rt.alloc())?, "an address has two entries");
-    assert_eq!(rt; DeleteFault::Absent.to_string(rt.alloc())?, "the foreign device is not registered");
     assert_eq!(rt;
-        RegisterFault::Full.to_string(rt.alloc())?,
+        BdtFault::Duplicate.to_string(rt.alloc())?.as_str(),
+        "an address has two entries"
+    );
+    assert_eq!(rt;
+        DeleteFault::Absent.to_string(rt.alloc())?.as_str(),
+        "the foreign device is not registered"
+    );
+    assert_eq!(rt;
+        RegisterFault::Full.to_string(rt.alloc())?.as_str(),
         "128 other foreign devices are registered"
     );
     laws::last_grants();
