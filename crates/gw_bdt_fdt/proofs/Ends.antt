@@ -1,14 +1,13 @@
 -- The ends of leases, as leases come and go.
-use Rattle.std.proofs.Common.{◌≡◌, ◌∙◌, ℕ, ◌<◌, ◌≤◌, Bool, true, false, cond, not, ◌||◌, ◌&&◌, List, [], ◌∷◌, ◌++◌, map, Option, Some, None, is_some, if◌then◌else◌, nat_lt, nat_eq, ◌==◌, refl, sym, ap, ap₂, subst, true≢false, filter, arith, Result, Ok, OnOk}
+use Rattle.std.proofs.Common.{◌≡◌, ◌∙◌, ℕ, ◌<◌, Bool, true, false, cond, not, ◌||◌, ◌&&◌, List, [], ◌∷◌, map, Option, Some, None, is_some, if◌then◌else◌, nat_lt, nat_eq, ◌==◌, refl, sym, ap, ap₂, subst, true≢false, filter, arith, Result, Ok, OnOk}
 use Rattle.std.specs.List.{list_any, AllByRecursion, IsDistinct}
 use Rattle.std.specs.Map.{lookup, remove_entry, keys_of}
 use Rattle.std.specs.Ordering.{is_eq, is_gt, nat_cmp, ordering_then}
-use Rattle.std.specs.declared.cmp.Ordering.{Ordering}
 use Rattle.std.specs.declared.cmp.Ordering.TheVariants.{Less, Equal, Greater}
 use Rattle.std.specs.Cmp.{tied_then}
 use Rattle.std.specs.Cmp.Derive.{one_truth}
-use Rattle.std.specs.Cmp.Lexicographic.{pointwise, same_text, slice_cmp}
-use Rattle.std.proofs.lemmas.Bool.{and_parts, and_from, or_parts, eqb-true, eq-eqb, le-ltb, ltb-true, ltb-false, lt-ltb}
+use Rattle.std.specs.Cmp.Lexicographic.{same_text, slice_cmp}
+use Rattle.std.proofs.lemmas.Bool.{and_parts, and_from, eqb-true, eq-eqb, le-ltb, ltb-true, lt-ltb}
 use Rattle.std.proofs.lemmas.Cmp.{nat_list_eq_equiv}
 use Rattle.std.proofs.lemmas.Map.Text.{is_eq-slice_cmp}
 use Rattle.std.proofs.lemmas.Map.Views.{any-filter_same}
@@ -39,14 +38,14 @@ address ip udp = record { ip = ip; udp = udp }
 address_tied : (a b : BipAddr) → is_eq (address_cmp a b) ≡ true → a ≡ b
 address_tied a b e =
     let parts = and_parts (is_eq (slice_cmp nat_cmp a.ip b.ip)) (is_eq (nat_cmp a.udp b.udp))
-        (tied_then (slice_cmp nat_cmp a.ip b.ip) (nat_cmp a.udp b.udp) ∙ e) in
+    (tied_then (slice_cmp nat_cmp a.ip b.ip) (nat_cmp a.udp b.udp) ∙ e) in
     ap₂ address (same_text a.ip b.ip (sym parts.0 ∙ is_eq-slice_cmp a.ip b.ip)) (number_tied a.udp b.udp parts.1)
 
 address_own : (a : BipAddr) → is_eq (address_cmp a a) ≡ true
 address_own a =
     sym (tied_then (slice_cmp nat_cmp a.ip a.ip) (nat_cmp a.udp a.udp))
     ∙ and_from (is_eq (slice_cmp nat_cmp a.ip a.ip)) (is_eq (nat_cmp a.udp a.udp))
-        (is_eq-slice_cmp a.ip a.ip ∙ nat_list_eq_equiv.refl a.ip) (number_own a.udp)
+    (is_eq-slice_cmp a.ip a.ip ∙ nat_list_eq_equiv.refl a.ip) (number_own a.udp)
 
 pub tied_to : (x y : End) → tied x y ≡ true → x ≡ y
 tied_to x y e =
@@ -177,7 +176,7 @@ mapped_filter now (e ∷ es) = by (holds_at now e) (mapped_filter now es)
   where
     by : (x : Bool) → map end_of (filter (holds_at now) es) ≡ filter (λ end. nat_lt now end.0) (map end_of es)
         → map end_of (cond x (e ∷ filter (holds_at now) es) (filter (holds_at now) es))
-            ≡ cond x (end_of e ∷ filter (λ end. nat_lt now end.0) (map end_of es)) (filter (λ end. nat_lt now end.0) (map end_of es))
+        ≡ cond x (end_of e ∷ filter (λ end. nat_lt now end.0) (map end_of es)) (filter (λ end. nat_lt now end.0) (map end_of es))
     by true ih = ap (λ rest. end_of e ∷ rest) ih
     by false ih = ih
 

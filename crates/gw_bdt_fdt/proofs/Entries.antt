@@ -1,12 +1,11 @@
 -- The own entry of a table, at the place where it is found.
-use Rattle.std.proofs.Common.{◌≡◌, ◌∙◌, ℕ, zero, suc, ◌+◌, ◌<◌, ◌≤◌, Bool, true, false, cond, not, ◌||◌, List, [], ◌∷◌, ◌++◌, length, take, drop, filter, position, get_or, Option, Some, None, is_some, nat_lt, refl, sym, ap, subst, true≢false, arith}
+use Rattle.std.proofs.Common.{◌≡◌, ◌∙◌, ℕ, zero, suc, ◌+◌, ◌<◌, ◌≤◌, Bool, true, false, cond, not, ◌||◌, List, [], ◌∷◌, ◌++◌, length, take, drop, position, get_or, Option, Some, None, is_some, nat_lt, refl, sym, ap, subst, true≢false, arith}
 use Rattle.std.specs.List.{list_any, position_or_len}
 use Rattle.std.proofs.lemmas.Bool.{or_parts, ltb-true, ltb-false}
 use Rattle.std.proofs.lemmas.List.Sums.{fails_before_first, passes_at_first}
 use Rattle.gw_addr.specs.declared.bip.BipAddr.{BipAddr}
 use Rattle.gw_addr.specs.declared.entry.BdtEntry.{BdtEntry}
 use Rattle.gw_bdt_fdt.specs.Peers.{is_of, has_twice, peers}
-use Rattle.gw_bdt_fdt.specs.Registrations.{same}
 use Rattle.gw_bdt_fdt.proofs.Same.{equal_of}
 
 -- where no entry is an address's, all are peers
@@ -49,9 +48,9 @@ pub own_found : (own : BipAddr) (es : List BdtEntry) (i : ℕ) → position (is_
 own_found own es i at once =
     let is = placed (is_of own) es i at in
     around own d es i is.1
-        (ap (λ k. is_of own (get_or es k d)) (sym is.0) ∙ passes_at_first (is_of own) es d (subst (λ k. k < length es) (sym is.0) is.1))
-        (λ k l. fails_before_first (is_of own) es k d (subst (λ n. k < n) (sym is.0) l))
-        once
+    (ap (λ k. is_of own (get_or es k d)) (sym is.0) ∙ passes_at_first (is_of own) es d (subst (λ k. k < length es) (sym is.0) is.1))
+    (λ k l. fails_before_first (is_of own) es k d (subst (λ n. k < n) (sym is.0) l))
+    once
   where
     d : BdtEntry
     d = record { address = own; mask = [] }

@@ -1,28 +1,28 @@
 -- What one more act does to the foreign devices that a history leaves.
-use Rattle.std.proofs.Common.{◌≡◌, ◌∙◌, ℕ, ◌+◌, ◌-◌, ◌<◌, ◌≤◌, Bool, true, false, cond, ◌||◌, List, [], ◌∷◌, ◌++◌, Option, Some, None, is_some, if◌then◌else◌, nat_lt, refl, sym, ap, subst, true≢false, filter, filter_map, arith, option_map}
+use Rattle.std.proofs.Common.{◌≡◌, ◌∙◌, ℕ, ◌+◌, ◌-◌, Bool, true, false, cond, ◌||◌, List, [], ◌∷◌, ◌++◌, Option, Some, None, is_some, if◌then◌else◌, nat_lt, refl, sym, ap, subst, true≢false, filter, filter_map, arith, option_map}
 use Rattle.std.specs.List.{list_any, IsDistinct, AllByRecursion, cons_option}
 use Rattle.std.specs.Option.{option_and_then}
-use Rattle.std.specs.Map.{lookup, remove_entry}
-use Rattle.std.proofs.lemmas.Bool.{ltb-true, ltb-false, lt-ltb, le-ltb}
+use Rattle.std.specs.Map.{remove_entry}
+use Rattle.std.proofs.lemmas.Bool.{ltb-true, ltb-false, lt-ltb}
 use Rattle.std.proofs.lemmas.Map.Keys.{IsDistinct-push, IsDistinct-head, IsDistinct-tail}
 use Rattle.indexmap.specs.IndexMap.{insert_entry}
 use Rattle.gw_addr.specs.declared.bip.BipAddr.{BipAddr}
 use Rattle.gw_bdt_fdt.specs.declared.fdt.TheConstants.{GRACE}
-use Rattle.gw_bdt_fdt.specs.Registrations.{Registration, Registered, Registrations, same, granted, with_registration, without, with_less, row_later, with_tick}
-use Rattle.gw_bdt_fdt.specs.History.{Act, Register, Delete, Tick, History, Grant, longer_ago, last_grant, registration_by, registration_after, is_registered, with_address, order_after, row_after, ticks_in, table_after, IsStateAfter}
+use Rattle.gw_bdt_fdt.specs.Registrations.{Registration, Registered, Registrations, same, granted, with_registration, without, row_later, with_tick}
+use Rattle.gw_bdt_fdt.specs.History.{Register, Delete, Tick, History, Grant, longer_ago, last_grant, registration_by, registration_after, is_registered, with_address, order_after, row_after, ticks_in, table_after, IsStateAfter}
 use Rattle.gw_bdt_fdt.proofs.Same.{own, equal_of, flipped, same_equiv}
 
 -- addresses that are each registered after a history
 abbrev pub AreRegistered : History → List BipAddr → Type 0
 AreRegistered h = AllByRecursion (λ a. is_registered h a ≡ true)
 
-abbrev paired : BipAddr → Option Registration → Option (BipAddr × Registration)
+abbrev pub paired : BipAddr → Option Registration → Option (BipAddr × Registration)
 paired a r = option_map (λ registration. (a, registration)) r
 
 -- ---- a registration
 
 -- a grant of now
-fresh : (ttl : ℕ) → registration_by (record { time_to_live = ttl; ago = 0 }) ≡ Some (granted ttl)
+pub fresh : (ttl : ℕ) → registration_by (record { time_to_live = ttl; ago = 0 }) ≡ Some (granted ttl)
 fresh ttl = λ j. if soon j then Some (record { time_to_live = ttl; left = whole j }) else None
   where
     soon : nat_lt 0 (ttl + GRACE) ≡ true
@@ -36,12 +36,12 @@ module _ (h : History) (a : BipAddr) (ttl : ℕ) where
   other : (b : BipAddr) → same a b ≡ false → row_after (Register a ttl ∷ h) b ≡ row_after h b
   other b e =
       ap (λ x. paired b (option_and_then registration_by (cond x (Some (record { time_to_live = ttl; ago = 0 })) (last_grant h b))))
-          (flipped b a ∙ e)
+      (flipped b a ∙ e)
 
   newest : (b : BipAddr) → same a b ≡ true → row_after (Register a ttl ∷ h) b ≡ Some (b, granted ttl)
   newest b e =
       ap (λ x. paired b (option_and_then registration_by (cond x (Some (record { time_to_live = ttl; ago = 0 })) (last_grant h b))))
-          (flipped b a ∙ e)
+      (flipped b a ∙ e)
       ∙ ap (paired b) (fresh ttl)
 
   others : (bs : List BipAddr) → AllByRecursion (λ b. same a b ≡ false) bs
@@ -71,16 +71,16 @@ module _ (h : History) (a : BipAddr) (ttl : ℕ) where
       by x e None s ih = absurd (true≢false (sym r.0 ∙ ap is_some s))
       by true e (Some standing) s ih =
           let apart : AllByRecursion (λ c. same a c ≡ false) bs =
-              subst (λ k. AllByRecursion (λ c. same k c ≡ false) bs) (sym (equal_of a b e)) (IsDistinct-head same b bs d) in
+          subst (λ k. AllByRecursion (λ c. same k c ≡ false) bs) (sym (equal_of a b e)) (IsDistinct-head same b bs d) in
           ap (filter_map (row_after (Register a ttl ∷ h))) (there bs b e)
           ∙ (λ j. cons_option (newest b e j) (others bs apart j))
           ∙ sym (ap (λ o. insert_entry same (cons_option (paired b o) (filter_map (row_after h) bs)) a (granted ttl)) s
-              ∙ ap (λ x. if x then (b, granted ttl) ∷ filter_map (row_after h) bs else (b, standing) ∷ insert_entry same (filter_map (row_after h) bs) a (granted ttl)) e)
+          ∙ ap (λ x. if x then (b, granted ttl) ∷ filter_map (row_after h) bs else (b, standing) ∷ insert_entry same (filter_map (row_after h) bs) a (granted ttl)) e)
       by false e (Some standing) s ih =
           ap (filter_map (row_after (Register a ttl ∷ h))) (further bs b e)
           ∙ (λ j. cons_option ((other b e ∙ ap (paired b) s) j) (ih j))
           ∙ sym (ap (λ o. insert_entry same (cons_option (paired b o) (filter_map (row_after h) bs)) a (granted ttl)) s
-              ∙ ap (λ x. if x then (b, granted ttl) ∷ filter_map (row_after h) bs else (b, standing) ∷ insert_entry same (filter_map (row_after h) bs) a (granted ttl)) e)
+          ∙ ap (λ x. if x then (b, granted ttl) ∷ filter_map (row_after h) bs else (b, standing) ∷ insert_entry same (filter_map (row_after h) bs) a (granted ttl)) e)
 
 -- ---- what leaves out who is no longer registered
 
@@ -153,14 +153,14 @@ module _ (h : History) (a : BipAddr) where
       by x e None s ih = absurd (true≢false (sym r.0 ∙ ap is_some s))
       by true e (Some standing) s ih =
           let apart : AllByRecursion (λ c. same a c ≡ false) bs =
-              subst (λ k. AllByRecursion (λ c. same k c ≡ false) bs) (sym (equal_of a b e)) (IsDistinct-head same b bs d) in
+          subst (λ k. AllByRecursion (λ c. same k c ≡ false) bs) (sym (equal_of a b e)) (IsDistinct-head same b bs d) in
           (λ j. cons_option (gone b e j) (unlikes bs apart j))
           ∙ sym (ap (λ o. remove_entry (same a) (cons_option (paired b o) (filter_map (row_after h) bs))) s
-              ∙ ap (λ x. cond x (filter_map (row_after h) bs) ((b, standing) ∷ remove_entry (same a) (filter_map (row_after h) bs))) e)
+          ∙ ap (λ x. cond x (filter_map (row_after h) bs) ((b, standing) ∷ remove_entry (same a) (filter_map (row_after h) bs))) e)
       by false e (Some standing) s ih =
           (λ j. cons_option ((unlike b e ∙ ap (paired b) s) j) (ih j))
           ∙ sym (ap (λ o. remove_entry (same a) (cons_option (paired b o) (filter_map (row_after h) bs))) s
-              ∙ ap (λ x. cond x (filter_map (row_after h) bs) ((b, standing) ∷ remove_entry (same a) (filter_map (row_after h) bs))) e)
+          ∙ ap (λ x. cond x (filter_map (row_after h) bs) ((b, standing) ∷ remove_entry (same a) (filter_map (row_after h) bs))) e)
 
 -- ---- a tick
 

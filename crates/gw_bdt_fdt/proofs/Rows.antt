@@ -1,14 +1,14 @@
 -- What the leases that are kept say of the table.
-use Rattle.std.proofs.Common.{◌≡◌, ◌∙◌, ℕ, ◌+◌, ◌-◌, ◌<◌, ◌≤◌, ◌^◌, Bool, true, false, cond, ◌||◌, not, List, [], ◌∷◌, length, map, Option, Some, None, is_some, if◌then◌else◌, nat_lt, refl, sym, ap, true≢false, filter, filter_map, arith, option_map, IsTrue}
+use Rattle.std.proofs.Common.{◌≡◌, ◌∙◌, ℕ, ◌+◌, ◌-◌, ◌<◌, ◌≤◌, ◌^◌, Bool, true, false, cond, ◌||◌, [], ◌∷◌, length, map, Option, Some, None, is_some, if◌then◌else◌, nat_lt, refl, sym, ap, filter, filter_map, arith, option_map, IsTrue}
 use Rattle.std.specs.List.{AllByRecursion, cons_option}
 use Rattle.std.specs.Map.{lookup, remove_entry, keys_of}
-use Rattle.std.proofs.lemmas.Bool.{ltb-true, ltb-false, lt-ltb, le-ltb}
+use Rattle.std.proofs.lemmas.Bool.{ltb-true, ltb-false, lt-ltb}
 use Rattle.std.proofs.lemmas.Map.Made.{lookup-map_values}
 use Rattle.indexmap.specs.IndexMap.{insert_entry}
 use Rattle.gw_addr.specs.declared.bip.BipAddr.{BipAddr}
 use Rattle.gw_bdt_fdt.specs.declared.leases.Lease.{Lease}
 use Rattle.gw_bdt_fdt.specs.declared.fdt.TheConstants.{GRACE, MAX_REGISTRATIONS}
-use Rattle.gw_bdt_fdt.specs.Registrations.{Registration, Registered, Registrations, same, contains, has_room, granted, with_registration, without, with_less, row_later, with_tick}
+use Rattle.gw_bdt_fdt.specs.Registrations.{Registration, same, contains, has_room, with_registration, without, with_less, row_later, with_tick}
 use Rattle.gw_bdt_fdt.specs.Internal.{LeaseList, row_at, table_at, holds_at, AreKept}
 
 pub keyed : (t : ℕ) (es : LeaseList) → keys_of (map (row_at t) es) ≡ keys_of es
@@ -50,7 +50,7 @@ mapped-insert t (e ∷ es) a l = by (same a e.0) (mapped-insert t es a l)
   where
     by : (x : Bool) → map (row_at t) (insert_entry same es a l) ≡ insert_entry same (map (row_at t) es) a (standing t l)
         → map (row_at t) (if x then (e.0, l) ∷ es else e ∷ insert_entry same es a l)
-            ≡ (if x then (e.0, standing t l) ∷ map (row_at t) es else row_at t e ∷ insert_entry same (map (row_at t) es) a (standing t l))
+        ≡ (if x then (e.0, standing t l) ∷ map (row_at t) es else row_at t e ∷ insert_entry same (map (row_at t) es) a (standing t l))
     by true ih = refl
     by false ih = ap (λ rows. row_at t e ∷ rows) ih
 
@@ -58,7 +58,7 @@ pub rows_registered : (t : ℕ) (es : LeaseList) (a : BipAddr) (ttl : ℕ)
     → table_at t (insert_entry same es a (lease_of t ttl)) ≡ with_registration (table_at t es) a ttl
 rows_registered t es a ttl =
     ap (λ rows. record { ticks = t; rows = rows })
-        (mapped-insert t es a (lease_of t ttl) ∙ ap (λ n. insert_entry same (map (row_at t) es) a (reg ttl n)) to_come)
+    (mapped-insert t es a (lease_of t ttl) ∙ ap (λ n. insert_entry same (map (row_at t) es) a (reg ttl n)) to_come)
   where
     to_come : t + ttl + GRACE - t ≡ ttl + GRACE
     to_come = omega arith
@@ -71,7 +71,7 @@ length-insert_entry (e ∷ es) a l = by (same a e.0) (length-insert_entry es a l
   where
     by : (x : Bool) → length (insert_entry same es a l) ≡ length es + (if is_some (lookup (same a) es) then 0 else 1)
         → length (if x then (e.0, l) ∷ es else e ∷ insert_entry same es a l)
-            ≡ length (e ∷ es) + (if is_some (cond x (Some e.1) (lookup (same a) es)) then 0 else 1)
+        ≡ length (e ∷ es) + (if is_some (cond x (Some e.1) (lookup (same a) es)) then 0 else 1)
     by true ih = omega arith
     by false ih = omega (arith, ih)
 
@@ -157,7 +157,7 @@ mapped-later t (e ∷ es) =
     by : (x : Bool) → nat_lt (t + 1) e.1.deadline ≡ x → (y : Bool) → nat_lt 1 (e.1.deadline - t) ≡ y
         → map (row_at (t + 1)) (filter (holds_at (t + 1)) es) ≡ filter_map row_later (map (row_at t) es)
         → map (row_at (t + 1)) (cond x (e ∷ filter (holds_at (t + 1)) es) (filter (holds_at (t + 1)) es))
-            ≡ cons_option (if y then Some (e.0, with_less (row_at t e).1) else None) (filter_map row_later (map (row_at t) es))
+        ≡ cons_option (if y then Some (e.0, with_less (row_at t e).1) else None) (filter_map row_later (map (row_at t) es))
     by true p true q ih = λ j. (e.0, reg e.1.time_to_live (less j)) ∷ ih j
     by false p false q ih = ih
     by true p false q ih =

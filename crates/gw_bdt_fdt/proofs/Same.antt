@@ -1,5 +1,5 @@
 -- Two addresses are one exactly where they are compared so.
-use Rattle.std.proofs.Common.{◌≡◌, ◌∙◌, ℕ, Bool, true, ◌&&◌, List, nat_eq, sym, ap, ap₂}
+use Rattle.std.proofs.Common.{◌≡◌, ℕ, true, ◌&&◌, List, nat_eq, sym, ap, ap₂}
 use Rattle.std.proofs.lemmas.Bool.{and_parts, and_from, eqb-true}
 use Rattle.std.proofs.lemmas.Cmp.{nat_list_eq_equiv}
 use Rattle.std.specs.Cmp.{IsEquivalence, nat_eq_equiv}

@@ -4,7 +4,7 @@ use Rattle.std.specs.Prelude.{◌≡◌, ℕ, ◌+◌, ◌-◌, Bool, nat_lt, if
 use Rattle.std.specs.List.{list_any}
 use Rattle.gw_addr.specs.declared.bip.BipAddr.{BipAddr}
 use Rattle.gw_bdt_fdt.specs.declared.fdt.TheConstants.{GRACE}
-use Rattle.gw_bdt_fdt.specs.Registrations.{Registration, Registered, Registrations, same}
+use Rattle.gw_bdt_fdt.specs.Registrations.{Registration, Registrations, same}
 
 -- what happens to a table: an address is granted a registration with a time to live, or is deleted,
 -- or a tick passes
@@ -22,6 +22,10 @@ pub record Grant : Type 0 where
   pub time_to_live : ℕ
   pub ago : ℕ
 
+-- a grant of now
+abbrev pub grant_now : ℕ → Grant
+grant_now time_to_live = record { time_to_live = time_to_live; ago = 0 }
+
 -- one tick longer ago
 abbrev pub longer_ago : Grant → Grant
 longer_ago grant = record { time_to_live = grant.time_to_live; ago = grant.ago + 1 }
@@ -30,16 +34,21 @@ longer_ago grant = record { time_to_live = grant.time_to_live; ago = grant.ago +
 abbrev pub last_grant : History → BipAddr → Option Grant
 last_grant [] address = None
 last_grant (Register other time_to_live ∷ h) address =
-    if same address other then Some (record { time_to_live = time_to_live; ago = 0 }) else last_grant h address
+    if same address other then Some (grant_now time_to_live) else last_grant h address
 last_grant (Delete other ∷ h) address = if same address other then None else last_grant h address
 last_grant (Tick ∷ h) address = option_map longer_ago (last_grant h address)
 
--- a grant holds while fewer ticks than its time to live and 30 have passed since; the others are to come
+-- the registration by a grant of this long ago
+abbrev pub left_of : Grant → Registration
+left_of grant = record {
+  time_to_live = grant.time_to_live;
+  left = grant.time_to_live + GRACE - grant.ago;
+}
+
+-- a grant holds while fewer ticks than its time to live and 30 have passed since it
 abbrev pub registration_by : Grant → Option Registration
 registration_by grant =
-    if nat_lt grant.ago (grant.time_to_live + GRACE)
-    then Some (record { time_to_live = grant.time_to_live; left = grant.time_to_live + GRACE - grant.ago })
-    else None
+    if nat_lt grant.ago (grant.time_to_live + GRACE) then Some (left_of grant) else None
 
 -- the registration of an address after a history, or none
 abbrev pub registration_after : History → BipAddr → Option Registration
@@ -64,7 +73,8 @@ order_after (Tick ∷ h) = filter (is_registered (Tick ∷ h)) (order_after h)
 
 -- an address with its registration after a history, or none
 abbrev pub row_after : History → BipAddr → Option (BipAddr × Registration)
-row_after h address = option_map (λ registration. (address, registration)) (registration_after h address)
+row_after h address =
+    option_map (λ registration. (address, registration)) (registration_after h address)
 
 -- how many ticks a history has
 unfoldable pub ticks_in : History → ℕ

@@ -1,5 +1,5 @@
 -- How registrations are kept: by the tick with which each ends.
-use Rattle.std.specs.Prelude.{◌≡◌, ℕ, ◌+◌, ◌-◌, ◌^◌, ◌≤◌, ◌<◌, ◌++◌, Bool, nat_lt, List, length, map, IsTrue}
+use Rattle.std.specs.Prelude.{◌≡◌, ℕ, ◌-◌, ◌^◌, ◌≤◌, ◌++◌, Bool, nat_lt, List, length, map, IsTrue}
 use Rattle.std.specs.List.{AllByRecursion, IsDistinct, list_any}
 use Rattle.std.specs.Map.{keys_of}
 use Rattle.std.specs.Cmp.Lexicographic.{slice_cmp}
@@ -10,7 +10,7 @@ use Rattle.gw_addr.specs.declared.entry.BdtEntry.{BdtEntry}
 use Rattle.gw_bdt_fdt.specs.declared.bdt.Peers.{Peers}
 use Rattle.gw_bdt_fdt.specs.declared.leases.Lease.{Lease}
 use Rattle.gw_bdt_fdt.specs.declared.fdt.TheConstants.{MAX_REGISTRATIONS}
-use Rattle.gw_bdt_fdt.specs.Registrations.{same, Registration, Registered, Registrations}
+use Rattle.gw_bdt_fdt.specs.Registrations.{same, Registration, Registrations}
 
 -- addresses, each with its lease, in order
 abbrev pub LeaseList : Type 0

@@ -1,4 +1,5 @@
 pub mod Registrations
 pub mod History
 pub mod Peers
+pub mod Laws
 pub mod Internal

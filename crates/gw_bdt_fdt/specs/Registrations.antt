@@ -1,5 +1,5 @@
 -- The foreign devices of a port and their registrations (Annex J.5).
-use Rattle.std.specs.Prelude.{◌≡◌, ℕ, ◌+◌, ◌-◌, Bool, not, min, nat_eq, nat_lt, ◌&&◌, ◌||◌, if◌then◌else◌, List, [], length, filter_map, Option, Some, None, is_some}
+use Rattle.std.specs.Prelude.{ℕ, ◌+◌, ◌-◌, Bool, min, nat_eq, nat_lt, ◌&&◌, ◌||◌, if◌then◌else◌, List, [], length, filter_map, Option, Some, None, is_some}
 use Rattle.std.specs.Cmp.Lexicographic.{pointwise}
 use Rattle.std.specs.Map.{lookup, remove_entry}
 use Rattle.gw_addr.specs.declared.bip.BipAddr.{BipAddr}
@@ -11,7 +11,8 @@ use Rattle.gw_bdt_fdt.specs.declared.fdt.TheConstants.{GRACE, MAX_REGISTRATIONS,
 abbrev pub same : BipAddr → BipAddr → Bool
 same a b = pointwise nat_eq a.ip b.ip && nat_eq a.udp b.udp
 
--- a registration: its time to live, and how many ticks are to come until it is gone, the grace among them
+-- a registration: its time to live, and how many ticks are to come until it is gone, those of the
+-- grace among them
 pub record Registration : Type 0 where
   pub time_to_live : ℕ
   pub left : ℕ

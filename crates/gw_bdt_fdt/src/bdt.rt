@@ -34,7 +34,8 @@ impl Model for Bdt {
 
     ghost view = { λ a. a.entries.items };
 
-    ghost invariant = { λ a. IsFalse (are_too_many a.entries.items) × IsFalse (has_twice a.entries.items) };
+    ghost invariant = { λ a. let items = a.entries.items in
+        IsFalse (are_too_many items) × IsFalse (has_twice items) };
 }
 
 impl Bdt {

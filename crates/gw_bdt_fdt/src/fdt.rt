@@ -110,7 +110,8 @@ impl Fdt {
     pub fn tick(&mut self)
         requires { self.old.ticks < 2 ^ 63 }
         ensures rows { self.new ≡ with_tick self.old }
-        ensures stands { (h : History) → IsStateAfter self.old h → IsStateAfter self.new (Tick ∷ h) }
+        ensures stands { (h : History) → IsStateAfter self.old h →
+            IsStateAfter self.new (Tick ∷ h) }
     {
         let now = self.ticks + 1;
         self.leases.end_by(now);

@@ -173,8 +173,8 @@ fn renew(
 
 /// Takes the old end of an address, if its new one is another.
 fn forget(ends: &mut BTreeSet<(u64, BipAddr)>, address: BipAddr, old: u64, new: u64)
-    ensures { (q : End) → list_any (tied q) ends.new.keys ≡
-        cond (not (nat_eq old new) && tied (old, address) q) false (list_any (tied q) ends.old.keys) }
+    ensures { (q : End) → let goes = not (nat_eq old new) && tied (old, address) q in
+        list_any (tied q) ends.new.keys ≡ cond goes false (list_any (tied q) ends.old.keys) }
 {
     if old == new {
         return;

@@ -5,6 +5,7 @@
 mod bdt;
 mod fault;
 mod fdt;
+pub mod laws;
 mod leases;
 
 pub use bdt::{Bdt, MAX_ENTRIES, Peers};

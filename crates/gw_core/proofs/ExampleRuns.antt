@@ -1,34 +1,30 @@
 -- The worked examples, computed.
 use Rattle.std.specs.Prelude.{⊤}
 use Rattle.std.proofs.Common.{refl}
-use Rattle.gw_tags.specs.Object.{object_octets, object_of}
-use Rattle.gw_tags.specs.Reading.{tag_number_at, length_at, kind_at, header_at, tag_at}
-use Rattle.gw_tags.specs.Value.{value_encoding}
 use Rattle.gw_rules.specs.Rule.{matches}
 use Rattle.gw_rules.specs.RuleList.{first, allows}
-use Rattle.gw_core.specs.Arrival.{comes_in, frame_in, npdu_in, is_direct, arrived_on, arrived}
-use Rattle.gw_core.specs.Asks.{message_of, apdu_for, named_object, read_ask, asked_by, asked_on, asked, device_asks, asks}
-use Rattle.gw_core.specs.Denied.{rule_name, denials_from, denials_at}
-use Rattle.gw_core.specs.Effects.{within, unicast, reply_sends, device_sends, sends, effects_at, passes_end}
-use Rattle.gw_core.specs.History.{acts_of}
-use Rattle.gw_core.specs.Read.{tagged, content_at, object_at, number_of, property_at, index_at, read_at}
-use Rattle.gw_core.specs.Read as Read
-use Rattle.gw_core.specs.Reply.{binary_value, property_of, property_value, answer, context, read_ack, read_error, reply_apdu, reply_npdu}
-use Rattle.gw_core.specs.Examples.{ReadIsAnswered, HiddenReadIsDenied, LocalReadIsUnheard, HiddenObjectIsUntold, UnknownObjectIsTold, EachCutIsDropped, WrongLengthsAreDropped, RoutedReadIsAnswered, CountsEnd}
+use Rattle.gw_core.specs.Asks.{asks}
+use Rattle.gw_core.specs.Denials.{denials_at}
+use Rattle.gw_core.specs.Device.{request_of, property_value, read_value, read_ack, error_apdu}
+use Rattle.gw_core.specs.Effects.{sends, effects_at, passes_end}
+use Rattle.gw_core.specs.History.{acts_of, run_after}
+use Rattle.gw_core.specs.Receive.{npdu_of, receive_on, receive}
+use Rattle.gw_core.specs.Reply.{within, reply_sends}
+use Rattle.gw_core.specs.Examples.{ReadIsAnswered, HiddenReadIsDenied, LocalReadIsUnheard, HiddenObjectIsUntold, UnknownObjectIsTold, EachCutIsDropped, WrongLengthsAreDropped, RoutedReadIsAnswered, CountsEnd, DenialsAreCountedOn}
 
 -- all that a frame runs through
 unfoldable frames : ⊤
-unfolding comes_in frame_in npdu_in is_direct arrived_on arrived
+unfolding npdu_of receive_on receive
 frames = tt
 
 -- all that a read runs through
 unfoldable reads : ⊤
-unfolding object_octets object_of tag_number_at length_at kind_at header_at tag_at value_encoding tagged content_at object_at number_of property_at index_at Read.body_at read_at binary_value property_of property_value answer context read_ack read_error reply_apdu reply_npdu
+unfolding request_of property_value read_value read_ack error_apdu
 reads = tt
 
 -- all that an event runs through
 unfoldable steps : ⊤
-unfolding matches first allows message_of apdu_for named_object read_ask asked_by asked_on asked device_asks asks rule_name denials_from denials_at within unicast reply_sends device_sends sends effects_at passes_end acts_of
+unfolding matches first allows asks denials_at within reply_sends sends effects_at passes_end acts_of run_after
 steps = tt
 
 pub read_is_answered : ReadIsAnswered
@@ -66,3 +62,7 @@ routed_read_is_answered = refl
 pub counts_end : CountsEnd
 unfolding frames reads steps
 counts_end = (refl, refl, refl)
+
+pub denials_are_counted_on : DenialsAreCountedOn
+unfolding frames reads steps
+denials_are_counted_on = refl

@@ -1,7 +1,8 @@
-pub mod EffectLaws
-pub mod HistoryLaws
+pub mod DenialLemmas
+pub mod EffectLemmas
+pub mod HistoryLemmas
 pub mod ExampleRuns
-pub mod LogLaws
+pub mod LogLemmas
 pub mod ShownLemmas
 pub mod LineOutcomeLemmas
 pub mod ReplayLemmas

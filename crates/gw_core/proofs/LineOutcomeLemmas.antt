@@ -4,7 +4,7 @@ use Rattle.std.specs.Prelude.{IfSome}
 use Rattle.gw_script.specs.Event.{Event}
 use Rattle.gw_core.specs.declared.replaying.RunFault.{RunFault}
 use Rattle.gw_core.specs.declared.replaying.RunFault.TheVariants.{Memory, CountEnd}
-use Rattle.gw_core.specs.Standing.{Standing}
+use Rattle.gw_core.specs.State.{State}
 use Rattle.gw_script.specs.Script.{IsLine}
 use Rattle.gw_core.specs.LineOutcome.{LineOutcome, MemoryWant, PassesEnd}
 use Rattle.std.specs.Io.KnownBytes.{Keeps, Appends, prepend_known}
@@ -42,8 +42,8 @@ same_line p q a b e ports lines is =
 pub nothing_held : (held : List ℕ) (known : Option (List ℕ)) (script : List ℕ) → held ≡ [] → known ≡ Some script → prepend_known held known ≡ Some script
 nothing_held held known script none e = ap (λ (h : List ℕ). prepend_known h known) none ∙ ap (prepend_known []) e
 
--- an event that isn't taken leaves what was written as it was
-pub not_taken : (n : ℕ) (w moved : Standing) (text : List ℕ) (left : Option (List ℕ)) (before : List ℕ) (after : Option (List ℕ)) (fault : RunFault) (wants passes : Type 0)
+-- an event that isn't history_after leaves what was written as it was
+pub not_taken : (n : ℕ) (w moved : State) (text : List ℕ) (left : Option (List ℕ)) (before : List ℕ) (after : Option (List ℕ)) (fault : RunFault) (wants passes : Type 0)
     → ((fault ≡ Memory) × wants) ⊎ ((fault ≡ CountEnd) × passes) → (wants → MemoryWant w text) → (passes → PassesEnd w text) → after ≡ Some before → LineOutcome n w moved text left before after (Err fault)
 not_taken n w moved text left before after fault wants passes (inl h) short past held =
     subst (λ (f : RunFault). LineOutcome n w moved text left before after (Err f)) (sym h.0) (short h.1, held)

@@ -1,23 +1,18 @@
 -- How long the text of effects is.
-use Rattle.std.proofs.Common.{◌≡◌, ℕ, zero, suc, ◌+◌, ◌<◌, ◌≤◌, List, [], ◌∷◌, length, take, get_or, refl, ap, ◌∙◌, arith}
+use Rattle.std.proofs.Common.{◌≡◌, ℕ, zero, suc, ◌+◌, ◌<◌, ◌≤◌, List, [], ◌∷◌, ◌++◌, length, take, get_or, refl, ap, ◌∙◌, arith}
 use Rattle.std.proofs.lemmas.List.{length-append}
 use Rattle.std.proofs.lemmas.List.Concat.{flat_map-cons}
-use Rattle.gw_script.specs.Event.{Event, Datagram, Tick}
-use Rattle.gw_core.specs.declared.effects.Effects.{Effects}
+use Rattle.gw_script.specs.Event.{Event}
 use Rattle.gw_core.specs.declared.effects.Sending.{Sending}
-use Rattle.gw_core.specs.Standing.{Standing}
-use Rattle.gw_core.specs.Effects.{NeedsNoMemory, effects_at}
+use Rattle.gw_core.specs.State.{State}
+use Rattle.gw_core.specs.Effects.{NeedsNoMemory, effects_at, sends}
 use Rattle.gw_core.specs.Shown.{effects_text, sending_line, sends_text}
-use Rattle.gw_core.proofs.EffectLaws.{effects_at-dropped, effects_at-tick, nothing}
-
-nothing_text : length (effects_text nothing) ≡ 4
-unfolding effects_text
-nothing_text = refl
+use Rattle.gw_script.specs.Text.{end_line}
 
 -- what needs no memory has `end` alone as its text
-pub few_octets : (w : Standing) (e : Event) → NeedsNoMemory w e → length (effects_text (effects_at w e)) ≡ 4
-few_octets w (Datagram port from octets) none = ap (λ (x : Effects). length (effects_text x)) (effects_at-dropped w port from octets none) ∙ nothing_text
-few_octets w Tick none = ap (λ (x : Effects). length (effects_text x)) (effects_at-tick w) ∙ nothing_text
+pub few_octets : (w : State) (e : Event) → NeedsNoMemory w e → length (effects_text (effects_at w e)) ≡ 4
+unfolding effects_text effects_at sends
+few_octets w e none = ap (λ (s : List Sending). length (sends_text s ++ end_line)) none.1
 
 text_length : (s : Sending) (sends : List Sending) → length (sends_text (s ∷ sends)) ≡ length (sending_line s) + length (sends_text sends)
 text_length s sends = ap length (flat_map-cons sending_line s sends) ∙ length-append (sending_line s) (sends_text sends)

@@ -1,71 +1,83 @@
 -- What an event does: its sends and its denials.
-use Rattle.std.specs.Prelude.{◌≡◌, ⊤, ℕ, ◌+◌, ◌^◌, Bool, List, [], ◌∷◌, ◌++◌, length, Option, Some, None, Result, Ok, Err, nat_lt, ◌||◌, if◌then◌else◌}
-use Rattle.gw_addr.specs.declared.bip.BipAddr.{BipAddr}
-use Rattle.gw_bvll.specs.Bvll.{original_unicast}
-use Rattle.gw_bvll.specs.Bvll as bvll
-use Rattle.gw_npdu.specs.Npdu.{Fields}
-use Rattle.gw_npdu.specs.Npdu as npdu
-use Rattle.gw_core.specs.declared.dropped.Dropped.{Dropped}
-use Rattle.gw_core.specs.declared.dropped.Dropped.TheVariants.{Silently}
+use Rattle.std.specs.Prelude.{◌≡◌, ℕ, ◌+◌, ◌^◌, Bool, List, [], ◌++◌, length, Option, Some, None, nat_lt, ◌||◌}
+use Rattle.gw_rules.specs.declared.rule.Rule.{Rule}
 use Rattle.gw_core.specs.declared.effects.Sending.{Sending}
 use Rattle.gw_core.specs.declared.effects.Effects.{Effects}
 use Rattle.gw_script.specs.Event.{Event}
 use Rattle.gw_script.specs.Event.{Datagram, Tick}
-use Rattle.gw_core.specs.Standing.{Standing}
-use Rattle.gw_core.specs.Arrival.{arrived}
-use Rattle.gw_core.specs.Asks.{Asked, asked}
-use Rattle.gw_core.specs.Denied.{denials_at}
-use Rattle.gw_core.specs.Reply.{answer, reply_apdu, reply_npdu}
-
--- the octets of an NPDU, unless there are more than 1497 (Annex J.2.11)
-unfoldable pub within : Fields → Option (List ℕ)
-within message = if nat_lt 1497 (length (npdu.encoding message)) then None else Some (npdu.encoding message)
-
--- an NPDU to one address, where it is within its length
-unfoldable pub unicast : ℕ → BipAddr → Fields → List Sending
-unicast port to message = elim (within message) [
-  | Some octets ↦ record { port = port; to = to; octets = bvll.encoding (original_unicast octets) } ∷ []
-  | None ↦ []
-]
+use Rattle.gw_core.specs.declared.object.ObjectState.{ObjectState}
+use Rattle.gw_core.specs.Asks.{asks}
+use Rattle.gw_core.specs.Denials.{denials_at, denials_for}
+use Rattle.gw_core.specs.Device.{Answer, Device, device_answer}
+use Rattle.gw_core.specs.Receive.{Message, Received, dropped, managed, stranger, message, receive}
+use Rattle.gw_core.specs.Reply.{apdu_for, context_of, reply_sends}
+use Rattle.gw_core.specs.State.{State}
 
 -- ---- the sends, part by part: what isn't built yet sends nothing
 
 -- answers to the management of a port's tables, and the refusal of a stranger's broadcast (Annex J.2)
-abbrev pub link_sends : Standing → Event → List Sending
-link_sends w e = []
+abbrev pub link_sends : Received → List Sending
+link_sends received = []
 
 -- distribution to peers and foreign devices (Annex J.4, J.5)
-abbrev pub cast_sends : Standing → Event → List Sending
-cast_sends w e = []
+abbrev pub cast_sends : Received → List Sending
+cast_sends received = []
 
 -- what goes onward to another network (clause 6.5)
-abbrev pub route_sends : Standing → Event → List Sending
-route_sends w e = []
+abbrev pub route_sends : Received → List Sending
+route_sends received = []
 
--- answers to messages of the network layer (clause 6.4)
-abbrev pub manage_sends : Standing → Event → List Sending
-manage_sends w e = []
+-- answers to network layer messages (clause 6.4)
+abbrev pub manage_sends : Received → List Sending
+manage_sends received = []
 
--- the answer to a read goes back to where its message came from
-unfoldable pub reply_sends : Standing → Asked → List Sending
-reply_sends w a = unicast a.arrived.port a.arrived.link (reply_npdu w.device.network a.arrived.npdu (reply_apdu a.read (answer w.rules w.objects a.ask a.read)))
+-- the datagram of an answer, where there is one
+abbrev pub answer_sends : ℕ → Message → Option Answer → List Sending
+answer_sends network m None = []
+answer_sends network m (Some answer) = reply_sends network m answer
 
--- the same where there is a read
-abbrev pub sends_of : Standing → Result Asked Dropped → List Sending
-sends_of w (Ok a) = reply_sends w a
-sends_of w (Err d) = []
+-- the answer to an APDU, where there is one
+abbrev pub apdu_sends : Device → List Rule → List ObjectState → Message → Option (List ℕ) → List Sending
+apdu_sends device rules objects m None = []
+apdu_sends device rules objects m (Some octets) =
+    answer_sends device.network m (device_answer device rules objects (context_of device.network m) octets)
+
+abbrev pub message_sends : Device → List Rule → List ObjectState → Message → List Sending
+message_sends device rules objects m = apdu_sends device rules objects m (apdu_for device.network m.npdu)
 
 -- answers of the device (clause 15)
-unfoldable pub device_sends : Standing → Event → List Sending
-device_sends w e = sends_of w (asked w e)
+abbrev pub serve_sends : Device → List Rule → List ObjectState → Received → List Sending
+serve_sends device rules objects dropped = []
+serve_sends device rules objects (managed number port from frame) = []
+serve_sends device rules objects (stranger number port from) = []
+serve_sends device rules objects (message m) = message_sends device rules objects m
 
 -- all of them, in the order of the steps
-unfoldable pub sends : Standing → Event → List Sending
-sends w e = link_sends w e ++ cast_sends w e ++ route_sends w e ++ manage_sends w e ++ device_sends w e
+abbrev pub sends_for : Device → List Rule → List ObjectState → Received → List Sending
+sends_for device rules objects received =
+    link_sends received ++ cast_sends received ++ route_sends received ++ manage_sends received
+    ++ serve_sends device rules objects received
 
--- what an event does to a gateway that stands so
-unfoldable pub effects_at : Standing → Event → Effects
-effects_at w e = record { sends = sends w e; denials = denials_at w e }
+-- what an event sends in this state
+unfoldable pub sends : State → Event → List Sending
+sends w e = sends_for w.device w.rules w.objects (receive w e)
+
+-- ---- what it does
+
+-- nothing at all
+abbrev pub nothing : Effects
+nothing = record { sends = []; denials = [] }
+
+-- what is done about what is received in this state
+abbrev pub effects_for : State → Received → Effects
+effects_for w received = record {
+  sends = sends_for w.device w.rules w.objects received;
+  denials = denials_for w received;
+}
+
+-- what an event does to a gateway in this state
+unfoldable pub effects_at : State → Event → Effects
+effects_at w e = effects_for w (receive w e)
 
 -- how many ticks an event is
 abbrev pub ticks_of : Event → ℕ
@@ -76,10 +88,10 @@ ticks_of Tick = 1
 abbrev pub last_count : ℕ
 last_count = 2 ^ 63
 
-unfoldable pub passes_end : Standing → Event → Bool
-passes_end w e = nat_lt last_count (w.ticks + ticks_of e) || nat_lt last_count (w.denials + length (denials_at w e))
+unfoldable pub passes_end : State → Event → Bool
+passes_end w e =
+    nat_lt last_count (w.ticks + ticks_of e) || nat_lt last_count (w.denials + length (denials_at w e))
 
--- A tick needs no memory, and neither does a datagram that brings no message.
-abbrev pub NeedsNoMemory : Standing → Event → Type 0
-NeedsNoMemory w (Datagram port from octets) = arrived w.ports w.device.network port from octets ≡ Err Silently
-NeedsNoMemory w Tick = ⊤
+-- An event that asks nothing and sends nothing needs no memory.
+abbrev pub NeedsNoMemory : State → Event → Type 0
+NeedsNoMemory w e = (asks w e ≡ []) × (sends w e ≡ [])

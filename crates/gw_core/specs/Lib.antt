@@ -1,12 +1,13 @@
 pub mod Device
-pub mod Configured
-pub mod Standing
+pub mod Configuration
+pub mod State
 pub mod Claim
+pub mod Receive
+pub mod Failure
 pub mod Read
 pub mod Reply
-pub mod Arrival
 pub mod Asks
-pub mod Denied
+pub mod Denials
 pub mod Effects
 pub mod History
 pub mod View

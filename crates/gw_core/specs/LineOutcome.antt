@@ -3,14 +3,14 @@ use Rattle.std.specs.Prelude.{◌≡◌, ℕ, ◌+◌, ◌≤◌, Bool, true, fa
 use Rattle.gw_script.specs.Event.{Event}
 use Rattle.gw_core.specs.declared.replaying.RunFault.{RunFault}
 use Rattle.gw_core.specs.declared.replaying.RunFault.TheVariants.{Read, Line, Write, Memory, CountEnd}
-use Rattle.gw_core.specs.Standing.{Standing}
+use Rattle.gw_core.specs.State.{State}
 use Rattle.gw_core.specs.Effects.{effects_at, passes_end, NeedsNoMemory}
 use Rattle.gw_core.specs.History.{next}
 use Rattle.gw_script.specs.Script.{lines_of, IsLine}
 use Rattle.gw_core.specs.Shown.{effects_text}
 
 -- the first line writes an event, whose text was appended, and the gateway moved on by it
-pub record WholeStep (w moved : Standing) (text : List ℕ) (left : Option (List ℕ)) (before : List ℕ) (after : Option (List ℕ)) : Type 0 where
+pub record WholeStep (w moved : State) (text : List ℕ) (left : Option (List ℕ)) (before : List ℕ) (after : Option (List ℕ)) : Type 0 where
   pub line : List ℕ
   pub event : Event
   pub writes : IsLine (length w.ports) line event
@@ -21,14 +21,14 @@ pub record WholeStep (w moved : Standing) (text : List ℕ) (left : Option (List
   pub moves : moved ≡ next w event
 
 -- the first line writes no event
-pub record NoEvent (w : Standing) (text : List ℕ) : Type 0 where
+pub record NoEvent (w : State) (text : List ℕ) : Type 0 where
   pub line : List ℕ
   pub others : List (List ℕ)
   pub lines : lines_of text ≡ line ∷ others
   pub no_event : (e : Event) → ¬ (IsLine (length w.ports) line e)
 
 -- the first line writes an event, of whose text a front was appended
-pub record CutStep (w : Standing) (text before : List ℕ) (after : Option (List ℕ)) : Type 0 where
+pub record CutStep (w : State) (text before : List ℕ) (after : Option (List ℕ)) : Type 0 where
   pub line : List ℕ
   pub event : Event
   pub others : List (List ℕ)
@@ -40,7 +40,7 @@ pub record CutStep (w : Standing) (text before : List ℕ) (after : Option (List
   pub appended : after ≡ Some (before ++ front)
 
 -- the first line writes an event that would pass the end of a count
-pub record PassesEnd (w : Standing) (text : List ℕ) : Type 0 where
+pub record PassesEnd (w : State) (text : List ℕ) : Type 0 where
   pub line : List ℕ
   pub event : Event
   pub others : List (List ℕ)
@@ -49,7 +49,7 @@ pub record PassesEnd (w : Standing) (text : List ℕ) : Type 0 where
   pub passes : passes_end w event ≡ true
 
 -- the first line writes an event for which memory may be wanted
-pub record MemoryWant (w : Standing) (text : List ℕ) : Type 0 where
+pub record MemoryWant (w : State) (text : List ℕ) : Type 0 where
   pub line : List ℕ
   pub event : Event
   pub others : List (List ℕ)
@@ -62,7 +62,7 @@ abbrev pub IsShorter : List ℕ → Option (List ℕ) → Type 0
 IsShorter text left = (rest : List ℕ) × (left ≡ Some rest) × (length rest + 1 ≤ length text)
 
 -- what comes of the first line, whose number this is
-abbrev pub LineOutcome : ℕ → Standing → Standing → List ℕ → Option (List ℕ) → List ℕ → Option (List ℕ) → Result Bool RunFault → Type 0
+abbrev pub LineOutcome : ℕ → State → State → List ℕ → Option (List ℕ) → List ℕ → Option (List ℕ) → Result Bool RunFault → Type 0
 LineOutcome n w moved text left before after (Ok true) = WholeStep w moved text left before after
 LineOutcome n w moved text left before after (Ok false) = (lines_of text ≡ []) × (after ≡ Some before)
 LineOutcome n w moved text left before after (Err (Line m)) = (m ≡ n) × NoEvent w text × (after ≡ Some before)

@@ -2,9 +2,9 @@
 use Rattle.std.specs.Prelude.{◌≡◌, ◌⊎◌, ℕ, ◌+◌, List, [], ◌∷◌, ◌++◌, length, take, drop, true, Option, Some, IsSomeAnd}
 use Rattle.gw_core.specs.declared.event.Counts.{Counts}
 use Rattle.gw_script.specs.Event.{Event}
-use Rattle.gw_core.specs.Configured.{Configured}
+use Rattle.gw_core.specs.Configuration.{Configuration}
 use Rattle.gw_core.specs.Effects.{passes_end, NeedsNoMemory}
-use Rattle.gw_core.specs.History.{run, standing, taken}
+use Rattle.gw_core.specs.History.{run, state_after, history_after}
 use Rattle.gw_script.specs.Script.{lines_of, IsLine, AreLines}
 use Rattle.gw_core.specs.Shown.{text_of_run}
 
@@ -13,21 +13,21 @@ abbrev pub no_counts : Counts
 no_counts = record { ticks = 0; denials = 0 }
 
 -- the text of the run of these events, from a fresh gateway
-abbrev pub run_text : Configured → List Event → List ℕ
+abbrev pub run_text : Configuration → List Event → List ℕ
 run_text c events = text_of_run (run c no_counts events)
 
 -- these events are the first lines of the script
-abbrev pub FirstLines : Configured → List ℕ → List Event → Type 0
+abbrev pub FirstLines : Configuration → List ℕ → List Event → Type 0
 FirstLines c script events = AreLines (length c.ports) (take (length events) (lines_of script)) events
 
 -- every line of the script writes an event, and what was written is the text of their run
-pub record RunsWhole (c : Configured) (script before after : List ℕ) : Type 0 where
+pub record RunsWhole (c : Configuration) (script before after : List ℕ) : Type 0 where
   pub events : List Event
   pub lines : AreLines (length c.ports) (lines_of script) events
   pub text : after ≡ before ++ run_text c events
 
 -- the lines before this one, which is counted from 1, write events, this line writes none, and what was written is the text of their run
-pub record RunsToLine (n : ℕ) (c : Configured) (script before after : List ℕ) : Type 0 where
+pub record RunsToLine (n : ℕ) (c : Configuration) (script before after : List ℕ) : Type 0 where
   pub events : List Event
   pub number : n ≡ length events + 1
   pub lines : FirstLines c script events
@@ -38,14 +38,14 @@ pub record RunsToLine (n : ℕ) (c : Configured) (script before after : List ℕ
   pub text : after ≡ before ++ run_text c events
 
 -- some first lines write events, and what was written is the text of their run, whole
-pub record RunsPart (c : Configured) (script before after : List ℕ) : Type 0 where
+pub record RunsPart (c : Configuration) (script before after : List ℕ) : Type 0 where
   pub events : List Event
   pub lines : FirstLines c script events
   pub text : after ≡ before ++ run_text c events
 
 -- some first lines write events, the line behind them writes one that would pass the end of a count, and what was written is the text of
 -- the run of those before
-pub record RunsToEnd (c : Configured) (script before after : List ℕ) : Type 0 where
+pub record RunsToEnd (c : Configuration) (script before after : List ℕ) : Type 0 where
   pub events : List Event
   pub lines : FirstLines c script events
   pub line : List ℕ
@@ -53,28 +53,28 @@ pub record RunsToEnd (c : Configured) (script before after : List ℕ) : Type 0 
   pub stands : drop (length events) (lines_of script) ≡ line ∷ rest
   pub event : Event
   pub writes : IsLine (length c.ports) line event
-  pub passes : passes_end (standing c no_counts (taken [] events)) event ≡ true
+  pub passes : passes_end (state_after c no_counts (history_after [] events)) event ≡ true
   pub text : after ≡ before ++ run_text c events
 
 -- The line behind those of these events writes one for which memory may be wanted.
-pub record MemoryLine (c : Configured) (script : List ℕ) (events : List Event) : Type 0 where
+pub record MemoryLine (c : Configuration) (script : List ℕ) (events : List Event) : Type 0 where
   pub line : List ℕ
   pub rest : List (List ℕ)
   pub stands : drop (length events) (lines_of script) ≡ line ∷ rest
   pub event : Event
   pub writes : IsLine (length c.ports) line event
-  pub wants : ¬ (NeedsNoMemory (standing c no_counts (taken [] events)) event)
+  pub wants : ¬ (NeedsNoMemory (state_after c no_counts (history_after [] events)) event)
 
 -- Some first lines write events, and what was written is the text of their run, whole. Either there are none of them, or the line behind
 -- them writes an event for which memory may be wanted.
-pub record RunsToMemory (c : Configured) (script before after : List ℕ) : Type 0 where
+pub record RunsToMemory (c : Configuration) (script before after : List ℕ) : Type 0 where
   pub events : List Event
   pub lines : FirstLines c script events
   pub cause : (events ≡ []) ⊎ MemoryLine c script events
   pub text : after ≡ before ++ run_text c events
 
 -- some first lines write events, and what was written is a front of the text of their run
-pub record RunsFront (c : Configured) (script before after : List ℕ) : Type 0 where
+pub record RunsFront (c : Configuration) (script before after : List ℕ) : Type 0 where
   pub events : List Event
   pub lines : FirstLines c script events
   pub front : List ℕ

@@ -1,103 +1,119 @@
--- What the device answers to a ReadProperty request (clauses 15.5, 18, 20.1.5 and 20.1.7).
-use Rattle.std.specs.Prelude.{ℕ, Bool, true, false, List, [], ◌∷◌, ◌++◌, length, Option, Some, None, Result, Ok, Err, ◌==◌, find, if◌then◌else◌}
+-- The message that an APDU for the device comes in, and those that carry its answer (clauses 6.2.2, 16.9
+-- and 16.10).
+use Rattle.std.specs.Prelude.{ℕ, Bool, true, false, List, [], ◌∷◌, length, slice_index, Option, Some, None, is_some, ◌==◌, ◌&&◌, ◌||◌, nat_le, not, if◌then◌else◌}
 use Rattle.std.specs.Option.{option_map}
-use Rattle.gw_rules.specs.Ask.{Ask}
-use Rattle.gw_rules.specs.declared.rule.Rule.{Rule}
-use Rattle.gw_rules.specs.RuleList.{allows}
-use Rattle.gw_tags.specs.declared.tag.Kind.TheVariants.{Length, Opening, Closing}
-use Rattle.gw_tags.specs.Tag.{canonical}
-use Rattle.gw_tags.specs.Object.{Object, object_octets}
-use Rattle.gw_tags.specs.Number.{unsigned_encoding}
-use Rattle.gw_tags.specs.Value.{enumerated, value_encoding}
-use Rattle.gw_npdu.specs.Npdu.{Fields, Address, Destination, apdu}
-use Rattle.gw_core.specs.declared.config.BinaryValue.{BinaryValue}
-use Rattle.gw_core.specs.declared.reply.Failure.{Failure}
-use Rattle.gw_core.specs.Read.{Read}
+use Rattle.gw_addr.specs.declared.bip.BipAddr.{BipAddr}
+use Rattle.gw_addr.specs.Station.{key_of}
+use Rattle.gw_bvll.specs.Bvll.{original_unicast, original_broadcast}
+use Rattle.gw_bvll.specs.Bvll as bvll
+use Rattle.gw_npdu.specs.Npdu.{Fields, Address, Destination, Payload, apdu, message}
+use Rattle.gw_npdu.specs.Numbers.{every_network}
+use Rattle.gw_npdu.specs.Npdu as npdu
+use Rattle.gw_core.specs.declared.config.Port.{Port}
+use Rattle.gw_core.specs.declared.effects.Sending.{Sending}
+use Rattle.gw_core.specs.declared.device.Context.{Context}
+use Rattle.gw_core.specs.Device.{Device, Answer}
+use Rattle.gw_core.specs.Receive.{Message}
 
--- ---- what is answered
+-- ---- to the device
 
--- The errors of clause 18, by class and code. Access is denied by the policy, which is asked before any look-up.
-abbrev pub access_denied : Failure
-access_denied = record { class = 2; code = 27 }
+-- every network, or every station of the device's
+abbrev pub is_broadcast : ℕ → Destination → Bool
+is_broadcast network d =
+    d.address.network == every_network || (d.address.network == network && length d.address.mac == 0)
 
-abbrev pub unknown_object : Failure
-unknown_object = record { class = 1; code = 31 }
+-- the one station of the device's network
+abbrev pub device_station : ℕ
+device_station = 1
 
-abbrev pub unknown_property : Failure
-unknown_property = record { class = 2; code = 32 }
+abbrev pub is_device : ℕ → Destination → Bool
+is_device network d =
+    d.address.network == network
+    && (length d.address.mac == 1 && slice_index d.address.mac 0 == device_station)
 
-abbrev pub not_an_array : Failure
-not_an_array = record { class = 2; code = 50 }
+-- the APDU of a payload
+abbrev pub apdu_of : Payload → Option (List ℕ)
+apdu_of (apdu octets) = Some octets
+apdu_of (message m) = None
 
--- the configured Binary Value that an identifier names: type 5 (clause 12.8)
-unfoldable pub binary_value : List BinaryValue → Object → Option BinaryValue
-binary_value objects object = if object.kind == 5 then find (λ b. b.instance == object.instance) objects else None
+-- the APDU that a message has for the device
+abbrev pub apdu_towards : ℕ → Payload → Option Destination → Option (List ℕ)
+apdu_towards network payload None = None
+apdu_towards network payload (Some d) =
+    if is_device network d || is_broadcast network d then apdu_of payload else None
 
--- Present_Value, number 85, is no array; no other property is there yet
-unfoldable pub property_of : BinaryValue → ℕ → Option ℕ → Result Bool Failure
-property_of object property None = if property == 85 then Ok object.default else Err unknown_property
-property_of object property (Some index) = if property == 85 then Err not_an_array else Err unknown_property
+abbrev pub apdu_for : ℕ → Fields → Option (List ℕ)
+apdu_for network fields = apdu_towards network fields.payload fields.destination
 
--- what a property reads as, or the first fault
-unfoldable pub property_value : List BinaryValue → Object → ℕ → Option ℕ → Result Bool Failure
-property_value objects object property index = elim (binary_value objects object) [
-  | Some found ↦ property_of found property index
-  | None ↦ Err unknown_object
-]
+-- whether it goes to more than the device
+abbrev pub goes_to_all : ℕ → Option Destination → Bool
+goes_to_all network None = false
+goes_to_all network (Some d) = is_broadcast network d
 
--- the answer to a read under these rules, of which this is the ask
-unfoldable pub answer : List Rule → List BinaryValue → Ask → Read → Result Bool Failure
-answer rules objects ask read = if allows rules ask then property_value objects read.object read.property read.index else Err access_denied
+-- what the device knows of it
+abbrev pub context_of : ℕ → Message → Context
+context_of network m = record {
+  port = m.number;
+  source_network = m.claim.net;
+  source_key = key_of m.claim.mac;
+  broadcast = goes_to_all network m.npdu.destination;
+}
 
--- ---- its octets
+-- ---- from the device
 
--- a content under the context tag of this number (clause 20.2.1)
-unfoldable pub context : ℕ → List ℕ → List ℕ
-context number content = canonical (record { number = number; context = true; kind = Length (length content) }) ++ content
+-- The way back by a router, with a whole count of hops: to the station that asked, or to its network.
+abbrev pub whole_count : ℕ
+whole_count = 255
 
-abbrev pub opening : ℕ → List ℕ
-opening number = canonical (record { number = number; context = true; kind = Opening })
+-- the address on a network, or everyone there
+abbrev pub mac_back : Bool → List ℕ → List ℕ
+mac_back false mac = mac
+mac_back true mac = []
 
-abbrev pub closing : ℕ → List ℕ
-closing number = canonical (record { number = number; context = true; kind = Closing })
-
--- inactive is 0 and active is 1 (clause 21)
-abbrev pub binary : Bool → ℕ
-binary false = 0
-binary true = 1
-
--- the array index, where one was asked for
-abbrev pub index_part : Option ℕ → List ℕ
-index_part None = []
-index_part (Some index) = context 2 (unsigned_encoding index)
-
--- ComplexACK: PDU type 3, the invoke id, the service, the object, the property and its value
-unfoldable pub read_ack : Read → Bool → List ℕ
-read_ack read active =
-    48 ∷ read.invoke ∷ 12 ∷ [] ++ context 0 (object_octets read.object) ++ context 1 (unsigned_encoding read.property) ++ index_part read.index
-    ++ opening 3 ++ value_encoding (enumerated (binary active)) ++ closing 3
-
--- Error: PDU type 5, the invoke id, the service, class and code
-unfoldable pub read_error : ℕ → Failure → List ℕ
-read_error invoke failure = 80 ∷ invoke ∷ 12 ∷ [] ++ value_encoding (enumerated failure.class) ++ value_encoding (enumerated failure.code)
-
--- the answer's APDU
-unfoldable pub reply_apdu : Read → Result Bool Failure → List ℕ
-reply_apdu read (Ok active) = read_ack read active
-reply_apdu read (Err failure) = read_error read.invoke failure
-
--- ---- the message that carries it
-
--- the way back to a station behind routers, with a whole count of hops (clause 6.2.2)
-abbrev pub way_back : Address → Destination
-way_back a = record { address = a; hops = 255 }
+abbrev pub way_back : Bool → Address → Destination
+way_back broadcast a = record {
+  address = record { network = a.network; mac = mac_back broadcast a.mac };
+  hops = whole_count;
+}
 
 -- the device is the one station of its network, and keeps the request's priority (clause 6.2.2)
-unfoldable pub reply_npdu : ℕ → Fields → List ℕ → Fields
+abbrev pub reply_npdu : ℕ → Fields → Answer → Fields
 reply_npdu network request answer = record {
-  destination = option_map way_back request.source;
-  source = Some (record { network = network; mac = 1 ∷ [] });
+  destination = option_map (way_back answer.broadcast) request.source;
+  source = Some (record { network = network; mac = device_station ∷ [] });
   reply_expected = false;
   priority = request.priority;
-  payload = apdu answer;
+  payload = apdu answer.apdu;
 }
+
+-- the octets of an NPDU, unless there are more than 1497 (Annex J.1.5)
+unfoldable pub within : Fields → Option (List ℕ)
+within fields = if nat_le (length (npdu.encoding fields)) 1497 then Some (npdu.encoding fields) else None
+
+-- whether an answer goes to everyone on the port's network
+abbrev pub is_local_broadcast : Fields → Answer → Bool
+is_local_broadcast request answer = answer.broadcast && not (is_some request.source)
+
+-- an NPDU to one address
+abbrev pub unicast : ℕ → BipAddr → List ℕ → Sending
+unicast port to octets = record { port = port; to = to; octets = bvll.encoding (original_unicast octets) }
+
+-- an NPDU to everyone on a port's network
+abbrev pub broadcast_on : ℕ → Port → List ℕ → Sending
+broadcast_on number port octets = record {
+  port = number;
+  to = port.broadcast;
+  octets = bvll.encoding (original_broadcast octets);
+}
+
+abbrev pub reply_sending : Message → Answer → List ℕ → Sending
+reply_sending m answer octets =
+    if is_local_broadcast m.npdu answer then broadcast_on m.number m.port octets else unicast m.number m.link octets
+
+-- The answer's datagram, where its NPDU is within its length: back to where the message came from, or to
+-- everyone on that network.
+unfoldable pub reply_sends : ℕ → Message → Answer → List Sending
+reply_sends network m answer = elim (within (reply_npdu network m.npdu answer)) [
+  | Some octets ↦ reply_sending m answer octets ∷ []
+  | None ↦ []
+]

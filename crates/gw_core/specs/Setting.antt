@@ -6,7 +6,7 @@ use Rattle.gw_rules.specs.declared.range.Range.{Range}
 use Rattle.gw_rules.specs.declared.rule.Rule.{Rule}
 use Rattle.gw_rules.specs.Rule.{rule_without_fields, with_range}
 use Rattle.gw_core.specs.declared.config.Port.{Port}
-use Rattle.gw_core.specs.Configured.{Configured}
+use Rattle.gw_core.specs.Configuration.{Configuration}
 
 -- 192.168.net.host, at the UDP port of BACnet/IP
 abbrev pub node : ℕ → ℕ → BipAddr
@@ -34,7 +34,7 @@ abbrev pub all_else : Rule
 all_else = rule_without_fields (codes "all") true
 
 -- two ports, the device on network 100, and Binary Value 1, whose value is inactive
-abbrev pub setting : Configured
+abbrev pub setting : Configuration
 setting = record {
   ports = port_on 1 ∷ port_on 2 ∷ [];
   device = record { network = 100; instance = 1234 };

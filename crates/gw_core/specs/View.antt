@@ -1,13 +1,33 @@
 -- What the code's values mean, without where they lie in memory.
-use Rattle.gw_npdu.specs.Npdu.{view}
-use Rattle.gw_core.specs.declared.arrival.Arrived.{Arrived as LentArrived}
-use Rattle.gw_core.specs.declared.asked.Asked.{Asked as LentAsked}
-use Rattle.gw_core.specs.Arrival.{Arrived}
-use Rattle.gw_core.specs.Asks.{Asked}
-use Rattle.gw_core.specs.Read.{read_of}
+use Rattle.std.specs.Prelude.{ℕ, List, Result, Ok, Err}
+use Rattle.gw_bvll.specs.Bvll.{view as frame_view}
+use Rattle.gw_npdu.specs.Npdu.{view as npdu_view}
+use Rattle.gw_tags.specs.Value.{enumerated, value_encoding}
+use Rattle.gw_core.specs.declared.apdu.Answer.{Answer as OwnedAnswer}
+use Rattle.gw_core.specs.declared.failure.Failure.{Failure}
+use Rattle.gw_core.specs.declared.message.Message.{Message as LentMessage}
+use Rattle.gw_core.specs.declared.receive.Received.{Received as LentReceived}
+use Rattle.gw_core.specs.declared.receive.Received.TheVariants as lent
+use Rattle.gw_core.specs.Device.{Answer}
+use Rattle.gw_core.specs.Receive.{Message, Received, message_of, dropped, managed, stranger, message}
 
-abbrev pub arrived_view : LentArrived → Arrived
-arrived_view a = record { port = a.port; link = a.link; claim = a.claim; npdu = view a.npdu }
+abbrev pub message_view : LentMessage → Message
+message_view m = message_of m.number m.port.now m.from (frame_view m.frame) (npdu_view m.npdu)
 
-abbrev pub asked_view : LentArrived → LentAsked → Asked
-asked_view arrived a = record { arrived = arrived_view arrived; read = read_of a.read; ask = a.ask }
+abbrev pub received_view : LentReceived → Received
+received_view lent.Dropped = dropped
+received_view (lent.Managed number port from frame) = managed number port.now from (frame_view frame)
+received_view (lent.Stranger number port from) = stranger number port.now from
+received_view (lent.Message m) = message (message_view m)
+
+abbrev pub answer_view : OwnedAnswer → Answer
+answer_view a = record { apdu = a.apdu; broadcast = a.broadcast }
+
+-- the octets of an enumeration of this number
+abbrev pub enumeration : ℕ → List ℕ
+enumeration number = value_encoding (enumerated number)
+
+-- what a property reads as, in octets
+abbrev pub octets_of : Result ℕ Failure → Result (List ℕ) Failure
+octets_of (Ok number) = Ok (enumeration number)
+octets_of (Err failure) = Err failure

@@ -1,5 +1,6 @@
 //! What a gateway is configured with.
 
+use crate::object::BinaryValue;
 use gw_addr::{BipAddr, NetNum};
 use gw_rules::RuleList;
 use gw_tags::ObjectId;
@@ -69,15 +70,6 @@ impl DeviceConfig {
     }
 }
 
-/// A Binary Value object (clause 12.8).
-#[derive(Clone, Copy, Debug, PartialEq, Eq)]
-pub struct BinaryValue {
-    /// Its instance, 0 to 4194302.
-    pub instance: u32,
-    /// Whether its value is active where nothing commands it.
-    pub default: bool,
-}
-
 /// What a gateway is configured with. Contracts see its parts.
 #[derive(Debug, Drop)]
 pub struct Config {
@@ -89,9 +81,9 @@ pub struct Config {
 
 impl Model for Config {
     ghost use Rattle.std.specs.Prelude.{◌≤◌, length};
-    ghost use Rattle.gw_core.specs.Configured.{Configured};
+    ghost use Rattle.gw_core.specs.Configuration.{Configuration};
 
-    ghost Value = { Configured };
+    ghost Value = { Configuration };
 
     ghost view = { λ c. record { ports = c.ports.items; device = c.device; objects = c.objects.items; rules = c.rules } };
 

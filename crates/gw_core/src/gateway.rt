@@ -1,59 +1,77 @@
-//! The gateway: how it stands, and what it answers to one event.
+//! The gateway: its state, and what it answers to one event.
 
-ghost use Rattle.std.specs.Prelude.{◌≡◌, ◌+◌, ◌≤◌, ◌<◌, ◌^◌, ◌↔◌, ◌∷◌, [], false, true, length, List, IsOk, IfOk, OnOk, OnErr, IsErrOf, Err};
-ghost use Rattle.gw_core.specs.declared.dropped.Dropped.TheVariants.{Silently};
-ghost use Rattle.gw_core.specs.declared.event.Counts.{Counts};
-ghost use Rattle.gw_script.specs.Event.{Event};
+ghost use Rattle.std.specs.Prelude.{◌≡◌, ◌+◌, ◌≤◌, ◌<◌, ◌^◌, ◌↔◌, ◌∷◌, [], false, true, length, map, take};
+ghost use Rattle.std.specs.Prelude.{IsOk, IsTrue, IfOk, OnOk, OnErr, IsErrOf};
 ghost use Rattle.gw_script.specs.Event.{Datagram, Tick};
-ghost use Rattle.gw_core.specs.Configured.{Configured};
+ghost use Rattle.gw_core.specs.State.{initial};
 
-use crate::answered::{denials_of, reply_sends};
-use crate::arrival::hear;
-use crate::asked::asked_by;
-use crate::config::{BinaryValue, Config, DeviceConfig, Port};
+use crate::config::{Config, DeviceConfig, Port};
+use crate::denial::denials_of;
+use crate::device;
 use crate::effects::Effects;
 use crate::event::Counts;
 use crate::fault::StepFault;
+use crate::message::Message;
+use crate::object::{BinaryValue, ObjectState};
+use crate::receive::{Received, receive_on};
+use crate::reply::{answer_sends, apdu_for, context_of};
 use gw_addr::BipAddr;
-use gw_rules::RuleList;
+use gw_rules::{Authorizer, RuleList};
 use std::alloc::{AllocError, Global};
 use std::marker::Model;
 
 /// Where each count of a gateway ends.
 const LAST_COUNT: u64 = 1 << 63;
 
-/// A gateway. It takes one event in a call, whole: it answers what the event does, and stands as the event leaves it.
+/// How many asks an event raises at most.
+const MAX_ASKS: u64 = 1;
+
+/// A gateway. It takes one event in a call, whole: it answers what the event does, and is then in the next state.
 #[derive(Debug, Drop)]
 pub struct Gateway {
     ports: Vec<Port>,
     device: DeviceConfig,
-    objects: Vec<BinaryValue>,
+    objects: Vec<ObjectState>,
     rules: RuleList,
     counts: Counts,
 }
 
 impl Model for Gateway {
     ghost use Rattle.std.specs.Prelude.{◌≤◌, ◌^◌, length};
-    ghost use Rattle.gw_core.specs.Standing.{Standing};
+    ghost use Rattle.gw_core.specs.State.{State};
 
-    ghost Value = { Standing };
+    ghost Value = { State };
 
     ghost view = { λ g. record { ports = g.ports.items; device = g.device; objects = g.objects.items; rules = g.rules; ticks = g.counts.ticks; denials = g.counts.denials } };
 
     ghost invariant = { λ g. (g.counts.ticks ≤ 2 ^ 63) × (g.counts.denials ≤ 2 ^ 63) × (1 ≤ length g.ports.items) × (length g.ports.items ≤ 8) };
 }
 
-impl Gateway {
-    ghost use Rattle.gw_core.specs.Arrival.{arrived};
-    ghost use Rattle.gw_core.specs.Effects.{effects_at, passes_end, ticks_of};
-    ghost use Rattle.gw_core.specs.History.{Stands, effects, next};
+/// The objects before anything commands them.
+fn initial_states(alloc: Global, objects: &[BinaryValue]) -> Result<Vec<ObjectState>, AllocError>
+    ensures { IfOk result (λ states. states.items ≡ map initial objects.now) }
+{
+    let mut states = Vec::with_capacity(alloc, objects.len())?;
+    for object in objects {
+        states.push(object.initial())?;
+    }
+    Ok(states)
+}
 
-    /// A gateway of this configuration that goes on from these counts. It takes no memory, so it never answers `Memory`.
-    pub fn new(_alloc: Global, config: Config, counts: Counts) -> Result<Self, AllocError>
+impl Gateway {
+    ghost use Rattle.gw_core.specs.Asks.{asks_for};
+    ghost use Rattle.gw_core.specs.Denials.{denials_for};
+    ghost use Rattle.gw_core.specs.Effects.{NeedsNoMemory, effects_for, nothing, passes_end};
+    ghost use Rattle.gw_core.specs.History.{IsStateAfter, IsStep};
+    ghost use Rattle.gw_core.specs.View.{message_view, received_view};
+    ghost use Rattle.gw_core.specs.Receive.{message};
+
+    /// A gateway of this configuration that goes on from these counts. `Memory` where a growth was refused.
+    #[tactic(auto, using(crate::proofs::HistoryLemmas::after_none))]
+    pub fn new(alloc: Global, config: Config, counts: Counts) -> Result<Self, AllocError>
         requires ticks { counts.ticks ≤ 2 ^ 63 }
         requires denials { counts.denials ≤ 2 ^ 63 }
-        ensures made { IsOk result }
-        ensures stands { IfOk result (λ g. Stands g config counts []) }
+        ensures state { IfOk result (λ gateway. IsStateAfter gateway config counts []) }
     {
         let Config {
             device,
@@ -61,6 +79,7 @@ impl Gateway {
             objects,
             rules,
         } = config;
+        let objects = initial_states(alloc, &objects)?;
         Ok(Gateway {
             ports,
             device,
@@ -79,46 +98,94 @@ impl Gateway {
         self.ports.len() as u8
     }
 
-    /// What a datagram does, while the gateway stays as it is.
-    fn effects(
+    /// What is done about a message, while the gateway stays as it is.
+    fn message_effects(
         &self,
         alloc: Global,
-        port: u8,
-        from: BipAddr,
-        octets: &[u8],
+        incoming: &Message<'_>,
     ) -> Result<Effects, AllocError>
-        requires { 1 ≤ port }
-        ensures effects { IfOk result (λ given. given ≡ effects_at self.now (Datagram port from octets.now)) }
-        ensures dropped { arrived self.now.ports self.now.device.network port from octets.now ≡ Err Silently → IsOk result }
+        requires { self.now.denials + length (denials_for self.now (message (message_view incoming.now))) ≤ 2 ^ 63 }
+        ensures effects { IfOk result (λ given. given ≡ effects_for self.now (message (message_view incoming.now))) }
+        ensures silent { asks_for self.now.device self.now.rules (message (message_view incoming.now)) ≡ [] → IsOk result }
     {
-        let Ok(arrived) = hear(&self.ports, self.device.network(), port, from, octets) else {
+        let network = self.device.network();
+        let Some(apdu) = apdu_for(network, &incoming.npdu) else {
             return Ok(Effects::none(alloc));
         };
-        let Ok(asked) = asked_by(self.device, &arrived) else {
-            return Ok(Effects::none(alloc));
-        };
-        let sends = reply_sends(
+        let context = context_of(network, incoming);
+        let mut authorizer = Authorizer::new(alloc, &self.rules);
+        let answer = device::answer(
             alloc,
             self.device,
             &self.objects,
-            &self.rules,
-            &arrived,
-            &asked,
+            &mut authorizer,
+            &context,
+            apdu,
         )?;
+        let sends = answer_sends(alloc, network, incoming, answer)?;
         let number = self.counts.denials + 1;
         let denials = denials_of(
             alloc,
             &self.rules,
             number,
             self.counts.ticks,
-            &arrived,
-            &asked.ask,
+            incoming,
+            authorizer.refusals(),
         )?;
         Ok(Effects { sends, denials })
     }
 
-    /// Takes a datagram on the port of this number: answers what it does, and moves on by it. `Memory` where a growth was refused, and
-    /// `CountEnd` where the number of the last denial would pass 2^63; then nothing changed, and the datagram isn't taken.
+    /// What is done about what is received, while the gateway stays as it is.
+    fn effects(&self, alloc: Global, received: &Received<'_>) -> Result<Effects, AllocError>
+        requires { self.now.denials + length (denials_for self.now (received_view received.now)) ≤ 2 ^ 63 }
+        ensures effects { IfOk result (λ given. given ≡ effects_for self.now (received_view received.now)) }
+        ensures silent { asks_for self.now.device self.now.rules (received_view received.now) ≡ [] → IsOk result }
+    {
+        match received {
+            Received::Message(incoming) => self.message_effects(alloc, incoming),
+            Received::Dropped | Received::Managed { .. } | Received::Stranger { .. } => {
+                Ok(Effects::none(alloc))
+            }
+        }
+    }
+
+    /// How many asks are denied of a message. It takes no memory.
+    #[tactic(auto, using(crate::proofs::DenialLemmas::length_denials))]
+    fn count_message(&self, incoming: &Message<'_>) -> u64
+        ensures count { result ≡ length (denials_for self.now (message (message_view incoming.now))) }
+    {
+        let network = self.device.network();
+        match apdu_for(network, &incoming.npdu) {
+            Some(apdu) => {
+                let context = context_of(network, incoming);
+                device::count_denied(self.device, &self.rules, &context, apdu)
+            }
+            None => 0,
+        }
+    }
+
+    /// How many asks are denied of what is received. It takes no memory.
+    fn count_denials(&self, received: &Received<'_>) -> u64
+        ensures count { result ≡ length (denials_for self.now (received_view received.now)) }
+    {
+        match received {
+            Received::Message(incoming) => self.count_message(incoming),
+            Received::Dropped | Received::Managed { .. } | Received::Stranger { .. } => 0,
+        }
+    }
+
+    /// Whether the number of the last denial would pass its end. The asks are judged beforehand only where the end is near.
+    #[tactic(auto, using(crate::proofs::DenialLemmas::few_denials))]
+    fn passes_end(&self, received: &Received<'_>) -> bool
+        ensures { IsTrue result ↔ (2 ^ 63 < self.now.denials + length (denials_for self.now (received_view received.now))) }
+    {
+        let left = LAST_COUNT - self.counts.denials;
+        left < MAX_ASKS && self.count_denials(received) > left
+    }
+
+    /// Takes a datagram on the port of this number: answers what it does, and moves on by it. On a port that isn't there it does
+    /// nothing. `Memory` where a growth was refused, and `CountEnd` where the number of the last denial would pass 2^63; then
+    /// nothing changed, and the datagram isn't taken.
     pub fn step(
         &mut self,
         alloc: Global,
@@ -126,39 +193,30 @@ impl Gateway {
         from: BipAddr,
         octets: &[u8],
     ) -> Result<Effects, StepFault>
-        requires first { 1 ≤ port }
-        requires last { port ≤ length self.old.ports }
-        // What it does, of this moment and after every history.
-        ensures given { IfOk result (λ given. given ≡ effects_at self.old (Datagram port from octets.now)) }
-        ensures effects { IfOk result (λ given. (c : Configured) (k : Counts) (h : List Event) → Stands self.old c k h → given ≡ effects c k h (Datagram port from octets.now)) }
-        // How the gateway stands then.
-        ensures moved { OnOk result (self.new ≡ next self.old (Datagram port from octets.now)) }
-        ensures stands { OnOk result ((c : Configured) (k : Counts) (h : List Event) → Stands self.old c k h → Stands self.new c k (Datagram port from octets.now ∷ h)) }
-        // No event is taken that would pass the end of a count, and none is refused for it that wouldn't.
-        ensures within { OnOk result (passes_end self.old (Datagram port from octets.now) ≡ false) }
-        ensures count_end { IsErrOf result StepFault.CountEnd → passes_end self.old (Datagram port from octets.now) ≡ true }
-        // A datagram that brings no message needs no memory.
-        ensures dropped { arrived self.old.ports self.old.device.network port from octets.now ≡ Err Silently → IsOk result }
+        // What it does, and the state then.
+        ensures step { IfOk result (λ given. IsStep self.old (Datagram port from octets.now) given self.new) }
+        // The end of a count comes before any want of memory.
+        ensures count_end { IsErrOf result StepFault.CountEnd ↔ (passes_end self.old (Datagram port from octets.now) ≡ true) }
+        // Memory only where something is asked or sent.
+        ensures silent { NeedsNoMemory self.old (Datagram port from octets.now) → IsOk result }
         ensures err { OnErr result (self.new ≡ self.old) }
     {
-        let effects = match self.effects(alloc, port, from, octets) {
-            Ok(effects) => effects,
-            Err(_) => return Err(StepFault::Memory),
-        };
-        let denied = effects.denials.len();
-        if denied > LAST_COUNT - self.counts.denials {
+        let received = receive_on(&self.ports, self.device.network(), port, from, octets);
+        if self.passes_end(&received) {
             return Err(StepFault::CountEnd);
         }
-        self.counts.denials += denied;
+        let Ok(effects) = self.effects(alloc, &received) else {
+            return Err(StepFault::Memory);
+        };
+        self.counts.denials += effects.denials.len() as u64;
         Ok(effects)
     }
 
     /// Takes a tick. `CountEnd` where the count of ticks would pass 2^63; then nothing changed.
     pub fn tick(&mut self) -> Result<(), StepFault>
-        ensures taken { IsOk result ↔ (passes_end self.old Tick ≡ false) }
+        ensures step { OnOk result (IsStep self.old Tick nothing self.new) }
+        ensures count_end { IsErrOf result StepFault.CountEnd ↔ (passes_end self.old Tick ≡ true) }
         ensures refused { OnErr result (IsErrOf result StepFault.CountEnd) }
-        ensures moved { OnOk result (self.new ≡ next self.old Tick) }
-        ensures stands { OnOk result ((c : Configured) (k : Counts) (h : List Event) → Stands self.old c k h → Stands self.new c k (Tick ∷ h)) }
         ensures err { OnErr result (self.new ≡ self.old) }
     {
         if self.counts.ticks == LAST_COUNT {

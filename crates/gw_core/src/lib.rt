@@ -3,31 +3,35 @@
 //! What an event does is defined in `specs/`, and each answer of a [`Gateway`] is proved to be that, for every history of events.
 #![tactic(auto)]
 
-mod answered;
-mod arrival;
-mod asked;
+mod apdu;
 mod config;
+mod denial;
+mod device;
 mod dropped;
 mod effects;
 mod event;
+mod failure;
 mod fault;
 mod gateway;
-mod law;
+pub mod laws;
+mod message;
+mod object;
 mod octets;
 mod read;
+mod receive;
 mod replaying;
 mod reply;
 mod setting;
 mod shown;
 mod whole_run;
 
-pub use config::{BinaryValue, Config, DeviceConfig, Port};
+pub use config::{Config, DeviceConfig, Port};
 pub use effects::{Denial, Denials, Effects, Sending, Sends};
 pub use event::Counts;
 pub use fault::StepFault;
 pub use gateway::Gateway;
 pub use gw_script::{Event, script_laws};
-pub use law::{counts, worked_examples};
+pub use object::BinaryValue;
 pub use octets::Octets;
 pub use replaying::{RunFault, replay};
 pub use setting::setting_s;

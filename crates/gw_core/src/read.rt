@@ -1,12 +1,16 @@
 //! ReadProperty requests (clauses 15.5 and 20.1.2), as far as the device hears them today.
 
-ghost use Rattle.std.specs.Prelude.{◌≡◌, ◌==◌, List, ℕ, IfOk, Err, Ok};
-ghost use Rattle.gw_addr.specs.Reading.{Gives, front_at};
-ghost use Rattle.gw_tags.specs.Tag.{tag_view};
-ghost use Rattle.gw_core.specs.Read.{tagged, content_at, object_at, number_of, property_at, index_at, body_at, read_at, read_of};
+ghost use Rattle.std.specs.Prelude.{◌<◌};
+ghost use Rattle.gw_addr.specs.Reading.{Gives};
+ghost use Rattle.gw_core.specs.Read.{parameter_at, object_at, number_of, property_at, index_at, body_at, read_at, read_of};
 
 use crate::dropped::Dropped;
-use gw_tags::{Kind, ObjectId, Tag, read_tag};
+use gw_tags::{ObjectId, read_context, read_unsigned};
+
+/// The service choice of ReadProperty (clause 21).
+pub const READ_PROPERTY: u8 = 12;
+/// The bit of a confirmed request's first octet that says it is segmented (clause 20.1.2.1). The four bits above it are the PDU type, 0.
+const SEGMENTED: u8 = 8;
 
 /// A ReadProperty request.
 #[derive(Clone, Copy, Debug)]
@@ -21,68 +25,40 @@ pub struct Read {
     pub index: Option<u32>,
 }
 
-#[tactic(auto, unfolding(crate::specs::Read::tagged))]
-fn is_tagged(number: u8, tag: Tag) -> bool
-    ensures { result ≡ tagged number (tag_view tag) }
-{
-    tag.context && tag.number == number
-}
-
 /// The content of the context tag of this number, and the octets behind it.
-#[tactic(auto, unfolding(crate::specs::Read::content_at))]
-fn content(number: u8, octets: &[u8]) -> Result<(&[u8], &[u8]), Dropped>
-    ensures { Gives (λ x. (x.0.now, x.1.now)) result (content_at number octets.now) }
+fn parameter(number: u8, octets: &[u8]) -> Result<(&[u8], &[u8]), Dropped>
+    requires { number < 255 }
+    ensures { Gives (λ x. (x.0.now, x.1.now)) result (parameter_at number octets.now) }
 {
-    let Ok(header) = read_tag(octets) else {
-        return Err(Dropped::Silently);
-    };
-    if !is_tagged(number, header.tag) {
-        return Err(Dropped::Silently);
-    }
-    match header.tag.kind {
-        Kind::Length(len) => front(len as usize, header.rest),
-        Kind::Opening | Kind::Closing => Err(Dropped::Silently),
+    match read_context(number, octets) {
+        Ok(found) => Ok(found),
+        Err(_) => Err(Dropped::Silently),
     }
 }
 
-fn front(count: usize, octets: &[u8]) -> Result<(&[u8], &[u8]), Dropped>
-    ensures { Gives (λ x. (x.0.now, x.1.now)) result (front_at Dropped.Silently count octets.now) }
-{
-    if octets.len() < count {
-        return Err(Dropped::Silently);
-    }
-    Ok(octets.split_at(count))
-}
-
-#[tactic(auto, unfolding(crate::specs::Read::object_at))]
 fn object(octets: &[u8]) -> Result<([u8; 4], &[u8]), Dropped>
     ensures { Gives (λ x. (x.0, x.1.now)) result (object_at octets.now) }
 {
-    let (content, rest) = content(0, octets)?;
+    let (content, rest) = parameter(0, octets)?;
     let [a, b, c, d] = content else {
         return Err(Dropped::Silently);
     };
     Ok(([*a, *b, *c, *d], rest))
 }
 
-#[tactic(auto, unfolding(crate::specs::Read::number_of))]
 fn number(content: &[u8]) -> Result<u32, Dropped>
     ensures { Gives (λ n. n) result (number_of content.now) }
 {
-    match content {
-        [a] => Ok(u32::from(*a)),
-        [a, b] => Ok(u32::from_be_bytes([0, 0, *a, *b])),
-        [a, b, c] => Ok(u32::from_be_bytes([0, *a, *b, *c])),
-        [a, b, c, d] => Ok(u32::from_be_bytes([*a, *b, *c, *d])),
-        _ => Err(Dropped::Silently),
+    match read_unsigned(content) {
+        Some(number) => Ok(number),
+        None => Err(Dropped::Silently),
     }
 }
 
-#[tactic(auto, unfolding(crate::specs::Read::property_at))]
 fn property(octets: &[u8]) -> Result<(u32, &[u8]), Dropped>
     ensures { Gives (λ x. (x.0, x.1.now)) result (property_at octets.now) }
 {
-    let (content, rest) = content(1, octets)?;
+    let (content, rest) = parameter(1, octets)?;
     let property = number(content)?;
     if property > 4_194_303 {
         return Err(Dropped::Silently);
@@ -90,14 +66,13 @@ fn property(octets: &[u8]) -> Result<(u32, &[u8]), Dropped>
     Ok((property, rest))
 }
 
-#[tactic(auto, unfolding(crate::specs::Read::index_at))]
 fn index(octets: &[u8]) -> Result<Option<u32>, Dropped>
     ensures { Gives (λ n. n) result (index_at octets.now) }
 {
     if octets.is_empty() {
         return Ok(None);
     }
-    let (content, rest) = content(2, octets)?;
+    let (content, rest) = parameter(2, octets)?;
     let index = number(content)?;
     if !rest.is_empty() {
         return Err(Dropped::Silently);
@@ -105,7 +80,6 @@ fn index(octets: &[u8]) -> Result<Option<u32>, Dropped>
     Ok(Some(index))
 }
 
-#[tactic(auto, unfolding(crate::specs::Read::body_at))]
 fn body(invoke: u8, octets: &[u8]) -> Result<Read, Dropped>
     ensures { Gives read_of result (body_at invoke octets.now) }
 {
@@ -121,12 +95,11 @@ fn body(invoke: u8, octets: &[u8]) -> Result<Read, Dropped>
 }
 
 /// Reads a ReadProperty request.
-#[tactic(auto, unfolding(crate::specs::Read::read_at))]
 pub fn read_request(apdu: &[u8]) -> Result<Read, Dropped>
     ensures { Gives read_of result (read_at apdu.now) }
 {
     match apdu {
-        [first, _, invoke, 12, octets @ ..] if *first < 8 => body(*invoke, octets),
+        [first, _, invoke, READ_PROPERTY, octets @ ..] if *first < SEGMENTED => body(*invoke, octets),
         _ => Err(Dropped::Silently),
     }
 }

@@ -2,7 +2,7 @@
 
 ghost use Rattle.std.specs.Prelude.{◌≡◌, ◌+◌, ◌*◌, ◌<◌, ◌≤◌, ℕ, List, length, ◌⊎◌, Ok, Some, OnOk, IfErr, IsErrOf, true, vec_capacity};
 ghost use Rattle.std.specs.Io.KnownBytes.{prepend_known};
-ghost use Rattle.gw_script.specs.Event.{IsOnPort, event_view};
+ghost use Rattle.gw_script.specs.Event.{event_view};
 ghost use Rattle.gw_script.specs.Reader.{IsPaid};
 ghost use Rattle.gw_core.specs.Effects.{NeedsNoMemory, effects_at, passes_end};
 ghost use Rattle.gw_core.specs.History.{next};
@@ -166,7 +166,6 @@ fn make_text(
     event: &Event<'_>,
     text: &mut Vec<u8>,
 ) -> Result<(), RunFault>
-    requires port { IsOnPort (length gateway.old.ports) (event_view event.now) }
     requires room { 4 ≤ vec_capacity text.old }
     ensures text { OnOk result (text.new.items ≡ effects_text (effects_at gateway.old (event_view event.now))) }
     ensures moved { OnOk result (gateway.new ≡ next gateway.old (event_view event.now)) }

@@ -1,194 +1,209 @@
-//! What the device answers to a ReadProperty request (clauses 15.5, 18, 20.1.5 and 20.1.7).
+//! The message that an APDU for the device comes in, and those that carry its answer (clause 6.2.2).
 
-ghost use Rattle.std.specs.Prelude.{◌≡◌, ◌==◌, true, find, ◌<◌, ◌≤◌, ◌^◌, ◌++◌, ◌∷◌, [], length, IfOk, OnOk, Err, Ok};
-ghost use Rattle.gw_addr.specs.Reading.{Gives};
-ghost use Rattle.gw_tags.specs.Object.{object_view};
-ghost use Rattle.gw_tags.specs.Tag.{canonical};
-ghost use Rattle.gw_tags.specs.Number.{unsigned_encoding, octet_count};
-ghost use Rattle.gw_core.specs.Reply.{access_denied, answer, binary_value, closing, context, index_part, opening, property_of, property_value, read_ack, read_error, reply_apdu};
-ghost use Rattle.gw_core.specs.Read.{read_of};
+ghost use Rattle.std.specs.Prelude.{◌≡◌, ◌≤◌, [], ◌∷◌, length, is_some, ◌&&◌, not, IfOk, IfSome, IsOk, None};
+ghost use Rattle.std.specs.Option.{option_map};
+ghost use Rattle.gw_bvll.specs.Bvll.{encoding, original_broadcast, original_unicast, view as frame_view};
+ghost use Rattle.gw_core.specs.Effects.{answer_sends};
+ghost use Rattle.gw_npdu.specs.Npdu.{destination_view, payload_view, address_view, view as npdu_view};
+ghost use Rattle.gw_core.specs.Reply.{apdu_for, apdu_of, context_of, goes_to_all, is_broadcast, is_device, is_local_broadcast, reply_npdu, reply_sending, reply_sends, mac_back, way_back, within};
+ghost use Rattle.gw_core.specs.View.{answer_view, message_view};
 
-use crate::config::BinaryValue;
-use crate::read::Read;
-use gw_rules::{Ask, Judge, RuleList};
-use gw_tags::{AppValue, Kind, ObjectId, Tag, write_tag, write_value};
-use std::alloc::AllocError;
+use crate::apdu::Answer;
+use crate::device::Context;
+use crate::effects::{Sending, Sends};
+use crate::message::Message;
+use crate::octets::Octets;
+use gw_addr::NetNum;
+use gw_bvll::Bvll;
+use gw_npdu::{AddressRef, Destination, Npdu, Payload};
+use std::alloc::{AllocError, Global};
 
-/// An error of clause 18.
-#[derive(Clone, Copy, Debug, PartialEq, Eq)]
-pub struct Failure {
-    /// Its class.
-    pub class: u32,
-    /// Its code.
-    pub code: u32,
-}
-
-/// The policy denies a read.
-const ACCESS_DENIED: Failure = Failure { class: 2, code: 27 };
-/// No such object is there.
-const UNKNOWN_OBJECT: Failure = Failure { class: 1, code: 31 };
-/// The object has no such property.
-const UNKNOWN_PROPERTY: Failure = Failure { class: 2, code: 32 };
-/// An index is given for a property that is no array.
-const NOT_AN_ARRAY: Failure = Failure { class: 2, code: 50 };
-
-/// The type of a Binary Value object.
-const BINARY_VALUE: u16 = 5;
-/// Present_Value.
-const PRESENT_VALUE: u32 = 85;
 /// The one station of the device's network.
-pub const DEVICE_STATION: u8 = 1;
-/// ReadProperty.
-pub const READ_PROPERTY: u8 = 12;
+const DEVICE_STATION: u8 = 1;
+/// The hop count of a message that has passed no router yet.
+const WHOLE_COUNT: u8 = 255;
+/// How many octets most replies have, so that a buffer seldom grows.
+const REPLY_LEN: usize = 64;
 
-#[tactic(auto, unfolding(crate::specs::Reply::binary_value))]
-fn find_binary_value(objects: &[BinaryValue], object: ObjectId) -> Option<BinaryValue>
-    ensures { result ≡ binary_value objects.now (object_view object) }
+/// Whether a destination is every network, or every station of the device's.
+fn is_broadcast(network: NetNum, destination: &Destination<'_>) -> bool
+    ensures { result ≡ is_broadcast network (destination_view destination.now) }
 {
-    if object.kind != BINARY_VALUE {
-        return None;
-    }
-    of_instance(objects, object.instance)
+    destination.network == Destination::EVERY_NETWORK
+        || (destination.network == network.get() && destination.mac.is_empty())
 }
 
-fn of_instance(objects: &[BinaryValue], instance: u32) -> Option<BinaryValue>
-    ensures { result ≡ find (λ b. b.instance == instance) objects.now }
+/// Whether a destination is the device alone.
+fn is_device(network: NetNum, destination: &Destination<'_>) -> bool
+    ensures { result ≡ is_device network (destination_view destination.now) }
 {
-    objects.iter().copied().find(|b| b.instance == instance)
+    destination.network == network.get() && matches!(destination.mac, [DEVICE_STATION])
 }
 
-#[tactic(auto, unfolding(crate::specs::Reply::property_of))]
-fn property(object: BinaryValue, property: u32, index: Option<u32>) -> Result<bool, Failure>
-    ensures { result ≡ property_of object property index }
+fn apdu_of<'a>(payload: &Payload<'a>) -> Option<&'a [u8]>
+    ensures { option_map (λ a. a.now) result ≡ apdu_of (payload_view payload.now) }
 {
-    if property != PRESENT_VALUE {
-        return Err(UNKNOWN_PROPERTY);
-    }
-    match index {
-        None => Ok(object.default),
-        Some(_) => Err(NOT_AN_ARRAY),
+    match payload {
+        Payload::Apdu(octets) => Some(octets),
+        Payload::Message(_) => None,
     }
 }
 
-#[tactic(auto, unfolding(crate::specs::Reply::property_value))]
-fn value(objects: &[BinaryValue], read: &Read) -> Result<bool, Failure>
-    ensures { result ≡ property_value objects.now (object_view read.now.object) read.now.property read.now.index }
+/// The APDU that a message has for the device.
+pub fn apdu_for<'a>(network: NetNum, npdu: &Npdu<'a>) -> Option<&'a [u8]>
+    ensures { option_map (λ a. a.now) result ≡ apdu_for network (npdu_view npdu.now) }
 {
-    match find_binary_value(objects, read.object) {
-        Some(found) => property(found, read.property, read.index),
-        None => Err(UNKNOWN_OBJECT),
+    match &npdu.destination {
+        Some(destination)
+            if is_device(network, destination) || is_broadcast(network, destination) =>
+        {
+            apdu_of(&npdu.payload)
+        }
+        _ => None,
     }
 }
 
-/// What the device answers, and whether the policy denied the ask.
-#[tactic(auto, unfolding(crate::specs::Reply::answer))]
-pub fn answer_of(
-    rules: &RuleList,
-    objects: &[BinaryValue],
-    ask: &Ask,
-    read: &Read,
-) -> Result<bool, Failure>
-    ensures { result ≡ answer rules.now objects.now ask.now (read_of read.now) }
+fn goes_to_all(network: NetNum, destination: &Option<Destination<'_>>) -> bool
+    ensures { result ≡ goes_to_all network (option_map destination_view destination.now) }
 {
-    if rules.allows(ask) {
-        value(objects, read)
-    } else {
-        Err(ACCESS_DENIED)
+    match destination {
+        None => false,
+        Some(destination) => is_broadcast(network, destination),
     }
 }
 
-#[tactic(auto, unfolding(crate::specs::Reply::context))]
-fn put_context(out: &mut Vec<u8>, number: u8, content: &[u8]) -> Result<(), AllocError>
-    requires numbered { number < 255 }
-    requires fits { length content.now < 2 ^ 32 }
-    ensures { OnOk result (out.new.items ≡ out.old.items ++ context number content.now) }
+/// What the device knows of a message's APDU.
+pub fn context_of(network: NetNum, message: &Message<'_>) -> Context
+    ensures { result ≡ context_of network (message_view message.now) }
 {
-    let tag = Tag {
-        number,
-        context: true,
-        kind: Kind::Length(content.len() as u32),
+    Context {
+        port: message.number,
+        source_network: message.source_network(),
+        source_key: message.source_key(),
+        broadcast: goes_to_all(network, &message.npdu.destination),
+    }
+}
+
+/// The octets of an NPDU, or none where there would be more than 1497.
+#[tactic(auto, unfolding(crate::specs::Reply::within))]
+fn octets_within(alloc: Global, npdu: &Npdu<'_>) -> Result<Option<Octets>, AllocError>
+    ensures octets { IfOk result (λ octets. octets ≡ within (npdu_view npdu.now)) }
+    ensures most { IfOk result (λ found. IfSome found (λ octets. length octets ≤ 1497)) }
+{
+    let mut octets = Vec::with_capacity(alloc, REPLY_LEN)?;
+    match gw_npdu::encode(npdu, &mut octets) {
+        Ok(()) => Ok(Some(Octets::new(octets))),
+        Err(gw_npdu::EncodeFault::TooLong) => Ok(None),
+        Err(gw_npdu::EncodeFault::Memory) => Err(AllocError),
+    }
+}
+
+fn original_unicast(alloc: Global, npdu: &[u8]) -> Result<Octets, AllocError>
+    requires { length npdu.now ≤ 1497 }
+    ensures { IfOk result (λ octets. octets ≡ encoding (original_unicast npdu.now)) }
+{
+    datagram_of(alloc, &Bvll::OriginalUnicast(npdu))
+}
+
+fn original_broadcast(alloc: Global, npdu: &[u8]) -> Result<Octets, AllocError>
+    requires { length npdu.now ≤ 1497 }
+    ensures { IfOk result (λ octets. octets ≡ encoding (original_broadcast npdu.now)) }
+{
+    datagram_of(alloc, &Bvll::OriginalBroadcast(npdu))
+}
+
+/// The octets of a frame whose NPDU is within its length.
+fn datagram_of(alloc: Global, frame: &Bvll<'_>) -> Result<Octets, AllocError>
+    requires { length (encoding (frame_view frame.now)) ≤ 1507 }
+    ensures { IfOk result (λ octets. octets ≡ encoding (frame_view frame.now)) }
+{
+    let mut octets = Vec::with_capacity(alloc, REPLY_LEN)?;
+    match gw_bvll::encode(frame, &mut octets) {
+        Ok(()) => Ok(Octets::new(octets)),
+        Err(gw_bvll::EncodeFault::TooLong) => unreachable!(),
+        Err(gw_bvll::EncodeFault::Memory) => Err(AllocError),
+    }
+}
+
+/// The way back to the station that asked, or to everyone on its network.
+fn way_back<'a>(broadcast: bool, source: &Option<AddressRef<'a>>) -> Option<Destination<'a>>
+    ensures { option_map destination_view result ≡ option_map (way_back broadcast) (option_map address_view source.now) }
+{
+    match source {
+        None => None,
+        Some(address) => Some(Destination {
+            network: address.network,
+            mac: if broadcast { &[] } else { address.mac },
+            hops: WHOLE_COUNT,
+        }),
+    }
+}
+
+/// The octets of the message that carries an answer back, or none where there would be more than 1497.
+fn reply_octets(
+    alloc: Global,
+    network: NetNum,
+    message: &Message<'_>,
+    answer: &Answer,
+) -> Result<Option<Octets>, AllocError>
+    ensures octets { IfOk result (λ octets. octets ≡ within (reply_npdu network (npdu_view message.now.npdu) (answer_view answer.now))) }
+    ensures most { IfOk result (λ found. IfSome found (λ octets. length octets ≤ 1497)) }
+{
+    let mac = [DEVICE_STATION];
+    let reply = Npdu {
+        destination: way_back(answer.broadcast, &message.npdu.source),
+        source: Some(AddressRef {
+            network: network.get(),
+            mac: &mac,
+        }),
+        reply_expected: false,
+        priority: message.npdu.priority,
+        payload: Payload::Apdu(answer.apdu.as_slice()),
     };
-    write_tag(out, tag)?;
-    out.extend_from_slice(content)
+    octets_within(alloc, &reply)
 }
 
-fn put_list_tag(out: &mut Vec<u8>, number: u8, kind: Kind) -> Result<(), AllocError>
-    requires { number < 255 }
-    ensures { OnOk result (out.new.items ≡ out.old.items ++ canonical (record { number = number; context = true; kind = kind })) }
+/// The datagram of an answer: back to where the message came from, or to everyone on that network.
+fn reply_sending(
+    alloc: Global,
+    message: &Message<'_>,
+    answer: &Answer,
+    npdu: &[u8],
+) -> Result<Sending, AllocError>
+    requires { length npdu.now ≤ 1497 }
+    ensures { IfOk result (λ sending. sending ≡ reply_sending (message_view message.now) (answer_view answer.now) npdu.now) }
 {
-    write_tag(
-        out,
-        Tag {
-            number,
-            context: true,
-            kind,
-        },
-    )
-}
-
-/// How many octets a number is written in.
-fn number_len(number: u32) -> usize
-    ensures value { result ≡ octet_count number }
-    ensures most { result ≤ 4 }
-{
-    match number {
-        0..=0xFF => 1,
-        0x100..=0xFFFF => 2,
-        0x1_0000..=0xFF_FFFF => 3,
-        _ => 4,
+    if answer.broadcast && message.npdu.source.is_none() {
+        return Ok(Sending {
+            port: message.number,
+            to: message.port.broadcast,
+            octets: original_broadcast(alloc, npdu)?,
+        });
     }
+    Ok(Sending {
+        port: message.number,
+        to: message.link(),
+        octets: original_unicast(alloc, npdu)?,
+    })
 }
 
-fn put_number(out: &mut Vec<u8>, tag: u8, number: u32) -> Result<(), AllocError>
-    requires { tag < 255 }
-    ensures { OnOk result (out.new.items ≡ out.old.items ++ context tag (unsigned_encoding number)) }
+/// The sends of an answer to a message, where there is one.
+#[tactic(auto, unfolding(crate::specs::Reply::reply_sends))]
+pub fn answer_sends(
+    alloc: Global,
+    network: NetNum,
+    message: &Message<'_>,
+    answer: Option<Answer>,
+) -> Result<Sends, AllocError>
+    ensures sends { IfOk result (λ sends. sends ≡ answer_sends network (message_view message.now) (option_map answer_view answer)) }
+    ensures silent { answer ≡ None → IsOk result }
 {
-    let octets = number.to_be_bytes();
-    put_context(out, tag, &octets[4 - number_len(number)..])
-}
-
-fn put_index(out: &mut Vec<u8>, index: Option<u32>) -> Result<(), AllocError>
-    ensures { OnOk result (out.new.items ≡ out.old.items ++ index_part index) }
-{
-    match index {
-        None => Ok(()),
-        Some(index) => put_number(out, 2, index),
+    let mut sends = Sends::new(alloc);
+    let Some(answer) = answer else {
+        return Ok(sends);
+    };
+    if let Some(npdu) = reply_octets(alloc, network, message, &answer)? {
+        sends.push(reply_sending(alloc, message, &answer, npdu.as_slice())?)?;
     }
-}
-
-#[tactic(auto, unfolding(crate::specs::Reply::read_ack))]
-fn put_read_ack(out: &mut Vec<u8>, read: &Read, active: bool) -> Result<(), AllocError>
-    ensures { OnOk result (out.new.items ≡ out.old.items ++ read_ack (read_of read.now) active) }
-{
-    out.extend_from_slice(&[0x30, read.invoke, READ_PROPERTY])?;
-    put_context(out, 0, &read.object.to_octets())?;
-    put_number(out, 1, read.property)?;
-    put_index(out, read.index)?;
-    put_list_tag(out, 3, Kind::Opening)?;
-    write_value(out, AppValue::Enumerated(u32::from(active)))?;
-    put_list_tag(out, 3, Kind::Closing)
-}
-
-#[tactic(auto, unfolding(crate::specs::Reply::read_error))]
-fn put_read_error(out: &mut Vec<u8>, invoke: u8, failure: Failure) -> Result<(), AllocError>
-    ensures { OnOk result (out.new.items ≡ out.old.items ++ read_error invoke failure) }
-{
-    out.extend_from_slice(&[0x50, invoke, READ_PROPERTY])?;
-    write_value(out, AppValue::Enumerated(failure.class))?;
-    write_value(out, AppValue::Enumerated(failure.code))
-}
-
-/// Appends the APDU of an answer.
-#[tactic(auto, unfolding(crate::specs::Reply::reply_apdu))]
-pub fn put_reply(
-    out: &mut Vec<u8>,
-    read: &Read,
-    answer: Result<bool, Failure>,
-) -> Result<(), AllocError>
-    ensures { OnOk result (out.new.items ≡ out.old.items ++ reply_apdu (read_of read.now) answer) }
-{
-    match answer {
-        Ok(active) => put_read_ack(out, read, active),
-        Err(failure) => put_read_error(out, read.invoke, failure),
-    }
+    Ok(sends)
 }

@@ -3,7 +3,8 @@
 ghost use Rattle.std.specs.Prelude.{◌≡◌, ◌≤◌, ◌<◌, ◌∷◌, [], IfOk};
 ghost use Rattle.gw_core.specs.Setting.{all_else, hide, no_description, node, port_on, setting};
 
-use crate::config::{BinaryValue, Config, DeviceConfig, Port};
+use crate::config::{Config, DeviceConfig, Port};
+use crate::object::BinaryValue;
 use gw_addr::{BipAddr, NetNum};
 use gw_rules::{FieldName, Operation, Range, Rule, RuleFault, RuleList};
 use std::alloc::{AllocError, Global};

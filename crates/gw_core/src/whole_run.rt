@@ -1,11 +1,9 @@
 //! A run: what a gateway answers to a list of events.
 
-ghost use Rattle.std.specs.Prelude.{◌≡◌, ℕ, List, All, IfOk, OnOk, OnErr, IsErrOf, length, map, take, true};
-ghost use Rattle.gw_core.specs.declared.event.Counts.{Counts};
-ghost use Rattle.gw_script.specs.Event.{Event as PlainEvent, IsOnPort, event_view};
-ghost use Rattle.gw_core.specs.Configured.{Configured};
+ghost use Rattle.std.specs.Prelude.{◌≡◌, ◌↔◌, ℕ, IfOk, IsErrOf, OnOk, OnErr, map, true};
+ghost use Rattle.gw_script.specs.Event.{event_view};
 ghost use Rattle.gw_core.specs.Effects.{NeedsNoMemory, effects_at, passes_end};
-ghost use Rattle.gw_core.specs.History.{Stands, next, run_after, taken};
+ghost use Rattle.gw_core.specs.History.{HasTaken, StopsAtEnd, next, run_from, state_from};
 
 use crate::effects::Effects;
 use crate::fault::StepFault;
@@ -19,10 +17,9 @@ pub(crate) fn take_event(
     gateway: &mut Gateway,
     event: &Event<'_>,
 ) -> Result<Effects, StepFault>
-    requires { IsOnPort (length gateway.old.ports) (event_view event.now) }
     ensures given { IfOk result (λ given. given ≡ effects_at gateway.old (event_view event.now)) }
     ensures moved { OnOk result (gateway.new ≡ next gateway.old (event_view event.now)) }
-    ensures count_end { IsErrOf result StepFault.CountEnd → passes_end gateway.old (event_view event.now) ≡ true }
+    ensures count_end { IsErrOf result StepFault.CountEnd ↔ (passes_end gateway.old (event_view event.now) ≡ true) }
     ensures memory { IsErrOf result StepFault.Memory → ¬ (NeedsNoMemory gateway.old (event_view event.now)) }
     ensures err { OnErr result (gateway.new ≡ gateway.old) }
 {
@@ -35,19 +32,17 @@ pub(crate) fn take_event(
     }
 }
 
-/// Takes the events in order, and answers what each does. After a fault the gateway stands as some first events left it.
-///
-/// This is the promise of the whole for today's traffic: the answers are the defined run, octet for octet, whatever history the
-/// gateway stands after.
+/// Takes the events in order, and answers what each does. After a fault the gateway is in the state in which some first events
+/// left it; after `CountEnd` the next event would pass the end of a count.
 pub fn run(
     alloc: Global,
     gateway: &mut Gateway,
     events: &[Event<'_>],
 ) -> Result<Vec<Effects>, StepFault>
-    requires { All (IsOnPort (length gateway.old.ports)) (map event_view events.now) }
-    ensures effects { IfOk result (λ given. (c : Configured) (k : Counts) (h : List PlainEvent) → Stands gateway.old c k h → given.items ≡ run_after c k h (map event_view events.now)) }
-    ensures stands { OnOk result ((c : Configured) (k : Counts) (h : List PlainEvent) → Stands gateway.old c k h → Stands gateway.new c k (taken h (map event_view events.now))) }
-    ensures err { OnErr result ((n : ℕ) × ((c : Configured) (k : Counts) (h : List PlainEvent) → Stands gateway.old c k h → Stands gateway.new c k (taken h (take n (map event_view events.now))))) }
+    ensures effects { IfOk result (λ given. given.items ≡ run_from gateway.old (map event_view events.now)) }
+    ensures state { OnOk result (gateway.new ≡ state_from gateway.old (map event_view events.now)) }
+    ensures count_end { IsErrOf result StepFault.CountEnd → StopsAtEnd gateway.old (map event_view events.now) gateway.new }
+    ensures err { OnErr result ((n : ℕ) × HasTaken gateway.old (map event_view events.now) n gateway.new) }
 {
     let mut given = Vec::new(alloc);
     let mut rest = events;

@@ -1,12 +1,11 @@
 -- What distinct networks are put in order to.
-use Rattle.std.proofs.Common.{◌≡◌, ◌∙◌, ℕ, Bool, true, false, not, ◌&&◌, List, [], ◌∷◌, ◌++◌, nat_eq, refl, sym, ap, subst, append_assoc, append-nil, IsTrue, None}
+use Rattle.std.proofs.Common.{◌≡◌, ◌∙◌, ℕ, true, false, not, List, [], ◌∷◌, ◌++◌, nat_eq, sym, ap, subst, append_assoc, append-nil, IsTrue}
 use Rattle.std.proofs.lemmas.Bool.{and_parts, or_parts, not-true}
 use Rattle.std.specs.List.{list_any, IsDistinct, AllByRecursion}
-use Rattle.std.specs.Map.{keys_of, lookup}
+use Rattle.std.specs.Map.{keys_of}
 use Rattle.std.specs.Cmp.{nat_eq_equiv}
 use Rattle.indexmap.specs.IndexMap.{insert_entry, insert_all}
 use Rattle.indexmap.proofs.MapLemmas.{absent_before, absent_from_lookup, insert_entry-absent}
-use Rattle.gw_routes.specs.declared.route.Route.{Route}
 use Rattle.gw_routes.specs.Table.{Routed, are_distinct}
 
 none_equal : (n : ℕ) (nets : List ℕ) → list_any (nat_eq n) nets ≡ false → AllByRecursion (λ m. nat_eq n m ≡ false) nets

@@ -1,7 +1,7 @@
 -- How much room the networks of a list need.
-use Rattle.std.proofs.Common.{◌≡◌, ◌∙◌, ℕ, ◌+◌, ◌-◌, ◌<◌, ◌≤◌, min, Bool, true, false, cond, not, ◌&&◌, ◌||◌, List, [], ◌∷◌, length, is_some, if◌then◌else◌, nat_eq, nat_lt, count_by, refl, sym, ap, subst, arith, true≢false, Some, None, suc, get_or, drop}
+use Rattle.std.proofs.Common.{◌≡◌, ◌∙◌, ℕ, ◌+◌, ◌-◌, ◌<◌, ◌≤◌, min, Bool, true, false, cond, not, ◌&&◌, ◌||◌, List, [], ◌∷◌, length, is_some, if◌then◌else◌, nat_eq, nat_lt, count_by, refl, sym, ap, subst, arith, true≢false, Some, suc, get_or, drop}
 use Rattle.std.proofs.Math.Seq.{drop-cons}
-use Rattle.std.proofs.lemmas.Bool.{ltb-true, and_parts, and_from, not-true, not_from_false, false_from_ne_true}
+use Rattle.std.proofs.lemmas.Bool.{ltb-true, and_parts, and_from, not-true, false_from_ne_true}
 use Rattle.std.proofs.lemmas.List.Sums.{sum_by-cons}
 use Rattle.std.specs.Map.{lookup}
 use Rattle.indexmap.specs.IndexMap.{insert_entry}

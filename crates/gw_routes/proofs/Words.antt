@@ -4,14 +4,13 @@ use Rattle.std.specs.List.{list_any}
 use Rattle.std.specs.Map.{lookup}
 use Rattle.std.specs.Option.{option_map_or}
 use Rattle.indexmap.specs.IndexMap.{insert_entry}
-use Rattle.gw_addr.specs.Station.{is_network, network_of}
+use Rattle.gw_addr.specs.Station.{is_network}
 use Rattle.gw_routes.specs.declared.route.Route.{Route}
-use Rattle.gw_routes.specs.declared.route.Way.{Way}
 use Rattle.gw_routes.specs.declared.route.Way.TheVariants.{Router, Everywhere, Unknown}
 use Rattle.gw_routes.specs.declared.route.TheConstants.{EVERYWHERE}
-use Rattle.gw_routes.specs.Table.{Table, Routed, table_of, route_of, is_fixed, direct_way, network_way, way}
+use Rattle.gw_routes.specs.Table.{Routed, table_of, route_of, is_fixed, direct_way, network_way, way}
 use Rattle.gw_routes.specs.History.{History, with_network, networks_learned, learned_after}
-use Rattle.gw_routes.proofs.Learning.{own, equal_of, learned_step}
+use Rattle.gw_routes.proofs.Learning.{equal_of, learned_step}
 
 -- ---- which networks are learned
 

@@ -1,10 +1,10 @@
--- How a table stands after a history, which is the list of the learnings that were granted, newest first: each a network and the
--- route that it was given.
+-- How a table stands after a history, which is the list of the learnings that were granted, newest
+-- first: each a network and the route that it was given.
 use Rattle.std.specs.Prelude.{◌≡◌, ℕ, List, [], ◌∷◌, ◌++◌, nat_eq, if◌then◌else◌, filter_map, Option}
 use Rattle.std.specs.List.{list_any}
 use Rattle.std.specs.Option.{option_map}
 use Rattle.gw_routes.specs.declared.route.Route.{Route}
-use Rattle.gw_routes.specs.Table.{Table, Routed, table_of, route_of, grants, with_learned, with_granted}
+use Rattle.gw_routes.specs.Table.{Table, Routed, table_of, route_of, grants, with_granted}
 
 -- learnings that were granted, newest first
 abbrev pub History : Type 0
@@ -35,8 +35,10 @@ table_after direct configured h = table_of direct configured (learned_after h)
 abbrev pub IsStateAfter : Table → List ℕ → Routed → History → Type 0
 IsStateAfter t direct configured h = t ≡ table_after direct configured h
 
--- the history once the networks of a list were learned by one route, one after the other, each if the table grants that
+-- the history once the networks of a list were learned by one route, one after the other, each if
+-- the table grants that
 unfoldable pub history_with : Table → List ℕ → Route → History → History
 history_with t [] route h = h
 history_with t (net ∷ nets) route h =
-    history_with (with_granted t net route) nets route (if grants t net then (net, route) ∷ h else h)
+    history_with (with_granted t net route) nets route
+    (if grants t net then (net, route) ∷ h else h)

@@ -1,5 +1,6 @@
--- A routing table (clause 6): the networks that the gateway reaches itself, and the routes that others are reached by.
-use Rattle.std.specs.Prelude.{◌≡◌, ℕ, ◌+◌, ◌-◌, ◌≤◌, ◌<◌, Bool, true, not, min, count_by, ◌&&◌, ◌||◌, ◌==◌, nat_eq, nat_le, nat_lt, if◌then◌else◌, List, [], ◌∷◌, ◌++◌, length, map, filter, take, drop, position, Option, Some, None, is_some}
+-- A routing table (clause 6): the networks that the gateway reaches itself, and the routes by
+-- which others are reached.
+use Rattle.std.specs.Prelude.{ℕ, ◌+◌, ◌-◌, ◌≤◌, ◌<◌, Bool, true, not, min, count_by, ◌&&◌, ◌||◌, ◌==◌, nat_eq, nat_le, nat_lt, if◌then◌else◌, List, [], ◌∷◌, ◌++◌, length, map, filter, take, drop, position, Option, is_some}
 use Rattle.std.specs.List.{list_any}
 use Rattle.std.specs.Map.{lookup}
 use Rattle.std.specs.Option.{option_map_or}
@@ -16,8 +17,9 @@ use Rattle.gw_routes.specs.declared.route.Way.TheVariants.{Port, Device, Router,
 abbrev pub Routed : Type 0
 Routed = List (ℕ × Route)
 
--- a table: the networks that the gateway reaches itself, which are the ports' in order and then the device's; the configured
--- routes in their order; and the learned routes in the order in which their networks were first learned
+-- a table: the networks that the gateway reaches itself, which are the ports' in order and then the
+-- device's; the configured routes in their order; and the learned routes in the order in which
+-- their networks were first learned
 pub record Table : Type 0 where
   pub direct : List ℕ
   pub configured : Routed
@@ -25,7 +27,8 @@ pub record Table : Type 0 where
 
 -- the table of these parts
 abbrev pub table_of : List ℕ → Routed → Routed → Table
-table_of direct configured learned = record { direct = direct; configured = configured; learned = learned }
+table_of direct configured learned =
+    record { direct = direct; configured = configured; learned = learned }
 
 -- no network stands twice in the list
 abbrev pub are_distinct : List ℕ → Bool
@@ -34,7 +37,8 @@ are_distinct (net ∷ nets) = not (list_any (nat_eq net) nets) && are_distinct n
 
 -- ---- which way a network lies
 
--- the way of the direct network at a place: the last is the device's, and each before it that of the port of this number
+-- the way of the direct network at a place: the last is the device's, and each before it is that of
+-- the port that its place counts, from 1
 abbrev pub direct_way : List ℕ → ℕ → Way
 direct_way direct place = if place + 1 == length direct then Device else Port (place + 1)
 
@@ -49,11 +53,13 @@ network_way t net =
     let routed = option_map_or Router (route_of t.configured net) learned in
     option_map_or (direct_way t.direct) (position (nat_eq net) t.direct) routed
 
--- the way of a number: 65535 is everywhere, and what else is no network's number, which is 0, is unknown
+-- the way of a number: 65535 is everywhere, and 0, which is no network's number, is unknown
 abbrev pub way : Table → ℕ → Way
-way t net = if net == EVERYWHERE then Everywhere else option_map_or (network_way t) (network_of net) Unknown
+way t net =
+    if net == EVERYWHERE then Everywhere
+    else option_map_or (network_way t) (network_of net) Unknown
 
--- a way that is a port's has the number of a port, each of which has a network in the direct list
+-- a port's number is one of those that have a network in the direct list, before the device's
 abbrev pub IsWayOf : Table → Way → Type 0
 IsWayOf t (Port number) = (1 ≤ number) × (number < length t.direct)
 IsWayOf t Device = Unit {0}
@@ -66,15 +72,19 @@ IsWayOf t Unknown = Unit {0}
 -- the direct networks but that of the port of this number
 abbrev pub direct_but : ℕ → List ℕ → List ℕ
 direct_but port direct =
-    if nat_le 1 port && nat_lt port (length direct) then take (port - 1) direct ++ drop port direct else direct
+    if nat_le 1 port && nat_lt port (length direct)
+    then take (port - 1) direct ++ drop port direct
+    else direct
 
 -- the networks of the routes by other ports
 abbrev pub routed_but : ℕ → Routed → List ℕ
 routed_but port routes = map (λ e. e.0) (filter (λ e. not (nat_eq e.1.port port)) routes)
 
--- the networks that lie another way than by a port: the other ports' in order, the device's, then the routes' by other ports
+-- the networks that lie another way than by a port: the other ports' in order, the device's, then
+-- those of the routes by other ports
 abbrev pub reachable_from : Table → ℕ → List ℕ
-reachable_from t port = direct_but port t.direct ++ routed_but port t.configured ++ routed_but port t.learned
+reachable_from t port =
+    direct_but port t.direct ++ routed_but port t.configured ++ routed_but port t.learned
 
 -- ---- what is learned
 
@@ -106,7 +116,8 @@ is_full_for t net = not (is_fixed t net) && not (has_room t net)
 abbrev pub route_by : ℕ → BipAddr → Route
 route_by port next = record { port = port; next = next }
 
--- the table once a network was learned: one that was learned before keeps its place and takes the new route, another goes last
+-- the table once a network was learned: one that was learned before keeps its place and takes the
+-- new route, and another goes last
 abbrev pub with_learned : Table → ℕ → Route → Table
 with_learned t net route = record t { learned = insert_entry nat_eq t.learned net route }
 
@@ -116,7 +127,8 @@ with_learned t net route = record t { learned = insert_entry nat_eq t.learned ne
 abbrev pub with_granted : Table → ℕ → Route → Table
 with_granted t net route = if grants t net then with_learned t net route else t
 
--- the table once the networks of a list were learned by one route, one after the other, each if that is granted
+-- the table once the networks of a list were learned by one route, one after the other, each if
+-- that is granted
 abbrev pub with_each : Table → List ℕ → Route → Table
 with_each t [] route = t
 with_each t (net ∷ nets) route = with_each (with_granted t net route) nets route

@@ -1,5 +1,5 @@
-//! What the words of a routing table mean, proved of every history and every table, for a reader of the
-//! definitions that contracts here and in the crates above cite. The functions do nothing.
+//! What the words of a routing table mean, proved of every history and every table, for a reader of
+//! the definitions that contracts here and in the crates above cite. The functions do nothing.
 ghost use Rattle.gw_routes.specs.Laws.{EachIsLearnedOnce, NamedAreLearned, PlacesAreKept};
 ghost use Rattle.gw_routes.specs.Laws.{FixedWaysStay, LastLearningHolds};
 

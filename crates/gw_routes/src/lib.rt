@@ -1,5 +1,5 @@
-//! Which way a network lies (clause 6): by a port of the gateway, at its device, behind a router, or unknown; and the routes that are
-//! learned.
+//! Which way a network lies (clause 6): by a port of the gateway, at its device, behind a router, or
+//! unknown; and the routes that are learned.
 #![tactic(auto)]
 
 mod fault;

@@ -2,7 +2,8 @@
 
 use gw_addr::BipAddr;
 
-/// The network number that stands for all networks, in the destination of a global broadcast (clause 6.2.2).
+/// The network number that stands for all networks, in the destination of a global broadcast
+/// (clause 6.2.2).
 pub const EVERYWHERE: u16 = 65535;
 
 /// A route to a network behind another router.

@@ -18,7 +18,7 @@ use indexmap::IndexMap;
 use std::alloc::{AllocError, Global};
 use std::marker::Model;
 
-/// How many networks a table holds a route to, configured and learned together (a limit of our own).
+/// How many networks a table holds a route to, configured and learned together: a limit of our own.
 pub const MAX_ROUTES: usize = 512;
 
 /// Which way each network lies: the direct networks, which the gateway reaches itself, the
@@ -160,9 +160,9 @@ impl Routes {
         self.fixed.new_among(&self.learned, nets).min(room)
     }
 
-    /// The networks that lie another way than by this port, as a Who-Is-Router-To-Network without a
-    /// network asks there (clause 6.6): the other ports' in order of ports, the device's, then those
-    /// of the routes by other ports, the configured ones before the learned. The order is our own.
+    /// The networks that lie another way than by this port, which a Who-Is-Router-To-Network without
+    /// a network asks for there (clause 6.4): the other ports' in order of ports, the device's, then
+    /// those of the routes by other ports, the configured before the learned. The order is our own.
     /// The only fault is want of memory for the list.
     pub fn reachable_from(&self, alloc: Global, port: u8) -> Result<Vec<NetNum>, AllocError>
         ensures { IfOk result (λ nets. nets.items ≡ reachable_from self.now port) }
@@ -249,7 +249,8 @@ fn put(routes: &mut IndexMap<NetNum, Route>, net: NetNum, route: Route)
     ensures entries { routes.new.entries ≡ insert_entry nat_eq routes.old.entries net route }
     ensures len { length routes.new.entries ≡
         length routes.old.entries + (if is_some (get nat_eq routes.old net) then 0 else 1) }
-    ensures kept { is_some (get nat_eq routes.old net) ≡ true → spare routes.old ≤ spare routes.new }
+    ensures kept { is_some (get nat_eq routes.old net) ≡ true →
+        spare routes.old ≤ spare routes.new }
     ensures used { spare routes.old ≤ spare routes.new + 1 }
 {
     match routes.get_index_of(&net) {

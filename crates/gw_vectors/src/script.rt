@@ -135,9 +135,15 @@ fn texts_of_sends(rt: HostRuntime) -> Result<(), Fail> {
     let mut text = Vec::with_capacity(rt.alloc(), 40)?;
     append_send(&mut text, 1, PANEL, &[0x81, 0x0A, 0x00, 0xF9])?;
     append_end(&mut text)?;
-    assert_eq!(rt; text.as_slice(), &b"send 1 192.168.1.5:47808 810A00F9\nend\n"[..]);
+    assert_eq!(rt;
+        text.as_slice(),
+        &b"send 1 192.168.1.5:47808 810A00F9\nend\n"[..]
+    );
     append_send(&mut text, 255, BipAddr { ip: [0; 4], udp: 0 }, &[])?;
-    assert_eq!(rt; text.as_slice(), &b"send 1 192.168.1.5:47808 810A00F9\nend\nsend 255 0.0.0.0:0 \n"[..]);
+    assert_eq!(rt;
+        text.as_slice(),
+        &b"send 1 192.168.1.5:47808 810A00F9\nend\nsend 255 0.0.0.0:0 \n"[..]
+    );
     Ok(())
 }
 

@@ -1,4 +1,3 @@
-use Rattle.std.proofs.Common.{sym, ap, ◌≡◌, ◌∙◌, arith, false}
 use Rattle.std.proofs.lemmas.Bool.{leb-false}
 use Rattle.std.proofs.lemmas.List.Elements.{recursion_from_All}
 use Rattle.gw_bdt_fdt.proofs.Ends.{later_of}
@@ -7,4 +6,4 @@ use Rattle.gw_bdt_fdt.proofs.leases.has_end_by.Goals as goal
 pub returns-in-Some : goal.returns-in-Some
 returns-in-Some c = λ later.
     later_of c.args.now c.in-Some.field-0.now (leb-false _ _ later) c.args.ends.now.keys
-        (recursion_from_All _ c.args.ends.now.keys c.in-Some.ensures.all_from)
+    (recursion_from_All _ c.args.ends.now.keys c.in-Some.ensures.all_from)

@@ -2,7 +2,7 @@ use Rattle.std.proofs.Common.{rules, sym, ap, ◌≡◌, ◌∙◌, map, nat_lt,
 use Rattle.std.specs.List.{list_any}
 use Rattle.std.proofs.lemmas.Fn.{filter_same}
 use Rattle.indexmap.proofs.CallerLemmas.{filter-RetainsPairs}
-use Rattle.gw_bdt_fdt.specs.Internal.{tied, end_of, holds_at, End}
+use Rattle.gw_bdt_fdt.specs.Internal.{tied, end_of, holds_at}
 use Rattle.gw_bdt_fdt.proofs.Ends.{ends_left}
 use Rattle.gw_bdt_fdt.proofs.leases.take_ended.Goals as goal
 
@@ -13,10 +13,10 @@ returns-clause-leases c =
 pub returns-clause-kept : goal.returns-clause-kept
 returns-clause-kept c = record {
   ends = λ q.
-    let left : c.retain-2.new.self.keys ≡ filter (λ end. nat_lt c.args.now end.0) c.args.ends.now.keys =
-        filter_same _ (λ end. nat_lt c.args.now end.0) _ (λ x b g call. search rules) _ _ c.retain-2.ensures.filtered in
-    ap (list_any (tied q)) left
-    ∙ ends_left c.args.now c.args.ends.now.keys c.args.by_address.now.entries c.requires.kept.ends q
-    ∙ ap (λ fs. list_any (tied q) (map end_of fs)) (sym (returns-clause-leases c));
+      let left : c.retain-2.new.self.keys ≡ filter (λ end. nat_lt c.args.now end.0) c.args.ends.now.keys =
+      filter_same _ (λ end. nat_lt c.args.now end.0) _ (λ x b g call. search rules) _ _ c.retain-2.ensures.filtered in
+      ap (list_any (tied q)) left
+      ∙ ends_left c.args.now c.args.ends.now.keys c.args.by_address.now.entries c.requires.kept.ends q
+      ∙ ap (λ fs. list_any (tied q) (map end_of fs)) (sym (returns-clause-leases c));
   once = c.retain.ensures.unique;
 }

@@ -10,7 +10,7 @@ use Rattle.gw_core.proofs.replaying.replay.Goals as goal
 pub loop-number-init : goal.loop-number-init
 loop-number-init g c = record {
   progress = λ script before known written.
-      begins _ _ _ _ _ _ (nothing_held _ _ script c.new-2.ensures.unread known) written c.in-Ok.ensures.stands;
+      begins _ _ _ _ _ _ (nothing_held _ _ script c.new-2.ensures.unread known) written c.in-Ok.ensures.state;
   calls = λ script known. bound_at_first script _ _ _ c.new-2.ensures.calls known (nothing_held _ _ script c.new-2.ensures.unread known);
   lasting_reader = λ never. never;
   lasting_writer = λ never. never;
@@ -136,3 +136,9 @@ returns-in_default-with_capacity-clause-part g c = λ which script before known 
 
 pub returns-in_default-with_capacity-clause-memory : goal.returns-in_default-with_capacity-clause-memory
 returns-in_default-with_capacity-clause-memory g c = λ which script before known written. ends_before c.args.config script before _ written
+
+pub returns-in_default-clause-part : goal.returns-in_default-clause-part
+returns-in_default-clause-part g c = λ _ script before known written. part_before c.args.config script before _ written
+
+pub returns-in_default-clause-memory : goal.returns-in_default-clause-memory
+returns-in_default-clause-memory g c = λ _ script before known written. ends_before c.args.config script before _ written

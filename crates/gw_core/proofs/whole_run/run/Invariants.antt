@@ -1,6 +1,6 @@
-use Rattle.std.proofs.Common.{ℕ, length, map}
+use Rattle.std.proofs.Common.{length, map}
 use Rattle.gw_script.specs.Event.{event_view}
-use Rattle.gw_core.proofs.HistoryLaws.{RunProgress}
+use Rattle.gw_core.proofs.HistoryLemmas.{RunProgress}
 use Rattle.gw_core.proofs.whole_run.run.Given as goal
 
 abbrev pub invariant-loop-rest : goal.invariant-loop-rest

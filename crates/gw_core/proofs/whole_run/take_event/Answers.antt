@@ -2,7 +2,7 @@ use Rattle.std.proofs.Common.{sym, ap, ◌∙◌}
 use Rattle.gw_script.specs.declared.event.Event.{Event as LentEvent}
 use Rattle.gw_script.specs.Event.{event_view}
 use Rattle.gw_core.specs.Effects.{effects_at}
-use Rattle.gw_core.proofs.EffectLaws.{nothing_is, effects_at-tick}
+use Rattle.gw_core.proofs.EffectLemmas.{nothing_is, effects_at-tick}
 use Rattle.gw_core.proofs.whole_run.take_event.Goals as goal
 
 pub returns-in_ok-tick-in-Tick-clause-given : goal.returns-in_ok-tick-in-Tick-clause-given

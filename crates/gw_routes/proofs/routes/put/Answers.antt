@@ -1,5 +1,4 @@
-use Rattle.std.proofs.Common.{◌≡◌, ◌∙◌, ℕ, nat_eq, sym, ap, length, position, Some}
-use Rattle.indexmap.specs.IndexMap.{insert_entry, set_value_at}
+use Rattle.std.proofs.Common.{◌∙◌, nat_eq, sym, ap, length}
 use Rattle.indexmap.proofs.MapLemmas.{Found-position, insert_entry-first}
 use Rattle.gw_routes.proofs.Room.{length-insert_entry}
 use Rattle.gw_routes.proofs.routes.put.Goals as goal

@@ -1,4 +1,4 @@
-use Rattle.std.proofs.Common.{◌≡◌, ◌∙◌, sym, ap, ◌++◌, append-nil}
+use Rattle.std.proofs.Common.{◌∙◌, sym, ap, ◌++◌, append-nil}
 use Rattle.gw_bdt_fdt.specs.Peers.{peers, has_twice}
 use Rattle.gw_bdt_fdt.proofs.Entries.{own_found, own_absent}
 use Rattle.gw_bdt_fdt.proofs.bdt.Bdt.peers.Goals as goal

@@ -1,4 +1,4 @@
-use Rattle.std.proofs.Common.{sym, ap, ◌≡◌, ◌∙◌}
+use Rattle.std.proofs.Common.{sym, ap, ◌∙◌}
 use Rattle.gw_bdt_fdt.specs.Registrations.{contains}
 use Rattle.gw_bdt_fdt.proofs.Rows.{contained}
 use Rattle.gw_bdt_fdt.proofs.fdt.Fdt.contains.Goals as goal

@@ -1,4 +1,4 @@
-use Rattle.std.proofs.Common.{sym, ap, ◌≡◌, ◌∙◌, length, arith, subst}
+use Rattle.std.proofs.Common.{sym, ap, ◌∙◌, length, arith, subst}
 use Rattle.std.specs.List.{IsDistinct}
 use Rattle.std.specs.Map.{keys_of}
 use Rattle.gw_bdt_fdt.specs.Registrations.{same}
@@ -16,5 +16,5 @@ returns-clause-few c = omega (arith, c.len.ensures.len, c.self.invariant.few)
 pub returns-clause-once : goal.returns-clause-once
 returns-clause-once c =
     subst (IsDistinct same)
-        (sym (keyed c.self.inside.ticks c.self.inside.leases) ∙ ap (λ t. keys_of t.rows) c.self.view_is)
-        c.len.ensures.once
+    (sym (keyed c.self.inside.ticks c.self.inside.leases) ∙ ap (λ t. keys_of t.rows) c.self.view_is)
+    c.len.ensures.once

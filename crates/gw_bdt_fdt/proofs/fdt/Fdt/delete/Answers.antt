@@ -1,4 +1,4 @@
-use Rattle.std.proofs.Common.{sym, ap, ◌≡◌, ◌∙◌, subst}
+use Rattle.std.proofs.Common.{sym, ap, ◌∙◌, subst}
 use Rattle.gw_bdt_fdt.specs.Internal.{table_at, AreKept}
 use Rattle.gw_bdt_fdt.specs.Registrations.{without}
 use Rattle.gw_bdt_fdt.proofs.Rows.{kept_deleted, rows_deleted}
@@ -8,7 +8,7 @@ use Rattle.gw_bdt_fdt.proofs.fdt.Fdt.delete.Goals as goal
 pub invariant_of-self : goal.invariant_of-self
 invariant_of-self c =
     subst (AreKept c.self.inside.ticks) (sym c.take.ensures)
-        (kept_deleted c.self.inside.ticks c.self.inside.leases c.args.address c.self.invariant)
+    (kept_deleted c.self.inside.ticks c.self.inside.leases c.args.address c.self.invariant)
 
 pub returns-clause-rows : goal.returns-clause-rows
 returns-clause-rows c =

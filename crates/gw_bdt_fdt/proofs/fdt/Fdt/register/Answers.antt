@@ -1,4 +1,4 @@
-use Rattle.std.proofs.Common.{sym, ap, ◌≡◌, ◌∙◌, ◌+◌, subst, true}
+use Rattle.std.proofs.Common.{sym, ap, ◌≡◌, ◌∙◌, ◌+◌, subst}
 use Rattle.indexmap.specs.IndexMap.{insert_entry}
 use Rattle.gw_bdt_fdt.specs.Registrations.{same, has_room, with_registration}
 use Rattle.gw_bdt_fdt.specs.Internal.{table_at, AreKept}
@@ -15,9 +15,9 @@ granted c =
 pub invariant_of-self-2 : goal.invariant_of-self-2
 invariant_of-self-2 c =
     subst (AreKept c.self.inside.ticks) (sym (granted c))
-        (kept_registered c.self.inside.ticks c.self.inside.leases c.args.address c.args.time_to_live
-            (ap (λ t. has_room t c.args.address) c.self.view_is ∙ sym c.has_room.ensures ∙ c.if-not-has_room.false)
-            c.self.invariant)
+    (kept_registered c.self.inside.ticks c.self.inside.leases c.args.address c.args.time_to_live
+    (ap (λ t. has_room t c.args.address) c.self.view_is ∙ sym c.has_room.ensures ∙ c.if-not-has_room.false)
+    c.self.invariant)
 
 pub returns-clause-rows : goal.returns-clause-rows
 returns-clause-rows c =

@@ -7,4 +7,4 @@ use Rattle.gw_bdt_fdt.proofs.fdt.Fdt.rows.Given as goal
 abbrev pub invariant-loop-address : goal.invariant-loop-address
 invariant-loop-address l =
     l.rows.items ++ map shown (map (row_at l.self-inside.ticks) l.address-iterator)
-        ≡ map shown (map (row_at l.self-inside.ticks) l.self-inside.leases)
+    ≡ map shown (map (row_at l.self-inside.ticks) l.self-inside.leases)

@@ -1,4 +1,4 @@
-use Rattle.std.proofs.Common.{sym, ap, ◌≡◌, ◌∙◌, ◌+◌, ◌<◌, ◌^◌, subst}
+use Rattle.std.proofs.Common.{sym, ap, ◌∙◌, ◌+◌, ◌<◌, ◌^◌, subst}
 use Rattle.gw_bdt_fdt.specs.Internal.{table_at, AreKept}
 use Rattle.gw_bdt_fdt.specs.Registrations.{with_tick}
 use Rattle.gw_bdt_fdt.proofs.Rows.{kept_later, rows_later}
@@ -8,8 +8,8 @@ use Rattle.gw_bdt_fdt.proofs.fdt.Fdt.tick.Goals as goal
 pub invariant_of-self : goal.invariant_of-self
 invariant_of-self c =
     subst (AreKept (c.self.inside.ticks + 1)) (sym c.end_by.ensures)
-        (kept_later c.self.inside.ticks c.self.inside.leases
-            (subst (λ t. t.ticks < 2 ^ 63) (sym c.self.view_is) c.requires) c.self.invariant)
+    (kept_later c.self.inside.ticks c.self.inside.leases
+    (subst (λ t. t.ticks < 2 ^ 63) (sym c.self.view_is) c.requires) c.self.invariant)
 
 pub returns-clause-rows : goal.returns-clause-rows
 returns-clause-rows c =

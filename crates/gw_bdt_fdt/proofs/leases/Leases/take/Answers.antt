@@ -1,4 +1,4 @@
-use Rattle.std.proofs.Common.{sym, ap, ◌≡◌, ◌∙◌, cond, false, map}
+use Rattle.std.proofs.Common.{sym, ap, ◌∙◌, cond, false, map}
 use Rattle.std.specs.List.{list_any}
 use Rattle.gw_bdt_fdt.specs.Internal.{tied, end_of}
 use Rattle.gw_bdt_fdt.proofs.Ends.{end_taken}
@@ -7,12 +7,12 @@ use Rattle.gw_bdt_fdt.proofs.leases.Leases.take.Goals as goal
 pub invariant_of-self-2 : goal.invariant_of-self-2
 invariant_of-self-2 c = record {
   ends = λ q.
-    let es = c.self.inside.by_address.entries in
-    let a = c.args.address in
-    let l = c.in-Some.lease in
-    c.remove.ensures.updates.0 q
-    ∙ ap (cond (tied (l.deadline, a) q) false) (c.self.invariant.ends q)
-    ∙ sym (end_taken es a l c.self.invariant.once (sym c.shift_remove.ensures.value ∙ c.in-Some.is) q)
-    ∙ ap (λ fs. list_any (tied q) (map end_of fs)) (sym c.shift_remove.ensures.entries);
+      let es = c.self.inside.by_address.entries in
+      let a = c.args.address in
+      let l = c.in-Some.lease in
+      c.remove.ensures.updates.0 q
+      ∙ ap (cond (tied (l.deadline, a) q) false) (c.self.invariant.ends q)
+      ∙ sym (end_taken es a l c.self.invariant.once (sym c.shift_remove.ensures.value ∙ c.in-Some.is) q)
+      ∙ ap (λ fs. list_any (tied q) (map end_of fs)) (sym c.shift_remove.ensures.entries);
   once = c.shift_remove.ensures.unique;
 }

@@ -1,0 +1,83 @@
+-- What an event does to the counts, and what a tick does.
+use Rattle.std.proofs.Common.{◌≡◌, ℕ, ◌+◌, ◌^◌, ◌<◌, ◌≤◌, Bool, true, false, nat_lt, ◌||◌, arith, length, List, [], refl, ap, ◌∙◌, inl, inr}
+use Rattle.std.specs.Prelude.{IsTrue}
+use Rattle.std.proofs.lemmas.Bool.{cases_lt}
+use Rattle.std.proofs.lemmas.Bool.Decides.{nat_tests}
+use Rattle.gw_addr.specs.declared.bip.BipAddr.{BipAddr}
+use Rattle.gw_core.specs.declared.effects.Effects.{Effects}
+use Rattle.gw_core.specs.declared.effects.Sending.{Sending}
+use Rattle.gw_core.specs.declared.effects.Denial.{Denial}
+use Rattle.gw_script.specs.Event.{Event}
+use Rattle.gw_script.specs.Event.{Datagram, Tick}
+use Rattle.gw_core.specs.Denials.{denials_at}
+use Rattle.gw_core.specs.Effects.{effects_at, effects_for, nothing, passes_end, ticks_of}
+use Rattle.gw_core.specs.Receive.{Received, receive, receive_on}
+use Rattle.gw_core.specs.State.{State}
+
+-- a tick does nothing
+pub effects_at-tick : (w : State) → effects_at w Tick ≡ nothing
+unfolding effects_at receive
+effects_at-tick w = refl
+
+-- a tick is denied nothing
+pub no_denials_at_tick : (w : State) → 0 ≡ length (denials_at w Tick)
+unfolding denials_at receive
+no_denials_at_tick w = refl
+
+differs : (b : Bool) → b ≡ false → IsTrue b → ⊥
+differs b is_false is_true = absurd cc
+
+or_true : (b : Bool) → (b || true) ≡ true
+or_true true = refl
+or_true false = refl
+
+abbrev pub effects_with : List Sending → List Denial → Effects
+effects_with sends denials = record { sends = sends; denials = denials }
+
+-- effects with neither sends nor denials are nothing
+pub nothing_is : (x : Effects) → x.sends ≡ [] → x.denials ≡ [] → x ≡ nothing
+nothing_is x no_sends no_denials = ap (λ (s : List Sending). effects_with s x.denials) no_sends ∙ ap (λ (d : List Denial). effects_with [] d) no_denials
+
+-- effects are their parts
+pub effects_are : (sends other_sends : List Sending) (denials other_denials : List Denial) → sends ≡ other_sends → denials ≡ other_denials → effects_with sends denials ≡ effects_with other_sends other_denials
+effects_are sends other_sends denials other_denials same_sends same_denials = ap (λ (s : List Sending). effects_with s denials) same_sends ∙ ap (λ (d : List Denial). effects_with other_sends d) same_denials
+
+-- a count that an event leaves within its end
+pub passes_end-within : (w : State) (e : Event) (n : ℕ) → n ≡ length (denials_at w e) → w.ticks + ticks_of e ≤ 2 ^ 63 → w.denials + n ≤ 2 ^ 63 → passes_end w e ≡ false
+unfolding passes_end
+passes_end-within w e n counted ticks denials =
+    let low : nat_lt (2 ^ 63) (w.ticks + ticks_of e) ≡ false = grind (arith, nat_tests) in
+    let high : nat_lt (2 ^ 63) (w.denials + length (denials_at w e)) ≡ false = rw (← counted) (grind (arith, nat_tests)) in
+    rw (low, high) refl
+
+-- a number of a denial that an event would take past its end
+pub passes_end-denials : (w : State) (e : Event) (n : ℕ) → n ≡ length (denials_at w e) → 2 ^ 63 < w.denials + n → passes_end w e ≡ true
+unfolding passes_end
+passes_end-denials w e n counted past =
+    let high : nat_lt (2 ^ 63) (w.denials + length (denials_at w e)) ≡ true = rw (← counted) (grind (arith, nat_tests)) in
+    rw high (or_true (nat_lt (2 ^ 63) (w.ticks + ticks_of e)))
+
+-- a count of ticks that an event would take past its end
+pub passes_end-ticks : (w : State) (e : Event) → 2 ^ 63 < w.ticks + ticks_of e → passes_end w e ≡ true
+unfolding passes_end
+passes_end-ticks w e past =
+    let low : nat_lt (2 ^ 63) (w.ticks + ticks_of e) ≡ true = grind (arith, nat_tests) in
+    rw low refl
+
+-- what is done about what is received is what the event does
+pub effects_received : (w : State) (e : Event) (received : Received) → received ≡ receive w e → effects_for w received ≡ effects_at w e
+unfolding effects_at
+effects_received w e received is = ap (effects_for w) is
+
+-- what a datagram is received as on its port
+pub receive_datagram : (w : State) (port : ℕ) (from : BipAddr) (octets : List ℕ) (received : Received) → received ≡ receive_on w.ports w.device.network port from octets → received ≡ receive w (Datagram port from octets)
+unfolding receive
+receive_datagram w port from octets received is = is
+
+-- what isn't told to be past isn't past
+pub not_past : (told : Bool) (m n : ℕ) → told ≡ false → (m < n → IsTrue told) → n ≤ m
+not_past told m n is_false tells =
+    elim (cases_lt m n) [
+      | inl lt ↦ absurd (differs told is_false (tells lt))
+      | inr le ↦ le
+    ]

@@ -1,0 +1,8 @@
+use Rattle.gw_core.proofs.HistoryLemmas.{steps_extend, runs_extend}
+use Rattle.gw_core.proofs.laws.histories.Goals as goal
+
+pub returns-clause-steps : goal.returns-clause-steps
+returns-clause-steps c = steps_extend
+
+pub returns-clause-runs : goal.returns-clause-runs
+returns-clause-runs c = runs_extend

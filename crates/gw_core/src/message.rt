@@ -1,0 +1,109 @@
+//! A message of the network layer that is heard, and who it claims to come from.
+
+ghost use Rattle.std.specs.Prelude.{◌≡◌, ◌≤◌, length};
+ghost use Rattle.std.specs.Option.{option_map};
+ghost use Rattle.gw_addr.specs.Station.{key_of};
+ghost use Rattle.gw_bvll.specs.Bvll.{view as frame_view};
+ghost use Rattle.gw_npdu.specs.Npdu.{view as npdu_view, address_view};
+ghost use Rattle.gw_core.specs.Claim.{here, there, link_source};
+ghost use Rattle.gw_core.specs.View.{message_view};
+
+use crate::config::Port;
+use gw_addr::{BipAddr, Mac, NetNum, Source};
+use gw_bvll::Bvll;
+use gw_npdu::{AddressRef, Npdu};
+
+/// A message of the network layer that is heard.
+#[derive(Clone, Copy, Debug)]
+pub struct Message<'a> {
+    /// The number of the port that it came on, from 1.
+    pub number: u8,
+    /// The port.
+    pub port: &'a Port,
+    /// Whom its frame came from.
+    pub from: BipAddr,
+    /// The frame that brought it.
+    pub frame: Bvll<'a>,
+    /// The message.
+    pub npdu: Npdu<'a>,
+}
+
+impl Message<'_> {
+    /// Where it came from on the port's network: whom an answer goes to (Annex J.2.5).
+    pub fn link(&self) -> BipAddr
+        ensures { result ≡ link_source self.now.from (frame_view self.now.frame) }
+    {
+        match &self.frame {
+            Bvll::Forwarded { originator, .. } => *originator,
+            _ => self.from,
+        }
+    }
+
+    /// Where it claims to come from (clause 6.2.2).
+    pub fn claim(&self) -> Source
+        ensures { result ≡ (message_view self.now).claim }
+    {
+        match &self.npdu.source {
+            None => here(self.port.network, self.link()),
+            Some(address) => there(address),
+        }
+    }
+
+    /// The network that it claims to come from.
+    pub fn source_network(&self) -> u16
+        ensures { result ≡ (message_view self.now).claim.net }
+    {
+        match &self.npdu.source {
+            None => self.port.network.get(),
+            Some(address) => address.network,
+        }
+    }
+
+    /// The key of the address that it claims to come from, where that has six octets.
+    pub fn source_key(&self) -> Option<u64>
+        ensures { result ≡ key_of (message_view self.now).claim.mac }
+    {
+        match &self.npdu.source {
+            None => Some(self.link().key48()),
+            Some(address) => key_of(address.mac),
+        }
+    }
+}
+
+fn mac_of(octets: &[u8]) -> Mac
+    requires some { 1 ≤ length octets.now }
+    requires most { length octets.now ≤ 255 }
+    ensures { result ≡ octets.now }
+{
+    Mac::new(octets).unwrap()
+}
+
+/// A node of a port's network.
+fn here(network: NetNum, address: BipAddr) -> Source
+    ensures { result ≡ here network address }
+{
+    Source {
+        net: network,
+        mac: mac_of(&address.to_octets()),
+    }
+}
+
+/// A station by the network and the address that a message names.
+fn there(address: &AddressRef<'_>) -> Source
+    ensures { result ≡ there (address_view address.now) }
+{
+    Source {
+        net: address.net(),
+        mac: mac_of(address.mac),
+    }
+}
+
+/// The number of an address of six octets.
+fn key_of(address: &[u8]) -> Option<u64>
+    ensures { result ≡ key_of address.now }
+{
+    match address {
+        [a, b, c, d, high, low] => Some(u64::from_be_bytes([0, 0, *a, *b, *c, *d, *high, *low])),
+        _ => None,
+    }
+}
