@@ -6,10 +6,9 @@ pub mod Number
 pub mod Strings
 pub mod Value
 pub mod Reading
-pub mod Body
 pub mod Laws
 pub mod List
 pub mod Walk
-pub mod Element
 pub mod Context
 pub mod ContextReading
+pub mod internal

@@ -4,7 +4,7 @@ ghost use Rattle.std.specs.Prelude.{◌≡◌, ◌≤◌, ℕ, List, length, IfS
 ghost use Rattle.std.specs.Option.{option_map};
 ghost use Rattle.gw_tags.specs.List.{EndsList};
 ghost use Rattle.gw_tags.specs.Walk.{closing_at, element_at, list_at, stepped, value};
-ghost use Rattle.gw_tags.specs.Element.{element_view};
+ghost use Rattle.gw_tags.specs.internal.Element.{element_view};
 
 use crate::element::Element;
 use crate::fault::TagFault;

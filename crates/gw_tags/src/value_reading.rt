@@ -7,7 +7,7 @@ ghost use Rattle.gw_tags.specs.Number.{twos_complement};
 ghost use Rattle.gw_tags.specs.Object.{object_of};
 ghost use Rattle.gw_tags.specs.Reading.{head_at, octets_at, number_in, judged_text_at, judged_body_at, one_to_four, null_at, boolean_at, text_at, bits_at, body_at, judged, value_at};
 ghost use Rattle.gw_tags.specs.Value.{Value, value_view, IsValue, BeginsWithValue, IsShortValue, IsBadValueTag, IsBadLength, IsBadText};
-ghost use Rattle.gw_tags.specs.Body.{body_view};
+ghost use Rattle.gw_tags.specs.internal.Body.{body_view};
 
 use crate::body::Body;
 use crate::datatype::{Datatype, of_number};

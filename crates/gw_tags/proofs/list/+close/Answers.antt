@@ -1,7 +1,7 @@
 use Rattle.std.proofs.Common.{◌≡◌, ℕ, ◌+◌, ◌-◌, ◌<◌, Some, None, sym, ap, ◌∙◌, cond, eqb, arith}
 use Rattle.std.specs.Option.{option_map}
 use Rattle.std.proofs.lemmas.Bool.{ne_eqb, eq-eqb}
-use Rattle.gw_tags.specs.Element.{element_view}
+use Rattle.gw_tags.specs.internal.Element.{element_view}
 use Rattle.gw_tags.specs.Walk.{closing_at}
 use Rattle.gw_tags.proofs.Walks.{loop_nothing, loop_value, loop_deep, loop_list, loop_bad_list, loop_closing, no_fuel}
 use Rattle.gw_tags.proofs.list.+close.Goals as goal
