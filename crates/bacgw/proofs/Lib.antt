@@ -1,2 +1,2 @@
-mod PlayLemmas
+mod ReplayLemmas
 mod WordsLemmas

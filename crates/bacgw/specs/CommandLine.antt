@@ -8,7 +8,7 @@ use Rattle.clap.specs.declared.error.kind.ErrorKind.TheVariants as parse
 use Rattle.bacgw.specs.declared.command_line.Choice.{Choice}
 use Rattle.bacgw.specs.declared.command_line.Choice.TheVariants as choice
 use Rattle.bacgw.specs.declared.fault.Fault.{Fault}
-use Rattle.bacgw.specs.declared.fault.Fault.TheVariants as told
+use Rattle.bacgw.specs.declared.fault.Fault.TheVariants as fault
 
 -- the commands of the program: `replay` without options, and the call has to name a command
 abbrev pub commands : App
@@ -18,8 +18,8 @@ commands = with_subcommand (on_top (λ top. record top { subcommand_required = t
 -- what the program makes of a parse that failed: help where that was asked for, and else a bad command line
 abbrev pub IsRefusal : ErrorKind → Result Choice Fault → Type 0
 IsRefusal kind (Ok (choice.Help text)) = kind ≡ parse.DisplayHelp
-IsRefusal kind (Err told.CommandLine) = (kind ≢ parse.DisplayHelp) × (kind ≢ parse.OutOfMemory)
-IsRefusal kind (Err told.Memory) = ⊤
+IsRefusal kind (Err fault.CommandLine) = (kind ≢ parse.DisplayHelp) × (kind ≢ parse.OutOfMemory)
+IsRefusal kind (Err fault.Memory) = ⊤
 IsRefusal kind _ = ⊥
 
 -- what the program makes of words with these kinds of fault: `replay` where there is none, help where that was asked for, a bad
@@ -27,8 +27,8 @@ IsRefusal kind _ = ⊥
 abbrev pub IsAnswer : Kinds → Result Choice Fault → Type 0
 IsAnswer kinds (Ok choice.Replay) = kinds ≡ []
 IsAnswer kinds (Ok (choice.Help text)) = IsAmong parse.DisplayHelp kinds
-IsAnswer kinds (Err told.CommandLine) = (k : ErrorKind) × IsAmong k kinds × (k ≢ parse.DisplayHelp)
-IsAnswer kinds (Err told.Memory) = ⊤
+IsAnswer kinds (Err fault.CommandLine) = (k : ErrorKind) × IsAmong k kinds × (k ≢ parse.DisplayHelp)
+IsAnswer kinds (Err fault.Memory) = ⊤
 IsAnswer kinds _ = ⊥
 
 -- the words of the one call that plays a script: the program's name, whatever it is, and `replay`

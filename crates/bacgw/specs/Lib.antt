@@ -1,3 +1,3 @@
 pub mod CommandLine
-pub mod Played
-pub mod Told
+pub mod Ending
+pub mod Replay

@@ -3,7 +3,7 @@
 ghost use Rattle.std.specs.Prelude.{◌≡◌, OnOk};
 ghost use Rattle.std.specs.Io.KnownBytes.{Appends};
 ghost use Rattle.std.specs.Process.{exit_status};
-ghost use Rattle.bacgw.specs.Told.{status_after, told};
+ghost use Rattle.bacgw.specs.Ending.{status_after, error_text};
 
 use crate::fault::Fault;
 use std::io;
@@ -12,7 +12,7 @@ use std::process::ExitCode;
 
 /// Writes the line of a fault, and nothing where there is none.
 pub fn tell<W: Write>(outcome: Result<(), Fault>, errors: &mut W) -> io::Result<()>
-    ensures { OnOk result (Appends (W.contents errors.old) (W.contents errors.new) (told outcome)) }
+    ensures { OnOk result (Appends (W.contents errors.old) (W.contents errors.new) (error_text outcome)) }
 {
     match outcome {
         Ok(()) => Ok(()),

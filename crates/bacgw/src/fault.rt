@@ -1,7 +1,7 @@
 //! Why the program ends without success: the line that it tells, and its exit status.
 
 ghost use Rattle.std.specs.Prelude.{◌≡◌, ◌≢◌, Some};
-ghost use Rattle.bacgw.specs.Told.{fault_of, status_of, text_of};
+ghost use Rattle.bacgw.specs.Ending.{fault_of, status_of, text_of};
 ghost use Rattle.bacgw.specs.declared.fault.Fault.TheVariants.{CommandLine, Memory};
 
 use gw_core::RunFault;

@@ -3,8 +3,8 @@
 ghost use Rattle.std.specs.Prelude.{◌≡◌, [], OnOk};
 ghost use Rattle.std.specs.Io.Buffered.{writer_buffer, writer_contents};
 ghost use Rattle.gw_core.specs.Replay.{OnKnown};
-ghost use Rattle.bacgw.specs.Played.{Plays};
-ghost use Rattle.bacgw.specs.Told.{first_fault};
+ghost use Rattle.bacgw.specs.Replay.{Plays};
+ghost use Rattle.bacgw.specs.Ending.{first_fault};
 
 use crate::fault::Fault;
 use gw_core::RunFault;

@@ -38,9 +38,9 @@ first_fault (Ok done) false = Err fault.Write
 first_fault (Err of_run) flushed = Err (fault_of of_run)
 
 -- what standard error is given: nothing, or the fault's line and a line feed
-abbrev pub told : Result (Unit {0}) Fault → List ℕ
-told (Ok done) = []
-told (Err of_program) = text_of of_program ++ 10 ∷ []
+abbrev pub error_text : Result (Unit {0}) Fault → List ℕ
+error_text (Ok done) = []
+error_text (Err of_program) = text_of of_program ++ 10 ∷ []
 
 -- the exit status: 0, or the fault's
 abbrev pub status_after : Result (Unit {0}) Fault → ℕ

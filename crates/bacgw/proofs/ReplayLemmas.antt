@@ -4,37 +4,38 @@ use Rattle.std.specs.Io.KnownBytes.{Keeps}
 use Rattle.gw_core.specs.declared.replaying.RunFault.{RunFault}
 use Rattle.gw_core.specs.declared.replaying.RunFault.TheVariants as run
 use Rattle.gw_script.specs.Event.{Event}
-use Rattle.gw_core.specs.Replay.{RunsFront, RunsPart, RunsToEnd, RunsToLine, RunsWhole, OnKnown, run_text}
+use Rattle.gw_core.specs.Replay.{RunsFront, RunsPart, RunsToEnd, RunsToLine, RunsToMemory, RunsWhole, OnKnown, run_text}
 use Rattle.gw_script.specs.Script.{AreLines, lines_of}
-use Rattle.gw_core.specs.Configured.{Configured}
+use Rattle.gw_core.specs.Configuration.{Configuration}
 use Rattle.gw_core.specs.History.{run_after}
 use Rattle.gw_core.specs.Setting.{setting}
-use Rattle.bacgw.specs.Played.{Plays}
-use Rattle.bacgw.specs.Told.{first_fault}
+use Rattle.bacgw.specs.Replay.{Plays}
+use Rattle.bacgw.specs.Ending.{first_fault}
 
 -- what a run of this configuration alone leaves written
-abbrev pub Leaves : Configured → List ℕ → List ℕ → Result (Unit {0}) RunFault → List ℕ → Type 0
+abbrev pub Leaves : Configuration → List ℕ → List ℕ → Result (Unit {0}) RunFault → List ℕ → Type 0
 Leaves c script before (Ok done) after = RunsWhole c script before after
 Leaves c script before (Err (run.Line n)) after = RunsToLine n c script before after
 Leaves c script before (Err run.Read) after = RunsPart c script before after
 Leaves c script before (Err run.Write) after = RunsFront c script before after
-Leaves c script before (Err run.Memory) after = RunsPart c script before after
+Leaves c script before (Err run.Memory) after = RunsToMemory c script before after
 Leaves c script before (Err run.CountEnd) after = RunsToEnd c script before after
 
 -- the clauses of a run as one
-pub run_leaves : (c : Configured) (read held holds : Option (List ℕ)) (r : Result (Unit {0}) RunFault)
+pub run_leaves : (c : Configuration) (read held holds : Option (List ℕ)) (r : Result (Unit {0}) RunFault)
     → OnOk r (OnKnown read held holds (RunsWhole c))
     → ((n : ℕ) → IsErrOf r (run.Line n) → OnKnown read held holds (RunsToLine n c))
     → (IsErrOf r run.Write → OnKnown read held holds (RunsFront c))
     → (IsErrOf r run.CountEnd → OnKnown read held holds (RunsToEnd c))
+    → (IsErrOf r run.Memory → OnKnown read held holds (RunsToMemory c))
     → ((IsErrOf r run.Read ⊎ IsErrOf r run.Memory) → OnKnown read held holds (RunsPart c))
     → OnKnown read held holds (λ script before. Leaves c script before r)
-run_leaves c read held holds (Ok done) whole line front count_end part = whole
-run_leaves c read held holds (Err (run.Line n)) whole line front count_end part = line n refl
-run_leaves c read held holds (Err run.Read) whole line front count_end part = part (inl refl)
-run_leaves c read held holds (Err run.Write) whole line front count_end part = front refl
-run_leaves c read held holds (Err run.Memory) whole line front count_end part = part (inr refl)
-run_leaves c read held holds (Err run.CountEnd) whole line front count_end part = count_end refl
+run_leaves c read held holds (Ok done) whole line front count_end memory part = whole
+run_leaves c read held holds (Err (run.Line n)) whole line front count_end memory part = line n refl
+run_leaves c read held holds (Err run.Read) whole line front count_end memory part = part (inl refl)
+run_leaves c read held holds (Err run.Write) whole line front count_end memory part = front refl
+run_leaves c read held holds (Err run.Memory) whole line front count_end memory part = memory refl
+run_leaves c read held holds (Err run.CountEnd) whole line front count_end memory part = count_end refl
 
 -- what holds of known bytes holds where they are kept
 pub kept : (P : List ℕ → Type 0) (held now : Option (List ℕ)) → Keeps held now → IsSomeAnd held P → IsSomeAnd now P
@@ -79,6 +80,6 @@ flushed_plays script before after (Err run.Memory) flushed leaves = leaves
 flushed_plays script before after (Err run.CountEnd) flushed leaves = leaves
 
 -- before the first event nothing is written
-pub nothing_plays : (script before : List ℕ) → RunsPart setting script before before
+pub nothing_plays : (script before : List ℕ) → RunsToMemory setting script before before
 unfolding run_after
-nothing_plays script before = record { events = []; lines = tt; text = sym (nothing_more before) }
+nothing_plays script before = record { events = []; lines = tt; cause = inl refl; text = sym (nothing_more before) }

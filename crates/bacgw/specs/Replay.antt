@@ -1,6 +1,6 @@
 -- What a replay leaves written, at each outcome: over the definitions of `gw_core`, at the built-in configuration.
 use Rattle.std.specs.Prelude.{ℕ, List, Result, Ok, Err}
-use Rattle.gw_core.specs.Replay.{RunsFront, RunsPart, RunsToEnd, RunsToLine, RunsWhole}
+use Rattle.gw_core.specs.Replay.{RunsFront, RunsPart, RunsToEnd, RunsToLine, RunsToMemory, RunsWhole}
 use Rattle.gw_core.specs.Setting.{setting}
 use Rattle.bacgw.specs.declared.fault.Fault.{Fault}
 use Rattle.bacgw.specs.declared.fault.Fault.TheVariants as fault
@@ -12,5 +12,5 @@ Plays script before (Err fault.CommandLine) after = ⊥
 Plays script before (Err (fault.Line n)) after = RunsToLine n setting script before after
 Plays script before (Err fault.Read) after = RunsPart setting script before after
 Plays script before (Err fault.Write) after = RunsFront setting script before after
-Plays script before (Err fault.Memory) after = RunsPart setting script before after
+Plays script before (Err fault.Memory) after = RunsToMemory setting script before after
 Plays script before (Err fault.CountEnd) after = RunsToEnd setting script before after
