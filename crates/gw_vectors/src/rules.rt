@@ -6,7 +6,7 @@ ghost use Rattle.gw_rules.specs.RuleList.{allows, first};
 
 use gw_rules::{
     Ask, Authorizer, Decision, FieldName, Fields, Judge, MAX_RANGES, MAX_RULES, Operation, Range,
-    Ranges, Refusal, Refusals, Rule, RuleFault, RuleList, RuleName, Service, laws,
+    Ranges, Refusal, Refusals, Rule, RuleFault, RuleList, Service, laws,
 };
 use std::alloc::{AllocError, Global};
 use std::test::Fail;
@@ -161,14 +161,15 @@ fn a_rule_may_be_written_as_a_struct(rt: HostRuntime) -> Result<(), Fail> {
     let alloc = rt.alloc();
     let mut service = Ranges::new(alloc);
     service.push(Range { low: 12, high: 15 })?;
-    let no_fields = Rule::new(alloc, "", true)?;
+    let Rule {
+        name,
+        allow,
+        ranges,
+    } = Rule::new(alloc, "services", true)?;
     let rule = Rule {
-        name: RuleName::new(alloc, "services")?,
-        ranges: Fields {
-            service,
-            ..no_fields.ranges
-        },
-        ..no_fields
+        name,
+        allow,
+        ranges: Fields { service, ..ranges },
     };
     assert!(rt; Range { low: 12, high: 15 }.holds(15));
     assert!(rt; !rule.matches(&Ask::new(Operation::Cast)));
