@@ -293,7 +293,7 @@ fn runs_without_words(rt: HostRuntime) -> Result<(), Fail> {
     let code = run(rt.alloc(), words, &mut script, &mut output, &mut errors);
     assert!(rt; code == ExitCode::from(2));
     assert!(rt; output.buffer().is_empty() && output.get_ref().is_empty());
-    assert_eq!(rt; errors.as_slice(), b"bacgw: bad command line\n");
+    assert_eq!(rt; errors.as_slice(), b"bacgw: bad command line\n".as_slice());
     Ok(())
 }
 
@@ -316,7 +316,7 @@ fn ends_where_help_or_a_fault_cannot_be_written(rt: HostRuntime) -> Result<(), F
         let code = run(rt.alloc(), Ok(call), &mut script, &mut output, &mut errors);
         assert!(rt; code == ExitCode::from(1));
         assert!(rt; output.get_ref().held.len() == 7);
-        assert_eq!(rt; errors.held.as_slice(), b"bac");
+        assert_eq!(rt; errors.held.as_slice(), b"bac".as_slice());
     }
     Ok(())
 }
