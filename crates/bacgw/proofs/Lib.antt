@@ -1,2 +1,3 @@
+mod AppendLemmas
 mod ReplayLemmas
 mod WordsLemmas

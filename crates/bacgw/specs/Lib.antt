@@ -1,3 +1,4 @@
 pub mod CommandLine
 pub mod Ending
+pub mod Program
 pub mod Replay

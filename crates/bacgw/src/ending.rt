@@ -1,31 +1,58 @@
-//! How the program ends: what it tells of a fault, and its exit status.
+//! How the program ends: the line on standard error, and the exit status.
 
-ghost use Rattle.std.specs.Prelude.{◌≡◌, OnOk};
+ghost use Rattle.std.specs.Prelude.{◌≡◌, ◌++◌, ◌∷◌, [], codes, decimal, IsOk, OnOk};
 ghost use Rattle.std.specs.Io.KnownBytes.{Appends};
 ghost use Rattle.std.specs.Process.{exit_status};
-ghost use Rattle.bacgw.specs.Ending.{status_after, error_text};
+ghost use Rattle.bacgw.specs.Ending.{error_text, status_after, text_of};
 
 use crate::fault::Fault;
-use std::io;
-use std::io::Write;
+use gw_script::{OctetSink, WriteFailed, write_whole};
+use itoa::Buffer;
 use std::process::ExitCode;
 
-/// Writes the line of a fault, and nothing where there is none.
-pub fn tell<W: Write>(outcome: Result<(), Fault>, errors: &mut W) -> io::Result<()>
-    ensures { OnOk result (Appends (W.contents errors.old) (W.contents errors.new) (error_text outcome)) }
+/// Writes `bacgw: line ` and this number, and a line feed.
+fn write_line_number<E: OctetSink>(number: u64, errors: &mut E) -> Result<(), WriteFailed>
+    ensures ok { OnOk result (Appends (E.held errors.old) (E.held errors.new) (codes "bacgw: line " ++ decimal number ++ 10 ∷ [])) }
+    ensures sure { E.NeverFails errors.old → IsOk result }
 {
-    match outcome {
-        Ok(()) => Ok(()),
-        Err(fault) => writeln!(errors, "{fault}"),
+    match write_whole(errors, b"bacgw: line ") {
+        Ok(()) => {}
+        Err(failed) => return Err(failed),
+    }
+    match write_whole(errors, Buffer::new().format(number).as_bytes()) {
+        Ok(()) => {}
+        Err(failed) => return Err(failed),
+    }
+    write_whole(errors, b"\n")
+}
+
+/// Writes the line of a fault.
+fn write_fault<E: OctetSink>(fault: Fault, errors: &mut E) -> Result<(), WriteFailed>
+    ensures ok { OnOk result (Appends (E.held errors.old) (E.held errors.new) (text_of fault ++ 10 ∷ [])) }
+    ensures sure { E.NeverFails errors.old → IsOk result }
+{
+    match fault {
+        Fault::CommandLine => write_whole(errors, b"bacgw: bad command line\n"),
+        Fault::Line(number) => write_line_number(number, errors),
+        Fault::Read => write_whole(errors, b"bacgw: read failed\n"),
+        Fault::Write => write_whole(errors, b"bacgw: write failed\n"),
+        Fault::Memory => write_whole(errors, b"bacgw: out of memory\n"),
+        Fault::CountEnd => write_whole(errors, b"bacgw: count at its end\n"),
     }
 }
 
-/// The exit status: 0 where there is no fault, and else the fault's.
-pub fn exit_code(outcome: Result<(), Fault>) -> ExitCode
-    ensures { exit_status result ≡ status_after outcome }
+/// Writes the line of a fault, and nothing where there is none. It answers the exit status: 0 where there is no fault, and else the
+/// fault's.
+pub fn end<E: OctetSink>(outcome: Result<(), Fault>, errors: &mut E) -> ExitCode
+    ensures line { E.NeverFails errors.old → Appends (E.held errors.old) (E.held errors.new) (error_text outcome) }
+    ensures status { exit_status result ≡ status_after outcome }
 {
     match outcome {
         Ok(()) => ExitCode::SUCCESS,
-        Err(fault) => ExitCode::from(fault.status()),
+        Err(fault) => {
+            // Where standard error takes nothing the exit status alone says that there was a fault.
+            let _ = write_fault(fault, errors);
+            ExitCode::from(fault.status())
+        }
     }
 }

@@ -1,4 +1,4 @@
-//! Why the program ends without success: the line that it tells, and its exit status.
+//! Why the program ends without success: its line on standard error, and its exit status.
 
 ghost use Rattle.std.specs.Prelude.{◌≡◌, ◌≢◌, Some};
 ghost use Rattle.bacgw.specs.Ending.{fault_of, status_of, text_of};
@@ -6,12 +6,12 @@ ghost use Rattle.bacgw.specs.declared.fault.Fault.TheVariants.{CommandLine, Memo
 
 use gw_core::RunFault;
 use std::alloc::AllocError;
-use std::error::Error;
 use std::fmt;
 use std::io::ErrorKind;
+use thiserror::Error;
 
-/// Why the program ends without success. `Display` gives the line that is told on standard error, without its line feed.
-#[derive(Clone, Copy, Debug, PartialEq, Eq)]
+/// Why the program ends without success. `Display` gives its line on standard error, without the line feed.
+#[derive(Clone, Copy, Debug, PartialEq, Eq, Error)]
 pub enum Fault {
     /// The words that the program was called with are none that it takes.
     CommandLine,
@@ -64,8 +64,6 @@ impl fmt::Display for Fault {
         }
     }
 }
-
-impl Error for Fault {}
 
 impl From<RunFault> for Fault {
     ghost from_gives = { λ run fault. fault ≡ fault_of run };

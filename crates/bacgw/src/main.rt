@@ -7,11 +7,11 @@
 mod command_line;
 mod ending;
 mod fault;
+mod program;
 mod script;
 #[cfg(test)]
 mod tests;
 
-use command_line::Choice;
 use fault::Fault;
 use std::io::BufWriter;
 use std::process::ExitCode;
@@ -29,28 +29,17 @@ fn words(rt: &(impl Env + AllocGlobal)) -> Result<Vec<String>, Fault> {
     }
 }
 
-/// Plays the script on standard input.
-fn replay(rt: &(impl Input + Print + AllocGlobal)) -> Result<(), Fault> {
-    let alloc = rt.alloc();
-    let mut reader = rt.reader();
-    match BufWriter::with_capacity(alloc, OUTPUT_OCTETS, io::writer(rt)) {
-        Ok(mut writer) => script::replay(alloc, &mut reader, &mut writer),
-        Err(_) => Err(Fault::Memory),
-    }
-}
-
-/// Does what the words ask for.
-fn run(rt: &(impl Env + Input + Print + AllocGlobal)) -> Result<(), Fault> {
-    let words = words(rt)?;
-    match command_line::choice_of(rt.alloc(), words.as_slice())? {
-        Choice::Replay => replay(rt),
-        Choice::Help(text) => rt.print(text).map_err(|_| Fault::Write),
-    }
-}
-
 fn main(rt: HostRuntime) -> ExitCode {
-    let outcome = run(&rt);
-    // Where standard error takes nothing the exit status alone tells of a fault.
-    let _ = ending::tell(outcome, &mut rt.stderr());
-    ending::exit_code(outcome)
+    let alloc = rt.alloc();
+    let mut errors = rt.stderr();
+    let Ok(mut output) = BufWriter::with_capacity(alloc, OUTPUT_OCTETS, io::writer(&rt)) else {
+        return ending::end(Err(Fault::Memory), &mut errors);
+    };
+    program::run(
+        alloc,
+        words(&rt),
+        &mut rt.reader(),
+        &mut output,
+        &mut errors,
+    )
 }

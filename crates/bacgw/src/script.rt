@@ -8,8 +8,9 @@ ghost use Rattle.bacgw.specs.Ending.{first_fault};
 
 use crate::fault::Fault;
 use gw_core::RunFault;
+use gw_script::OctetSource;
 use std::alloc::Global;
-use std::io::{BufWriter, Read, Write};
+use std::io::{BufWriter, Write};
 
 /// The first fault of a run and of the flush behind it.
 fn first_fault(run: Result<(), RunFault>, is_flushed: bool) -> Result<(), Fault>
@@ -24,12 +25,12 @@ fn first_fault(run: Result<(), RunFault>, is_flushed: bool) -> Result<(), Fault>
 
 /// Plays the script that `reader` has left against the built-in configuration. What was written is flushed at every outcome. Faults:
 /// those of the run, `Write` also where the flush alone fails, and `Memory` where the configuration can't be held.
-pub fn replay<R: Read, W: Write + Drop>(
+pub fn replay<R: OctetSource, W: Write + Drop>(
     alloc: Global,
     reader: &mut R,
     writer: &mut BufWriter<W>,
 ) -> Result<(), Fault>
-    ensures plays { OnKnown (R.remaining reader.old) (writer_contents W.contents writer.old) (writer_contents W.contents writer.new) (λ script before. Plays script before result) }
+    ensures plays { OnKnown (R.left reader.old) (writer_contents W.contents writer.old) (writer_contents W.contents writer.new) (λ script before. Plays script before result) }
     ensures flushed { OnOk result (writer_buffer writer.new ≡ []) }
 {
     let config = gw_core::setting_s(alloc)?;

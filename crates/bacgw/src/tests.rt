@@ -1,8 +1,9 @@
 //! Words, faults and scripts, and what the program makes of them.
 
 use crate::command_line::{Choice, choice_of};
-use crate::ending::{exit_code, tell};
+use crate::ending::end;
 use crate::fault::Fault;
+use crate::program::run;
 use crate::script::replay;
 use std::alloc::{AllocError, Global};
 use std::io;
@@ -11,18 +12,18 @@ use std::process::ExitCode;
 use std::test::*;
 
 /// The words of a call, the program's name first.
-fn called(alloc: Global, words: &[&str]) -> Result<Vec<String>, AllocError> {
-    let mut called = Vec::new(alloc);
-    called.push(String::from_str(alloc, "bacgw")?)?;
+fn call(alloc: Global, words: &[&str]) -> Result<Vec<String>, AllocError> {
+    let mut call = Vec::new(alloc);
+    call.push(String::from_str(alloc, "bacgw")?)?;
     for word in words {
-        called.push(String::from_str(alloc, word)?)?;
+        call.push(String::from_str(alloc, word)?)?;
     }
-    Ok(called)
+    Ok(call)
 }
 
 #[test]
 fn takes_replay_alone(rt: HostRuntime) -> Result<(), Fail> {
-    let words = called(rt.alloc(), &["replay"])?;
+    let words = call(rt.alloc(), &["replay"])?;
     let choice = choice_of(rt.alloc(), words.as_slice());
     assert!(rt; matches!(&choice, Ok(Choice::Replay)));
     Ok(())
@@ -45,8 +46,8 @@ fn refuses_other_words(rt: HostRuntime) -> Result<(), Fail> {
         &["--version"],
     ];
     for words in cases {
-        let called = called(rt.alloc(), words)?;
-        let choice = choice_of(rt.alloc(), called.as_slice());
+        let call = call(rt.alloc(), words)?;
+        let choice = choice_of(rt.alloc(), call.as_slice());
         assert!(rt; matches!(&choice, Err(Fault::CommandLine)), "{words:?}");
     }
     Ok(())
@@ -85,8 +86,8 @@ fn helps(rt: HostRuntime) -> Result<(), Fail> {
         (&["help", "replay"], REPLAY_HELP),
     ];
     for (words, text) in cases {
-        let called = called(rt.alloc(), words)?;
-        match choice_of(rt.alloc(), called.as_slice()) {
+        let call = call(rt.alloc(), words)?;
+        match choice_of(rt.alloc(), call.as_slice()) {
             Ok(Choice::Help(help)) => assert_eq!(rt; help.as_str(), text, "{words:?}"),
             _ => panic!(rt; "no help at {words:?}"),
         }
@@ -120,9 +121,9 @@ fn tells_faults(rt: HostRuntime) -> Result<(), Fail> {
     ];
     for (outcome, text, status) in cases {
         let mut errors = Vec::new(rt.alloc());
-        tell(outcome, &mut errors)?;
+        let code = end(outcome, &mut errors);
         assert_eq!(rt; errors.as_slice(), text);
-        assert!(rt; exit_code(outcome) == ExitCode::from(status));
+        assert!(rt; code == ExitCode::from(status));
     }
     Ok(())
 }
@@ -173,7 +174,7 @@ impl Read for Broken {
 }
 
 /// Plays a script to a writer that takes so many octets, behind a buffer of so many. It gives what the writer holds, too.
-fn played(
+fn replay_to(
     alloc: Global,
     mut script: &[u8],
     capacity: usize,
@@ -200,10 +201,10 @@ fn played(
 fn flushes_what_was_written(rt: HostRuntime) -> Result<(), Fail> {
     let whole = &SCRIPT[..SCRIPT.len() - 5];
     for capacity in [0, 16, 4096] {
-        let (outcome, held) = played(rt.alloc(), whole, capacity, 1000, true)?;
+        let (outcome, held) = replay_to(rt.alloc(), whole, capacity, 1000, true)?;
         assert!(rt; outcome == Ok(()));
         assert_eq!(rt; held.as_slice(), TEXT);
-        let (outcome, held) = played(rt.alloc(), SCRIPT, capacity, 1000, true)?;
+        let (outcome, held) = replay_to(rt.alloc(), SCRIPT, capacity, 1000, true)?;
         assert!(rt; outcome == Err(Fault::Line(3)));
         assert_eq!(rt; held.as_slice(), TEXT);
     }
@@ -213,9 +214,9 @@ fn flushes_what_was_written(rt: HostRuntime) -> Result<(), Fail> {
 #[test]
 fn tells_the_first_of_two_faults(rt: HostRuntime) -> Result<(), Fail> {
     let whole = &SCRIPT[..SCRIPT.len() - 5];
-    let (outcome, _) = played(rt.alloc(), whole, 4096, 1000, false)?;
+    let (outcome, _) = replay_to(rt.alloc(), whole, 4096, 1000, false)?;
     assert!(rt; outcome == Err(Fault::Write));
-    let (outcome, _) = played(rt.alloc(), SCRIPT, 4096, 1000, false)?;
+    let (outcome, _) = replay_to(rt.alloc(), SCRIPT, 4096, 1000, false)?;
     assert!(rt; outcome == Err(Fault::Line(3)));
     Ok(())
 }
@@ -225,7 +226,7 @@ fn writes_a_front_before_a_write_fault(rt: HostRuntime) -> Result<(), Fail> {
     let whole = &SCRIPT[..SCRIPT.len() - 5];
     for capacity in [0, 16, 4096] {
         for left in 0..TEXT.len() {
-            let (outcome, held) = played(rt.alloc(), whole, capacity, left, true)?;
+            let (outcome, held) = replay_to(rt.alloc(), whole, capacity, left, true)?;
             assert!(rt; outcome == Err(Fault::Write), "after {left}");
             assert!(rt; held.as_slice() == &TEXT[..left], "after {left}");
         }
@@ -239,5 +240,83 @@ fn tells_of_a_failed_read(rt: HostRuntime) -> Result<(), Fail> {
     let outcome = replay(rt.alloc(), &mut Broken, &mut writer);
     assert!(rt; outcome == Err(Fault::Read));
     assert!(rt; writer.get_ref().is_empty());
+    Ok(())
+}
+
+/// What one run of the program leaves: its exit status, standard output and standard error.
+#[derive(Drop)]
+struct Run {
+    code: ExitCode,
+    output: Vec<u8>,
+    errors: Vec<u8>,
+}
+
+/// Runs the program on these words and this script.
+fn run_on(alloc: Global, words: &[&str], mut script: &[u8]) -> Result<Run, Fail> {
+    let call = call(alloc, words)?;
+    let mut output = BufWriter::new(alloc, Vec::new(alloc))?;
+    let mut errors = Vec::new(alloc);
+    let code = run(alloc, Ok(call), &mut script, &mut output, &mut errors);
+    let (output, _unwritten) = output.into_parts();
+    Ok(Run {
+        code,
+        output,
+        errors,
+    })
+}
+
+#[test]
+fn runs_from_words_to_status(rt: HostRuntime) -> Result<(), Fail> {
+    let whole = &SCRIPT[..SCRIPT.len() - 5];
+    let cases: [(&[&str], &[u8], &[u8], &[u8], u8); 5] = [
+        (&["replay"], whole, TEXT, b"", 0),
+        (&["replay"], SCRIPT, TEXT, b"bacgw: line 3\n", 2),
+        (&["run"], whole, b"", b"bacgw: bad command line\n", 2),
+        (&["--help"], whole, HELP.as_bytes(), b"", 0),
+        (&["help", "replay"], whole, REPLAY_HELP.as_bytes(), b"", 0),
+    ];
+    for (words, script, output, errors, status) in cases {
+        let run = run_on(rt.alloc(), words, script)?;
+        assert_eq!(rt; run.output.as_slice(), output, "{words:?}");
+        assert_eq!(rt; run.errors.as_slice(), errors, "{words:?}");
+        assert!(rt; run.code == ExitCode::from(status), "{words:?}");
+    }
+    Ok(())
+}
+
+#[test]
+fn runs_without_words(rt: HostRuntime) -> Result<(), Fail> {
+    let mut script: &[u8] = SCRIPT;
+    let mut output = BufWriter::new(rt.alloc(), Vec::new(rt.alloc()))?;
+    let mut errors = Vec::new(rt.alloc());
+    let words = Err(Fault::of_words(ErrorKind::InvalidData));
+    let code = run(rt.alloc(), words, &mut script, &mut output, &mut errors);
+    assert!(rt; code == ExitCode::from(2));
+    assert!(rt; output.buffer().is_empty() && output.get_ref().is_empty());
+    assert_eq!(rt; errors.as_slice(), b"bacgw: bad command line\n".as_slice());
+    Ok(())
+}
+
+#[test]
+fn ends_where_help_or_a_fault_cannot_be_written(rt: HostRuntime) -> Result<(), Fail> {
+    for words in [&["--help"][..], &["replay"][..]] {
+        let call = call(rt.alloc(), words)?;
+        let narrow = Narrow {
+            held: Vec::new(rt.alloc()),
+            left: 7,
+            flushes: true,
+        };
+        let mut output = BufWriter::with_capacity(rt.alloc(), 0, narrow)?;
+        let mut errors = Narrow {
+            held: Vec::new(rt.alloc()),
+            left: 3,
+            flushes: true,
+        };
+        let mut script: &[u8] = SCRIPT;
+        let code = run(rt.alloc(), Ok(call), &mut script, &mut output, &mut errors);
+        assert!(rt; code == ExitCode::from(1));
+        assert!(rt; output.get_ref().held.len() == 7);
+        assert_eq!(rt; errors.held.as_slice(), b"bac".as_slice());
+    }
     Ok(())
 }

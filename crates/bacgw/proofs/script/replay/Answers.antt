@@ -21,7 +21,7 @@ returns-clause-plays g c = λ script before remains holds.
     let contents = writer_contents g.W.Write.contents in
     let run = c.replay-run in
     let leaves : IsSomeAnd (contents run.new.writer) (Leaves c.in_ok-config.config script before run.result) =
-    run_leaves c.in_ok-config.config (g.R.Read.remaining c.args.reader.now) (contents c.args.writer.now) (contents run.new.writer) run.result
+    run_leaves c.in_ok-config.config (g.R.OctetSource.left c.args.reader.now) (contents c.args.writer.now) (contents run.new.writer) run.result
     run.ensures.whole run.ensures.line run.ensures.front run.ensures.count_end run.ensures.memory run.ensures.part script before remains holds in
     let leaves_at_setting : IsSomeAnd (contents run.new.writer) (Leaves setting script before run.result) =
     subst (λ (config : Configuration). IsSomeAnd (contents run.new.writer) (Leaves config script before run.result)) c.in_ok-config.ensures leaves in

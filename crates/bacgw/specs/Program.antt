@@ -1,0 +1,37 @@
+-- The program as a whole: what the words chose, what stands on standard output then, the line on standard error and the exit status.
+use Rattle.std.specs.Prelude.{◌≡◌, ℕ, List, [], ◌++◌, Option, Result, Ok, Err, OnOk, string_bytes}
+use Rattle.std.specs.Io.KnownBytes.{Appends}
+use Rattle.gw_core.specs.Replay.{OnKnown}
+use Rattle.bacgw.specs.declared.command_line.Choice.{Choice}
+use Rattle.bacgw.specs.declared.command_line.Choice.TheVariants as choice
+use Rattle.bacgw.specs.declared.fault.Fault.{Fault}
+use Rattle.bacgw.specs.declared.fault.Fault.TheVariants as fault
+use Rattle.bacgw.specs.Ending.{error_text, status_after}
+use Rattle.bacgw.specs.Replay.{Plays}
+
+-- known octets grow by a front of a text
+pub record AppendsFront (held holds : Option (List ℕ)) (text : List ℕ) : Type 0 where
+  pub front : List ℕ
+  pub unwritten : List ℕ
+  pub parts : text ≡ front ++ unwritten
+  pub appends : Appends held holds front
+
+-- What stands on standard output, which held `held` before: at `replay` what the replay leaves, and at help its text, of which a failed
+-- write may leave a front. Words that choose nothing leave it as it was, and their fault is the outcome.
+abbrev pub LeavesOutput : Option (List ℕ) → Option (List ℕ) → Option (List ℕ) → Result Choice Fault → Result (Unit {0}) Fault → Type 0
+LeavesOutput input held holds (Ok choice.Replay) outcome = OnKnown input held holds (λ script before. Plays script before outcome)
+LeavesOutput input held holds (Ok (choice.Help text)) (Ok done) = Appends held holds (string_bytes text)
+LeavesOutput input held holds (Ok (choice.Help text)) (Err f) = (f ≡ fault.Write) × AppendsFront held holds (string_bytes text)
+LeavesOutput input held holds (Err f) outcome = (outcome ≡ Err f) × (holds ≡ held)
+
+-- One run of the program. `Chooses` is what the words ask for, `Leaves` what stands on standard output at a choice and an outcome,
+-- `buffer` what of it isn't flushed, and `Adds` which line standard error is given.
+pub record IsRun (Chooses : Result Choice Fault → Type 0) (Leaves : Result Choice Fault → Result (Unit {0}) Fault → Type 0)
+    (buffer : List ℕ) (Adds : List ℕ → Type 0) (exit : ℕ) : Type 0 where
+  pub choice : Result Choice Fault
+  pub outcome : Result (Unit {0}) Fault
+  pub words : Chooses choice
+  pub output : Leaves choice outcome
+  pub flush : OnOk outcome (buffer ≡ [])
+  pub errors : Adds (error_text outcome)
+  pub status : exit ≡ status_after outcome
