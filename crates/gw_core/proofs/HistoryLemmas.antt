@@ -86,11 +86,11 @@ run_goes_on first w v all rest later given more e x p split moved does pushed = 
   parts = p.parts ∙ ap (λ (l : List Event). p.done ++ l) split ∙ sym (append_assoc p.done (e ∷ []) later);
   state = moved ∙ ap (λ (s : State). next s e) p.state ∙ sym (state_from-append first p.done e);
   told = ap (λ (g : List Effects). g ++ run_from v later) pushed
-  ∙ append_assoc given (x ∷ []) (run_from v later)
-  ∙ ap (λ (s : State). given ++ x ∷ run_from s later) moved
-  ∙ ap (λ (y : Effects). given ++ y ∷ run_from (next w e) later) does
-  ∙ ap (λ (l : List Event). given ++ run_from w l) (sym split)
-  ∙ p.told;
+      ∙ append_assoc given (x ∷ []) (run_from v later)
+      ∙ ap (λ (s : State). given ++ x ∷ run_from s later) moved
+      ∙ ap (λ (y : Effects). given ++ y ∷ run_from (next w e) later) does
+      ∙ ap (λ (l : List Event). given ++ run_from w l) (sym split)
+      ∙ p.told;
 }
 
 -- the events that are done are the first ones

@@ -62,7 +62,15 @@ pub fn denials_of(
         return Ok(Denials::new(alloc));
     }
     let source = message.claim();
-    denials_from(alloc, rules, number, tick, message.number, &source, refusals)
+    denials_from(
+        alloc,
+        rules,
+        number,
+        tick,
+        message.number,
+        &source,
+        refusals,
+    )
 }
 
 /// The record of refusals, counted on from a number.

@@ -99,11 +99,7 @@ impl Gateway {
     }
 
     /// What is done about a message, while the gateway stays as it is.
-    fn message_effects(
-        &self,
-        alloc: Global,
-        incoming: &Message<'_>,
-    ) -> Result<Effects, AllocError>
+    fn message_effects(&self, alloc: Global, incoming: &Message<'_>) -> Result<Effects, AllocError>
         requires { self.now.denials + length (denials_for self.now (message (message_view incoming.now))) ≤ 2 ^ 63 }
         ensures effects { IfOk result (λ given. given ≡ effects_for self.now (message (message_view incoming.now))) }
         ensures silent { asks_for self.now.device self.now.rules (message (message_view incoming.now)) ≡ [] → IsOk result }

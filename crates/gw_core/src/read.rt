@@ -99,7 +99,9 @@ pub fn read_request(apdu: &[u8]) -> Result<Read, Dropped>
     ensures { Gives read_of result (read_at apdu.now) }
 {
     match apdu {
-        [first, _, invoke, READ_PROPERTY, octets @ ..] if *first < SEGMENTED => body(*invoke, octets),
+        [first, _, invoke, READ_PROPERTY, octets @ ..] if *first < SEGMENTED => body(
+            *invoke, octets,
+        ),
         _ => Err(Dropped::Silently),
     }
 }

@@ -55,8 +55,7 @@ pub fn apdu_for<'a>(network: NetNum, npdu: &Npdu<'a>) -> Option<&'a [u8]>
 {
     match &npdu.destination {
         Some(destination)
-            if is_device(network, destination) || is_broadcast(network, destination) =>
-        {
+            if is_device(network, destination) || is_broadcast(network, destination) => {
             apdu_of(&npdu.payload)
         }
         _ => None,

@@ -65,7 +65,10 @@ fn fixed_kinds(rt: HostRuntime) -> Result<(), Fail> {
         (AppValue::Null, &[0x00]),
         (AppValue::Boolean(false), &[0x10]),
         (AppValue::Boolean(true), &[0x11]),
-        (AppValue::Real([0x41, 0xC8, 0, 0]), &[0x44, 0x41, 0xC8, 0, 0]),
+        (
+            AppValue::Real([0x41, 0xC8, 0, 0]),
+            &[0x44, 0x41, 0xC8, 0, 0],
+        ),
         (
             AppValue::Double([0x3F, 0xF0, 0, 0, 0, 0, 0, 1]),
             &[0x55, 0x08, 0x3F, 0xF0, 0, 0, 0, 0, 0, 1],
@@ -84,9 +87,17 @@ fn fixed_kinds(rt: HostRuntime) -> Result<(), Fail> {
 #[test]
 fn octets_texts_and_bits(rt: HostRuntime) -> Result<(), Fail> {
     check(rt.alloc(), AppValue::Octets(&[]), &[0x60])?;
-    check(rt.alloc(), AppValue::Octets(&[1, 2, 3, 4, 5]), &[0x65, 5, 1, 2, 3, 4, 5])?;
+    check(
+        rt.alloc(),
+        AppValue::Octets(&[1, 2, 3, 4, 5]),
+        &[0x65, 5, 1, 2, 3, 4, 5],
+    )?;
     let fan = CharacterString::new(0, b"fan").ok_or("UTF-8")?;
-    check(rt.alloc(), AppValue::Text(fan), &[0x74, 0, 0x66, 0x61, 0x6E])?;
+    check(
+        rt.alloc(),
+        AppValue::Text(fan),
+        &[0x74, 0, 0x66, 0x61, 0x6E],
+    )?;
     let other = CharacterString::new(4, &[0xFF, 0xFE]).ok_or("any octets")?;
     check(rt.alloc(), AppValue::Text(other), &[0x73, 4, 0xFF, 0xFE])?;
     assert!(rt; CharacterString::new(0, &[0xFF]).is_none(), "not UTF-8");
@@ -97,7 +108,10 @@ fn octets_texts_and_bits(rt: HostRuntime) -> Result<(), Fail> {
     let none = BitString::new(0, &[]).ok_or("no bits")?;
     check(rt.alloc(), AppValue::Bits(none), &[0x81, 0])?;
     assert!(rt; BitString::new(8, &[0x80]).is_none(), "at most 7 unused");
-    assert!(rt; BitString::new(1, &[]).is_none(), "no octet has unused bits");
+    assert!(rt;
+        BitString::new(1, &[]).is_none(),
+        "no octet has unused bits"
+    );
     Ok(())
 }
 
@@ -157,7 +171,10 @@ fn parameters(rt: HostRuntime) -> Result<(), Fail> {
     write_opening(&mut out, 3)?;
     write_value(&mut out, AppValue::Enumerated(1))?;
     write_closing(&mut out, 3)?;
-    assert_eq!(rt; out.as_slice(), [0x0C, 1, 0x40, 0, 1, 0x19, 85, 0x3E, 0x91, 1, 0x3F].as_slice());
+    assert_eq!(rt;
+        out.as_slice(),
+        [0x0C, 1, 0x40, 0, 1, 0x19, 85, 0x3E, 0x91, 1, 0x3F].as_slice()
+    );
     let (object, rest) = read_context(0, &out).ok().ok_or("an object")?;
     assert_eq!(rt; object, [1, 0x40, 0, 1].as_slice());
     let (property, rest) = read_context(1, rest).ok().ok_or("a property")?;
@@ -168,7 +185,10 @@ fn parameters(rt: HostRuntime) -> Result<(), Fail> {
     assert_eq!(rt; value, [0x91, 1].as_slice());
     assert!(rt; behind.is_empty());
     assert_eq!(rt; read_closing(3, &[0x3F]).ok(), Some([].as_slice()));
-    assert_eq!(rt; read_context(3, &[0x3C, 1]).err(), Some(ContextFault::Short));
+    assert_eq!(rt;
+        read_context(3, &[0x3C, 1]).err(),
+        Some(ContextFault::Short)
+    );
     assert_eq!(rt; read_context(3, &[0x06]).err(), Some(ContextFault::BadTag));
     assert_eq!(rt; read_unsigned(&[]), None);
     assert_eq!(rt; read_unsigned(&[0, 0, 0, 0, 1]), None);
@@ -193,7 +213,10 @@ fn lists(rt: HostRuntime) -> Result<(), Fail> {
     let (content, _) = read_list(3, &boolean).ok_or("a Boolean")?;
     assert_eq!(rt; content, [0x12].as_slice());
     let longer: [u8; 4] = [0x0E, 0x0F, 0xFF, 0x03];
-    assert!(rt; read_list(3, &longer).is_some(), "a longer encoding of the number");
+    assert!(rt;
+        read_list(3, &longer).is_some(),
+        "a longer encoding of the number"
+    );
     let wrong: [&[u8]; 5] = [&[], &[0x2F], &[0x0E, 0x1F, 0x3F], &[0x22, 1, 0x3F], &[0x06]];
     for octets in wrong {
         assert!(rt; read_list(3, octets).is_none(), "at {octets:?}");
