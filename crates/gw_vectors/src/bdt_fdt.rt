@@ -70,45 +70,6 @@ fn shows(fdt: &Fdt, alloc: Global, wanted: &[(u8, u16, u16)]) -> Result<bool, Al
 }
 
 #[test]
-fn entries_and_peers(rt: HostRuntime) -> Result<(), Fail> {
-    let entries = [
-        entry(1, [255, 255, 255, 0]),
-        entry(4, ALL_ONES),
-        entry(5, [0, 0, 0, 1]),
-    ];
-    let bdt = Bdt::from_entries(rt.alloc(), &entries)?;
-    assert!(rt; bdt.entries() == entries.as_slice());
-    for own in 0..3 {
-        let mut peers = bdt.peers(entries[own].address);
-        for other in 0..3 {
-            if other != own {
-                assert_eq!(rt; peers.next(), Some(&entries[other]));
-            }
-        }
-        assert_eq!(rt; peers.next(), None);
-        assert_eq!(rt; bdt.own_mask(entries[own].address), entries[own].mask);
-    }
-    Ok(())
-}
-
-#[test]
-fn an_own_entry_is_found_by_all_six_octets(rt: HostRuntime) -> Result<(), Fail> {
-    let bdt = Bdt::from_entries(rt.alloc(), &[entry(1, [255, 255, 255, 0])])?;
-    let other_port = BipAddr {
-        ip: [192, 168, 1, 1],
-        udp: 47809,
-    };
-    assert_eq!(rt; bdt.own_mask(other_port), ALL_ONES);
-    assert_eq!(rt; bdt.peers(other_port).count(), 1);
-    assert_eq!(rt;
-        bdt.own_mask(entry(1, ALL_ONES).address),
-        [255, 255, 255, 0]
-    );
-    assert_eq!(rt; bdt.peers(entry(1, ALL_ONES).address).count(), 0);
-    Ok(())
-}
-
-#[test]
 fn entries_that_are_no_table(rt: HostRuntime) -> Result<(), Fail> {
     let many = entries_of(rt.alloc(), 65)?;
     assert_eq!(rt; many.len(), MAX_ENTRIES + 1);
@@ -141,18 +102,6 @@ fn entries_that_are_no_table(rt: HostRuntime) -> Result<(), Fail> {
 }
 
 #[test]
-fn a_registration_ends_after_its_time_and_thirty_seconds(rt: HostRuntime) -> Result<(), Fail> {
-    let mut fdt = Fdt::new(rt.alloc());
-    fdt.register(device(9), 60)?;
-    pass(&mut fdt, 89);
-    assert!(rt; shows(&fdt, rt.alloc(), &[(9, 60, 1)])?);
-    pass(&mut fdt, 1);
-    assert!(rt; shows(&fdt, rt.alloc(), &[])?);
-    assert_eq!(rt; fdt.delete(device(9)), Err(DeleteFault::Absent));
-    Ok(())
-}
-
-#[test]
 fn the_longest_time_is_shown_as_most(rt: HostRuntime) -> Result<(), Fail> {
     let mut fdt = Fdt::new(rt.alloc());
     fdt.register(device(9), 65535)?;
@@ -165,24 +114,6 @@ fn the_longest_time_is_shown_as_most(rt: HostRuntime) -> Result<(), Fail> {
     assert!(rt; shows(&fdt, rt.alloc(), &[(9, 65535, 1)])?);
     pass(&mut fdt, 1);
     assert_eq!(rt; fdt.count(), 0);
-    Ok(())
-}
-
-#[test]
-fn a_full_table_renews_and_takes_no_stranger(rt: HostRuntime) -> Result<(), Fail> {
-    let mut fdt = Fdt::new(rt.alloc());
-    for last in 1..129 {
-        fdt.register(device(last), 60)?;
-    }
-    assert_eq!(rt; fdt.count(), MAX_REGISTRATIONS);
-    assert_eq!(rt; fdt.register(device(129), 60), Err(RegisterFault::Full));
-    assert!(rt; !fdt.contains(device(129)));
-    for last in 1..129 {
-        fdt.register(device(last), 0)?;
-    }
-    assert_eq!(rt; fdt.delete(device(64)), Ok(()));
-    fdt.register(device(129), 60)?;
-    assert_eq!(rt; fdt.register(device(64), 60), Err(RegisterFault::Full));
     Ok(())
 }
 
@@ -203,45 +134,6 @@ fn a_renewal_keeps_the_place(rt: HostRuntime) -> Result<(), Fail> {
     fdt.register(device(11), 60)?;
     fdt.register(device(9), 60)?;
     assert!(rt; shows(&fdt, rt.alloc(), &[(10, 60, 55), (11, 60, 90), (9, 60, 90)])?);
-    Ok(())
-}
-
-#[test]
-fn no_time_to_live_is_thirty_seconds(rt: HostRuntime) -> Result<(), Fail> {
-    let mut fdt = Fdt::new(rt.alloc());
-    fdt.register(device(9), 0)?;
-    pass(&mut fdt, 29);
-    assert!(rt; fdt.contains(device(9)));
-    fdt.register(device(9), 0)?;
-    pass(&mut fdt, 29);
-    assert!(rt; fdt.contains(device(9)));
-    assert_eq!(rt; fdt.ticks(), 58);
-    pass(&mut fdt, 1);
-    assert!(rt; !fdt.contains(device(9)));
-    fdt.register(device(9), 0)?;
-    pass(&mut fdt, 30);
-    assert!(rt; !fdt.contains(device(9)));
-    Ok(())
-}
-
-#[test]
-fn an_old_end_is_of_no_effect(rt: HostRuntime) -> Result<(), Fail> {
-    let mut fdt = Fdt::new(rt.alloc());
-    fdt.register(device(9), 10)?;
-    pass(&mut fdt, 20);
-    assert_eq!(rt; fdt.delete(device(9)), Ok(()));
-    fdt.register(device(9), 10)?;
-    pass(&mut fdt, 39);
-    assert!(rt; shows(&fdt, rt.alloc(), &[(9, 10, 1)])?);
-    // One that is renewed to the second at which it would have ended anyway.
-    fdt.register(device(9), 10)?;
-    pass(&mut fdt, 5);
-    fdt.register(device(9), 5)?;
-    assert!(rt; shows(&fdt, rt.alloc(), &[(9, 5, 35)])?);
-    pass(&mut fdt, 34);
-    assert!(rt; fdt.contains(device(9)));
-    pass(&mut fdt, 1);
-    assert_eq!(rt; fdt.count(), 0);
     Ok(())
 }
 
@@ -399,16 +291,6 @@ fn a_refused_growth_changes_nothing(rt: HostRuntime) -> Result<(), Fail> {
         pass(&mut fdt, 1);
     }
     assert!(rt; plain.is(&fdt.rows(rt.alloc())?));
-    Ok(())
-}
-
-#[test]
-fn refused_entries_are_no_table(rt: HostRuntime) -> Result<(), Fail> {
-    let entries = entries_of(rt.alloc(), 64)?;
-    match Bdt::from_entries(rt.alloc(), &entries) {
-        Ok(bdt) => assert!(rt; bdt.entries() == entries.as_slice()),
-        Err(fault) => assert_eq!(rt; fault, BdtFault::Memory),
-    }
     Ok(())
 }
 

@@ -182,37 +182,6 @@ fn result_codes(rt: HostRuntime) -> Result<(), Fail> {
 }
 
 #[test]
-fn answers_from_entries(rt: HostRuntime) -> Result<(), Fail> {
-    let entries = [
-        BdtEntry {
-            address: BipAddr::parse("192.168.1.10:47808")?,
-            mask: [0xFF; 4],
-        },
-        BdtEntry {
-            address: BipAddr::parse("192.168.4.1:47808")?,
-            mask: [0xFF; 4],
-        },
-    ];
-    let mut octets = Vec::new(rt.alloc());
-    put_entries(&mut octets, &entries)?;
-    let table = BdtEntries::from_octets(&octets).ok_or("tens")?;
-    assert!(rt; both_ways(rt.alloc(), &READ_BDT_ACK, Bvll::ReadBdtAck(table))?);
-    let devices = [FdtEntry {
-        address: DEVICE,
-        time_to_live: 60,
-        remaining: 1,
-    }];
-    octets.clear();
-    put_entries(&mut octets, &devices)?;
-    let frame = [
-        0x81, 0x07, 0x00, 0x0E, 0xC0, 0xA8, 0x03, 0x09, 0xBA, 0xC0, 0x00, 0x3C, 0x00, 0x01,
-    ];
-    let table = FdtEntries::from_octets(&octets).ok_or("tens")?;
-    assert!(rt; both_ways(rt.alloc(), &frame, Bvll::ReadFdtAck(table))?);
-    Ok(())
-}
-
-#[test]
 fn entries_one_by_one(rt: HostRuntime) -> Result<(), Fail> {
     let table = BdtEntries::from_octets(&TABLE).ok_or("tens")?;
     assert_eq!(rt; table.len(), 2);

@@ -73,45 +73,6 @@ fn run_of(alloc: Global, first: u16, count: u16) -> Result<Vec<NetNum>, AllocErr
 }
 
 #[test]
-fn each_way(rt: HostRuntime) -> Result<(), Fail> {
-    let mut routes = table(rt.alloc())?;
-    let route = Route {
-        port: 1,
-        next: router(9),
-    };
-    routes.learn(net(400), route.port, route.next)?;
-    for (number, way) in [
-        (0, Way::Unknown),
-        (1, Way::Port(1)),
-        (2, Way::Port(2)),
-        (100, Way::Device),
-        (300, Way::Router(CONFIGURED)),
-        (400, Way::Router(route)),
-        (500, Way::Unknown),
-        (65534, Way::Unknown),
-        (65535, Way::Everywhere),
-    ] {
-        assert_eq!(rt; routes.find(number), way, "{number}");
-    }
-    assert!(rt; are(routes.direct(), &[1, 2, 100]));
-    laws::learned_networks();
-    laws::fixed_ways();
-    Ok(())
-}
-
-#[test]
-fn a_table_of_nothing(rt: HostRuntime) -> Result<(), Fail> {
-    let mut routes = Routes::new(rt.alloc(), Vec::new(rt.alloc()), Vec::new(rt.alloc()))?;
-    assert!(rt; routes.direct().is_empty());
-    assert_eq!(rt; routes.find(1), Way::Unknown);
-    assert!(rt; routes.reachable_from(rt.alloc(), 1)?.is_empty());
-    routes.learn(net(1), 3, NEXT)?;
-    assert!(rt; are(&routes.reachable_from(rt.alloc(), 1)?, &[1]));
-    assert!(rt; routes.reachable_from(rt.alloc(), 3)?.is_empty());
-    Ok(())
-}
-
-#[test]
 fn what_is_learned_is_reachable_from_the_other_port(rt: HostRuntime) -> Result<(), Fail> {
     let mut routes = table(rt.alloc())?;
     let nets = [net(400), net(300)];
@@ -136,28 +97,6 @@ fn what_is_learned_is_reachable_from_the_other_port(rt: HostRuntime) -> Result<(
 }
 
 #[test]
-fn a_renewed_route_keeps_its_place(rt: HostRuntime) -> Result<(), Fail> {
-    let mut routes = table(rt.alloc())?;
-    for number in [400, 401, 402] {
-        routes.learn(net(number), 2, NEXT)?;
-    }
-    routes.learn(net(400), 1, router(9))?;
-    let renewed = Route {
-        port: 1,
-        next: router(9),
-    };
-    assert_eq!(rt; routes.find(400), Way::Router(renewed));
-    assert!(rt;
-        are(
-            &routes.reachable_from(rt.alloc(), 3)?,
-            &[1, 2, 100, 300, 400, 401, 402]
-        )
-    );
-    assert!(rt; are(&routes.reachable_from(rt.alloc(), 2)?, &[1, 100, 400]));
-    Ok(())
-}
-
-#[test]
 fn the_513th_route_is_refused(rt: HostRuntime) -> Result<(), Fail> {
     // Network 300 is the first route, so 511 of these find room.
     let nets = run_of(rt.alloc(), 1001, 512)?;
@@ -176,33 +115,6 @@ fn the_513th_route_is_refused(rt: HostRuntime) -> Result<(), Fail> {
     assert_eq!(rt; routes.learn(net(100), 2, NEXT), Err(LearnFault::Fixed));
     assert_eq!(rt; routes.learn(net(1511), 1, NEXT), Ok(()));
     assert!(rt; routes.reachable_from(rt.alloc(), 3)?.len() == 3 + MAX_ROUTES);
-    Ok(())
-}
-
-#[test]
-fn a_configured_route_stays(rt: HostRuntime) -> Result<(), Fail> {
-    let mut routes = table(rt.alloc())?;
-    for _ in 0..10_000 {
-        assert_eq!(rt; routes.learn(net(300), 2, NEXT), Err(LearnFault::Fixed));
-    }
-    assert_eq!(rt; routes.find(300), Way::Router(CONFIGURED));
-    Ok(())
-}
-
-#[test]
-fn a_copy_is_equal_and_apart(rt: HostRuntime) -> Result<(), Fail> {
-    let mut routes = table(rt.alloc())?;
-    routes.learn(net(400), 2, NEXT)?;
-    let copy = routes.copy()?;
-    routes.learn(net(401), 2, NEXT)?;
-    assert!(rt; are(&copy.reachable_from(rt.alloc(), 1)?, &[2, 100, 300, 400]));
-    assert!(rt;
-        are(
-            &routes.reachable_from(rt.alloc(), 1)?,
-            &[2, 100, 300, 400, 401]
-        )
-    );
-    assert!(rt; are(copy.direct(), &[1, 2, 100]));
     Ok(())
 }
 

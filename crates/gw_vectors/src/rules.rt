@@ -157,30 +157,6 @@ fn each_field_has_its_own_place(rt: HostRuntime) -> Result<(), Fail> {
 }
 
 #[test]
-fn a_rule_may_be_written_as_a_struct(rt: HostRuntime) -> Result<(), Fail> {
-    let alloc = rt.alloc();
-    let mut service = Ranges::new(alloc);
-    service.push(Range { low: 12, high: 15 })?;
-    let Rule {
-        name,
-        allow,
-        ranges,
-    } = Rule::new(alloc, "services", true)?;
-    let rule = Rule {
-        name,
-        allow,
-        ranges: Fields { service, ..ranges },
-    };
-    assert!(rt; Range { low: 12, high: 15 }.holds(15));
-    assert!(rt; !rule.matches(&Ask::new(Operation::Cast)));
-    laws::matching();
-    laws::first_match();
-    laws::decision();
-    laws::limits();
-    Ok(())
-}
-
-#[test]
 fn faults_are_told_in_words(rt: HostRuntime) -> Result<(), Fail> {
     let alloc = rt.alloc();
     assert_eq!(rt;
@@ -222,25 +198,6 @@ fn read_of(instance: u64) -> Ask {
     }
 }
 
-#[test]
-fn an_ask_is_decided_by_one_walk(rt: HostRuntime) -> Result<(), Fail> {
-    let rules = policy(rt.alloc())?;
-    for (ask, decision) in [
-        (read_of(1), Decision::Allow),
-        (read_of(2), Decision::Deny { by: Some(1) }),
-        (Ask::new(Operation::Write), Decision::Deny { by: None }),
-    ] {
-        assert_eq!(rt; rules.decide(&ask), decision, "at {ask:?}");
-        assert_eq!(rt; Judge::decide(&rules, &ask), decision, "at {ask:?}");
-        assert_eq!(rt;
-            rules.allows(&ask),
-            decision == Decision::Allow,
-            "at {ask:?}"
-        );
-    }
-    Ok(())
-}
-
 /// Three asks in a row, over any judge: what a part of the gateway does.
 fn refused<J: Judge>(alloc: Global, judge: &J, asks: [Ask; 3]) -> Result<Refusals, AllocError>
     ensures { (rules : List Rule) → J.StandsFor judge.now rules →
@@ -252,34 +209,6 @@ fn refused<J: Judge>(alloc: Global, judge: &J, asks: [Ask; 3]) -> Result<Refusal
     authorizer.authorize(&second)?;
     authorizer.authorize(&third)?;
     Ok(authorizer.into_refusals())
-}
-
-#[test]
-fn what_is_denied_is_kept_in_order(rt: HostRuntime) -> Result<(), Fail> {
-    let alloc = rt.alloc();
-    let rules = policy(alloc)?;
-    let write = Ask::new(Operation::Write);
-    let kept = refused(alloc, &rules, [write, read_of(1), read_of(9)])?;
-    assert_eq!(rt;
-        kept.as_slice(),
-        [
-            Refusal {
-                ask: write,
-                by: None
-            },
-            Refusal {
-                ask: read_of(9),
-                by: Some(1)
-            },
-        ]
-        .as_slice()
-    );
-    let mut authorizer = Authorizer::new(alloc, &rules);
-    assert!(rt; authorizer.authorize(&read_of(1))?);
-    assert!(rt; authorizer.refusals().is_empty());
-    assert!(rt; !authorizer.authorize(&read_of(2))?);
-    assert_eq!(rt; authorizer.refusals().len(), 1);
-    Ok(())
 }
 
 #[test]
@@ -320,41 +249,4 @@ fn each_kind_of_service_has_its_base(rt: HostRuntime) {
     assert_eq!(rt; Service::NetworkMessage(1).number(), 513);
     assert_eq!(rt; Service::BvllFunction(5).number(), 773);
     assert_eq!(rt; Service::Pdu(2).number(), 1026);
-}
-
-#[test]
-fn unequal_values_differ(rt: HostRuntime) {
-    let ask = Ask::new(Operation::Read);
-    for field in FieldName::ALL {
-        assert_eq!(rt;
-            *ask.get(field),
-            if field == FieldName::Operation {
-                Some(9)
-            } else {
-                None
-            }
-        );
-    }
-    assert!(rt;
-        ask != Ask {
-            priority: Some(16),
-            ..ask
-        }
-    );
-    assert!(rt;
-        ask != Ask {
-            operation: None,
-            ..ask
-        }
-    );
-    assert!(rt; Range { low: 1, high: 2 } != Range { low: 1, high: 3 });
-    assert!(rt; Decision::Deny { by: None } != Decision::Deny { by: Some(1) });
-    assert!(rt; Refusal { ask, by: None } != Refusal { ask, by: Some(1) });
-    assert_eq!(rt; MAX_RULES, 512);
-    assert_eq!(rt; MAX_RANGES, 4);
-    laws::fields();
-    laws::operations();
-    laws::services();
-    laws::refusals();
-    laws::equality();
 }
