@@ -25,7 +25,7 @@ unfolding denials_at receive
 no_denials_at_tick w = refl
 
 differs : (b : Bool) → b ≡ false → IsTrue b → ⊥
-differs b is_false is_true = absurd cc
+differs b e h = absurd cc
 
 or_true : (b : Bool) → (b || true) ≡ true
 or_true true = refl
@@ -76,8 +76,8 @@ receive_datagram w port from octets received is = is
 
 -- what isn't told to be past isn't past
 pub not_past : (told : Bool) (m n : ℕ) → told ≡ false → (m < n → IsTrue told) → n ≤ m
-not_past told m n is_false tells =
+not_past told m n e tells =
     elim (cases_lt m n) [
-      | inl lt ↦ absurd (differs told is_false (tells lt))
+      | inl lt ↦ absurd (differs told e (tells lt))
       | inr le ↦ le
     ]
