@@ -1,6 +1,9 @@
 //! The grammar of a line: `tick`, or a datagram as `<port> <address> <hex>`.
 
-ghost use Rattle.std.specs.Prelude.{◌≡◌, ◌≢◌, ◌+◌, ◌≤◌, ◌++◌, ◌∷◌, ℕ, List, Some, IfSome, IsNone, length};
+ghost use Rattle.std.specs.Prelude.{◌≡◌, ◌≢◌, ◌+◌, ◌*◌, ◌≤◌, ◌++◌, ◌∷◌, ℕ, List, length};
+ghost use Rattle.std.specs.Prelude.{Ok, Some, IsErr, IfSome, IsNone, unwrap_or};
+ghost use Rattle.std.specs.Bool.{OnTrue, OnFalse};
+ghost use Rattle.hex.specs.Hex.{decode_of, hex_digit_value};
 ghost use Rattle.gw_addr.specs.declared.bip.BipAddr.{BipAddr};
 ghost use Rattle.gw_addr.specs.Address.{IsAddress, text_of};
 ghost use Rattle.gw_script.specs.Event.{Event as PlainEvent, IsOnPort, event_view};
@@ -91,6 +94,36 @@ fn address_of(text: &[u8]) -> Option<BipAddr>
     BipAddr::parse(text).ok()
 }
 
+/// The value of a digit of either case, or 255 where the character is none.
+fn digit_value(digit: u8) -> u8
+    ensures { result ≡ unwrap_or (hex_digit_value digit) 255 }
+{
+    match digit {
+        b'0'..=b'9' => digit - b'0',
+        b'A'..=b'F' => digit - b'A' + 10,
+        b'a'..=b'f' => digit - b'a' + 10,
+        _ => 255,
+    }
+}
+
+/// Reads the octets of digit pairs, and answers whether all of them were digits. It tells that at the end alone, so that no digit
+/// is waited for: the loop has no branch.
+#[inline(never)]
+fn read_pairs(text: &[u8], octets: &mut [u8]) -> bool
+    requires { length text.now ≡ 2 * length octets.old }
+    ensures read { OnTrue result (decode_of text.now ≡ Ok octets.new) }
+    ensures only { OnFalse result (IsErr (decode_of text.now)) }
+{
+    let mut largest = 0u8;
+    for i in 0..octets.len() {
+        let high = digit_value(text[2 * i]);
+        let low = digit_value(text[2 * i + 1]);
+        largest = largest.max(high).max(low);
+        octets[i] = high.wrapping_mul(16).wrapping_add(low);
+    }
+    largest < 16
+}
+
 /// The octets that a text writes, lent from the buffer.
 fn octets_of<'a>(text: &[u8], buffer: &'a mut [u8; MAX_DATAGRAM]) -> Option<&'a [u8]>
     requires { length text.now ≤ 4096 }
@@ -100,12 +133,13 @@ fn octets_of<'a>(text: &[u8], buffer: &'a mut [u8; MAX_DATAGRAM]) -> Option<&'a 
     if let [b'-'] = text {
         return Some(&[]);
     }
-    if text.is_empty() {
+    if text.is_empty() || text.len() % 2 != 0 {
         return None;
     }
     let octets = &mut buffer[..text.len() / 2];
-    match hex::decode_to_slice(text, octets) {
-        Ok(()) => Some(octets),
-        Err(_) => None,
+    if read_pairs(text, octets) {
+        Some(octets)
+    } else {
+        None
     }
 }

@@ -1,16 +1,14 @@
 //! The pieces of the text that a replay writes, each appended to a buffer.
 
-ghost use Rattle.std.specs.Prelude.{◌≡◌, ◌+◌, ◌≤◌, ◌++◌, length, IsOk, OnOk, OnErr, vec_len, vec_capacity};
+ghost use Rattle.std.specs.Prelude.{◌≡◌, ◌+◌, ◌*◌, ◌<◌, ◌≤◌, ◌++◌, length, slice_index, IsOk, OnOk, OnErr, vec_len, vec_capacity};
 ghost use Rattle.std.specs.Fmt.{decimal};
-ghost use Rattle.hex.specs.Hex.{encode_upper};
+ghost use Rattle.hex.specs.Hex.{encode_upper, upper_digits};
 ghost use Rattle.gw_addr.specs.Reading.{Keeps};
 ghost use Rattle.gw_script.specs.Text.{end_line, send_head, send_line};
 
 use gw_addr::{BipAddr, put_octet, put_slice};
 use itoa::Buffer;
 use std::alloc::AllocError;
-
-const DIGITS: &[u8; 16] = b"0123456789ABCDEF";
 
 /// Appends the line of a datagram that is sent. Refused only where the buffer had no room for it; the buffer then holds what it held.
 pub fn append_send(
@@ -86,10 +84,36 @@ fn put_octets(out: &mut Vec<u8>, octets: &[u8]) -> Result<(), AllocError>
     ensures room { vec_len out.old + length (encode_upper octets.now) ≤ vec_capacity out.old → IsOk result }
     ensures capacity { vec_capacity out.old ≤ vec_capacity out.new }
 {
-    for octet in octets {
-        let high = DIGITS[(*octet / 16) as usize];
-        let low = DIGITS[(*octet % 16) as usize];
-        out.extend_from_slice(&[high, low])?;
-    }
+    let Some(count) = octets.len().checked_mul(2) else {
+        return Err(AllocError);
+    };
+    out.reserve(count)?;
+    let start = out.len();
+    out.resize(start + count, 0)?;
+    write_digits(octets, &mut out[start..]);
     Ok(())
+}
+
+/// The digit of a number below 16, in upper case.
+fn upper_digit(number: u8) -> u8
+    requires { number < 16 }
+    ensures { result ≡ slice_index upper_digits number }
+{
+    if number < 10 {
+        b'0' + number
+    } else {
+        b'A' + (number - 10)
+    }
+}
+
+/// Writes octets in upper-case digits over as many digits as they have.
+#[inline(never)]
+fn write_digits(octets: &[u8], digits: &mut [u8])
+    requires { length digits.old ≡ 2 * length octets.now }
+    ensures { digits.new ≡ encode_upper octets.now }
+{
+    for i in 0..octets.len() {
+        digits[2 * i] = upper_digit(octets[i] >> 4);
+        digits[2 * i + 1] = upper_digit(octets[i] & 15);
+    }
 }
