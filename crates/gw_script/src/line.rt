@@ -1,7 +1,7 @@
 //! The grammar of a line: `tick`, or a datagram as `<port> <address> <hex>`.
 
-ghost use Rattle.std.specs.Prelude.{◌≡◌, ◌≢◌, ◌+◌, ◌*◌, ◌≤◌, ◌++◌, ◌∷◌, ℕ, List, length};
-ghost use Rattle.std.specs.Prelude.{Ok, Some, IsErr, IfSome, IsNone, unwrap_or};
+ghost use Rattle.std.specs.Prelude.{◌≡◌, ◌≢◌, ◌+◌, ◌*◌, ◌<◌, ◌≤◌, ◌++◌, ◌∷◌, ℕ, List, length};
+ghost use Rattle.std.specs.Prelude.{Ok, None, Some, IsErr, IfSome, IsNone, unwrap_or};
 ghost use Rattle.std.specs.Bool.{OnTrue, OnFalse};
 ghost use Rattle.hex.specs.Hex.{decode_of, hex_digit_value};
 ghost use Rattle.gw_addr.specs.declared.bip.BipAddr.{BipAddr};
@@ -94,16 +94,14 @@ fn address_of(text: &[u8]) -> Option<BipAddr>
     BipAddr::parse(text).ok()
 }
 
-/// The value of a digit of either case, or 255 where the character is none.
+/// The value of a digit of either case, or a number over 15 where the character is none.
 fn digit_value(digit: u8) -> u8
-    ensures { result ≡ unwrap_or (hex_digit_value digit) 255 }
+    ensures digit { result < 16 → hex_digit_value digit ≡ Some result }
+    ensures other { 16 ≤ result → hex_digit_value digit ≡ None }
 {
-    match digit {
-        b'0'..=b'9' => digit - b'0',
-        b'A'..=b'F' => digit - b'A' + 10,
-        b'a'..=b'f' => digit - b'a' + 10,
-        _ => 255,
-    }
+    let number = digit.wrapping_sub(b'0');
+    let letter = (digit | 0x20).wrapping_sub(b'a').saturating_add(10);
+    if number < 10 { number } else { letter }
 }
 
 /// Reads the octets of digit pairs, and answers whether all of them were digits. It tells that at the end alone, so that no digit
