@@ -3,9 +3,11 @@
 ghost use Rattle.std.specs.Prelude.{◌≡◌, ◌+◌, ◌*◌, ◌<◌, ◌≤◌, ◌++◌, length, slice_index, IsOk, OnOk, OnErr, vec_len, vec_capacity};
 ghost use Rattle.std.specs.Fmt.{decimal};
 ghost use Rattle.hex.specs.Hex.{encode_upper, upper_digits};
+ghost use Rattle.gw_addr.specs.Address.{text_of};
 ghost use Rattle.gw_addr.specs.Reading.{Keeps};
 ghost use Rattle.gw_script.specs.Text.{end_line, send_head, send_line};
 
+use crate::event::SpelledAddr;
 use gw_addr::{BipAddr, put_octet, put_slice};
 use itoa::Buffer;
 use std::alloc::AllocError;
@@ -22,8 +24,25 @@ pub fn append_send(
     ensures room { vec_len out.old + length (send_line port to octets.now) ≤ vec_capacity out.old → IsOk result }
     ensures capacity { vec_capacity out.old ≤ vec_capacity out.new }
 {
+    append_send_to(out, port, to, &None, octets)
+}
+
+/// Appends the line of a datagram that is sent, as [`append_send`] does. Where it goes to an address whose text is at hand, the text
+/// is not made again.
+pub fn append_send_to(
+    out: &mut Vec<u8>,
+    port: u8,
+    to: BipAddr,
+    at_hand: &Option<SpelledAddr<'_>>,
+    octets: &[u8],
+) -> Result<(), AllocError>
+    ensures ok { OnOk result (out.new.items ≡ out.old.items ++ send_line port to octets.now) }
+    ensures err { OnErr result (out.new.items ≡ out.old.items) }
+    ensures room { vec_len out.old + length (send_line port to octets.now) ≤ vec_capacity out.old → IsOk result }
+    ensures capacity { vec_capacity out.old ≤ vec_capacity out.new }
+{
     let len = out.len();
-    if put_send(out, port, to, octets).is_err() {
+    if put_send(out, port, to, at_hand, octets).is_err() {
         out.truncate(len);
         return Err(AllocError);
     }
@@ -42,19 +61,30 @@ pub fn append_end(out: &mut Vec<u8>) -> Result<(), AllocError>
 
 /// Appends the line of a datagram that is sent. A front of it stands there where a growth was refused.
 #[tactic(auto, unfolding(crate::specs::Text::send_line))]
-fn put_send(out: &mut Vec<u8>, port: u8, to: BipAddr, octets: &[u8]) -> Result<(), AllocError>
+fn put_send(
+    out: &mut Vec<u8>,
+    port: u8,
+    to: BipAddr,
+    at_hand: &Option<SpelledAddr<'_>>,
+    octets: &[u8],
+) -> Result<(), AllocError>
     ensures ok { OnOk result (out.new.items ≡ out.old.items ++ send_line port to octets.now) }
     ensures room { vec_len out.old + length (send_line port to octets.now) ≤ vec_capacity out.old → IsOk result }
     ensures front { Keeps out.old.items out.new.items }
     ensures capacity { vec_capacity out.old ≤ vec_capacity out.new }
 {
-    put_head(out, port, to)?;
+    put_head(out, port, to, at_hand)?;
     put_octets(out, octets)?;
     put_octet(out, b'\n')
 }
 
 /// Appends what stands before the octets in the line of a datagram that is sent.
-fn put_head(out: &mut Vec<u8>, port: u8, to: BipAddr) -> Result<(), AllocError>
+fn put_head(
+    out: &mut Vec<u8>,
+    port: u8,
+    to: BipAddr,
+    at_hand: &Option<SpelledAddr<'_>>,
+) -> Result<(), AllocError>
     ensures ok { OnOk result (out.new.items ≡ out.old.items ++ send_head port to) }
     ensures room { vec_len out.old + length (send_head port to) ≤ vec_capacity out.old → IsOk result }
     ensures front { Keeps out.old.items out.new.items }
@@ -63,8 +93,25 @@ fn put_head(out: &mut Vec<u8>, port: u8, to: BipAddr) -> Result<(), AllocError>
     put_slice(out, b"send ")?;
     put_decimal(out, u64::from(port))?;
     put_octet(out, b' ')?;
-    to.put_text(out)?;
+    put_address(out, to, at_hand)?;
     put_octet(out, b' ')
+}
+
+/// Appends the text of an address.
+fn put_address(
+    out: &mut Vec<u8>,
+    address: BipAddr,
+    at_hand: &Option<SpelledAddr<'_>>,
+) -> Result<(), AllocError>
+    ensures ok { OnOk result (out.new.items ≡ out.old.items ++ text_of address) }
+    ensures room { vec_len out.old + length (text_of address) ≤ vec_capacity out.old → IsOk result }
+    ensures front { Keeps out.old.items out.new.items }
+    ensures capacity { vec_capacity out.old ≤ vec_capacity out.new }
+{
+    match at_hand {
+        Some(spelled) if spelled.address.is_same(address) => put_slice(out, spelled.text),
+        _ => address.put_text(out),
+    }
 }
 
 /// Appends the decimal digits of a number.
