@@ -110,14 +110,7 @@ impl Gateway {
         };
         let context = context_of(network, incoming);
         let mut authorizer = Authorizer::new(alloc, &self.rules);
-        let answer = device::answer(
-            alloc,
-            self.device,
-            &self.objects,
-            &mut authorizer,
-            &context,
-            apdu,
-        )?;
+        let answer = device::answer(self.device, &self.objects, &mut authorizer, &context, apdu)?;
         let sends = answer_sends(alloc, network, incoming, answer)?;
         let number = self.counts.denials + 1;
         let denials = denials_of(

@@ -17,7 +17,8 @@ use crate::gateway::Gateway;
 use crate::shown::append_effects;
 use crate::whole_run::take_event;
 use gw_script::{
-    Event, LineReader, MAX_DATAGRAM, NextLine, OctetSink, OctetSource, parse_line, write_whole,
+    Event, LineReader, MAX_DATAGRAM, NextLine, OctetSink, OctetSource, SpelledAddr, parse_spelled,
+    write_whole,
 };
 use std::alloc::Global;
 use thiserror::Error;
@@ -144,10 +145,11 @@ impl ScriptRun {
             Err(_) => return Err(RunFault::Read),
         };
         let line = self.lines.front(len);
-        let Some(event) = parse_line(self.gateway.ports(), line, &mut self.datagram) else {
+        let ports = self.gateway.ports();
+        let Some((event, sender)) = parse_spelled(ports, line, &mut self.datagram) else {
             return Err(RunFault::Line(number));
         };
-        match make_text(alloc, &mut self.gateway, &event, &mut self.text) {
+        match make_text(alloc, &mut self.gateway, &event, &sender, &mut self.text) {
             Ok(()) => {}
             Err(fault) => return Err(fault),
         }
@@ -164,6 +166,7 @@ fn make_text(
     alloc: Global,
     gateway: &mut Gateway,
     event: &Event<'_>,
+    sender: &Option<SpelledAddr<'_>>,
     text: &mut Vec<u8>,
 ) -> Result<(), RunFault>
     requires room { 4 ≤ vec_capacity text.old }
@@ -178,7 +181,7 @@ fn make_text(
         Err(StepFault::CountEnd) => return Err(RunFault::CountEnd),
     };
     text.clear();
-    match append_effects(text, &effects) {
+    match append_effects(text, &effects, sender) {
         Ok(()) => {}
         Err(_) => return Err(RunFault::Memory),
     }
