@@ -29,13 +29,17 @@ impl<T> Sequence<T> {
         }
     }
 
-    /// Adds an item behind the others. After an `Err` they are as before.
+    /// Adds an item behind the others. After an `Err` they are as before. Room is made for the first item alone, since most lists
+    /// have no other.
     pub fn push(&mut self, item: T) -> Result<(), AllocError>
     where
         T: Drop,
         ensures ok { OnOk result (self.new ≡ self.old ++ item ∷ []) }
         ensures err { OnErr result (self.new ≡ self.old) }
     {
+        if self.items.is_empty() {
+            self.items.reserve_exact(1)?;
+        }
         self.items.push(item)?;
         Ok(())
     }
