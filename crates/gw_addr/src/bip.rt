@@ -96,7 +96,6 @@ impl BipAddr {
 
     /// Reads an address from the octets of the text that it is written as. The rest is as with
     /// [`BipAddr::parse`].
-    #[inline(never)]
     pub fn parse_octets(text: &[u8]) -> Result<BipAddr, TextFault>
         ensures found { IfOk result (λ a. text.now ≡ text_of a) }
         ensures only { (a : BipAddr) → IsAddress a → text.now ≡ text_of a → result ≡ Ok a }

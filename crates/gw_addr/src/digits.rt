@@ -1,13 +1,14 @@
 //! Numbers in decimal digits without leading zeros, as addresses and masks are written with them.
 
-ghost use Rattle.std.specs.Prelude.{◌≡◌, ◌<◌, ◌≤◌, ◌+◌, ◌^◌, ◌++◌, ◌∷◌, ℕ, List, length, vec_len};
-ghost use Rattle.std.specs.Prelude.{Some, IsOk, IsNone, IfSome, IsSomeAnd, OnOk};
+ghost use Rattle.std.specs.Prelude.{◌≡◌, ◌<◌, ◌≤◌, ◌+◌, ◌^◌, ◌++◌, ◌∷◌, ◌↔◌, ℕ, List, length, vec_len};
+ghost use Rattle.std.specs.Prelude.{take, drop, slice_index, IsTrue};
+ghost use Rattle.std.specs.Prelude.{Some, IsOk, IfSome, IsSomeAnd, OnOk};
 ghost use Rattle.std.specs.Char.{IsAsciiDigit};
 ghost use Rattle.std.specs.Fmt.{decimal};
 ghost use Rattle.std.specs.Vec.{vec_capacity};
 ghost use Rattle.gw_addr.specs.internal.Digits.{begins_canonical_of};
 ghost use Rattle.gw_addr.specs.Reading.{Keeps};
-ghost use Rattle.gw_addr.specs.Text.{four_text, Lacks};
+ghost use Rattle.gw_addr.specs.Text.{four_text};
 ghost use Rattle.gw_addr.specs.internal.Digits.{pair_text};
 
 use crate::writers::put_octet;
@@ -29,6 +30,7 @@ fn begins_canonical(digits: &[u8]) -> bool
 }
 
 /// The number below 65536 that the text is in decimal digits without leading zeros.
+#[inline(always)]
 pub fn number_in(text: &[u8]) -> Option<u16>
     ensures found { IfSome result (λ n. text.now ≡ decimal n) }
     ensures only { (n : ℕ) → n < 2 ^ 16 → text.now ≡ decimal n → result ≡ Some n }
@@ -51,6 +53,7 @@ pub fn number_in(text: &[u8]) -> Option<u16>
 }
 
 /// The number below 256 that the text is.
+#[inline(always)]
 pub fn octet_in(text: &[u8]) -> Option<u8>
     ensures found { IfSome result (λ n. text.now ≡ decimal n) }
     ensures only { (n : ℕ) → n < 2 ^ 8 → text.now ≡ decimal n → result ≡ Some n }
@@ -58,29 +61,43 @@ pub fn octet_in(text: &[u8]) -> Option<u8>
     u8::try_from(number_in(text)?).ok()
 }
 
-/// What stands before the first separator, and what stands behind it.
-fn split_once(text: &[u8], separator: u8) -> Option<(&[u8], &[u8])>
-    ensures found { IfSome result (λ x. text.now ≡ x.0.now ++ separator ∷ x.1.now) }
-    ensures first { IfSome result (λ x. Lacks separator x.0.now) }
-    ensures only { IsNone result → Lacks separator text.now }
+/// Whether this character stands at that place.
+fn stands_at(text: &[u8], place: usize, c: u8) -> bool
+    ensures { IsTrue result ↔ ((place < length text.now) × (slice_index text.now place ≡ c)) }
 {
-    for (place, c) in text.iter().enumerate() {
-        if *c == separator {
-            return Some((&text[..place], &text[place + 1..]));
-        }
-    }
-    None
+    place < text.len() && text[place] == c
 }
 
-/// The number below 256 before the first separator, and the text behind it.
+/// The number below 256 before that place, and the text behind it.
+#[inline(always)]
+fn octet_to(text: &[u8], place: usize) -> Option<(u8, &[u8])>
+    requires { place < length text.now }
+    ensures found { IfSome result (λ x. (take place text.now ≡ decimal x.0) × (x.1.now ≡ drop (place + 1) text.now)) }
+    ensures only { (n : ℕ) → n < 2 ^ 8 → take place text.now ≡ decimal n
+        → IsSomeAnd result (λ x. (x.0 ≡ n) × (x.1.now ≡ drop (place + 1) text.now)) }
+{
+    let octet = octet_in(&text[..place])?;
+    Some((octet, &text[place + 1..]))
+}
+
+/// The number below 256 before the first separator, and the text behind it. It has three digits at
+/// most, so each place that the separator can have is looked at in turn.
 pub fn octet_before(text: &[u8], separator: u8) -> Option<(u8, &[u8])>
     requires { ¬ IsAsciiDigit separator }
     ensures found { IfSome result (λ x. text.now ≡ decimal x.0 ++ separator ∷ x.1.now) }
     ensures only { (n : ℕ) (rest : List ℕ) → n < 2 ^ 8 → text.now ≡ decimal n ++ separator ∷ rest
         → IsSomeAnd result (λ x. (x.0 ≡ n) × (x.1.now ≡ rest)) }
 {
-    let (front, rest) = split_once(text, separator)?;
-    Some((octet_in(front)?, rest))
+    if stands_at(text, 1, separator) {
+        return octet_to(text, 1);
+    }
+    if stands_at(text, 2, separator) {
+        return octet_to(text, 2);
+    }
+    if stands_at(text, 3, separator) {
+        return octet_to(text, 3);
+    }
+    None
 }
 
 /// Appends the decimal digits of a number.
