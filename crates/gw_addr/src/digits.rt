@@ -82,6 +82,7 @@ fn octet_to(text: &[u8], place: usize) -> Option<(u8, &[u8])>
 
 /// The number below 256 before the first separator, and the text behind it. It has three digits at
 /// most, so each place that the separator can have is looked at in turn.
+#[inline(always)]
 pub fn octet_before(text: &[u8], separator: u8) -> Option<(u8, &[u8])>
     requires { ¬ IsAsciiDigit separator }
     ensures found { IfSome result (λ x. text.now ≡ decimal x.0 ++ separator ∷ x.1.now) }

@@ -1,6 +1,6 @@
 //! A `Vec` that contracts see as its list.
 
-ghost use Rattle.std.specs.Prelude.{◌≡◌, ◌==◌, ◌++◌, ◌∷◌, [], length, OnOk, OnErr};
+ghost use Rattle.std.specs.Prelude.{◌≡◌, ◌==◌, ◌++◌, ◌∷◌, [], length, IfOk, OnOk, OnErr};
 
 use std::alloc::{AllocError, Global};
 use std::marker::Model;
@@ -29,17 +29,22 @@ impl<T> Sequence<T> {
         }
     }
 
-    /// Adds an item behind the others. After an `Err` they are as before. Room is made for the first item alone, since most lists
-    /// have no other.
+    /// No item, and room for so many. An `Err` where there is no memory for them.
+    pub fn with_capacity(alloc: Global, capacity: usize) -> Result<Self, AllocError>
+        ensures { IfOk result (λ sequence. sequence ≡ []) }
+    {
+        Ok(Sequence {
+            items: Vec::with_capacity(alloc, capacity)?,
+        })
+    }
+
+    /// Adds an item behind the others. After an `Err` they are as before.
     pub fn push(&mut self, item: T) -> Result<(), AllocError>
     where
         T: Drop,
         ensures ok { OnOk result (self.new ≡ self.old ++ item ∷ []) }
         ensures err { OnErr result (self.new ≡ self.old) }
     {
-        if self.items.is_empty() {
-            self.items.reserve_exact(1)?;
-        }
         self.items.push(item)?;
         Ok(())
     }

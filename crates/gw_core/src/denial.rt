@@ -44,7 +44,8 @@ fn copy_name(alloc: Global, name: &str) -> Result<RuleName, AllocError>
     }
 }
 
-/// The record of what was refused of a message, counted on from a number. Where nothing was, it takes no memory.
+/// The record of what was refused of a message, counted on from a number. Where nothing was, it
+/// takes no memory.
 pub fn denials_of(
     alloc: Global,
     rules: &RuleList,
@@ -54,8 +55,8 @@ pub fn denials_of(
     refusals: &[Refusal],
 ) -> Result<Denials, AllocError>
     requires { number + length refusals.now < 2 ^ 64 }
-    ensures denials { IfOk result (λ denials. denials ≡
-        denials_from rules.now number tick (message_origin (message_view message.now)) refusals.now) }
+    ensures denials { let from = message_origin (message_view message.now) in
+        IfOk result (λ denials. denials ≡ denials_from rules.now number tick from refusals.now) }
     ensures silent { refusals.now ≡ [] → IsOk result }
 {
     if refusals.is_empty() {
@@ -75,10 +76,10 @@ fn denials_from(
     refusals: &[Refusal],
 ) -> Result<Denials, AllocError>
     requires { number + length refusals.now < 2 ^ 64 }
-    ensures { IfOk result (λ denials. denials ≡
-        denials_from rules.now number tick (message_origin (message_view message.now)) refusals.now) }
+    ensures { let from = message_origin (message_view message.now) in
+        IfOk result (λ denials. denials ≡ denials_from rules.now number tick from refusals.now) }
 {
-    let mut denials = Denials::new(alloc);
+    let mut denials = Denials::with_capacity(alloc, refusals.len())?;
     for (place, refusal) in refusals.iter().enumerate() {
         let rule = copy_name(alloc, rule_name(rules, refusal.by))?;
         denials.push(Denial {

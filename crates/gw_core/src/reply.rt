@@ -123,8 +123,10 @@ fn put_reply(
     message: &Message<'_>,
     answer: &Answer,
 ) -> Result<bool, AllocError>
-    ensures put { OnOk result (result ≡ Ok true → out.new.items ≡ out.old.items ++ encoding (reply_npdu network (npdu_view message.now.npdu) (answer_view answer.now))) }
-    ensures no_room { result ≡ Ok false → 1497 < length (encoding (reply_npdu network (npdu_view message.now.npdu) (answer_view answer.now))) }
+    ensures put { let npdu = reply_npdu network (npdu_view message.now.npdu) (answer_view answer.now) in
+        OnOk result (result ≡ Ok true → out.new.items ≡ out.old.items ++ encoding npdu) }
+    ensures no_room { let npdu = reply_npdu network (npdu_view message.now.npdu) (answer_view answer.now) in
+        result ≡ Ok false → 1497 < length (encoding npdu) }
 {
     let (mac, no_apdu) = ([DEVICE_STATION], []);
     let front = Npdu {
@@ -151,7 +153,8 @@ fn put_reply(
 fn put_length(frame: &mut [u8])
     requires least { FRAME_HEADER ≤ length frame.old }
     requires most { length frame.old < 2 ^ 16 }
-    ensures { frame.new ≡ take 2 frame.old ++ (to_be_bytes w16 (length frame.old) ++ drop 4 frame.old) }
+    ensures { let len = to_be_bytes w16 (length frame.old) in
+        frame.new ≡ take 2 frame.old ++ (len ++ drop 4 frame.old) }
 {
     let len = (frame.len() as u16).to_be_bytes();
     frame[2..4].copy_from_slice(&len);
@@ -166,7 +169,8 @@ fn reply_octets(
     answer: &Answer,
     is_local: bool,
 ) -> Result<Option<Octets>, AllocError>
-    ensures { IfOk result (λ octets. octets ≡ option_map (framed is_local) (within (reply_npdu network (npdu_view message.now.npdu) (answer_view answer.now)))) }
+    ensures { let npdu = reply_npdu network (npdu_view message.now.npdu) (answer_view answer.now) in
+        IfOk result (λ octets. octets ≡ option_map (framed is_local) (within npdu)) }
 {
     let mut octets = Vec::with_capacity(alloc, REPLY_LEN)?;
     put_frame(&mut octets, is_local)?;
@@ -189,7 +193,8 @@ fn is_local_broadcast(message: &Message<'_>, answer: &Answer) -> bool
 
 /// Whom an answer goes to: where the message came from, or everyone on that network.
 fn reply_address(message: &Message<'_>, is_local: bool) -> BipAddr
-    ensures { result ≡ (if is_local then (message_view message.now).port.broadcast else (message_view message.now).link) }
+    ensures { let message = message_view message.now in
+        result ≡ (if is_local then message.port.broadcast else message.link) }
 {
     if is_local {
         message.port.broadcast
@@ -208,14 +213,14 @@ pub fn answer_sends(
     ensures sends { IfOk result (λ sends. sends ≡ answer_sends network (message_view message.now) (option_map answer_view answer)) }
     ensures silent { answer ≡ None → IsOk result }
 {
-    let mut sends = Sends::new(alloc);
     let Some(answer) = answer else {
-        return Ok(sends);
+        return Ok(Sends::new(alloc));
     };
     let is_local = is_local_broadcast(message, &answer);
     let Some(octets) = reply_octets(alloc, network, message, &answer, is_local)? else {
-        return Ok(sends);
+        return Ok(Sends::new(alloc));
     };
+    let mut sends = Sends::with_capacity(alloc, 1)?;
     sends.push(Sending {
         port: message.number,
         to: reply_address(message, is_local),
