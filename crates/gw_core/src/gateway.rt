@@ -107,6 +107,7 @@ impl Gateway {
     }
 
     /// What is done about a message, while the gateway stays as it is.
+    #[inline(never)]
     fn message_effects(&self, alloc: Global, incoming: &Message<'_>) -> Result<Effects, AllocError>
         requires { let received = message (message_view incoming.now) in
             self.now.denials + length (denials_for self.now received) ≤ 2 ^ 63 }
