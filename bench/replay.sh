@@ -1,49 +1,170 @@
 #!/usr/bin/env bash
-# How fast `bacgw replay` is, and how much memory it takes, at 100,000 and at 1,000,000 lines: reads, denied reads, broken
-# datagrams and ticks, mixed by a fixed seed. It wants the program built, as `./bacgw --help` leaves it.
+# How fast `bacgw replay` is: the instructions of a line of each kind, with start-up taken off, and its calls of the allocator; and for
+# a mix of all kinds the least time of several runs and the peak memory. It writes the table of docs/PERFORMANCE.md, beside the same
+# figures of bench/yardstick/replay.rs, a program in plain Rust, where rustc is there.
 #
-#     bench/replay.sh [RUNS]      # 5 runs of each length unless told otherwise
+#     bench/replay.sh [RUNS]            # 11 runs unless told otherwise; writes docs/PERFORMANCE.md
+#     bench/replay.sh --print [RUNS]    # prints the table alone
+#
+# It wants the program built, as `./bacgw --help` leaves it, and valgrind, python3 and /usr/bin/time.
 set -euo pipefail
 
-runs=${1:-5}
 top=$(cd "$(dirname "$0")/.." && pwd)
-program=$top/crates/bacgw/out/bacgw
+page=$top/docs/PERFORMANCE.md
+[ "${1:-}" = --print ] && { page=; shift; }
+runs=${1:-11}
+program=${BACGW:-$top/crates/bacgw/out/bacgw}
 work=$(mktemp -d)
 trap 'rm -rf "$work"' EXIT
 
 [ -x "$program" ] || { echo "build bacgw first: ./bacgw --help" >&2; exit 1; }
-[ -x /usr/bin/time ] || { echo "this wants /usr/bin/time" >&2; exit 1; }
+for tool in valgrind python3 /usr/bin/time; do
+    command -v "$tool" > /dev/null || { echo "this wants $tool" >&2; exit 1; }
+done
+yardstick=$work/yardstick
+if ! command -v rustc > /dev/null || ! rustc --edition 2024 -O -o "$yardstick" "$top/bench/yardstick/replay.rs"; then
+    yardstick=
+fi
 
+kinds="answered denied cut routed long tick mix"
+declare -A name=(
+    [answered]="read, answered" [denied]="read, denied" [cut]="broken, cut" [routed]="source behind a router of 255 octets"
+    [long]="1,632 octets" [tick]="tick" [mix]="a mix of all"
+)
+
+# Scripts of 1,000 and of 3,000 lines of each kind, and a mix of 300,000, by fixed seeds.
 python3 - "$work" <<'PYTHON'
 import random
 import sys
 
-def line(choose):
-    kind = choose.random()
-    if kind < 0.2:
-        return "tick"
-    port = choose.choice((1, 2))
-    source = f"{port} 192.168.{port}.{choose.randrange(2, 255)}:47808"
-    invoke = f"{choose.randrange(256):02X}"
-    instance = 2 if 0.6 <= kind < 0.8 else 1
-    octets = f"810A0016012400640101FF0005{invoke}0C0C0140000{instance}1955"
-    if kind >= 0.8:
-        octets = octets[:choose.randrange(2, len(octets) // 2) * 2]
-    return f"{source} {octets}"
 
-for count in (100_000, 1_000_000):
+def source(choose):
+    port = choose.choice((1, 2))
+    host = choose.choice([host for host in range(2, 255) if host != 10])
+    return f"{port} 192.168.{port}.{host}:47808"
+
+
+def datagram(choose, npdu):
+    return f"{source(choose)} 810A{len(npdu) // 2 + 4:04X}{npdu}"
+
+
+def read(choose, instance):
+    return f"0005{choose.randrange(256):02X}0C0C0140{instance:04X}1955"
+
+
+def octets(choose, count):
+    return choose.randbytes(count).hex().upper()
+
+
+def answered(choose):
+    return datagram(choose, "012400640101FF" + read(choose, 1))
+
+
+def denied(choose):
+    return datagram(choose, "012400640101FF" + read(choose, 2))
+
+
+def cut(choose):
+    whole = answered(choose)
+    start = whole.rindex(" ") + 1
+    return whole[: start + 2 * choose.randrange(2, (len(whole) - start) // 2)]
+
+
+def routed(choose):
+    return datagram(choose, f"012C00640101{5:04X}FF{octets(choose, 255)}FF" + read(choose, 1))
+
+
+def long(choose):
+    return f"{source(choose)} {octets(choose, 1632)}"
+
+
+def tick(choose):
+    return "tick"
+
+
+def mix(choose):
+    kinds = (answered, denied, cut, tick, routed, long)
+    return choose.choices(kinds, (40, 20, 15, 20, 3, 2))[0](choose)
+
+
+def write(kind, count):
     choose = random.Random(135)
-    with open(f"{sys.argv[1]}/{count}.script", "w", encoding="ascii") as script:
-        script.writelines(line(choose) + "\n" for _ in range(count))
+    with open(f"{sys.argv[1]}/{kind.__name__}.{count}", "w", encoding="ascii") as script:
+        script.writelines(kind(choose) + "\n" for _ in range(count))
+
+
+for kind in (answered, denied, cut, routed, long, tick, mix):
+    write(kind, 1000)
+    write(kind, 3000)
+write(mix, 300_000)
 PYTHON
 
-echo "lines      seconds   lines/s     peak KiB"
-for count in 100000 1000000; do
+# instructions SCRIPT PROGRAM..: how many instructions the program takes for the script
+instructions() {
+    valgrind --tool=callgrind --callgrind-out-file="$work/callgrind" "${@:2}" < "$1" > /dev/null 2> "$work/errors"
+    awk '/^(summary|totals):/ { print $2; exit }' "$work/callgrind"
+}
+
+# allocations SCRIPT PROGRAM..: how often it calls the allocator for memory
+allocations() {
+    valgrind --tool=memcheck --leak-check=no "${@:2}" < "$1" 2>&1 > /dev/null \
+        | sed -n 's/.*total heap usage: \([0-9,]*\) allocs.*/\1/p' | tr -d ,
+}
+
+# each FIGURE KIND PROGRAM..: the figure of a line of this kind
+each() {
+    local few many
+    few=$("$1" "$work/$2.1000" "${@:3}")
+    many=$("$1" "$work/$2.3000" "${@:3}")
+    awk -v d=$((many - few)) 'BEGIN { printf "%.1f", d / 2000 }' | sed 's/\.0$//'
+}
+
+grouped() { sed ':a; s/\B[0-9]\{3\}\>/,&/; ta'; }
+
+# seconds PROGRAM..: the least time of the runs of the long mix
+seconds() {
+    local run start end least=
     for ((run = 0; run < runs; run++)); do
         start=${EPOCHREALTIME/[.,]/}
-        /usr/bin/time -o "$work/peak" -f %M timeout 120 "$program" replay < "$work/$count.script" > /dev/null
+        timeout 120 "$@" < "$work/mix.300000" > /dev/null
         end=${EPOCHREALTIME/[.,]/}
-        awk -v n="$count" -v s="$((end - start))" -v m="$(cat "$work/peak")" \
-            'BEGIN { printf "%-10d %-9.3f %-11d %d\n", n, s / 1e6, n / s * 1e6, m }'
+        [ -n "$least" ] && [ "$least" -le $((end - start)) ] || least=$((end - start))
     done
-done
+    awk -v s="$least" 'BEGIN { printf "%.3f", s / 1e6 }'
+}
+
+# row NAME OURS PLAIN: a line of the table, with the ratio of the two
+row() {
+    local ratio=-
+    [ "$3" = - ] || ratio=$(awk -v a="$2" -v b="$3" 'BEGIN { printf "%.2f", a / b }')
+    echo "| $1 | $(grouped <<< "$2") | $(grouped <<< "$3") | $ratio |"
+}
+
+{
+    echo "| A line of this kind | bacgw | Plain Rust | Ratio |"
+    echo "|---|---|---|---|"
+    for kind in $kinds; do
+        plain=-
+        [ -z "$yardstick" ] || plain=$(each instructions "$kind" "$yardstick" | sed 's/\..*//')
+        row "instructions: ${name[$kind]}" "$(each instructions "$kind" "$program" replay | sed 's/\..*//')" "$plain"
+    done
+    for kind in answered denied cut; do
+        plain=-
+        [ -z "$yardstick" ] || plain=$(each allocations "$kind" "$yardstick")
+        echo "| allocations: ${name[$kind]} | $(each allocations "$kind" "$program" replay) | $plain | |"
+    done
+    plain=-
+    [ -z "$yardstick" ] || plain=$(seconds "$yardstick")
+    row "seconds for 300,000 lines of the mix, least of $runs" "$(seconds "$program" replay)" "$plain"
+    /usr/bin/time -o "$work/peak" -f %M "$program" replay < "$work/mix.300000" > /dev/null
+    echo "| peak memory over them, MiB | $(awk '{ printf "%.1f", $1 / 1024 }' "$work/peak") | | |"
+} | tee "$work/table"
+
+if [ -n "$page" ]; then
+    awk -v table="$work/table" '
+        /^<!-- end of the table/ { is_in = 0 }
+        !is_in { print }
+        /^<!-- bench\/replay.sh writes/ { is_in = 1; print ""; while ((getline line < table) > 0) print line; print "" }
+    ' "$page" > "$work/page"
+    cp "$work/page" "$page"
+fi

@@ -18,10 +18,15 @@ use std::alloc::Global;
 use std::io::{BufWriter, Write};
 use std::process::ExitCode;
 
-/// Prints a text and flushes it. `Write` where a write or the flush fails; then a front of the text is written.
+/// Prints a text and flushes it. `Write` where a write or the flush fails; then a front of the text
+/// is written.
 fn print<W: Write + Drop>(text: &str, output: &mut BufWriter<W>) -> Result<(), Fault>
-    ensures ok { OnOk result (Appends (writer_contents W.contents output.old) (writer_contents W.contents output.new) text.now) }
-    ensures front { OnErr result (AppendsFront (writer_contents W.contents output.old) (writer_contents W.contents output.new) text.now) }
+    ensures ok { OnOk result
+        (Appends (writer_contents W.contents output.old) (writer_contents W.contents output.new)
+        text.now) }
+    ensures front { OnErr result
+        (AppendsFront (writer_contents W.contents output.old)
+        (writer_contents W.contents output.new) text.now) }
     ensures fault { IfErr result (λ f. f ≡ fault.Write) }
     ensures flush { OnOk result (writer_buffer output.new ≡ []) }
 {
@@ -36,7 +41,9 @@ fn print<W: Write + Drop>(text: &str, output: &mut BufWriter<W>) -> Result<(), F
 
 /// What the words ask for, or the fault for which there are none.
 fn choice_from(alloc: Global, words: Result<Vec<String>, Fault>) -> Result<Choice, Fault>
-    ensures { MatchResult words (λ w. IsAnswer (fault_of commands (map string_bytes w.items)) result) (λ f. result ≡ Err f) }
+    ensures { MatchResult words
+        (λ w. IsAnswer (fault_of commands (map string_bytes w.items)) result)
+        (λ f. result ≡ Err f) }
 {
     match words {
         Ok(words) => choice_of(alloc, words.as_slice()),
@@ -51,7 +58,8 @@ fn follow<R: OctetSource, W: Write + Drop>(
     input: &mut R,
     output: &mut BufWriter<W>,
 ) -> Result<(), Fault>
-    ensures output { LeavesOutput (R.left input.old) (writer_contents W.contents output.old) (writer_contents W.contents output.new) choice result }
+    ensures output { LeavesOutput (R.left input.old) (writer_contents W.contents output.old)
+        (writer_contents W.contents output.new) choice result }
     ensures flush { OnOk result (writer_buffer output.new ≡ []) }
 {
     match choice {
@@ -61,9 +69,9 @@ fn follow<R: OctetSource, W: Write + Drop>(
     }
 }
 
-/// Runs the program on these words, or on the fault for which there are none: the script of `input` is replayed to `output`, or help is
-/// printed there, a fault is one line on `errors`, and the exit status says of which kind it is. The words begin with the program's
-/// name.
+/// Runs the program on these words, or on the fault for which there are none: the script of `input`
+/// is replayed to `output`, or help is printed there, a fault is one line on `errors`, and the exit
+/// status says of which kind it is. The words begin with the program's name.
 pub fn run<R: OctetSource, W: Write + Drop, E: OctetSink>(
     alloc: Global,
     words: Result<Vec<String>, Fault>,
@@ -72,8 +80,11 @@ pub fn run<R: OctetSource, W: Write + Drop, E: OctetSink>(
     errors: &mut E,
 ) -> ExitCode
     ensures run { IsRun
-        (λ choice. MatchResult words (λ w. IsAnswer (fault_of commands (map string_bytes w.items)) choice) (λ f. choice ≡ Err f))
-        (LeavesOutput (R.left input.old) (writer_contents W.contents output.old) (writer_contents W.contents output.new))
+        (λ choice. MatchResult words
+        (λ w. IsAnswer (fault_of commands (map string_bytes w.items)) choice)
+        (λ f. choice ≡ Err f))
+        (LeavesOutput (R.left input.old) (writer_contents W.contents output.old)
+        (writer_contents W.contents output.new))
         (writer_buffer output.new)
         (λ line. E.NeverFails errors.old → Appends (E.held errors.old) (E.held errors.new) line)
         (exit_status result) }

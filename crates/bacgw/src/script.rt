@@ -23,14 +23,16 @@ fn first_fault(run: Result<(), RunFault>, is_flushed: bool) -> Result<(), Fault>
     }
 }
 
-/// Plays the script that `reader` has left against the built-in configuration. What was written is flushed at every outcome. Faults:
-/// those of the run, `Write` also where the flush alone fails, and `Memory` where the configuration can't be held.
+/// Plays the script that `reader` has left against the built-in configuration. What was written is
+/// flushed at every outcome. Faults: those of the run, `Write` also where the flush alone fails, and
+/// `Memory` where the configuration can't be held.
 pub fn replay<R: OctetSource, W: Write + Drop>(
     alloc: Global,
     reader: &mut R,
     writer: &mut BufWriter<W>,
 ) -> Result<(), Fault>
-    ensures plays { OnKnown (R.left reader.old) (writer_contents W.contents writer.old) (writer_contents W.contents writer.new) (λ script before. Plays script before result) }
+    ensures plays { OnKnown (R.left reader.old) (writer_contents W.contents writer.old)
+        (writer_contents W.contents writer.new) (λ script before. Plays script before result) }
     ensures flushed { OnOk result (writer_buffer writer.new ≡ []) }
 {
     let config = gw_core::setting_s(alloc)?;

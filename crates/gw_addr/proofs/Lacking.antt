@@ -1,6 +1,7 @@
 -- Texts that lack a character, such as the digits of a number.
-use Rattle.std.proofs.Common.{◌≡◌, ◌≢◌, ℕ, zero, suc, ◌^◌, ◌<◌, List, [], ◌∷◌, ◌++◌, get_or, refl, arith}
-use Rattle.std.proofs.lemmas.Fmt.{digits_decimal}
+use Rattle.std.proofs.Common.{◌≡◌, ◌≢◌, ℕ, zero, suc, ◌+◌, ◌^◌, ◌<◌, ◌≤◌, List, [], ◌∷◌, ◌++◌, length, take, drop, get_or, refl, ap, subst, arith}
+use Rattle.std.proofs.lemmas.Fmt.{decimal_nonempty, digits_decimal, length-decimal-le}
+use Rattle.std.proofs.lemmas.List.{length-append, take_at}
 use Rattle.std.proofs.lemmas.Str.Parse.{not_in_digits}
 use Rattle.std.specs.Char.{IsAsciiDigit}
 use Rattle.std.specs.Fmt.{decimal}
@@ -55,3 +56,45 @@ address_lacks c digit point colon a is =
     let later = decimal (get_or a.ip 2 0) ++ 46 ∷ ends in
     let second = part_lacks (get_or a.ip 1 0) 46 c later (small 1) digit point third in
     part_lacks (get_or a.ip 0 0) 46 c (decimal (get_or a.ip 1 0) ++ 46 ∷ later) (small 0) digit point second
+
+-- what is known of a text that begins with a number below 256 and a separator
+pub record BeginsWithOctet (text : List ℕ) (n separator : ℕ) (rest : List ℕ) : Type 0 where
+  pub least : 1 ≤ length (decimal n)
+  pub most : length (decimal n) ≤ 3
+  pub within : length (decimal n) < length text
+  pub there : get_or text (length (decimal n)) 0 ≡ separator
+  pub first : (k : ℕ) → get_or text k 0 ≡ separator → length (decimal n) ≤ k
+  pub front : take (length (decimal n)) text ≡ decimal n
+  pub behind : drop (length (decimal n) + 1) text ≡ rest
+
+first_there : (c : ℕ) (xs ys : List ℕ) (k : ℕ) → Lacks c xs → get_or (xs ++ c ∷ ys) k 0 ≡ c → length xs ≤ k
+first_there c [] ys k lacks e = omega arith
+first_there c (x ∷ xs) ys zero lacks e = absurd (lacks 0 (omega arith) e)
+first_there c (x ∷ xs) ys (suc k) lacks e = omega (arith, first_there c xs ys k (λ i lt. lacks (suc i) (omega arith)) e)
+
+stands_there : (c : ℕ) (xs ys : List ℕ) → get_or (xs ++ c ∷ ys) (length xs) 0 ≡ c
+stands_there c [] ys = refl
+stands_there c (x ∷ xs) ys = stands_there c xs ys
+
+drop_past : (c : ℕ) (xs ys : List ℕ) → drop (length xs + 1) (xs ++ c ∷ ys) ≡ ys
+drop_past c [] ys = refl
+drop_past c (x ∷ xs) ys =
+    let more : suc (length xs) + 1 ≡ suc (length xs + 1) = omega arith in
+    rw more (drop_past c xs ys)
+
+pub begins_with_octet : (text : List ℕ) (n separator : ℕ) (rest : List ℕ) → n < 2 ^ 8 → ¬ (IsAsciiDigit separator) → text ≡ decimal n ++ separator ∷ rest → BeginsWithOctet text n separator rest
+begins_with_octet text n separator rest small other e =
+    let lacks = not_in_decimal n separator (omega arith) other in record {
+      least = omega (arith, decimal_nonempty n (omega arith));
+      most = length-decimal-le 3 n (omega arith) (omega arith) (omega arith);
+      within = omega (arith, ap length e, length-append (decimal n) (separator ∷ rest));
+      there = rw e (stands_there separator (decimal n) rest);
+      first = λ k is. first_there separator (decimal n) rest k lacks (subst (λ (t : List ℕ). get_or t k 0 ≡ separator) e is);
+      front = rw e (take_at (decimal n) (separator ∷ rest) (length (decimal n)) refl);
+      behind = rw e (drop_past separator (decimal n) rest);
+    }
+
+-- where its separator stands
+pub not_there : (text : List ℕ) (n separator : ℕ) (rest : List ℕ) (place : ℕ) → BeginsWithOctet text n separator rest → ¬ ((place < length text) × (get_or text place 0 ≡ separator)) → length (decimal n) ≢ place
+not_there text n separator rest place begins other e =
+    other (omega (arith, begins.within), subst (λ (k : ℕ). get_or text k 0 ≡ separator) e begins.there)

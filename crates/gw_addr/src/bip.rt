@@ -91,6 +91,15 @@ impl BipAddr {
         ensures found { IfOk result (λ a. text.now ≡ text_of a) }
         ensures only { (a : BipAddr) → IsAddress a → text.now ≡ text_of a → result ≡ Ok a }
     {
+        BipAddr::parse_octets(text.as_bytes())
+    }
+
+    /// Reads an address from the octets of the text that it is written as. The rest is as with
+    /// [`BipAddr::parse`].
+    pub fn parse_octets(text: &[u8]) -> Result<BipAddr, TextFault>
+        ensures found { IfOk result (λ a. text.now ≡ text_of a) }
+        ensures only { (a : BipAddr) → IsAddress a → text.now ≡ text_of a → result ≡ Ok a }
+    {
         address_written(text).ok_or(TextFault::Text)
     }
 
@@ -120,14 +129,14 @@ impl fmt::Display for BipAddr {
 }
 
 /// The address that the text writes.
-fn address_written(text: &str) -> Option<BipAddr>
+fn address_written(text: &[u8]) -> Option<BipAddr>
     ensures found { IfSome result (λ a. text.now ≡ text_of a) }
     ensures only { (a : BipAddr) → IsAddress a → text.now ≡ text_of a → result ≡ Some a }
 {
-    let (a, rest) = octet_before(text, '.')?;
-    let (b, rest) = octet_before(rest, '.')?;
-    let (c, rest) = octet_before(rest, '.')?;
-    let (d, port) = octet_before(rest, ':')?;
+    let (a, rest) = octet_before(text, b'.')?;
+    let (b, rest) = octet_before(rest, b'.')?;
+    let (c, rest) = octet_before(rest, b'.')?;
+    let (d, port) = octet_before(rest, b':')?;
     let udp = number_in(port)?;
     Some(BipAddr {
         ip: [a, b, c, d],

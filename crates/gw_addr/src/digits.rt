@@ -1,7 +1,8 @@
 //! Numbers in decimal digits without leading zeros, as addresses and masks are written with them.
 
-ghost use Rattle.std.specs.Prelude.{◌≡◌, ◌<◌, ◌≤◌, ◌+◌, ◌^◌, ◌++◌, ◌∷◌, ℕ, List, length, vec_len};
-ghost use Rattle.std.specs.Prelude.{IsOk, IfSome, IsSomeAnd, OnOk};
+ghost use Rattle.std.specs.Prelude.{◌≡◌, ◌<◌, ◌≤◌, ◌+◌, ◌^◌, ◌++◌, ◌∷◌, ◌↔◌, ℕ, List, length, vec_len};
+ghost use Rattle.std.specs.Prelude.{take, drop, slice_index, IsTrue};
+ghost use Rattle.std.specs.Prelude.{Some, IsOk, IfSome, IsSomeAnd, OnOk};
 ghost use Rattle.std.specs.Char.{IsAsciiDigit};
 ghost use Rattle.std.specs.Fmt.{decimal};
 ghost use Rattle.std.specs.Vec.{vec_capacity};
@@ -13,6 +14,9 @@ ghost use Rattle.gw_addr.specs.internal.Digits.{pair_text};
 use crate::writers::put_octet;
 use itoa::Buffer;
 use std::alloc::AllocError;
+
+/// How many digits a number below 65536 has at most.
+const MAX_DIGITS: usize = 5;
 
 /// Whether digits begin as a number does that has no leading zeros.
 fn begins_canonical(digits: &[u8]) -> bool
@@ -26,34 +30,75 @@ fn begins_canonical(digits: &[u8]) -> bool
 }
 
 /// The number below 65536 that the text is in decimal digits without leading zeros.
-pub fn number_in(text: &str) -> Option<u16>
+#[inline(always)]
+pub fn number_in(text: &[u8]) -> Option<u16>
     ensures found { IfSome result (λ n. text.now ≡ decimal n) }
     ensures only { (n : ℕ) → n < 2 ^ 16 → text.now ≡ decimal n → result ≡ Some n }
 {
-    if !begins_canonical(text.as_bytes()) {
+    if !begins_canonical(text) {
         return None;
     }
-    text.parse().ok()
+    if text.len() > MAX_DIGITS {
+        return None;
+    }
+    let mut number = 0u32;
+    for digit in text {
+        let value = digit.wrapping_sub(b'0');
+        if value > 9 {
+            return None;
+        }
+        number = 10 * number + u32::from(value);
+    }
+    u16::try_from(number).ok()
 }
 
 /// The number below 256 that the text is.
-pub fn octet_in(text: &str) -> Option<u8>
+#[inline(always)]
+pub fn octet_in(text: &[u8]) -> Option<u8>
     ensures found { IfSome result (λ n. text.now ≡ decimal n) }
     ensures only { (n : ℕ) → n < 2 ^ 8 → text.now ≡ decimal n → result ≡ Some n }
 {
     u8::try_from(number_in(text)?).ok()
 }
 
-/// The number below 256 before the first separator, and the text behind it.
-pub fn octet_before(text: &str, separator: char) -> Option<(u8, &str)>
-    requires ascii { separator < 128 }
-    requires no_digit { ¬ IsAsciiDigit separator }
+/// Whether this character stands at that place.
+fn stands_at(text: &[u8], place: usize, c: u8) -> bool
+    ensures { IsTrue result ↔ ((place < length text.now) × (slice_index text.now place ≡ c)) }
+{
+    place < text.len() && text[place] == c
+}
+
+/// The number below 256 before that place, and the text behind it.
+#[inline(always)]
+fn octet_to(text: &[u8], place: usize) -> Option<(u8, &[u8])>
+    requires { place < length text.now }
+    ensures found { IfSome result (λ x. (take place text.now ≡ decimal x.0) × (x.1.now ≡ drop (place + 1) text.now)) }
+    ensures only { (n : ℕ) → n < 2 ^ 8 → take place text.now ≡ decimal n
+        → IsSomeAnd result (λ x. (x.0 ≡ n) × (x.1.now ≡ drop (place + 1) text.now)) }
+{
+    let octet = octet_in(&text[..place])?;
+    Some((octet, &text[place + 1..]))
+}
+
+/// The number below 256 before the first separator, and the text behind it. It has three digits at
+/// most, so each place that the separator can have is looked at in turn.
+#[inline(always)]
+pub fn octet_before(text: &[u8], separator: u8) -> Option<(u8, &[u8])>
+    requires { ¬ IsAsciiDigit separator }
     ensures found { IfSome result (λ x. text.now ≡ decimal x.0 ++ separator ∷ x.1.now) }
     ensures only { (n : ℕ) (rest : List ℕ) → n < 2 ^ 8 → text.now ≡ decimal n ++ separator ∷ rest
         → IsSomeAnd result (λ x. (x.0 ≡ n) × (x.1.now ≡ rest)) }
 {
-    let (front, rest) = text.split_once(separator)?;
-    Some((octet_in(front)?, rest))
+    if stands_at(text, 1, separator) {
+        return octet_to(text, 1);
+    }
+    if stands_at(text, 2, separator) {
+        return octet_to(text, 2);
+    }
+    if stands_at(text, 3, separator) {
+        return octet_to(text, 3);
+    }
+    None
 }
 
 /// Appends the decimal digits of a number.

@@ -25,9 +25,9 @@ impl Mask {
         ensures found { IfSome result (λ m. text.now ≡ mask_text m) }
         ensures only { (m : Mask) → IsMask m → text.now ≡ mask_text m → result ≡ Some m }
     {
-        let (a, rest) = octet_before(text, '.')?;
-        let (b, rest) = octet_before(rest, '.')?;
-        let (c, rest) = octet_before(rest, '.')?;
+        let (a, rest) = octet_before(text.as_bytes(), b'.')?;
+        let (b, rest) = octet_before(rest, b'.')?;
+        let (c, rest) = octet_before(rest, b'.')?;
         let d = octet_in(rest)?;
         Some(Mask {
             octets: [a, b, c, d],

@@ -1,6 +1,6 @@
 //! A `Vec` that contracts see as its list.
 
-ghost use Rattle.std.specs.Prelude.{◌≡◌, ◌==◌, ◌++◌, ◌∷◌, [], length, OnOk, OnErr};
+ghost use Rattle.std.specs.Prelude.{◌≡◌, ◌==◌, ◌++◌, ◌∷◌, [], length, IfOk, OnOk, OnErr};
 
 use std::alloc::{AllocError, Global};
 use std::marker::Model;
@@ -27,6 +27,15 @@ impl<T> Sequence<T> {
         Sequence {
             items: Vec::new(alloc),
         }
+    }
+
+    /// No item, and room for so many. An `Err` where there is no memory for them.
+    pub fn with_capacity(alloc: Global, capacity: usize) -> Result<Self, AllocError>
+        ensures { IfOk result (λ sequence. sequence ≡ []) }
+    {
+        Ok(Sequence {
+            items: Vec::with_capacity(alloc, capacity)?,
+        })
     }
 
     /// Adds an item behind the others. After an `Err` they are as before.

@@ -7,3 +7,4 @@ pub mod ShownLemmas
 pub mod LineOutcomeLemmas
 pub mod ReplayLemmas
 pub mod CallLemmas
+pub mod ReplyLemmas

@@ -1,8 +1,10 @@
 -- What comes of one line of a script in a replay.
-use Rattle.std.specs.Prelude.{◌≡◌, ℕ, ◌+◌, ◌≤◌, Bool, true, false, List, [], ◌∷◌, ◌++◌, length, Option, Some, Result, Ok, Err}
+use Rattle.std.specs.Prelude.{◌≡◌, ◌⊎◌, ℕ, ◌+◌, ◌≤◌, Bool, true, false, List, [], ◌∷◌, ◌++◌, length}
+use Rattle.std.specs.Prelude.{Option, Some, Result, Ok, Err}
 use Rattle.gw_script.specs.Event.{Event}
 use Rattle.gw_core.specs.declared.replaying.RunFault.{RunFault}
-use Rattle.gw_core.specs.declared.replaying.RunFault.TheVariants.{Read, Line, Write, Memory, CountEnd}
+use Rattle.gw_core.specs.declared.replaying.RunFault.TheVariants.{Read, Line, Write, Memory}
+use Rattle.gw_core.specs.declared.replaying.RunFault.TheVariants.{CountEnd}
 use Rattle.gw_core.specs.State.{State}
 use Rattle.gw_core.specs.Effects.{effects_at, passes_end, NeedsNoMemory}
 use Rattle.gw_core.specs.History.{next}
@@ -10,7 +12,8 @@ use Rattle.gw_script.specs.Script.{lines_of, IsLine}
 use Rattle.gw_core.specs.Shown.{effects_text}
 
 -- the first line writes an event, whose text was appended, and the gateway moved on by it
-pub record WholeStep (w moved : State) (text : List ℕ) (left : Option (List ℕ)) (before : List ℕ) (after : Option (List ℕ)) : Type 0 where
+pub record WholeStep (w moved : State) (text : List ℕ) (left : Option (List ℕ)) (before : List ℕ)
+    (after : Option (List ℕ)) : Type 0 where
   pub line : List ℕ
   pub event : Event
   pub writes : IsLine (length w.ports) line event
@@ -62,11 +65,29 @@ abbrev pub IsShorter : List ℕ → Option (List ℕ) → Type 0
 IsShorter text left = (rest : List ℕ) × (left ≡ Some rest) × (length rest + 1 ≤ length text)
 
 -- what comes of the first line, whose number this is
-abbrev pub LineOutcome : ℕ → State → State → List ℕ → Option (List ℕ) → List ℕ → Option (List ℕ) → Result Bool RunFault → Type 0
+abbrev pub LineOutcome : ℕ → State → State → List ℕ → Option (List ℕ) → List ℕ → Option (List ℕ)
+    → Result Bool RunFault → Type 0
 LineOutcome n w moved text left before after (Ok true) = WholeStep w moved text left before after
-LineOutcome n w moved text left before after (Ok false) = (lines_of text ≡ []) × (after ≡ Some before)
-LineOutcome n w moved text left before after (Err (Line m)) = (m ≡ n) × NoEvent w text × (after ≡ Some before)
+LineOutcome n w moved text left before after (Ok false) =
+    (lines_of text ≡ []) × (after ≡ Some before)
+LineOutcome n w moved text left before after (Err (Line m)) =
+    (m ≡ n) × NoEvent w text × (after ≡ Some before)
 LineOutcome n w moved text left before after (Err Write) = CutStep w text before after
 LineOutcome n w moved text left before after (Err Read) = after ≡ Some before
-LineOutcome n w moved text left before after (Err Memory) = MemoryWant w text × (after ≡ Some before)
-LineOutcome n w moved text left before after (Err CountEnd) = PassesEnd w text × (after ≡ Some before)
+LineOutcome n w moved text left before after (Err Memory) =
+    MemoryWant w text × (after ≡ Some before)
+LineOutcome n w moved text left before after (Err CountEnd) =
+    PassesEnd w text × (after ≡ Some before)
+
+-- the same, where the text that is left and what was written are known
+abbrev pub OnKnownLine : ℕ → State → State → Option (List ℕ) → Option (List ℕ) → Option (List ℕ)
+    → Option (List ℕ) → Result Bool RunFault → Type 0
+OnKnownLine n w moved left leaves held holds result =
+    (text before : List ℕ) → left ≡ Some text → held ≡ Some before
+    → LineOutcome n w moved text leaves before holds result
+
+-- an event is not taken for want of memory, which it may want, or since it would pass the end of a
+-- count
+abbrev pub IsEventFault : State → Event → RunFault → Type 0
+IsEventFault w event fault =
+    ((fault ≡ Memory) × ¬ (NeedsNoMemory w event)) ⊎ ((fault ≡ CountEnd) × (passes_end w event ≡ true))

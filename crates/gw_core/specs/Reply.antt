@@ -94,6 +94,11 @@ within fields = if nat_le (length (npdu.encoding fields)) 1497 then Some (npdu.e
 abbrev pub is_local_broadcast : Fields → Answer → Bool
 is_local_broadcast request answer = answer.broadcast && not (is_some request.source)
 
+-- the datagram of an NPDU: to everyone on the port's network, or to one address
+abbrev pub framed : Bool → List ℕ → List ℕ
+framed false octets = bvll.encoding (original_unicast octets)
+framed true octets = bvll.encoding (original_broadcast octets)
+
 -- an NPDU to one address
 abbrev pub unicast : ℕ → BipAddr → List ℕ → Sending
 unicast port to octets = record { port = port; to = to; octets = bvll.encoding (original_unicast octets) }

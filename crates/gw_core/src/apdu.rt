@@ -1,26 +1,41 @@
 //! The APDUs by which the device answers (clauses 20.1.5 and 20.1.7).
 
 ghost use Rattle.std.specs.Prelude.{◌≡◌, ◌++◌, OnOk};
-ghost use Rattle.gw_core.specs.Device.{error_apdu, index_part, read_ack, read_answer};
+ghost use Rattle.gw_core.specs.Device.{error_apdu, index_part, read_ack};
 ghost use Rattle.gw_core.specs.Failure.{error_of};
 ghost use Rattle.gw_core.specs.Read.{read_of};
-ghost use Rattle.gw_core.specs.View.{enumeration, octets_of};
+ghost use Rattle.gw_core.specs.View.{enumeration};
 
 use crate::failure::Failure;
-use crate::octets::Octets;
 use crate::read::{READ_PROPERTY, Read};
 use gw_tags::{
     AppValue, write_closing, write_context, write_context_unsigned, write_opening, write_value,
 };
 use std::alloc::AllocError;
 
-/// What the device answers.
-#[derive(Debug, Drop)]
+/// What the device answers. Its APDU is made where it is sent, by [`Answer::put_apdu`].
+#[derive(Clone, Copy, Debug)]
 pub struct Answer {
-    /// The octets of an APDU.
-    pub apdu: Octets,
+    /// The read that is answered.
+    pub read: Read,
+    /// What it reads, an enumeration by its number, or why it fails.
+    pub value: Result<u32, Failure>,
     /// Whether it goes to everyone on the requester's network.
     pub broadcast: bool,
+}
+
+impl Answer {
+    ghost use Rattle.gw_core.specs.View.{answer_view};
+
+    /// Appends the APDU.
+    pub fn put_apdu(&self, out: &mut Vec<u8>) -> Result<(), AllocError>
+        ensures { OnOk result (out.new.items ≡ out.old.items ++ (answer_view self.now).apdu) }
+    {
+        match self.value {
+            Ok(value) => put_read_ack(out, &self.read, value),
+            Err(failure) => put_error(out, self.read.invoke, failure),
+        }
+    }
 }
 
 /// The first octet of a ComplexACK.
@@ -57,18 +72,4 @@ fn put_error(out: &mut Vec<u8>, invoke: u8, failure: Failure) -> Result<(), Allo
     out.extend_from_slice(&[ERROR, invoke, READ_PROPERTY])?;
     write_value(out, AppValue::Enumerated(failure.class()))?;
     write_value(out, AppValue::Enumerated(failure.code()))
-}
-
-/// Appends the answer to a read.
-pub fn put_read_answer(
-    out: &mut Vec<u8>,
-    read: &Read,
-    value: Result<u32, Failure>,
-) -> Result<(), AllocError>
-    ensures { OnOk result (out.new.items ≡ out.old.items ++ read_answer (read_of read.now) (octets_of value)) }
-{
-    match value {
-        Ok(value) => put_read_ack(out, read, value),
-        Err(failure) => put_error(out, read.invoke, failure),
-    }
 }

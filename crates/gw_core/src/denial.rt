@@ -7,7 +7,6 @@ ghost use Rattle.gw_core.specs.View.{message_view};
 
 use crate::effects::{Denial, Denials};
 use crate::message::Message;
-use gw_addr::Source;
 use gw_rules::{Refusal, RuleList, RuleName};
 use std::alloc::{AllocError, Global};
 
@@ -45,7 +44,8 @@ fn copy_name(alloc: Global, name: &str) -> Result<RuleName, AllocError>
     }
 }
 
-/// The record of what was refused of a message, counted on from a number. Where nothing was, it takes no memory.
+/// The record of what was refused of a message, counted on from a number. Where nothing was, it
+/// takes no memory.
 pub fn denials_of(
     alloc: Global,
     rules: &RuleList,
@@ -55,45 +55,38 @@ pub fn denials_of(
     refusals: &[Refusal],
 ) -> Result<Denials, AllocError>
     requires { number + length refusals.now < 2 ^ 64 }
-    ensures denials { IfOk result (λ denials. denials ≡ denials_from rules.now number tick (message_origin (message_view message.now)) refusals.now) }
+    ensures denials { let from = message_origin (message_view message.now) in
+        IfOk result (λ denials. denials ≡ denials_from rules.now number tick from refusals.now) }
     ensures silent { refusals.now ≡ [] → IsOk result }
 {
     if refusals.is_empty() {
         return Ok(Denials::new(alloc));
     }
-    let source = message.claim();
-    denials_from(
-        alloc,
-        rules,
-        number,
-        tick,
-        message.number,
-        &source,
-        refusals,
-    )
+    denials_from(alloc, rules, number, tick, message, refusals)
 }
 
 /// The record of refusals, counted on from a number.
+#[inline(never)]
 fn denials_from(
     alloc: Global,
     rules: &RuleList,
     number: u64,
     tick: u64,
-    port: u8,
-    source: &Source,
+    message: &Message<'_>,
     refusals: &[Refusal],
 ) -> Result<Denials, AllocError>
     requires { number + length refusals.now < 2 ^ 64 }
-    ensures { IfOk result (λ denials. denials ≡ denials_from rules.now number tick (record { port = port; source = source.now }) refusals.now) }
+    ensures { let from = message_origin (message_view message.now) in
+        IfOk result (λ denials. denials ≡ denials_from rules.now number tick from refusals.now) }
 {
-    let mut denials = Denials::new(alloc);
+    let mut denials = Denials::with_capacity(alloc, refusals.len())?;
     for (place, refusal) in refusals.iter().enumerate() {
         let rule = copy_name(alloc, rule_name(rules, refusal.by))?;
         denials.push(Denial {
             number: number + place as u64,
             tick,
-            port,
-            source: *source,
+            port: message.number,
+            source: message.claim(),
             ask: refusal.ask,
             rule,
         })?;

@@ -11,16 +11,15 @@ ghost use Rattle.gw_core.specs.Device.{asks_of, binary, binary_value, binary_val
 ghost use Rattle.gw_core.specs.Read.{read_of};
 ghost use Rattle.gw_core.specs.View.{answer_view, octets_of};
 
-use crate::apdu::{Answer, put_read_answer};
+use crate::apdu::Answer;
 use crate::config::DeviceConfig;
 use crate::dropped::Dropped;
 use crate::failure::Failure;
 use crate::object::ObjectState;
-use crate::octets::Octets;
 use crate::read::{READ_PROPERTY, Read, read_request};
 use gw_rules::{Ask, Authorizer, Judge, Operation};
 use gw_tags::ObjectId;
-use std::alloc::{AllocError, Global};
+use std::alloc::AllocError;
 
 /// What the device knows of a request beside its octets.
 #[derive(Clone, Copy, Debug)]
@@ -43,8 +42,6 @@ const DEVICE: u16 = 8;
 const ANY_INSTANCE: u32 = 4_194_303;
 /// Present_Value (clause 21).
 const PRESENT_VALUE: u32 = 85;
-/// How many octets most answers have, so that a buffer seldom grows.
-const ANSWER_LEN: usize = 48;
 
 fn named_object(device: DeviceConfig, object: ObjectId) -> ObjectId
     ensures { object_view result ≡ named_object device.instance (object_view object) }
@@ -153,7 +150,6 @@ fn read_value<J: Judge>(
 
 /// What the device answers to an APDU, if anything.
 pub fn answer<J: Judge>(
-    alloc: Global,
     device: DeviceConfig,
     objects: &[ObjectState],
     authorizer: &mut Authorizer<'_, J>,
@@ -171,10 +167,9 @@ pub fn answer<J: Judge>(
         return Ok(None);
     };
     let value = read_value(device, objects, authorizer, context, &read)?;
-    let mut apdu = Vec::with_capacity(alloc, ANSWER_LEN)?;
-    put_read_answer(&mut apdu, &read, value)?;
     Ok(Some(Answer {
-        apdu: Octets::new(apdu),
+        read,
+        value,
         broadcast: false,
     }))
 }

@@ -42,9 +42,17 @@ impl Model for Gateway {
 
     ghost Value = { State };
 
-    ghost view = { λ g. record { ports = g.ports.items; device = g.device; objects = g.objects.items; rules = g.rules; ticks = g.counts.ticks; denials = g.counts.denials } };
+    ghost view = { λ g. record {
+      ports = g.ports.items;
+      device = g.device;
+      objects = g.objects.items;
+      rules = g.rules;
+      ticks = g.counts.ticks;
+      denials = g.counts.denials;
+    } };
 
-    ghost invariant = { λ g. (g.counts.ticks ≤ 2 ^ 63) × (g.counts.denials ≤ 2 ^ 63) × (1 ≤ length g.ports.items) × (length g.ports.items ≤ 8) };
+    ghost invariant = { λ g. (g.counts.ticks ≤ 2 ^ 63) × (g.counts.denials ≤ 2 ^ 63)
+        × (1 ≤ length g.ports.items) × (length g.ports.items ≤ 8) };
 }
 
 /// The objects before anything commands them.
@@ -99,10 +107,14 @@ impl Gateway {
     }
 
     /// What is done about a message, while the gateway stays as it is.
+    #[inline(never)]
     fn message_effects(&self, alloc: Global, incoming: &Message<'_>) -> Result<Effects, AllocError>
-        requires { self.now.denials + length (denials_for self.now (message (message_view incoming.now))) ≤ 2 ^ 63 }
-        ensures effects { IfOk result (λ given. given ≡ effects_for self.now (message (message_view incoming.now))) }
-        ensures silent { asks_for self.now.device self.now.rules (message (message_view incoming.now)) ≡ [] → IsOk result }
+        requires { let received = message (message_view incoming.now) in
+            self.now.denials + length (denials_for self.now received) ≤ 2 ^ 63 }
+        ensures effects { let received = message (message_view incoming.now) in
+            IfOk result (λ given. given ≡ effects_for self.now received) }
+        ensures silent { let received = message (message_view incoming.now) in
+            asks_for self.now.device self.now.rules received ≡ [] → IsOk result }
     {
         let network = self.device.network();
         let Some(apdu) = apdu_for(network, &incoming.npdu) else {
@@ -110,14 +122,7 @@ impl Gateway {
         };
         let context = context_of(network, incoming);
         let mut authorizer = Authorizer::new(alloc, &self.rules);
-        let answer = device::answer(
-            alloc,
-            self.device,
-            &self.objects,
-            &mut authorizer,
-            &context,
-            apdu,
-        )?;
+        let answer = device::answer(self.device, &self.objects, &mut authorizer, &context, apdu)?;
         let sends = answer_sends(alloc, network, incoming, answer)?;
         let number = self.counts.denials + 1;
         let denials = denials_of(
@@ -133,9 +138,12 @@ impl Gateway {
 
     /// What is done about what is received, while the gateway stays as it is.
     fn effects(&self, alloc: Global, received: &Received<'_>) -> Result<Effects, AllocError>
-        requires { self.now.denials + length (denials_for self.now (received_view received.now)) ≤ 2 ^ 63 }
-        ensures effects { IfOk result (λ given. given ≡ effects_for self.now (received_view received.now)) }
-        ensures silent { asks_for self.now.device self.now.rules (received_view received.now) ≡ [] → IsOk result }
+        requires { let received = received_view received.now in
+            self.now.denials + length (denials_for self.now received) ≤ 2 ^ 63 }
+        ensures effects { let received = received_view received.now in
+            IfOk result (λ given. given ≡ effects_for self.now received) }
+        ensures silent { let received = received_view received.now in
+            asks_for self.now.device self.now.rules received ≡ [] → IsOk result }
     {
         match received {
             Received::Message(incoming) => self.message_effects(alloc, incoming),
@@ -148,7 +156,8 @@ impl Gateway {
     /// How many asks are denied of a message. It takes no memory.
     #[tactic(auto, using(crate::proofs::DenialLemmas::length_denials))]
     fn count_message(&self, incoming: &Message<'_>) -> u64
-        ensures count { result ≡ length (denials_for self.now (message (message_view incoming.now))) }
+        ensures count { let received = message (message_view incoming.now) in
+            result ≡ length (denials_for self.now received) }
     {
         let network = self.device.network();
         match apdu_for(network, &incoming.npdu) {
@@ -173,7 +182,8 @@ impl Gateway {
     /// Whether the number of the last denial would pass its end. The asks are judged beforehand only where the end is near.
     #[tactic(auto, using(crate::proofs::DenialLemmas::few_denials))]
     fn passes_end(&self, received: &Received<'_>) -> bool
-        ensures { IsTrue result ↔ (2 ^ 63 < self.now.denials + length (denials_for self.now (received_view received.now))) }
+        ensures { let received = received_view received.now in
+            IsTrue result ↔ (2 ^ 63 < self.now.denials + length (denials_for self.now received)) }
     {
         let left = LAST_COUNT - self.counts.denials;
         left < MAX_ASKS && self.count_denials(received) > left
@@ -190,9 +200,11 @@ impl Gateway {
         octets: &[u8],
     ) -> Result<Effects, StepFault>
         // What it does, and the state then.
-        ensures step { IfOk result (λ given. IsStep self.old (Datagram port from octets.now) given self.new) }
+        ensures step { IfOk result
+            (λ given. IsStep self.old (Datagram port from octets.now) given self.new) }
         // The end of a count comes before any want of memory.
-        ensures count_end { IsErrOf result StepFault.CountEnd ↔ (passes_end self.old (Datagram port from octets.now) ≡ true) }
+        ensures count_end { IsErrOf result StepFault.CountEnd
+            ↔ (passes_end self.old (Datagram port from octets.now) ≡ true) }
         // Memory only where something is asked or sent.
         ensures silent { NeedsNoMemory self.old (Datagram port from octets.now) → IsOk result }
         ensures err { OnErr result (self.new ≡ self.old) }

@@ -84,7 +84,7 @@ fn here(network: NetNum, address: BipAddr) -> Source
 {
     Source {
         net: network,
-        mac: mac_of(&address.to_octets()),
+        mac: address.mac(),
     }
 }
 

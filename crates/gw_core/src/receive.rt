@@ -106,6 +106,7 @@ fn claims_direct(ports: &[Port], device: NetNum, source: &Option<AddressRef<'_>>
 }
 
 /// The NPDU of these octets, where it is heard.
+#[inline(never)]
 #[tactic(auto, unfolding(crate::specs::Receive::npdu_of))]
 fn npdu_of<'a>(ports: &[Port], device: NetNum, octets: &'a [u8]) -> Option<Npdu<'a>>
     ensures { option_map npdu_view result ≡ npdu_of ports.now device octets.now }

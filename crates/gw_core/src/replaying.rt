@@ -1,14 +1,15 @@
-//! The replay of a script: its events one by one through a fresh gateway, and the text of what they do.
+//! The replay of a script: its events one by one through a fresh gateway, and the text of what
+//! they do.
 
 ghost use Rattle.std.specs.Prelude.{◌≡◌, ◌+◌, ◌*◌, ◌<◌, ◌≤◌, ℕ, List, length, ◌⊎◌, Ok, Some, OnOk, IfErr, IsErrOf, true, vec_capacity};
 ghost use Rattle.std.specs.Io.KnownBytes.{prepend_known};
 ghost use Rattle.gw_script.specs.Event.{event_view};
 ghost use Rattle.gw_script.specs.Reader.{IsPaid};
-ghost use Rattle.gw_core.specs.Effects.{NeedsNoMemory, effects_at, passes_end};
+ghost use Rattle.gw_core.specs.Effects.{effects_at};
 ghost use Rattle.gw_core.specs.History.{next};
 ghost use Rattle.gw_core.specs.Shown.{effects_text};
 ghost use Rattle.gw_core.specs.Replay.{OnKnown, RunsWhole, RunsToLine, RunsToEnd, RunsToMemory, RunsPart, RunsFront};
-ghost use Rattle.gw_core.specs.LineOutcome.{IsShorter, LineOutcome};
+ghost use Rattle.gw_core.specs.LineOutcome.{IsEventFault, IsShorter, OnKnownLine};
 
 use crate::config::Config;
 use crate::event::Counts;
@@ -17,7 +18,8 @@ use crate::gateway::Gateway;
 use crate::shown::append_effects;
 use crate::whole_run::take_event;
 use gw_script::{
-    Event, LineReader, MAX_DATAGRAM, NextLine, OctetSink, OctetSource, parse_line, write_whole,
+    Event, LineReader, MAX_DATAGRAM, NextLine, OctetSink, OctetSource, SpelledAddr, parse_spelled,
+    write_whole,
 };
 use std::alloc::Global;
 use thiserror::Error;
@@ -55,11 +57,11 @@ struct ScriptRun {
     ghost room: { 4 ≤ vec_capacity text },
 }
 
-/// Runs the events of a script through a fresh gateway of this configuration, whose counts start at 0, and writes what each of them does
-/// before it takes up the next line. The writer isn't flushed.
+/// Runs the events of a script through a fresh gateway of this configuration, whose counts start at
+/// 0, and writes what each of them does before it takes up the next line. The writer isn't flushed.
 ///
-/// A line is `tick`, or the number of a port, whom a datagram comes from and its octets, and ends with a line feed, which the last may
-/// lack. It has at most 4096 octets without it.
+/// A line is `tick`, or the number of a port, whom a datagram comes from and its octets, and ends
+/// with a line feed, which the last may lack. It has at most 4096 octets without it.
 ///
 /// ```text
 /// tick
@@ -79,19 +81,29 @@ pub fn replay<R: OctetSource, W: OctetSink>(
     reader: &mut R,
     writer: &mut W,
 ) -> Result<(), RunFault>
-    // What is written then, where the octets of the reader and the writer are known: the text of the run of the whole script,
-    ensures whole { OnOk result (OnKnown (R.left reader.old) (W.held writer.old) (W.held writer.new) (RunsWhole config)) }
+    // What is written then, where the octets of the reader and the writer are known: the text of the
+    // run of the whole script,
+    ensures whole { OnOk result
+        (OnKnown (R.left reader.old) (W.held writer.old) (W.held writer.new) (RunsWhole config)) }
     // of the lines before one that writes no event,
-    ensures line { (n : ℕ) → IsErrOf result (RunFault.Line n) → OnKnown (R.left reader.old) (W.held writer.old) (W.held writer.new) (RunsToLine n config) }
+    ensures line { (n : ℕ) → IsErrOf result (RunFault.Line n) →
+        OnKnown (R.left reader.old) (W.held writer.old) (W.held writer.new) (RunsToLine n config) }
     // of the lines before one whose event would pass the end of a count,
-    ensures count_end { IsErrOf result RunFault.CountEnd → OnKnown (R.left reader.old) (W.held writer.old) (W.held writer.new) (RunsToEnd config) }
+    ensures count_end { IsErrOf result RunFault.CountEnd →
+        OnKnown (R.left reader.old) (W.held writer.old) (W.held writer.new) (RunsToEnd config) }
     // or of some first lines, of which a failed write may leave a front.
-    ensures front { IsErrOf result RunFault.Write → OnKnown (R.left reader.old) (W.held writer.old) (W.held writer.new) (RunsFront config) }
-    ensures part { (IsErrOf result RunFault.Read ⊎ IsErrOf result RunFault.Memory) → OnKnown (R.left reader.old) (W.held writer.old) (W.held writer.new) (RunsPart config) }
+    ensures front { IsErrOf result RunFault.Write →
+        OnKnown (R.left reader.old) (W.held writer.old) (W.held writer.new) (RunsFront config) }
+    ensures part { (IsErrOf result RunFault.Read ⊎ IsErrOf result RunFault.Memory) →
+        OnKnown (R.left reader.old) (W.held writer.old) (W.held writer.new) (RunsPart config) }
     // Memory is wanted before the first line, or for an event that brings a message.
-    ensures memory { IsErrOf result RunFault.Memory → OnKnown (R.left reader.old) (W.held writer.old) (W.held writer.new) (RunsToMemory config) }
-    // What never fails doesn't end the replay: a reader, of a script of less than 2 GiB, and a writer.
-    ensures sure_reader { R.NeverFails reader.old → (script : List ℕ) → R.left reader.old ≡ Some script → 2 * length script + 1 < 4294967295 → ¬ (IsErrOf result RunFault.Read) }
+    ensures memory { IsErrOf result RunFault.Memory →
+        OnKnown (R.left reader.old) (W.held writer.old) (W.held writer.new) (RunsToMemory config) }
+    // What never fails doesn't end the replay: a reader, of a script of less than 2 GiB, and a
+    // writer.
+    ensures sure_reader { R.NeverFails reader.old → (script : List ℕ) →
+        R.left reader.old ≡ Some script → 2 * length script + 1 < 4294967295 →
+        ¬ (IsErrOf result RunFault.Read) }
     ensures sure_writer { W.NeverFails writer.old → ¬ (IsErrOf result RunFault.Write) }
 {
     let counts = Counts {
@@ -129,10 +141,17 @@ impl ScriptRun {
         reader: &mut R,
         writer: &mut W,
     ) -> Result<bool, RunFault>
-        ensures outcome { (text before : List ℕ) → prepend_known self.old.lines.unread (R.left reader.old) ≡ Some text → W.held writer.old ≡ Some before → LineOutcome number self.old.gateway self.new.gateway text (prepend_known self.new.lines.unread (R.left reader.new)) before (W.held writer.new) result }
-        ensures shorter { (text : List ℕ) → prepend_known self.old.lines.unread (R.left reader.old) ≡ Some text → result ≡ Ok true → IsShorter text (prepend_known self.new.lines.unread (R.left reader.new)) }
-        ensures paid { IsPaid self.old.lines.calls (R.left reader.old) self.new.lines.calls (R.left reader.new) }
-        ensures sure_reader { R.NeverFails reader.old → IsErrOf result RunFault.Read → self.new.lines.calls ≡ 4294967295 }
+        ensures outcome { OnKnownLine number self.old.gateway self.new.gateway
+            (prepend_known self.old.lines.unread (R.left reader.old))
+            (prepend_known self.new.lines.unread (R.left reader.new))
+            (W.held writer.old) (W.held writer.new) result }
+        ensures shorter { (text : List ℕ) →
+            prepend_known self.old.lines.unread (R.left reader.old) ≡ Some text → result ≡ Ok true →
+            IsShorter text (prepend_known self.new.lines.unread (R.left reader.new)) }
+        ensures paid { IsPaid self.old.lines.calls (R.left reader.old)
+            self.new.lines.calls (R.left reader.new) }
+        ensures sure_reader { R.NeverFails reader.old → IsErrOf result RunFault.Read →
+            self.new.lines.calls ≡ 4294967295 }
         ensures sure_writer { W.NeverFails writer.old → ¬ (IsErrOf result RunFault.Write) }
         ensures lasting_reader { R.NeverFails reader.old → R.NeverFails reader.new }
         ensures lasting_writer { W.NeverFails writer.old → W.NeverFails writer.new }
@@ -144,10 +163,11 @@ impl ScriptRun {
             Err(_) => return Err(RunFault::Read),
         };
         let line = self.lines.front(len);
-        let Some(event) = parse_line(self.gateway.ports(), line, &mut self.datagram) else {
+        let ports = self.gateway.ports();
+        let Some((event, sender)) = parse_spelled(ports, line, &mut self.datagram) else {
             return Err(RunFault::Line(number));
         };
-        match make_text(alloc, &mut self.gateway, &event, &mut self.text) {
+        match make_text(alloc, &mut self.gateway, &event, &sender, &mut self.text) {
             Ok(()) => {}
             Err(fault) => return Err(fault),
         }
@@ -164,12 +184,14 @@ fn make_text(
     alloc: Global,
     gateway: &mut Gateway,
     event: &Event<'_>,
+    sender: &Option<SpelledAddr<'_>>,
     text: &mut Vec<u8>,
 ) -> Result<(), RunFault>
     requires room { 4 ≤ vec_capacity text.old }
-    ensures text { OnOk result (text.new.items ≡ effects_text (effects_at gateway.old (event_view event.now))) }
+    ensures text { OnOk result
+        (text.new.items ≡ effects_text (effects_at gateway.old (event_view event.now))) }
     ensures moved { OnOk result (gateway.new ≡ next gateway.old (event_view event.now)) }
-    ensures fault { IfErr result (λ fault. ((fault ≡ RunFault.Memory) × ¬ (NeedsNoMemory gateway.old (event_view event.now))) ⊎ ((fault ≡ RunFault.CountEnd) × (passes_end gateway.old (event_view event.now) ≡ true))) }
+    ensures fault { IfErr result (IsEventFault gateway.old (event_view event.now)) }
     ensures capacity { vec_capacity text.old ≤ vec_capacity text.new }
 {
     let effects = match take_event(alloc, gateway, event) {
@@ -178,7 +200,7 @@ fn make_text(
         Err(StepFault::CountEnd) => return Err(RunFault::CountEnd),
     };
     text.clear();
-    match append_effects(text, &effects) {
+    match append_effects(text, &effects, sender) {
         Ok(()) => {}
         Err(_) => return Err(RunFault::Memory),
     }

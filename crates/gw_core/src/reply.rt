@@ -1,11 +1,12 @@
 //! The message that an APDU for the device comes in, and those that carry its answer (clause 6.2.2).
 
-ghost use Rattle.std.specs.Prelude.{◌≡◌, ◌≤◌, [], ◌∷◌, length, is_some, ◌&&◌, not, IfOk, IfSome, IsOk, None};
+ghost use Rattle.std.specs.Prelude.{◌≡◌, ◌<◌, ◌≤◌, ◌^◌, ◌++◌, [], ◌∷◌, length, take, drop, if◌then◌else◌};
+ghost use Rattle.std.specs.Prelude.{IfOk, IsOk, OnOk, None, Ok, true, false};
+ghost use Rattle.std.specs.Int.{w16, to_be_bytes};
 ghost use Rattle.std.specs.Option.{option_map};
-ghost use Rattle.gw_bvll.specs.Bvll.{encoding, original_broadcast, original_unicast, view as frame_view};
 ghost use Rattle.gw_core.specs.Effects.{answer_sends};
-ghost use Rattle.gw_npdu.specs.Npdu.{destination_view, payload_view, address_view, view as npdu_view};
-ghost use Rattle.gw_core.specs.Reply.{apdu_for, apdu_of, context_of, goes_to_all, is_broadcast, is_device, is_local_broadcast, reply_npdu, reply_sending, reply_sends, mac_back, way_back, within};
+ghost use Rattle.gw_npdu.specs.Npdu.{destination_view, payload_view, address_view, encoding, view as npdu_view};
+ghost use Rattle.gw_core.specs.Reply.{apdu_for, apdu_of, context_of, framed, goes_to_all, is_broadcast, is_device, is_local_broadcast, reply_npdu, way_back, within};
 ghost use Rattle.gw_core.specs.View.{answer_view, message_view};
 
 use crate::apdu::Answer;
@@ -13,7 +14,7 @@ use crate::device::Context;
 use crate::effects::{Sending, Sends};
 use crate::message::Message;
 use crate::octets::Octets;
-use gw_addr::NetNum;
+use gw_addr::{BipAddr, NetNum};
 use gw_bvll::Bvll;
 use gw_npdu::{AddressRef, Destination, Npdu, Payload};
 use std::alloc::{AllocError, Global};
@@ -22,6 +23,8 @@ use std::alloc::{AllocError, Global};
 const DEVICE_STATION: u8 = 1;
 /// The hop count of a message that has passed no router yet.
 const WHOLE_COUNT: u8 = 255;
+/// How many octets of a frame stand before its NPDU (Annex J.2.11, J.2.12).
+const FRAME_HEADER: usize = 4;
 /// How many octets most replies have, so that a buffer seldom grows.
 const REPLY_LEN: usize = 64;
 
@@ -83,47 +86,6 @@ pub fn context_of(network: NetNum, message: &Message<'_>) -> Context
     }
 }
 
-/// The octets of an NPDU, or none where there would be more than 1497.
-#[tactic(auto, unfolding(crate::specs::Reply::within))]
-fn octets_within(alloc: Global, npdu: &Npdu<'_>) -> Result<Option<Octets>, AllocError>
-    ensures octets { IfOk result (λ octets. octets ≡ within (npdu_view npdu.now)) }
-    ensures most { IfOk result (λ found. IfSome found (λ octets. length octets ≤ 1497)) }
-{
-    let mut octets = Vec::with_capacity(alloc, REPLY_LEN)?;
-    match gw_npdu::encode(npdu, &mut octets) {
-        Ok(()) => Ok(Some(Octets::new(octets))),
-        Err(gw_npdu::EncodeFault::TooLong) => Ok(None),
-        Err(gw_npdu::EncodeFault::Memory) => Err(AllocError),
-    }
-}
-
-fn original_unicast(alloc: Global, npdu: &[u8]) -> Result<Octets, AllocError>
-    requires { length npdu.now ≤ 1497 }
-    ensures { IfOk result (λ octets. octets ≡ encoding (original_unicast npdu.now)) }
-{
-    datagram_of(alloc, &Bvll::OriginalUnicast(npdu))
-}
-
-fn original_broadcast(alloc: Global, npdu: &[u8]) -> Result<Octets, AllocError>
-    requires { length npdu.now ≤ 1497 }
-    ensures { IfOk result (λ octets. octets ≡ encoding (original_broadcast npdu.now)) }
-{
-    datagram_of(alloc, &Bvll::OriginalBroadcast(npdu))
-}
-
-/// The octets of a frame whose NPDU is within its length.
-fn datagram_of(alloc: Global, frame: &Bvll<'_>) -> Result<Octets, AllocError>
-    requires { length (encoding (frame_view frame.now)) ≤ 1507 }
-    ensures { IfOk result (λ octets. octets ≡ encoding (frame_view frame.now)) }
-{
-    let mut octets = Vec::with_capacity(alloc, REPLY_LEN)?;
-    match gw_bvll::encode(frame, &mut octets) {
-        Ok(()) => Ok(Octets::new(octets)),
-        Err(gw_bvll::EncodeFault::TooLong) => unreachable!(),
-        Err(gw_bvll::EncodeFault::Memory) => Err(AllocError),
-    }
-}
-
 /// The way back to the station that asked, or to everyone on its network.
 fn way_back<'a>(broadcast: bool, source: &Option<AddressRef<'a>>) -> Option<Destination<'a>>
     ensures { option_map destination_view result ≡ option_map (way_back broadcast) (option_map address_view source.now) }
@@ -138,18 +100,36 @@ fn way_back<'a>(broadcast: bool, source: &Option<AddressRef<'a>>) -> Option<Dest
     }
 }
 
-/// The octets of the message that carries an answer back, or none where there would be more than 1497.
-fn reply_octets(
-    alloc: Global,
+/// Appends a frame that brings no NPDU yet, to everyone on the port's network or to one address.
+fn put_frame(out: &mut Vec<u8>, is_local: bool) -> Result<(), AllocError>
+    ensures { OnOk result (out.new.items ≡ out.old.items ++ framed is_local []) }
+{
+    let frame = if is_local {
+        Bvll::OriginalBroadcast(&[])
+    } else {
+        Bvll::OriginalUnicast(&[])
+    };
+    match gw_bvll::encode(&frame, out) {
+        Ok(()) => Ok(()),
+        Err(_) => Err(AllocError),
+    }
+}
+
+/// Appends the NPDU that carries an answer back. It answers whether that was done: not where what stands before the APDU would be
+/// over 1497 octets.
+fn put_reply(
+    out: &mut Vec<u8>,
     network: NetNum,
     message: &Message<'_>,
     answer: &Answer,
-) -> Result<Option<Octets>, AllocError>
-    ensures octets { IfOk result (λ octets. octets ≡ within (reply_npdu network (npdu_view message.now.npdu) (answer_view answer.now))) }
-    ensures most { IfOk result (λ found. IfSome found (λ octets. length octets ≤ 1497)) }
+) -> Result<bool, AllocError>
+    ensures put { let npdu = reply_npdu network (npdu_view message.now.npdu) (answer_view answer.now) in
+        OnOk result (result ≡ Ok true → out.new.items ≡ out.old.items ++ encoding npdu) }
+    ensures no_room { let npdu = reply_npdu network (npdu_view message.now.npdu) (answer_view answer.now) in
+        result ≡ Ok false → 1497 < length (encoding npdu) }
 {
-    let mac = [DEVICE_STATION];
-    let reply = Npdu {
+    let (mac, no_apdu) = ([DEVICE_STATION], []);
+    let front = Npdu {
         destination: way_back(answer.broadcast, &message.npdu.source),
         source: Some(AddressRef {
             network: network.get(),
@@ -157,37 +137,73 @@ fn reply_octets(
         }),
         reply_expected: false,
         priority: message.npdu.priority,
-        payload: Payload::Apdu(answer.apdu.as_slice()),
+        payload: Payload::Apdu(&no_apdu),
     };
-    octets_within(alloc, &reply)
+    match gw_npdu::encode(&front, out) {
+        Ok(()) => {
+            answer.put_apdu(out)?;
+            Ok(true)
+        }
+        Err(gw_npdu::EncodeFault::TooLong) => Ok(false),
+        Err(gw_npdu::EncodeFault::Memory) => Err(AllocError),
+    }
 }
 
-/// The datagram of an answer: back to where the message came from, or to everyone on that network.
-fn reply_sending(
+/// Writes the length of a frame into its header (Annex J.2).
+fn put_length(frame: &mut [u8])
+    requires least { FRAME_HEADER ≤ length frame.old }
+    requires most { length frame.old < 2 ^ 16 }
+    ensures { let len = to_be_bytes w16 (length frame.old) in
+        frame.new ≡ take 2 frame.old ++ (len ++ drop 4 frame.old) }
+{
+    let len = (frame.len() as u16).to_be_bytes();
+    frame[2..4].copy_from_slice(&len);
+}
+
+/// The datagram of an answer, in one buffer: the frame's header, the NPDU and its APDU. None where the NPDU would be over 1497 octets.
+#[tactic(auto, unfolding(crate::specs::Reply::within))]
+fn reply_octets(
     alloc: Global,
+    network: NetNum,
     message: &Message<'_>,
     answer: &Answer,
-    npdu: &[u8],
-) -> Result<Sending, AllocError>
-    requires { length npdu.now ≤ 1497 }
-    ensures { IfOk result (λ sending. sending ≡ reply_sending (message_view message.now) (answer_view answer.now) npdu.now) }
+    is_local: bool,
+) -> Result<Option<Octets>, AllocError>
+    ensures { let npdu = reply_npdu network (npdu_view message.now.npdu) (answer_view answer.now) in
+        IfOk result (λ octets. octets ≡ option_map (framed is_local) (within npdu)) }
 {
-    if answer.broadcast && message.npdu.source.is_none() {
-        return Ok(Sending {
-            port: message.number,
-            to: message.port.broadcast,
-            octets: original_broadcast(alloc, npdu)?,
-        });
+    let mut octets = Vec::with_capacity(alloc, REPLY_LEN)?;
+    put_frame(&mut octets, is_local)?;
+    if !put_reply(&mut octets, network, message, answer)? {
+        return Ok(None);
     }
-    Ok(Sending {
-        port: message.number,
-        to: message.link(),
-        octets: original_unicast(alloc, npdu)?,
-    })
+    if octets.len() > FRAME_HEADER + gw_npdu::MAX_LEN {
+        return Ok(None);
+    }
+    put_length(octets.as_mut_slice());
+    Ok(Some(Octets::new(octets)))
+}
+
+/// Whether an answer goes to everyone on the port's network.
+fn is_local_broadcast(message: &Message<'_>, answer: &Answer) -> bool
+    ensures { result ≡ is_local_broadcast (npdu_view message.now.npdu) (answer_view answer.now) }
+{
+    answer.broadcast && message.npdu.source.is_none()
+}
+
+/// Whom an answer goes to: where the message came from, or everyone on that network.
+fn reply_address(message: &Message<'_>, is_local: bool) -> BipAddr
+    ensures { let message = message_view message.now in
+        result ≡ (if is_local then message.port.broadcast else message.link) }
+{
+    if is_local {
+        message.port.broadcast
+    } else {
+        message.link()
+    }
 }
 
 /// The sends of an answer to a message, where there is one.
-#[tactic(auto, unfolding(crate::specs::Reply::reply_sends))]
 pub fn answer_sends(
     alloc: Global,
     network: NetNum,
@@ -197,12 +213,18 @@ pub fn answer_sends(
     ensures sends { IfOk result (λ sends. sends ≡ answer_sends network (message_view message.now) (option_map answer_view answer)) }
     ensures silent { answer ≡ None → IsOk result }
 {
-    let mut sends = Sends::new(alloc);
     let Some(answer) = answer else {
-        return Ok(sends);
+        return Ok(Sends::new(alloc));
     };
-    if let Some(npdu) = reply_octets(alloc, network, message, &answer)? {
-        sends.push(reply_sending(alloc, message, &answer, npdu.as_slice())?)?;
-    }
+    let is_local = is_local_broadcast(message, &answer);
+    let Some(octets) = reply_octets(alloc, network, message, &answer, is_local)? else {
+        return Ok(Sends::new(alloc));
+    };
+    let mut sends = Sends::with_capacity(alloc, 1)?;
+    sends.push(Sending {
+        port: message.number,
+        to: reply_address(message, is_local),
+        octets,
+    })?;
     Ok(sends)
 }

@@ -1,6 +1,6 @@
 pub mod SearchLemmas
 pub mod LineLemmas
 pub mod UnreadLemmas
-pub mod DigitLemmas
 pub mod AppendLemmas
 pub mod EventLemmas
+pub mod PairLemmas

@@ -1,5 +1,5 @@
 -- One event, as a line writes it and a gateway takes it, without where its octets lie in memory.
-use Rattle.std.specs.Prelude.{ℕ, ◌≤◌, List, ⊤}
+use Rattle.std.specs.Prelude.{ℕ, ◌≤◌, List, Option, Some, None, ⊤}
 use Rattle.gw_addr.specs.declared.bip.BipAddr.{BipAddr}
 use Rattle.gw_script.specs.declared.event.Event.{Event as LentEvent}
 use Rattle.gw_script.specs.declared.event.Event.TheVariants as lent
@@ -17,3 +17,8 @@ event_view lent.Tick = Tick
 abbrev pub IsOnPort : ℕ → Event → Type 0
 IsOnPort count (Datagram port from octets) = (1 ≤ port) × (port ≤ count)
 IsOnPort count Tick = ⊤
+
+-- whom a datagram comes from
+abbrev pub sender_of : Event → Option BipAddr
+sender_of (Datagram port from octets) = Some from
+sender_of Tick = None

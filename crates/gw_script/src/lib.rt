@@ -11,10 +11,10 @@ mod sink;
 mod source;
 mod text;
 
-pub use event::Event;
+pub use event::{Event, SpelledAddr};
 pub use law::script_laws;
-pub use line::{MAX_DATAGRAM, parse_line};
+pub use line::{MAX_DATAGRAM, parse_line, parse_spelled};
 pub use reader::{LineReader, NextLine};
 pub use sink::{OctetSink, WriteFailed, write_whole};
 pub use source::{OctetSource, ReadFailed};
-pub use text::{append_end, append_send};
+pub use text::{append_end, append_send, append_send_to};

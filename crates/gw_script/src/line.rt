@@ -1,16 +1,19 @@
 //! The grammar of a line: `tick`, or a datagram as `<port> <address> <hex>`.
 
-ghost use Rattle.std.specs.Prelude.{◌≡◌, ◌≢◌, ◌+◌, ◌≤◌, ◌++◌, ◌∷◌, ℕ, List, Some, IfSome, IsNone, length};
+ghost use Rattle.std.specs.Prelude.{◌≡◌, ◌≢◌, ◌+◌, ◌*◌, ◌<◌, ◌≤◌, ◌++◌, ◌∷◌, ℕ, List, length};
+ghost use Rattle.std.specs.Prelude.{Ok, None, Some, IsErr, IfSome, IsNone, unwrap_or};
+ghost use Rattle.std.specs.Bool.{OnTrue, OnFalse};
+ghost use Rattle.std.specs.Option.{option_map};
+ghost use Rattle.hex.specs.Hex.{decode_of, hex_digit_value};
 ghost use Rattle.gw_addr.specs.declared.bip.BipAddr.{BipAddr};
 ghost use Rattle.gw_addr.specs.Address.{IsAddress, text_of};
-ghost use Rattle.gw_script.specs.Event.{Event as PlainEvent, IsOnPort, event_view};
+ghost use Rattle.gw_script.specs.Event.{Event as PlainEvent, IsOnPort, event_view, sender_of};
 ghost use Rattle.gw_script.specs.Script.{IsLine, Writes, WritesDatagram, WritesOctets};
 ghost use Rattle.gw_addr.specs.Text.{Lacks};
 
-use crate::event::Event;
+use crate::event::{Event, SpelledAddr};
 use gw_addr::BipAddr;
 use memchr::memchr;
-use std::str;
 
 /// How many octets the datagram of a line has at most.
 pub const MAX_DATAGRAM: usize = 2048;
@@ -28,22 +31,43 @@ pub fn parse_line<'a>(
     ensures found { IfSome result (λ event. IsLine ports line.now (event_view event)) }
     ensures only { IsNone result → (e : PlainEvent) → ¬ (IsLine ports line.now e) }
 {
+    match parse_spelled(ports, line, buffer) {
+        Some((event, _)) => Some(event),
+        None => None,
+    }
+}
+
+/// The event that a line of at most 4096 octets writes, as [`parse_line`] gives it, and the address that a datagram comes from as
+/// the line spells it.
+pub fn parse_spelled<'a, 'b>(
+    ports: u8,
+    line: &'b [u8],
+    buffer: &'a mut [u8; MAX_DATAGRAM],
+) -> Option<(Event<'a>, Option<SpelledAddr<'b>>)>
+    requires ports { ports ≤ 8 }
+    requires most { length line.now ≤ 4096 }
+    ensures on { IfSome result (λ x. IsOnPort ports (event_view x.0)) }
+    ensures found { IfSome result (λ x. IsLine ports line.now (event_view x.0)) }
+    ensures only { IsNone result → (e : PlainEvent) → ¬ (IsLine ports line.now e) }
+    ensures spelled { IfSome result (λ x. option_map (λ s. s.address) x.1 ≡ sender_of (event_view x.0)) }
+{
     match line {
-        [b't', b'i', b'c', b'k'] => Some(Event::Tick),
+        [b't', b'i', b'c', b'k'] => Some((Event::Tick, None)),
         _ => parse_datagram(ports, line, buffer),
     }
 }
 
-/// The datagram that a line writes.
-fn parse_datagram<'a>(
+/// The datagram that a line writes, and whom it comes from as the line spells it.
+fn parse_datagram<'a, 'b>(
     ports: u8,
-    line: &[u8],
+    line: &'b [u8],
     buffer: &'a mut [u8; MAX_DATAGRAM],
-) -> Option<Event<'a>>
+) -> Option<(Event<'a>, Option<SpelledAddr<'b>>)>
     requires ports { ports ≤ 8 }
     requires most { length line.now ≤ 4096 }
-    ensures on { IfSome result (λ event. IsOnPort ports (event_view event)) }
-    ensures found { IfSome result (λ event. Writes ports line.now (event_view event)) }
+    ensures on { IfSome result (λ x. IsOnPort ports (event_view x.0)) }
+    ensures found { IfSome result (λ x. Writes ports line.now (event_view x.0)) }
+    ensures spelled { IfSome result (λ x. option_map (λ s. s.address) x.1 ≡ sender_of (event_view x.0)) }
     ensures only { IsNone result → (port : ℕ) (from : BipAddr) (octets : List ℕ) → ¬ (WritesDatagram ports line.now port from octets) }
 {
     let [digit, b' ', rest @ ..] = line else {
@@ -53,7 +77,11 @@ fn parse_datagram<'a>(
     let (address, text) = split_at_space(rest)?;
     let from = address_of(address)?;
     let octets = octets_of(text, buffer)?;
-    Some(Event::Datagram { port, from, octets })
+    let spelled = SpelledAddr {
+        address: from,
+        text: address,
+    };
+    Some((Event::Datagram { port, from, octets }, Some(spelled)))
 }
 
 /// The port that a digit names.
@@ -85,10 +113,35 @@ fn address_of(text: &[u8]) -> Option<BipAddr>
     ensures is { IfSome result (λ a. IsAddress a) }
     ensures only { (a : BipAddr) → IsAddress a → text.now ≡ text_of a → result ≡ Some a }
 {
-    let Ok(text) = str::from_utf8(text) else {
-        return None;
-    };
-    BipAddr::parse(text).ok()
+    BipAddr::parse_octets(text).ok()
+}
+
+/// The value of a digit of either case, or a number over 15 where the character is none.
+fn digit_value(digit: u8) -> u8
+    ensures digit { result < 16 → hex_digit_value digit ≡ Some result }
+    ensures other { 16 ≤ result → hex_digit_value digit ≡ None }
+{
+    let number = digit.wrapping_sub(b'0');
+    let letter = (digit | 0x20).wrapping_sub(b'a').saturating_add(10);
+    if number < 10 { number } else { letter }
+}
+
+/// Reads the octets of digit pairs, and answers whether all of them were digits. It tells that at the end alone, so that no digit
+/// is waited for: the loop has no branch.
+#[inline(never)]
+fn read_pairs(text: &[u8], octets: &mut [u8]) -> bool
+    requires { length text.now ≡ 2 * length octets.old }
+    ensures read { OnTrue result (decode_of text.now ≡ Ok octets.new) }
+    ensures only { OnFalse result (IsErr (decode_of text.now)) }
+{
+    let mut largest = 0u8;
+    for i in 0..octets.len() {
+        let high = digit_value(text[2 * i]);
+        let low = digit_value(text[2 * i + 1]);
+        largest = largest.max(high).max(low);
+        octets[i] = high.wrapping_mul(16).wrapping_add(low);
+    }
+    largest < 16
 }
 
 /// The octets that a text writes, lent from the buffer.
@@ -100,12 +153,13 @@ fn octets_of<'a>(text: &[u8], buffer: &'a mut [u8; MAX_DATAGRAM]) -> Option<&'a 
     if let [b'-'] = text {
         return Some(&[]);
     }
-    if text.is_empty() {
+    if text.is_empty() || text.len() % 2 != 0 {
         return None;
     }
     let octets = &mut buffer[..text.len() / 2];
-    match hex::decode_to_slice(text, octets) {
-        Ok(()) => Some(octets),
-        Err(_) => None,
+    if read_pairs(text, octets) {
+        Some(octets)
+    } else {
+        None
     }
 }

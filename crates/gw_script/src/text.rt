@@ -1,16 +1,16 @@
 //! The pieces of the text that a replay writes, each appended to a buffer.
 
-ghost use Rattle.std.specs.Prelude.{◌≡◌, ◌+◌, ◌≤◌, ◌++◌, length, IsOk, OnOk, OnErr, vec_len, vec_capacity};
+ghost use Rattle.std.specs.Prelude.{◌≡◌, ◌+◌, ◌*◌, ◌<◌, ◌≤◌, ◌++◌, length, slice_index, IsOk, OnOk, OnErr, vec_len, vec_capacity};
 ghost use Rattle.std.specs.Fmt.{decimal};
-ghost use Rattle.hex.specs.Hex.{encode_upper};
+ghost use Rattle.hex.specs.Hex.{encode_upper, upper_digits};
+ghost use Rattle.gw_addr.specs.Address.{text_of};
 ghost use Rattle.gw_addr.specs.Reading.{Keeps};
 ghost use Rattle.gw_script.specs.Text.{end_line, send_head, send_line};
 
+use crate::event::SpelledAddr;
 use gw_addr::{BipAddr, put_octet, put_slice};
 use itoa::Buffer;
 use std::alloc::AllocError;
-
-const DIGITS: &[u8; 16] = b"0123456789ABCDEF";
 
 /// Appends the line of a datagram that is sent. Refused only where the buffer had no room for it; the buffer then holds what it held.
 pub fn append_send(
@@ -24,8 +24,25 @@ pub fn append_send(
     ensures room { vec_len out.old + length (send_line port to octets.now) ≤ vec_capacity out.old → IsOk result }
     ensures capacity { vec_capacity out.old ≤ vec_capacity out.new }
 {
+    append_send_to(out, port, to, &None, octets)
+}
+
+/// Appends the line of a datagram that is sent, as [`append_send`] does. Where it goes to an address whose text is at hand, the text
+/// is not made again.
+pub fn append_send_to(
+    out: &mut Vec<u8>,
+    port: u8,
+    to: BipAddr,
+    at_hand: &Option<SpelledAddr<'_>>,
+    octets: &[u8],
+) -> Result<(), AllocError>
+    ensures ok { OnOk result (out.new.items ≡ out.old.items ++ send_line port to octets.now) }
+    ensures err { OnErr result (out.new.items ≡ out.old.items) }
+    ensures room { vec_len out.old + length (send_line port to octets.now) ≤ vec_capacity out.old → IsOk result }
+    ensures capacity { vec_capacity out.old ≤ vec_capacity out.new }
+{
     let len = out.len();
-    if put_send(out, port, to, octets).is_err() {
+    if put_send(out, port, to, at_hand, octets).is_err() {
         out.truncate(len);
         return Err(AllocError);
     }
@@ -44,19 +61,30 @@ pub fn append_end(out: &mut Vec<u8>) -> Result<(), AllocError>
 
 /// Appends the line of a datagram that is sent. A front of it stands there where a growth was refused.
 #[tactic(auto, unfolding(crate::specs::Text::send_line))]
-fn put_send(out: &mut Vec<u8>, port: u8, to: BipAddr, octets: &[u8]) -> Result<(), AllocError>
+fn put_send(
+    out: &mut Vec<u8>,
+    port: u8,
+    to: BipAddr,
+    at_hand: &Option<SpelledAddr<'_>>,
+    octets: &[u8],
+) -> Result<(), AllocError>
     ensures ok { OnOk result (out.new.items ≡ out.old.items ++ send_line port to octets.now) }
     ensures room { vec_len out.old + length (send_line port to octets.now) ≤ vec_capacity out.old → IsOk result }
     ensures front { Keeps out.old.items out.new.items }
     ensures capacity { vec_capacity out.old ≤ vec_capacity out.new }
 {
-    put_head(out, port, to)?;
+    put_head(out, port, to, at_hand)?;
     put_octets(out, octets)?;
     put_octet(out, b'\n')
 }
 
 /// Appends what stands before the octets in the line of a datagram that is sent.
-fn put_head(out: &mut Vec<u8>, port: u8, to: BipAddr) -> Result<(), AllocError>
+fn put_head(
+    out: &mut Vec<u8>,
+    port: u8,
+    to: BipAddr,
+    at_hand: &Option<SpelledAddr<'_>>,
+) -> Result<(), AllocError>
     ensures ok { OnOk result (out.new.items ≡ out.old.items ++ send_head port to) }
     ensures room { vec_len out.old + length (send_head port to) ≤ vec_capacity out.old → IsOk result }
     ensures front { Keeps out.old.items out.new.items }
@@ -65,8 +93,25 @@ fn put_head(out: &mut Vec<u8>, port: u8, to: BipAddr) -> Result<(), AllocError>
     put_slice(out, b"send ")?;
     put_decimal(out, u64::from(port))?;
     put_octet(out, b' ')?;
-    to.put_text(out)?;
+    put_address(out, to, at_hand)?;
     put_octet(out, b' ')
+}
+
+/// Appends the text of an address.
+fn put_address(
+    out: &mut Vec<u8>,
+    address: BipAddr,
+    at_hand: &Option<SpelledAddr<'_>>,
+) -> Result<(), AllocError>
+    ensures ok { OnOk result (out.new.items ≡ out.old.items ++ text_of address) }
+    ensures room { vec_len out.old + length (text_of address) ≤ vec_capacity out.old → IsOk result }
+    ensures front { Keeps out.old.items out.new.items }
+    ensures capacity { vec_capacity out.old ≤ vec_capacity out.new }
+{
+    match at_hand {
+        Some(spelled) if spelled.address.is_same(address) => put_slice(out, spelled.text),
+        _ => address.put_text(out),
+    }
 }
 
 /// Appends the decimal digits of a number.
@@ -86,10 +131,36 @@ fn put_octets(out: &mut Vec<u8>, octets: &[u8]) -> Result<(), AllocError>
     ensures room { vec_len out.old + length (encode_upper octets.now) ≤ vec_capacity out.old → IsOk result }
     ensures capacity { vec_capacity out.old ≤ vec_capacity out.new }
 {
-    for octet in octets {
-        let high = DIGITS[(*octet / 16) as usize];
-        let low = DIGITS[(*octet % 16) as usize];
-        out.extend_from_slice(&[high, low])?;
-    }
+    let Some(count) = octets.len().checked_mul(2) else {
+        return Err(AllocError);
+    };
+    out.reserve(count)?;
+    let start = out.len();
+    out.resize(start + count, 0)?;
+    write_digits(octets, &mut out[start..]);
     Ok(())
+}
+
+/// The digit of a number below 16, in upper case.
+fn upper_digit(number: u8) -> u8
+    requires { number < 16 }
+    ensures { result ≡ slice_index upper_digits number }
+{
+    if number < 10 {
+        b'0' + number
+    } else {
+        b'A' + (number - 10)
+    }
+}
+
+/// Writes octets in upper-case digits over as many digits as they have.
+#[inline(never)]
+fn write_digits(octets: &[u8], digits: &mut [u8])
+    requires { length digits.old ≡ 2 * length octets.now }
+    ensures { digits.new ≡ encode_upper octets.now }
+{
+    for i in 0..octets.len() {
+        digits[2 * i] = upper_digit(octets[i] >> 4);
+        digits[2 * i + 1] = upper_digit(octets[i] & 15);
+    }
 }

@@ -16,7 +16,7 @@ returns-in_default-clause-outcome g c = λ text before known written.
     let left = left_known _ _ _ front text c.in-Ok-Line.ensures.text known in
     let piece : IsNextLine front left.rest c.in-Ok-Line.field-0 = if_known (λ (r : List ℕ). IsNextLine front r c.in-Ok-Line.field-0) _ left.rest left.is c.in-Ok-Line.ensures.found in
     let lines : lines_of (front ++ left.rest) ≡ take len front ∷ lines_of (drop span front ++ left.rest) = subst (λ (p : NextLine). IsNextLine front left.rest p) c.in-Ok-Line.field-0-is piece in
-    (refl, record { line = take len front; others = lines_of (drop span front ++ left.rest); lines = ap lines_of left.text_is ∙ lines; no_event = λ e is. c.in_default.ensures.only refl e (same_line _ _ _ _ e c.ports.ensures.count c.front-line.ensures is) }, written)
+    (refl, record { line = take len front; others = lines_of (drop span front ++ left.rest); lines = ap lines_of left.text_is ∙ lines; no_event = λ e is. c.in_default.ensures.only refl e (same_line _ _ _ _ e c.ports-ports.ensures.count c.front-line.ensures is) }, written)
 
 pub returns-in-Err-make_text-clause-outcome : goal.returns-in-Err-make_text-clause-outcome
 returns-in-Err-make_text-clause-outcome g c = λ text before known written.
@@ -32,7 +32,7 @@ returns-in-Err-make_text-clause-outcome g c = λ text before known written.
       line = take len front;
       event = event;
       others = lines_of (drop span front ++ left.rest);
-      writes = same_line _ _ _ _ event (sym c.ports.ensures.count) (sym c.front-line.ensures) c.in-Some.ensures.found;
+      writes = same_line _ _ _ _ event (sym c.ports-ports.ensures.count) (sym c.front-line.ensures) c.in-Some.ensures.found;
       lines = ap lines_of left.text_is ∙ lines;
       wants = wants;
     })
@@ -40,7 +40,7 @@ returns-in-Err-make_text-clause-outcome g c = λ text before known written.
       line = take len front;
       event = event;
       others = lines_of (drop span front ++ left.rest);
-      writes = same_line _ _ _ _ event (sym c.ports.ensures.count) (sym c.front-line.ensures) c.in-Some.ensures.found;
+      writes = same_line _ _ _ _ event (sym c.ports-ports.ensures.count) (sym c.front-line.ensures) c.in-Some.ensures.found;
       lines = ap lines_of left.text_is ∙ lines;
       passes = passes;
     }) written
@@ -59,7 +59,7 @@ returns-in_default-write_whole-clause-outcome g c = λ text before known written
       line = take len front;
       event = event;
       others = lines_of (drop span front ++ left.rest);
-      writes = same_line _ _ _ _ event (sym c.ports.ensures.count) (sym c.front-line.ensures) c.in-Some.ensures.found;
+      writes = same_line _ _ _ _ event (sym c.ports-ports.ensures.count) (sym c.front-line.ensures) c.in-Some.ensures.found;
       lines = ap lines_of left.text_is ∙ lines;
       front = cut.0;
       unwritten = cut.1;

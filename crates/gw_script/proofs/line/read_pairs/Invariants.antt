@@ -1,0 +1,5 @@
+use Rattle.gw_script.proofs.PairLemmas.{IsReadTo}
+use Rattle.gw_script.proofs.line.read_pairs.Given as goal
+
+abbrev pub invariant-loop-i : goal.invariant-loop-i
+invariant-loop-i l = IsReadTo l.text l.octets l.i l.largest
