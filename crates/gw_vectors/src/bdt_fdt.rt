@@ -213,6 +213,28 @@ impl Plain {
     }
 }
 
+/// An act of a kind from 0 to 15 on both tables: whether they answer alike.
+fn do_both(fdt: &mut Fdt, plain: &mut Plain, kind: u64, last: u8, time: u16) -> Result<bool, Fail> {
+    match kind {
+        0..=11 => Ok(is_granted(fdt, device(last), time)? == plain.is_granted(last, time)?),
+        12 => Ok(fdt.delete(device(last)) == plain.delete(last)),
+        _ => {
+            plain.tick();
+            pass(fdt, 1);
+            Ok(true)
+        },
+    }
+}
+
+/// One random act on both tables: whether they answer alike.
+fn act(chosen: &mut Chosen, fdt: &mut Fdt, plain: &mut Plain) -> Result<bool, Fail> {
+    let last = chosen.below(160) as u8;
+    let kind = chosen.below(16);
+    let time = chosen.below(90) as u16;
+    let alike = do_both(fdt, plain, kind, last, time)?;
+    Ok(alike && fdt.contains(device(last)) == plain.place(last).is_some())
+}
+
 #[test]
 fn ten_thousand_acts_beside_a_plain_list(rt: HostRuntime) -> Result<(), Fail> {
     let mut chosen = Chosen { state: 22 };
@@ -220,36 +242,9 @@ fn ten_thousand_acts_beside_a_plain_list(rt: HostRuntime) -> Result<(), Fail> {
         rows: Vec::new(rt.alloc()),
     };
     let mut fdt = Fdt::new(rt.alloc());
-    for act in 0..10_000 {
-        let last = chosen.below(160) as u8;
-        match chosen.below(16) {
-            0..=11 => {
-                let time_to_live = if chosen.below(50) == 0 {
-                    65535
-                } else {
-                    chosen.below(90) as u16
-                };
-                assert_eq!(rt;
-                    is_granted(&mut fdt, device(last), time_to_live)?,
-                    plain.is_granted(last, time_to_live)?,
-                    "act {act}"
-                );
-            },
-            12 => assert_eq!(rt; fdt.delete(device(last)), plain.delete(last), "act {act}"),
-            _ => {
-                plain.tick();
-                pass(&mut fdt, 1);
-            },
-        }
-        assert_eq!(rt;
-            fdt.contains(device(last)),
-            plain.place(last).is_some(),
-            "act {act}"
-        );
-        assert_eq!(rt; fdt.count(), plain.rows.len(), "act {act}");
-        if act % 10 == 0 {
-            assert!(rt; plain.is(&fdt.rows(rt.alloc())?), "act {act}");
-        }
+    for _ in 0..10_000 {
+        assert!(rt; act(&mut chosen, &mut fdt, &mut plain)?);
+        assert!(rt; plain.is(&fdt.rows(rt.alloc())?));
     }
     Ok(())
 }

@@ -1,8 +1,11 @@
 //! The gateway of the built-in configuration: worked frames, the ends of its counts, and a refused growth.
 
+ghost use Rattle.std.specs.Prelude.{◌≤◌, ◌^◌};
+
 use crate::table::octets_of;
 use gw_addr::BipAddr;
 use gw_core::{Counts, Event, Gateway, StepFault, run, setting_s};
+use std::alloc::Global;
 use std::test::*;
 
 fn node(host: u8) -> BipAddr {
@@ -24,7 +27,8 @@ const EXCHANGES: &str = "\
 810A0016 0124 0064 01 01 FF 0005090C 0C01400032 1955: 810A0011 0108 0064 01 01 50090C 9101 911F
 810A0016 0124 0064 01 01 FF 0005070C 0C01400001 194D: 810A0011 0108 0064 01 01 50070C 9102 9120
 810A0018 0124 0064 01 01 FF 0005070C 0C01400001 1955 2900: 810A0011 0108 0064 01 01 50070C 9102 9132
-810A001A 012C 0064 01 01 01F4 01 07 FE 0005070C 0C01400001 1955: 810A001D 0128 01F4 01 07 0064 01 01 FF 30070C 0C01400001 1955 3E 9100 3F
+810A001A 012C 0064 01 01 01F4 01 07 FE 0005070C 0C01400001 1955: \
+810A001D 0128 01F4 01 07 0064 01 01 FF 30070C 0C01400001 1955 3E 9100 3F
 810A0011 0104 0005070C 0C01400001 1955: -
 810A0015 0124 0064 01 01 FF 0005070C 0C01400001 1955: -
 810A0017 0124 0064 01 01 FF 0005070C 0C01400001 1955: -
@@ -73,37 +77,34 @@ fn cut_reads_are_dropped(rt: HostRuntime) -> Result<(), Fail> {
     Ok(())
 }
 
+/// How many datagrams a gateway of these counts sends for one, or its fault.
+fn sends(alloc: Global, counts: Counts, datagram: &str) -> Result<Result<usize, StepFault>, Fail>
+    requires ticks { counts.ticks ≤ 2 ^ 63 }
+    requires denials { counts.denials ≤ 2 ^ 63 }
+{
+    let datagram = octets_of(alloc, datagram)?;
+    let mut gateway = Gateway::new(alloc, setting_s(alloc)?, counts)?;
+    match gateway.step(alloc, 1, node(5), &datagram) {
+        Ok(given) => Ok(Ok(given.sends.len())),
+        Err(fault) => Ok(Err(fault)),
+    }
+}
+
 #[test]
 fn the_ends_of_the_counts(rt: HostRuntime) -> Result<(), Fail> {
-    let end = 1 << 63;
-    let mut ticked = Gateway::new(
-        rt.alloc(),
-        setting_s(rt.alloc())?,
-        Counts {
-            ticks: end,
-            denials: 0,
-        },
-    )?;
-    assert_eq!(rt; ticked.ports(), 2);
-    assert_eq!(rt; ticked.tick(), Err(StepFault::CountEnd));
-    let mut denied = Gateway::new(
-        rt.alloc(),
-        setting_s(rt.alloc())?,
-        Counts {
-            ticks: 0,
-            denials: end,
-        },
-    )?;
-    denied.tick()?;
-    let hidden = octets_of(rt.alloc(), HIDDEN_READ)?;
-    match denied.step(rt.alloc(), 1, node(5), &hidden) {
-        Err(StepFault::CountEnd) => (),
-        Err(fault) => return Err(fault.into()),
-        Ok(_) => panic!(rt; "a denial past the end of the count"),
-    }
-    let read = octets_of(rt.alloc(), READ)?;
-    let given = denied.step(rt.alloc(), 1, node(5), &read)?;
-    assert_eq!(rt; given.sends.as_slice().len(), 1);
+    let denied = Counts {
+        ticks: 0,
+        denials: 1 << 63,
+    };
+    let refused = sends(rt.alloc(), denied, HIDDEN_READ)?;
+    assert_eq!(rt; refused, Err(StepFault::CountEnd));
+    assert_eq!(rt; sends(rt.alloc(), denied, READ)?, Ok(1));
+    let ticked = Counts {
+        ticks: 1 << 63,
+        denials: 0,
+    };
+    let mut gateway = Gateway::new(rt.alloc(), setting_s(rt.alloc())?, ticked)?;
+    assert_eq!(rt; gateway.tick(), Err(StepFault::CountEnd));
     Ok(())
 }
 

@@ -212,6 +212,45 @@ impl Plain {
     }
 }
 
+/// A network number from 1 to 700, few enough that they come again.
+fn chosen_net(chosen: &mut Chosen) -> Result<NetNum, Fail> {
+    Ok(NetNum::new(chosen.below(700) as u16 + 1).ok_or("a network")?)
+}
+
+/// One of eight routers, by one of three ports.
+fn chosen_route(chosen: &mut Chosen) -> Route {
+    Route {
+        port: chosen.below(3) as u8 + 1,
+        next: router(chosen.below(8) as u8),
+    }
+}
+
+/// A route to one network, and then to two in one message: whether both tables answer alike.
+fn learn(
+    routes: &mut Routes,
+    plain: &mut Plain,
+    nets: [NetNum; 2],
+    route: Route,
+) -> Result<bool, AllocError> {
+    let answer = routes.learn(nets[0], route.port, route.next);
+    let alike = answer == plain.learn(nets[0], route);
+    routes.learn_all(&nets, route.port, NEXT)?;
+    let port = route.port;
+    for net in nets {
+        let _answer = plain.learn(net, Route { port, next: NEXT });
+    }
+    Ok(alike)
+}
+
+/// One random act on both tables: whether they answer alike.
+fn act(chosen: &mut Chosen, routes: &mut Routes, plain: &mut Plain) -> Result<bool, Fail> {
+    let nets = [chosen_net(chosen)?, chosen_net(chosen)?];
+    let route = chosen_route(chosen);
+    let alike = learn(routes, plain, nets, route)?;
+    let number = chosen.below(700) as u16 + 301;
+    Ok(alike && routes.find(number) == plain.find(number))
+}
+
 #[test]
 fn ten_thousand_acts_beside_a_plain_list(rt: HostRuntime) -> Result<(), Fail> {
     let mut chosen = Chosen { state: 135 };
@@ -219,38 +258,11 @@ fn ten_thousand_acts_beside_a_plain_list(rt: HostRuntime) -> Result<(), Fail> {
         learned: Vec::new(rt.alloc()),
     };
     let mut routes = table(rt.alloc())?;
-    for act in 0..10_000 {
-        let net = NetNum::new(chosen.below(700) as u16 + 1).ok_or("a network")?;
-        let other = NetNum::new(chosen.below(700) as u16 + 1).ok_or("a network")?;
-        let route = Route {
-            port: chosen.below(3) as u8 + 1,
-            next: router(chosen.below(8) as u8),
-        };
-        // One network, and then two in one message.
-        let answer = routes.learn(net, route.port, route.next);
-        assert_eq!(rt; answer, plain.learn(net, route), "act {act}: {net}");
-        routes.learn_all(&[other, net], route.port, NEXT)?;
-        for net in [other, net] {
-            let _answer = plain.learn(
-                net,
-                Route {
-                    port: route.port,
-                    next: NEXT,
-                },
-            );
-        }
-        let number = chosen.below(700) as u16 + 301;
-        assert_eq!(rt;
-            routes.find(number),
-            plain.find(number),
-            "act {act}: {number}"
-        );
-        if act % 500 == 0 {
-            routes = routes.copy()?;
-            let named = routes.reachable_from(rt.alloc(), 3)?;
-            assert!(rt; are(&named, &plain.reachable(rt.alloc())?), "act {act}");
-        }
+    for _ in 0..10_000 {
+        assert!(rt; act(&mut chosen, &mut routes, &mut plain)?);
     }
+    let named = routes.copy()?.reachable_from(rt.alloc(), 3)?;
+    assert!(rt; are(&named, &plain.reachable(rt.alloc())?));
     Ok(())
 }
 

@@ -26,6 +26,20 @@ fn denial<J: Judge>(judge: &J, ask: &Ask) -> Option<Option<u16>>
     }
 }
 
+/// A rule that names these fields.
+fn rule(
+    alloc: Global,
+    name: &str,
+    allow: bool,
+    ranges: &[(FieldName, Range)],
+) -> Result<Rule, RuleFault> {
+    let mut rule = Rule::new(alloc, name, allow)?;
+    for (field, range) in ranges {
+        rule = rule.with(*field, *range)?;
+    }
+    Ok(rule)
+}
+
 /// Two rules in order.
 fn pair(alloc: Global, first: Rule, second: Rule) -> Result<Vec<Rule>, RuleFault> {
     let mut rules = Vec::new(alloc);
@@ -36,9 +50,8 @@ fn pair(alloc: Global, first: Rule, second: Rule) -> Result<Vec<Rule>, RuleFault
 
 /// A rule that denies these source keys, before one that allows all.
 fn keys_denied(alloc: Global, keys: Range) -> Result<RuleList, RuleFault> {
-    let denies = Rule::new(alloc, "broadcast", false)?.with(FieldName::SourceKey, keys)?;
-    let allows = Rule::new(alloc, "all", true)?;
-    RuleList::new(pair(alloc, denies, allows)?)
+    let denies = rule(alloc, "broadcast", false, &[(FieldName::SourceKey, keys)])?;
+    RuleList::new(pair(alloc, denies, rule(alloc, "all", true, &[])?)?)
 }
 
 fn from_key(key: Option<u64>) -> Ask {
@@ -78,8 +91,8 @@ fn the_first_matching_rule_decides(rt: HostRuntime) -> Result<(), Fail> {
 fn numbered(alloc: Global, count: u64) -> Result<Vec<Rule>, RuleFault> {
     let mut rules = Vec::new(alloc);
     for port in 0..count {
-        let rule = Rule::new(alloc, "port", true)?.with(FieldName::Port, Range::only(port))?;
-        rules.push(rule)?;
+        let port = (FieldName::Port, Range::only(port));
+        rules.push(rule(alloc, "port", true, &[port])?)?;
     }
     Ok(rules)
 }
@@ -147,16 +160,11 @@ fn each_field_has_its_own_place(rt: HostRuntime) -> Result<(), Fail> {
 /// Reads of Binary Values 2 to 9 are denied by rule 1, all other reads are allowed by rule 2, and
 /// nothing else matches.
 fn policy(alloc: Global) -> Result<RuleList, RuleFault> {
-    let read = Range::only(Operation::Read.number());
-    let hide = Rule::new(alloc, "hide", false)?
-        .with(FieldName::Operation, read)?
-        .with(FieldName::ObjectType, Range::only(5))?
-        .with(FieldName::Instance, Range { low: 2, high: 9 })?;
-    let reads = Rule::new(alloc, "reads", true)?.with(FieldName::Operation, read)?;
-    let mut rules = Vec::new(alloc);
-    rules.push(hide)?;
-    rules.push(reads)?;
-    RuleList::new(rules)
+    let read = (FieldName::Operation, Range::only(Operation::Read.number()));
+    let values = (FieldName::ObjectType, Range::only(5));
+    let hidden = (FieldName::Instance, Range { low: 2, high: 9 });
+    let hide = rule(alloc, "hide", false, &[read, values, hidden])?;
+    RuleList::new(pair(alloc, hide, rule(alloc, "reads", true, &[read])?)?)
 }
 
 fn read_of(instance: u64) -> Ask {
