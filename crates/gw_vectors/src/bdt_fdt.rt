@@ -1,6 +1,6 @@
 //! Broadcast management: worked cases, many random acts beside a plain list, and refused growths.
-ghost use Rattle.std.specs.Prelude.{◌<◌};
 
+use crate::table::Chosen;
 use gw_addr::{BdtEntry, BipAddr, FdtEntry};
 use gw_bdt_fdt::{
     Bdt, BdtFault, DeleteFault, Fdt, MAX_ENTRIES, MAX_REGISTRATIONS, RegisterFault, laws,
@@ -58,115 +58,101 @@ fn pass(fdt: &mut Fdt, seconds: u32) {
     }
 }
 
-/// Whether these are the foreign devices, in this order, with these times.
-fn shows(fdt: &Fdt, alloc: Global, wanted: &[(u8, u16, u16)]) -> Result<bool, AllocError> {
-    let rows = fdt.rows(alloc)?;
-    let same = |(row, (last, time_to_live, remaining)): (&FdtEntry, &(u8, u16, u16))| {
-        row.address == device(*last)
-            && row.time_to_live == *time_to_live
-            && row.remaining == *remaining
-    };
-    Ok(rows.len() == wanted.len() && rows.iter().zip(wanted).all(same))
+/// Acts on an empty table, and what is refused of them, then the rows. `9/60` registers 192.168.3.9 for 60 seconds, `-9` deletes
+/// it, `~5` lets five seconds pass; a row has the device, its time to live and the seconds that remain.
+const ACTS: &str = "\
+9/60 ~89: 9/60/1
+9/60 ~90 -9: absent
+9/65535 ~30: 9/65535/65535
+9/65535 ~31: 9/65535/65534
+9/65535 ~65564: 9/65535/1
+9/65535 ~65565:
+9/60 10/60 9/60: 9/60/90 10/60/90
+9/60 10/60 9/5: 9/5/35 10/60/90
+9/60 10/60 -9 9/5: 10/60/90 9/5/35
+9/5 10/60 ~35 11/60 9/60: 10/60/55 11/60/90 9/60/90
+9/0 ~29: 9/0/1
+9/0 ~30:
+9/0 ~29 9/0 ~29: 9/0/1
+9/0 ~29 9/0 ~30:
+9/10 ~20 -9 9/10 ~39: 9/10/1
+9/10 ~5 9/5 ~34: 9/5/1
+9/10 ~5 9/5 ~35:";
+
+/// What acts on an empty table lead to.
+fn answer(alloc: Global, acts: &str) -> Result<String, Fail> {
+    let mut fdt = Fdt::new(alloc);
+    let mut answer = String::new(alloc);
+    for act in acts.split(' ') {
+        if let Some(seconds) = act.strip_prefix('~') {
+            pass(&mut fdt, seconds.parse()?);
+        } else if let Some(last) = act.strip_prefix('-') {
+            if fdt.delete(device(last.parse()?)).is_err() {
+                answer.push_str(" absent")?;
+            }
+        } else {
+            let (last, time_to_live) = act.split_once('/').ok_or("a registration")?;
+            fdt.register(device(last.parse()?), time_to_live.parse()?)?;
+        }
+    }
+    for row in &fdt.rows(alloc)? {
+        let [_, _, _, last] = row.address.ip;
+        let shown = format!(in alloc; " {last}/{}/{}", row.time_to_live, row.remaining)?;
+        answer.push_str(&shown)?;
+    }
+    Ok(answer)
 }
 
 #[test]
-fn entries_that_are_no_table(rt: HostRuntime) -> Result<(), Fail> {
+fn registrations_end_by_their_acts(rt: HostRuntime) -> Result<(), Fail> {
+    for line in ACTS.lines() {
+        let (acts, wanted) = line.split_once(':').ok_or("a line has a colon")?;
+        assert_eq!(rt; answer(rt.alloc(), acts)?.as_str(), wanted, "at {line}");
+    }
+    laws::last_grants();
+    laws::registrations();
+    Ok(())
+}
+
+#[test]
+fn tables_of_peers(rt: HostRuntime) -> Result<(), Fail> {
     let many = entries_of(rt.alloc(), 65)?;
     assert_eq!(rt; many.len(), MAX_ENTRIES + 1);
-    assert_eq!(rt;
-        Bdt::from_entries(rt.alloc(), &many).err(),
-        Some(BdtFault::Full)
-    );
-    assert!(rt; Bdt::from_entries(rt.alloc(), &many[1..])?.entries() == &many[1..]);
-    let twice = [
-        entry(1, ALL_ONES),
-        entry(4, ALL_ONES),
-        entry(1, [255, 255, 255, 0]),
-    ];
-    assert_eq!(rt;
-        Bdt::from_entries(rt.alloc(), &twice).err(),
-        Some(BdtFault::Duplicate)
-    );
-    // Too many is told before twice.
-    let mut both = entries_of(rt.alloc(), 65)?;
-    assert_eq!(rt; both.len(), MAX_ENTRIES + 1);
-    both[1] = both[0];
-    assert_eq!(rt;
-        Bdt::from_entries(rt.alloc(), &both).err(),
-        Some(BdtFault::Full)
-    );
-    let none = Bdt::from_entries(rt.alloc(), &[])?;
-    assert!(rt; none.entries().is_empty());
-    assert_eq!(rt; none.own_mask(device(9)), ALL_ONES);
+    let full = Bdt::from_entries(rt.alloc(), &many).err();
+    assert_eq!(rt; full, Some(BdtFault::Full));
+    let bdt = Bdt::from_entries(rt.alloc(), &many[1..])?;
+    assert!(rt; bdt.entries() == &many[1..]);
+    let own = entry(64, [255, 255, 255, 0]);
+    let twice = [own, entry(4, ALL_ONES), entry(64, ALL_ONES)];
+    let refused = Bdt::from_entries(rt.alloc(), &twice).err();
+    assert_eq!(rt; refused, Some(BdtFault::Duplicate));
+    let bdt = Bdt::from_entries(rt.alloc(), &twice[..2])?;
+    assert_eq!(rt; bdt.own_mask(own.address), own.mask);
+    assert_eq!(rt; bdt.peers(own.address).count(), 1);
+    // The own entry is found by all six octets.
+    let other_port = BipAddr {
+        udp: 47809,
+        ..own.address
+    };
+    assert_eq!(rt; bdt.own_mask(other_port), ALL_ONES);
+    assert_eq!(rt; bdt.peers(other_port).count(), 2);
     Ok(())
 }
 
 #[test]
-fn the_longest_time_is_shown_as_most(rt: HostRuntime) -> Result<(), Fail> {
-    let mut fdt = Fdt::new(rt.alloc());
-    fdt.register(device(9), 65535)?;
-    assert!(rt; shows(&fdt, rt.alloc(), &[(9, 65535, 65535)])?);
-    pass(&mut fdt, 30);
-    assert!(rt; shows(&fdt, rt.alloc(), &[(9, 65535, 65535)])?);
-    pass(&mut fdt, 1);
-    assert!(rt; shows(&fdt, rt.alloc(), &[(9, 65535, 65534)])?);
-    pass(&mut fdt, 65533);
-    assert!(rt; shows(&fdt, rt.alloc(), &[(9, 65535, 1)])?);
-    pass(&mut fdt, 1);
-    assert_eq!(rt; fdt.count(), 0);
-    Ok(())
-}
-
-#[test]
-fn a_renewal_keeps_the_place(rt: HostRuntime) -> Result<(), Fail> {
-    let mut fdt = Fdt::new(rt.alloc());
-    for last in [9, 10, 9] {
-        fdt.register(device(last), 60)?;
-    }
-    assert!(rt; shows(&fdt, rt.alloc(), &[(9, 60, 90), (10, 60, 90)])?);
-    // Also with a shorter time; after a deletion or an end the place is last.
-    fdt.register(device(9), 5)?;
-    assert!(rt; shows(&fdt, rt.alloc(), &[(9, 5, 35), (10, 60, 90)])?);
-    assert_eq!(rt; fdt.delete(device(9)), Ok(()));
-    fdt.register(device(9), 5)?;
-    assert!(rt; shows(&fdt, rt.alloc(), &[(10, 60, 90), (9, 5, 35)])?);
-    pass(&mut fdt, 35);
-    fdt.register(device(11), 60)?;
-    fdt.register(device(9), 60)?;
-    assert!(rt; shows(&fdt, rt.alloc(), &[(10, 60, 55), (11, 60, 90), (9, 60, 90)])?);
-    Ok(())
-}
-
-#[test]
-fn a_flood_passes_with_its_time(rt: HostRuntime) -> Result<(), Fail> {
+fn a_full_table_renews_and_takes_no_stranger(rt: HostRuntime) -> Result<(), Fail> {
     let mut fdt = Fdt::new(rt.alloc());
     for last in 0..200 {
         assert_eq!(rt; is_granted(&mut fdt, device(last), 60)?, last < 128);
     }
+    assert_eq!(rt; fdt.count(), MAX_REGISTRATIONS);
+    fdt.register(device(127), 0)?;
+    assert_eq!(rt; fdt.delete(device(64)), Ok(()));
+    fdt.register(device(129), 60)?;
+    assert_eq!(rt; fdt.register(device(64), 60), Err(RegisterFault::Full));
     pass(&mut fdt, 90);
-    assert!(rt; shows(&fdt, rt.alloc(), &[])?);
-    fdt.register(device(200), 60)?;
+    assert_eq!(rt; fdt.count(), 0);
     Ok(())
-}
-
-/// Numbers that look random, the same ones in each run.
-#[derive(Drop)]
-struct Chosen {
-    state: u64,
-}
-
-impl Chosen {
-    /// The next number below a bound.
-    fn below(&mut self, bound: u64) -> u64
-        requires { 0 < bound }
-        ensures { result < bound }
-    {
-        self.state = self
-            .state
-            .wrapping_mul(6_364_136_223_846_793_005)
-            .wrapping_add(1_442_695_040_888_963_407);
-        (self.state >> 33) % bound
-    }
 }
 
 /// Foreign devices as a plain list, whose seconds are counted down.
@@ -227,6 +213,28 @@ impl Plain {
     }
 }
 
+/// An act of a kind from 0 to 15 on both tables: whether they answer alike.
+fn do_both(fdt: &mut Fdt, plain: &mut Plain, kind: u64, last: u8, time: u16) -> Result<bool, Fail> {
+    match kind {
+        0..=11 => Ok(is_granted(fdt, device(last), time)? == plain.is_granted(last, time)?),
+        12 => Ok(fdt.delete(device(last)) == plain.delete(last)),
+        _ => {
+            plain.tick();
+            pass(fdt, 1);
+            Ok(true)
+        },
+    }
+}
+
+/// One random act on both tables: whether they answer alike.
+fn act(chosen: &mut Chosen, fdt: &mut Fdt, plain: &mut Plain) -> Result<bool, Fail> {
+    let last = chosen.below(160) as u8;
+    let kind = chosen.below(16);
+    let time = chosen.below(90) as u16;
+    let alike = do_both(fdt, plain, kind, last, time)?;
+    Ok(alike && fdt.contains(device(last)) == plain.place(last).is_some())
+}
+
 #[test]
 fn ten_thousand_acts_beside_a_plain_list(rt: HostRuntime) -> Result<(), Fail> {
     let mut chosen = Chosen { state: 22 };
@@ -234,36 +242,9 @@ fn ten_thousand_acts_beside_a_plain_list(rt: HostRuntime) -> Result<(), Fail> {
         rows: Vec::new(rt.alloc()),
     };
     let mut fdt = Fdt::new(rt.alloc());
-    for act in 0..10_000 {
-        let last = chosen.below(160) as u8;
-        match chosen.below(16) {
-            0..=11 => {
-                let time_to_live = if chosen.below(50) == 0 {
-                    65535
-                } else {
-                    chosen.below(90) as u16
-                };
-                assert_eq!(rt;
-                    is_granted(&mut fdt, device(last), time_to_live)?,
-                    plain.is_granted(last, time_to_live)?,
-                    "act {act}"
-                );
-            },
-            12 => assert_eq!(rt; fdt.delete(device(last)), plain.delete(last), "act {act}"),
-            _ => {
-                plain.tick();
-                pass(&mut fdt, 1);
-            },
-        }
-        assert_eq!(rt;
-            fdt.contains(device(last)),
-            plain.place(last).is_some(),
-            "act {act}"
-        );
-        assert_eq!(rt; fdt.count(), plain.rows.len(), "act {act}");
-        if act % 10 == 0 {
-            assert!(rt; plain.is(&fdt.rows(rt.alloc())?), "act {act}");
-        }
+    for _ in 0..10_000 {
+        assert!(rt; act(&mut chosen, &mut fdt, &mut plain)?);
+        assert!(rt; plain.is(&fdt.rows(rt.alloc())?));
     }
     Ok(())
 }
@@ -308,7 +289,5 @@ fn faults_in_words(rt: HostRuntime) -> Result<(), Fail> {
         RegisterFault::Full.to_string(rt.alloc())?.as_str(),
         "128 other foreign devices are registered"
     );
-    laws::last_grants();
-    laws::registrations();
     Ok(())
 }

@@ -3,151 +3,95 @@ ghost use Rattle.std.specs.Prelude.{◌≡◌, IfOk};
 ghost use Rattle.gw_addr.specs.Entry.{bdt_entry};
 ghost use Rattle.gw_bvll.specs.Entries.{lent};
 
-use gw_addr::{BdtEntry, BipAddr, FdtEntry};
+use crate::table::{octets_of, parts};
+use gw_addr::BdtEntry;
 use gw_bvll::{
-    BdtEntries, Bvll, BvllFault, EncodeFault, FdtEntries, Function, ResultCode, decode, encode,
-    put_entries,
+    BdtEntries, Bvll, BvllFault, EncodeFault, Function, ResultCode, decode, encode, put_entries,
 };
 use std::alloc::{AllocError, Global};
 use std::test::*;
 
-/// 192.168.3.9:47808, a foreign device.
-const DEVICE: BipAddr = BipAddr {
-    ip: [192, 168, 3, 9],
-    udp: 47808,
-};
+/// Frames, and the message or the fault.
+const FRAMES: &str = "\
+81000006 0000: Result(ResultCode(0))
+81000006 0060: Result(ResultCode(96))
+81020004: ReadBdt
+81060004: ReadFdt
+81050006 003C: Register { time_to_live: 60 }
+8108000A C0A80309BAC0: Delete(BipAddr { ip: [192, 168, 3, 9], udp: 47808 })
+81090008 0100 1008: Distribute([1, 0, 16, 8])
+810A0008 0100 1008: OriginalUnicast([1, 0, 16, 8])
+810B000C 0120 FFFF 00 FF 1008: OriginalBroadcast([1, 32, 255, 255, 0, 255, 16, 8])
+82 0C 00: Length
+82 0C 0005: Marker
+81 0C 0005: Length
+81 0C 0003: Length
+81 0C 0004: Function
+81 00 0005 00: Body
+81 08 0006 C0A8: Body
+8104000E C0A80309BAC0 0100 1008: Forwarded { originator: BipAddr { ip: [192, 168, 3, 9], udp: 47808 }, npdu: [1, 0, 16, 8] }
+81070004: ReadFdtAck(Entries { octets: [], kind: PhantomData<_> })
+8107000E C0A80309BAC0 003C 0001: ReadFdtAck(Entries { octets: [192, 168, 3, 9, 186, 192, 0, 60, 0, 1], kind: PhantomData<_> })
+8101000E C0A8010ABAC0 FFFFFF00: WriteBdt(Entries { octets: [192, 168, 1, 10, 186, 192, 255, 255, 255, 0], kind: PhantomData<_> })
+8103000E C0A8010ABAC0 FFFFFF00: ReadBdtAck(Entries { octets: [192, 168, 1, 10, 186, 192, 255, 255, 255, 0], kind: PhantomData<_> })";
 
-/// The broadcast distribution table of 192.168.1.10:47808 and 192.168.4.1:47808.
-const TABLE: [u8; 20] = [
-    0xC0, 0xA8, 0x01, 0x0A, 0xBA, 0xC0, 0xFF, 0xFF, 0xFF, 0xFF, 0xC0, 0xA8, 0x04, 0x01, 0xBA, 0xC0,
-    0xFF, 0xFF, 0xFF, 0xFF,
-];
-
-const WRITE_BDT: [u8; 24] = [
-    0x81, 0x01, 0x00, 0x18, 0xC0, 0xA8, 0x01, 0x0A, 0xBA, 0xC0, 0xFF, 0xFF, 0xFF, 0xFF, 0xC0, 0xA8,
-    0x04, 0x01, 0xBA, 0xC0, 0xFF, 0xFF, 0xFF, 0xFF,
-];
-
-const READ_BDT_ACK: [u8; 24] = [
-    0x81, 0x03, 0x00, 0x18, 0xC0, 0xA8, 0x01, 0x0A, 0xBA, 0xC0, 0xFF, 0xFF, 0xFF, 0xFF, 0xC0, 0xA8,
-    0x04, 0x01, 0xBA, 0xC0, 0xFF, 0xFF, 0xFF, 0xFF,
-];
-
-/// A ReadProperty request to the device of network 100.
-const UNICAST: [u8; 22] = [
-    0x81, 0x0A, 0x00, 0x16, 0x01, 0x24, 0x00, 0x64, 0x01, 0x01, 0xFF, 0x00, 0x05, 0x07, 0x0C, 0x0C,
-    0x01, 0x40, 0x00, 0x01, 0x19, 0x55,
-];
-
-/// Whether the frame is read as the message, and the message written as the frame.
-fn both_ways(alloc: Global, frame: &[u8], message: Bvll<'_>) -> Result<bool, AllocError> {
-    let mut out = Vec::new(alloc);
-    if encode(&message, &mut out).is_err() {
-        return Err(AllocError);
+/// What is read of a frame; a message that is written in other octets is told.
+fn answer(alloc: Global, frame: &[u8]) -> Result<String, Fail> {
+    match decode(frame) {
+        Ok(message) => {
+            let mut out = Vec::new(alloc);
+            encode(&message, &mut out)?;
+            Ok(if out.as_slice() == frame {
+                format!(in alloc; "{message:?}")?
+            } else {
+                format!(in alloc; "{message:?}, written as {out:?}")?
+            })
+        },
+        Err(fault) => Ok(format!(in alloc; "{fault:?}")?),
     }
-    Ok(decode(frame) == Ok(message) && out.as_slice() == frame)
 }
 
 #[test]
-fn answers_and_tables(rt: HostRuntime) -> Result<(), Fail> {
-    let table = BdtEntries::from_octets(&TABLE).ok_or("tens")?;
-    let devices = [0xC0, 0xA8, 0x03, 0x09, 0xBA, 0xC0, 0x00, 0x3C, 0x00, 0x01];
-    let devices = FdtEntries::from_octets(&devices).ok_or("tens")?;
-    let none = FdtEntries::from_octets(&[]).ok_or("tens")?;
-    let success = Bvll::Result(ResultCode::SUCCESS);
-    assert!(rt; both_ways(rt.alloc(), &[0x81, 0x00, 0x00, 0x06, 0x00, 0x00], success)?);
-    let refused = Bvll::Result(ResultCode::DISTRIBUTE_NAK);
-    assert!(rt; both_ways(rt.alloc(), &[0x81, 0x00, 0x00, 0x06, 0x00, 0x60], refused)?);
-    assert!(rt; both_ways(rt.alloc(), &WRITE_BDT, Bvll::WriteBdt(table))?);
-    assert!(rt; both_ways(rt.alloc(), &[0x81, 0x02, 0x00, 0x04], Bvll::ReadBdt)?);
-    assert!(rt; both_ways(rt.alloc(), &READ_BDT_ACK, Bvll::ReadBdtAck(table))?);
-    assert!(rt; both_ways(rt.alloc(), &[0x81, 0x06, 0x00, 0x04], Bvll::ReadFdt)?);
-    let ack = [
-        0x81, 0x07, 0x00, 0x0E, 0xC0, 0xA8, 0x03, 0x09, 0xBA, 0xC0, 0x00, 0x3C, 0x00, 0x01,
-    ];
-    assert!(rt; both_ways(rt.alloc(), &ack, Bvll::ReadFdtAck(devices))?);
-    assert!(rt;
-        both_ways(
-            rt.alloc(),
-            &[0x81, 0x07, 0x00, 0x04],
-            Bvll::ReadFdtAck(none)
-        )?
-    );
-    Ok(())
-}
-
-#[test]
-fn registrations_and_npdus(rt: HostRuntime) -> Result<(), Fail> {
-    let npdu = [0x01, 0x00, 0x10, 0x08];
-    let register = Bvll::Register { time_to_live: 60 };
-    assert!(rt; both_ways(rt.alloc(), &[0x81, 0x05, 0x00, 0x06, 0x00, 0x3C], register)?);
-    let delete = [0x81, 0x08, 0x00, 0x0A, 0xC0, 0xA8, 0x03, 0x09, 0xBA, 0xC0];
-    assert!(rt; both_ways(rt.alloc(), &delete, Bvll::Delete(DEVICE))?);
-    let forwarded = [
-        0x81, 0x04, 0x00, 0x0E, 0xC0, 0xA8, 0x03, 0x09, 0xBA, 0xC0, 0x01, 0x00, 0x10, 0x08,
-    ];
-    let message = Bvll::Forwarded {
-        originator: DEVICE,
-        npdu: &npdu,
-    };
-    assert!(rt; both_ways(rt.alloc(), &forwarded, message)?);
-    let distribute = [0x81, 0x09, 0x00, 0x08, 0x01, 0x00, 0x10, 0x08];
-    assert!(rt; both_ways(rt.alloc(), &distribute, Bvll::Distribute(&npdu))?);
-    assert!(rt; both_ways(rt.alloc(), &UNICAST, Bvll::OriginalUnicast(&UNICAST[4..]))?);
-    let broadcast = [
-        0x81, 0x0B, 0x00, 0x0C, 0x01, 0x20, 0xFF, 0xFF, 0x00, 0xFF, 0x10, 0x08,
-    ];
-    assert!(rt;
-        both_ways(
-            rt.alloc(),
-            &broadcast,
-            Bvll::OriginalBroadcast(&broadcast[4..])
-        )?
-    );
-    Ok(())
-}
-
-#[test]
-fn cuts_and_faults(rt: HostRuntime) {
+fn frames_from_outside(rt: HostRuntime) -> Result<(), Fail> {
+    for line in FRAMES.lines() {
+        let (frame, wanted) = parts(rt.alloc(), line)?;
+        assert_eq!(rt; answer(rt.alloc(), &frame)?.as_str(), wanted, "at {line}");
+    }
+    let read = octets_of(
+        rt.alloc(),
+        "810A0016 0124 0064 01 01 FF 0005070C 0C01400001 1955",
+    )?;
     for count in 0..22 {
-        assert_eq!(rt;
-            decode(&UNICAST[..count]),
-            Err(BvllFault::Length),
-            "at {count}"
-        );
+        let cut = read.get(..count).ok_or("a cut")?;
+        assert_eq!(rt; decode(cut), Err(BvllFault::Length), "at {count}");
     }
-    let short = Err(BvllFault::Length);
-    for told in [0x15, 0x17] {
-        let mut frame = UNICAST;
-        frame[3] = told;
-        assert_eq!(rt; decode(&frame), short, "at {told}");
-    }
-    assert_eq!(rt; decode(&[0x82, 0x0C, 0x00]), short);
-    assert_eq!(rt; decode(&[0x82, 0x0C, 0x00, 0x05]), Err(BvllFault::Marker));
-    assert_eq!(rt; decode(&[0x81, 0x0C, 0x00, 0x05]), short);
-    assert_eq!(rt; decode(&[0x81, 0x0C, 0x00, 0x03]), short);
-    assert_eq!(rt; decode(&[0x81, 0x0C, 0x00, 0x04]), Err(BvllFault::Function));
-    assert_eq!(rt;
-        decode(&[0x81, 0x00, 0x00, 0x05, 0x00]),
-        Err(BvllFault::Body)
-    );
-    assert_eq!(rt;
-        decode(&[0x81, 0x08, 0x00, 0x06, 0xC0, 0xA8]),
-        Err(BvllFault::Body)
-    );
+    Ok(())
 }
 
 #[test]
-fn longest_message(rt: HostRuntime) -> Result<(), Fail> {
-    let npdu = [0; 1504];
-    let mut out = Vec::new(rt.alloc());
-    let too_long = encode(&Bvll::OriginalUnicast(&npdu), &mut out);
-    assert_eq!(rt; too_long, Err(EncodeFault::TooLong));
-    assert_eq!(rt; out.len(), 0);
-    let longest = Bvll::OriginalUnicast(&npdu[..1503]);
-    encode(&longest, &mut out)?;
-    assert_eq!(rt; out.len(), 1507);
-    assert_eq!(rt; decode(&out), Ok(longest));
+fn result_codes(rt: HostRuntime) -> Result<(), Fail> {
+    for (code, octets) in [
+        (ResultCode::SUCCESS, [0x00, 0x00]),
+        (ResultCode::WRITE_BDT_NAK, [0x00, 0x10]),
+        (ResultCode::READ_BDT_NAK, [0x00, 0x20]),
+        (ResultCode::REGISTER_NAK, [0x00, 0x30]),
+        (ResultCode::READ_FDT_NAK, [0x00, 0x40]),
+        (ResultCode::DELETE_NAK, [0x00, 0x50]),
+        (ResultCode::DISTRIBUTE_NAK, [0x00, 0x60]),
+    ] {
+        let mut out = Vec::new(rt.alloc());
+        encode(&Bvll::Result(code), &mut out)?;
+        assert_eq!(rt;
+            out.as_slice().strip_prefix([0x81, 0, 0, 6].as_slice()),
+            Some(octets.as_slice())
+        );
+        assert_eq!(rt; code.is_success(), code == ResultCode::SUCCESS);
+    }
+    assert_eq!(rt;
+        ResultCode::refusal(Function::Register),
+        Some(ResultCode::REGISTER_NAK)
+    );
+    assert_eq!(rt; ResultCode::refusal(Function::OriginalUnicast), None);
     Ok(())
 }
 
@@ -159,54 +103,33 @@ fn copied(alloc: Global, entries: BdtEntries<'_>) -> Result<Vec<BdtEntry>, Alloc
 }
 
 #[test]
-fn result_codes(rt: HostRuntime) -> Result<(), Fail> {
-    for (code, high, low) in [
-        (ResultCode::SUCCESS, 0x00, 0x00),
-        (ResultCode::WRITE_BDT_NAK, 0x00, 0x10),
-        (ResultCode::READ_BDT_NAK, 0x00, 0x20),
-        (ResultCode::REGISTER_NAK, 0x00, 0x30),
-        (ResultCode::READ_FDT_NAK, 0x00, 0x40),
-        (ResultCode::DELETE_NAK, 0x00, 0x50),
-        (ResultCode::DISTRIBUTE_NAK, 0x00, 0x60),
-    ] {
-        let frame = [0x81, 0x00, 0x00, 0x06, high, low];
-        assert!(rt; both_ways(rt.alloc(), &frame, Bvll::Result(code))?);
-        assert_eq!(rt; code.is_success(), low == 0);
-    }
-    assert_eq!(rt;
-        ResultCode::refusal(Function::Register),
-        Some(ResultCode::REGISTER_NAK)
-    );
-    assert_eq!(rt; ResultCode::refusal(Function::OriginalUnicast), None);
-    Ok(())
-}
-
-#[test]
 fn entries_one_by_one(rt: HostRuntime) -> Result<(), Fail> {
-    let table = BdtEntries::from_octets(&TABLE).ok_or("tens")?;
-    assert_eq!(rt; table.len(), 2);
-    let entries = copied(rt.alloc(), table)?;
-    let mut octets = Vec::new(rt.alloc());
-    for entry in &entries {
-        assert_eq!(rt; entry.mask, [0xFF; 4]);
-        octets.extend_from_slice(&entry.to_octets())?;
-    }
-    assert_eq!(rt; octets.as_slice(), table.as_octets());
+    let table = octets_of(rt.alloc(), "C0A8010ABAC0 FFFFFFFF C0A80401BAC0 FFFFFF00")?;
+    let lent = BdtEntries::from_octets(&table).ok_or("tens")?;
+    let entries = copied(rt.alloc(), lent)?;
+    assert_eq!(rt; (lent.len(), entries.len()), (2, 2));
+    let mut out = Vec::new(rt.alloc());
+    put_entries(&mut out, &entries)?;
+    assert_eq!(rt; out, table);
     Ok(())
 }
 
+/// The longest message; with each growth refused in turn, the buffer is as before.
 #[test]
-fn a_refused_growth_leaves_the_buffer(rt: HostRuntime) -> Result<(), Fail> {
+fn the_longest_message(rt: HostRuntime) -> Result<(), Fail> {
+    let npdu = [0; 1504];
     let mut out = Vec::new(rt.alloc());
     if out.push(7).is_err() {
         return Ok(());
     }
-    match encode(&Bvll::OriginalUnicast(&[1; 100]), &mut out) {
-        Ok(()) => assert_eq!(rt; out.len(), 105),
+    let too_long = encode(&Bvll::OriginalUnicast(&npdu), &mut out);
+    assert_eq!(rt; too_long, Err(EncodeFault::TooLong));
+    match encode(&Bvll::OriginalUnicast(&npdu[..1503]), &mut out) {
+        Ok(()) => assert_eq!(rt; out.len(), 1508),
         Err(fault) => {
             assert_eq!(rt; fault, EncodeFault::Memory);
             assert_eq!(rt; out.as_slice(), [7].as_slice());
-        }
+        },
     }
     Ok(())
 }

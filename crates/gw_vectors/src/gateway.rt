@@ -1,9 +1,11 @@
 //! The gateway of the built-in configuration: worked frames, the ends of its counts, and a refused growth.
 
+ghost use Rattle.std.specs.Prelude.{◌≤◌, ◌^◌};
+
+use crate::table::octets_of;
 use gw_addr::BipAddr;
 use gw_core::{Counts, Event, Gateway, StepFault, run, setting_s};
 use std::alloc::Global;
-use std::process::Abort;
 use std::test::*;
 
 fn node(host: u8) -> BipAddr {
@@ -13,218 +15,103 @@ fn node(host: u8) -> BipAddr {
     }
 }
 
-/// The octets that hexadecimal digits write, in capitals and with spaces for reading.
-fn octets(alloc: Global, text: &str) -> Result<Vec<u8>, Fail> {
-    let mut digits = String::new(alloc);
-    for part in text.split(' ') {
-        digits.push_str(part)?;
-    }
-    Ok(hex::decode(alloc, digits.as_str())?)
-}
-
-/// Gives a fresh gateway a datagram from 192.168.1.5 on port 1, and wants this answer to it.
-fn answers<R: Abort + AllocGlobal>(
-    rt: &R,
-    datagram: &str,
-    answer: &str,
-    rule: Option<&str>,
-) -> Result<(), Fail> {
-    let mut gateway = Gateway::new(rt.alloc(), setting_s(rt.alloc())?, Counts::default())?;
-    let datagram = octets(rt.alloc(), datagram)?;
-    let answer = octets(rt.alloc(), answer)?;
-    let given = gateway.step(rt.alloc(), 1, node(5), &datagram)?;
-    assert_eq!(rt; given.sends.as_slice().len(), 1);
-    for sending in given.sends.as_slice() {
-        assert_eq!(rt; sending.port, 1);
-        assert_eq!(rt; sending.to, node(5));
-        assert_eq!(rt; sending.octets.as_slice(), answer.as_slice());
-    }
-    assert_eq!(rt; given.denials.as_slice().len(), usize::from(rule.is_some()));
-    for denial in given.denials.as_slice() {
-        assert_eq!(rt; denial.number, 1);
-        assert_eq!(rt; denial.tick, 0);
-        assert_eq!(rt; Some(denial.rule.as_str()), rule);
-    }
-    Ok(())
-}
-
-/// Gives a gateway a datagram, and wants nothing of it.
-fn drops<R: Abort + AllocGlobal>(
-    rt: &R,
-    gateway: &mut Gateway,
-    from: BipAddr,
-    datagram: &[u8],
-) -> Result<(), Fail> {
-    // For the prover: the gateway has the port that `step` is called with.
-    assert!(rt; gateway.ports() > 0);
-    let given = gateway.step(rt.alloc(), 1, from, datagram)?;
-    assert!(rt; given.sends.as_slice().is_empty());
-    assert!(rt; given.denials.is_empty());
-    Ok(())
-}
-
 const READ: &str = "810A0016 0124 0064 01 01 FF 0005070C 0C01400001 1955";
 
 const HIDDEN_READ: &str = "810A0016 0124 0064 01 01 FF 0005080C 0C01400002 1955";
 
-#[test]
-fn a_read_is_answered(rt: HostRuntime) -> Result<(), Fail> {
-    answers(
-        &rt,
-        READ,
-        "810A0018 0108 0064 01 01 30070C 0C01400001 1955 3E 9100 3F",
-        None,
-    )
-}
+/// Datagrams to a fresh gateway from 192.168.1.5 on port 1, what goes back there, and the rule that denied, if any.
+const EXCHANGES: &str = "\
+810A0016 0124 0064 01 01 FF 0005070C 0C01400001 1955: 810A0018 0108 0064 01 01 30070C 0C01400001 1955 3E 9100 3F
+810A0016 0124 0064 01 01 FF 0005080C 0C01400002 1955: 810A0011 0108 0064 01 01 50080C 9102 911B by hide
+810A0016 0124 0064 01 01 FF 0005090C 0C01400007 1955: 810A0011 0108 0064 01 01 50090C 9102 911B by hide
+810A0016 0124 0064 01 01 FF 0005090C 0C01400032 1955: 810A0011 0108 0064 01 01 50090C 9101 911F
+810A0016 0124 0064 01 01 FF 0005070C 0C01400001 194D: 810A0011 0108 0064 01 01 50070C 9102 9120
+810A0018 0124 0064 01 01 FF 0005070C 0C01400001 1955 2900: 810A0011 0108 0064 01 01 50070C 9102 9132
+810A001A 012C 0064 01 01 01F4 01 07 FE 0005070C 0C01400001 1955: \
+810A001D 0128 01F4 01 07 0064 01 01 FF 30070C 0C01400001 1955 3E 9100 3F
+810A0011 0104 0005070C 0C01400001 1955: -
+810A0015 0124 0064 01 01 FF 0005070C 0C01400001 1955: -
+810A0017 0124 0064 01 01 FF 0005070C 0C01400001 1955: -
+810A001A 012C 0064 01 01 0002 01 07 FE 0005070C 0C01400001 1955: -";
 
 #[test]
-fn a_hidden_read_is_denied(rt: HostRuntime) -> Result<(), Fail> {
-    answers(
-        &rt,
-        HIDDEN_READ,
-        "810A0011 0108 0064 01 01 50080C 9102 911B",
-        Some("hide"),
-    )
-}
-
-#[test]
-fn an_object_that_is_not_there(rt: HostRuntime) -> Result<(), Fail> {
-    let hidden = "810A0016 0124 0064 01 01 FF 0005090C 0C01400007 1955";
-    answers(
-        &rt,
-        hidden,
-        "810A0011 0108 0064 01 01 50090C 9102 911B",
-        Some("hide"),
-    )?;
-    let unknown = "810A0016 0124 0064 01 01 FF 0005090C 0C01400032 1955";
-    answers(
-        &rt,
-        unknown,
-        "810A0011 0108 0064 01 01 50090C 9101 911F",
-        None,
-    )
-}
-
-#[test]
-fn other_properties(rt: HostRuntime) -> Result<(), Fail> {
-    let object_name = "810A0016 0124 0064 01 01 FF 0005070C 0C01400001 194D";
-    answers(
-        &rt,
-        object_name,
-        "810A0011 0108 0064 01 01 50070C 9102 9120",
-        None,
-    )?;
-    let with_index = "810A0018 0124 0064 01 01 FF 0005070C 0C01400001 1955 2900";
-    answers(
-        &rt,
-        with_index,
-        "810A0011 0108 0064 01 01 50070C 9102 9132",
-        None,
-    )
-}
-
-#[test]
-fn a_requester_behind_a_router(rt: HostRuntime) -> Result<(), Fail> {
-    let read = "810A001A 012C 0064 01 01 01F4 01 07 FE 0005070C 0C01400001 1955";
-    answers(
-        &rt,
-        read,
-        "810A001D 0128 01F4 01 07 0064 01 01 FF 30070C 0C01400001 1955 3E 9100 3F",
-        None,
-    )
-}
-
-#[test]
-fn what_is_not_heard(rt: HostRuntime) -> Result<(), Fail> {
-    let mut gateway = Gateway::new(rt.alloc(), setting_s(rt.alloc())?, Counts::default())?;
-    let read = octets(rt.alloc(), READ)?;
-    for length in 0..22 {
-        drops(
-            &rt,
-            &mut gateway,
-            node(5),
-            read.get(..length).ok_or("a cut")?,
-        )?;
+fn exchanges(rt: HostRuntime) -> Result<(), Fail> {
+    for line in EXCHANGES.lines() {
+        let (datagram, wanted) = line.split_once(": ").ok_or("a line has a colon")?;
+        let datagram = octets_of(rt.alloc(), datagram)?;
+        let (wanted, rule) = wanted.split_once(" by ").unwrap_or((wanted, ""));
+        let mut gateway = Gateway::new(rt.alloc(), setting_s(rt.alloc())?, Counts::default())?;
+        let given = gateway.step(rt.alloc(), 1, node(5), &datagram)?;
+        assert_eq!(rt; given.sends.len(), usize::from(wanted != "-"), "at {line}");
+        for sending in given.sends.as_slice() {
+            assert_eq!(rt; (sending.port, sending.to), (1, node(5)), "at {line}");
+            let octets = octets_of(rt.alloc(), wanted)?;
+            assert_eq!(rt; sending.octets.as_slice(), octets.as_slice(), "at {line}");
+        }
+        assert_eq!(rt; given.denials.len(), usize::from(rule != ""), "at {line}");
+        for denial in given.denials.as_slice() {
+            assert_eq!(rt; (denial.number, denial.tick), (1, 0), "at {line}");
+            assert_eq!(rt; denial.rule.as_str(), rule, "at {line}");
+        }
     }
-    drops(&rt, &mut gateway, node(10), &read)?;
-    drops(
-        &rt,
-        &mut gateway,
-        node(5),
-        &octets(rt.alloc(), "810A0011 0104 0005070C 0C01400001 1955")?,
-    )?;
-    drops(
-        &rt,
-        &mut gateway,
-        node(5),
-        &octets(
-            rt.alloc(),
-            "810A0015 0124 0064 01 01 FF 0005070C 0C01400001 1955",
-        )?,
-    )?;
-    drops(
-        &rt,
-        &mut gateway,
-        node(5),
-        &octets(
-            rt.alloc(),
-            "810A0017 0124 0064 01 01 FF 0005070C 0C01400001 1955",
-        )?,
-    )?;
-    drops(
-        &rt,
-        &mut gateway,
-        node(5),
-        &octets(
-            rt.alloc(),
-            "810A001A 012C 0064 01 01 0002 01 07 FE 0005070C 0C01400001 1955",
-        )?,
-    )?;
-    // For the prover: the gateway has port 1.
-    assert!(rt; gateway.ports() > 0);
-    let given = gateway.step(rt.alloc(), 1, node(5), &read)?;
-    assert_eq!(rt; given.sends.as_slice().len(), 1);
     Ok(())
 }
 
 #[test]
-fn the_ends_of_the_counts(rt: HostRuntime) -> Result<(), Fail> {
-    let end = 1 << 63;
-    let mut ticked = Gateway::new(
-        rt.alloc(),
-        setting_s(rt.alloc())?,
-        Counts {
-            ticks: end,
-            denials: 0,
-        },
-    )?;
-    assert_eq!(rt; ticked.ports(), 2);
-    assert_eq!(rt; ticked.tick(), Err(StepFault::CountEnd));
-    let mut denied = Gateway::new(
-        rt.alloc(),
-        setting_s(rt.alloc())?,
-        Counts {
-            ticks: 0,
-            denials: end,
-        },
-    )?;
-    denied.tick()?;
-    let hidden = octets(rt.alloc(), HIDDEN_READ)?;
-    match denied.step(rt.alloc(), 1, node(5), &hidden) {
-        Err(StepFault::CountEnd) => (),
-        Err(fault) => return Err(fault.into()),
-        Ok(_) => panic!(rt; "a denial past the end of the count"),
+fn cut_reads_are_dropped(rt: HostRuntime) -> Result<(), Fail> {
+    let mut gateway = Gateway::new(rt.alloc(), setting_s(rt.alloc())?, Counts::default())?;
+    let read = octets_of(rt.alloc(), READ)?;
+    for (from, length) in (0..22)
+        .map(|length| (node(5), length))
+        .chain([(node(10), 22)])
+    {
+        let datagram = read.get(..length).ok_or("a cut")?;
+        let given = gateway.step(rt.alloc(), 1, from, datagram)?;
+        assert!(rt;
+            given.sends.is_empty() && given.denials.is_empty(),
+            "at {length}"
+        );
     }
-    let read = octets(rt.alloc(), READ)?;
-    let given = denied.step(rt.alloc(), 1, node(5), &read)?;
-    assert_eq!(rt; given.sends.as_slice().len(), 1);
+    let given = gateway.step(rt.alloc(), 1, node(5), &read)?;
+    assert_eq!(rt; given.sends.len(), 1);
+    Ok(())
+}
+
+/// How many datagrams a gateway of these counts sends for one, or its fault.
+fn sends(alloc: Global, counts: Counts, datagram: &str) -> Result<Result<usize, StepFault>, Fail>
+    requires ticks { counts.ticks ≤ 2 ^ 63 }
+    requires denials { counts.denials ≤ 2 ^ 63 }
+{
+    let datagram = octets_of(alloc, datagram)?;
+    let mut gateway = Gateway::new(alloc, setting_s(alloc)?, counts)?;
+    match gateway.step(alloc, 1, node(5), &datagram) {
+        Ok(given) => Ok(Ok(given.sends.len())),
+        Err(fault) => Ok(Err(fault)),
+    }
+}
+
+#[test]
+fn the_ends_of_the_counts(rt: HostRuntime) -> Result<(), Fail> {
+    let denied = Counts {
+        ticks: 0,
+        denials: 1 << 63,
+    };
+    let refused = sends(rt.alloc(), denied, HIDDEN_READ)?;
+    assert_eq!(rt; refused, Err(StepFault::CountEnd));
+    assert_eq!(rt; sends(rt.alloc(), denied, READ)?, Ok(1));
+    let ticked = Counts {
+        ticks: 1 << 63,
+        denials: 0,
+    };
+    let mut gateway = Gateway::new(rt.alloc(), setting_s(rt.alloc())?, ticked)?;
+    assert_eq!(rt; gateway.tick(), Err(StepFault::CountEnd));
     Ok(())
 }
 
 #[test]
 fn a_run_over_a_list(rt: HostRuntime) -> Result<(), Fail> {
     let mut gateway = Gateway::new(rt.alloc(), setting_s(rt.alloc())?, Counts::default())?;
-    let hidden = octets(rt.alloc(), HIDDEN_READ)?;
+    let hidden = octets_of(rt.alloc(), HIDDEN_READ)?;
     let read = Event::Datagram {
         port: 1,
         from: node(5),
@@ -256,8 +143,6 @@ fn a_refused_growth_leaves_the_gateway(rt: HostRuntime) -> Result<(), Fail> {
         return Ok(());
     };
     let mut gateway = Gateway::new(rt.alloc(), config, Counts::default())?;
-    // For the prover: the gateway has port 1.
-    assert!(rt; gateway.ports() > 0);
     let datagram = [
         0x81, 0x0A, 0x00, 0x16, 0x01, 0x24, 0x00, 0x64, 0x01, 0x01, 0xFF, 0x00, 0x05, 0x08, 0x0C,
         0x0C, 0x01, 0x40, 0x00, 0x02, 0x19, 0x55,

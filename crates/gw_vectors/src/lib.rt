@@ -27,6 +27,6 @@ mod rules;
 #[cfg(test)]
 mod script;
 #[cfg(test)]
-mod tags;
+mod table;
 #[cfg(test)]
-mod tags_more;
+mod tags;

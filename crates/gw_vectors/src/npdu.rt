@@ -1,331 +1,245 @@
-//! The messages of the network layer: octets from outside, faults, headers for the next hop, messages that differ in one field,
-//! and a refused growth.
+//! The messages of the network layer: octets from outside, headers for the next hop, messages that differ in one field, and
+//! refused growths.
 
+use crate::table::{octets_of, parts};
 use gw_npdu::{
-    AddressRef, Destination, EncodeFault, MessageKind, NetMessage, Npdu, NpduFault, Onward,
-    Payload, Priority, decode, encode, relay_header,
+    AddressRef, Destination, EncodeFault, MessageKind, Npdu, NpduFault, Onward, Payload, Priority,
+    decode, encode, relay_header,
 };
+use std::alloc::Global;
 use std::test::*;
 
-/// A read of a station behind a router: DNET 100, station 01, from station 07 of network 500, hop count 254.
-const ROUTED_READ: [u8; 22] = [
-    0x01, 0x2C, 0x00, 0x64, 0x01, 0x01, 0x01, 0xF4, 0x01, 0x07, 0xFE, 0x00, 0x05, 0x07, 0x0C, 0x0C,
-    0x01, 0x40, 0x00, 0x01, 0x19, 0x55,
-];
+/// Octets, and the fault, or the message and the octets that are written where they are others.
+const FRAMES: &str = "\
+012C 0064 01 01 01F4 01 07 FE 1008: Npdu { \
+destination: Some(Destination { network: 100, mac: [1], hops: 254 }), \
+source: Some(AddressRef { network: 500, mac: [7] }), \
+reply_expected: true, priority: Normal, payload: Apdu([16, 8]) }
+0100 1008: Npdu { \
+destination: None, \
+source: None, \
+reply_expected: false, priority: Normal, payload: Apdu([16, 8]) }
+0151 1008: Npdu { \
+destination: None, \
+source: None, \
+reply_expected: false, priority: Urgent, payload: Apdu([16, 8]) } as 01011008
+0112 1008: Npdu { \
+destination: None, \
+source: None, \
+reply_expected: false, priority: CriticalEquipment, payload: Apdu([16, 8]) } as 01021008
+0143: Npdu { \
+destination: None, \
+source: None, \
+reply_expected: false, priority: LifeSafety, payload: Apdu([]) } as 0103
+0120 FFFF 00 FF 1008: Npdu { \
+destination: Some(Destination { network: 65535, mac: [], hops: 255 }), \
+source: None, \
+reply_expected: false, priority: Normal, payload: Apdu([16, 8]) }
+0180 03 01 0190: Npdu { \
+destination: None, \
+source: None, \
+reply_expected: false, priority: Normal, payload: Message(NetMessage { kind: 3, vendor: None, octets: [1, 1, 144] }) }
+0180 80 0102 AA: Npdu { \
+destination: None, \
+source: None, \
+reply_expected: false, priority: Normal, payload: Message(NetMessage { kind: 128, vendor: Some(258), octets: [170] }) }
+0180 7F: Npdu { \
+destination: None, \
+source: None, \
+reply_expected: false, priority: Normal, payload: Message(NetMessage { kind: 127, vendor: None, octets: [] }) }
+01A0 01F4 01 07 FF 03 01 0190: Npdu { \
+destination: Some(Destination { network: 500, mac: [7], hops: 255 }), \
+source: None, \
+reply_expected: false, priority: Normal, payload: Message(NetMessage { kind: 3, vendor: None, octets: [1, 1, 144] }) }
+: Short
+01: Short
+0020: Short
+0120 0000: Short
+0120 0000 00: Short
+0120 0064 02 01 FF: Short
+0108 0064 02 01: Short
+0180: Short
+0180 80: Short
+0180 FF 01: Short
+0000: Version
+0200 1008: Version
+0220 0000 00 FF: Version
+0120 0000 00 FF: Address
+0120 FFFF 01 07 FF: Address
+0108 0000 01 07: Address
+0108 FFFF 01 07: Address
+0108 0064 00: Address
+0128 0064 00 FFFF 01 07 FF: Address";
 
-#[test]
-fn a_routed_read(rt: HostRuntime) -> Result<(), Fail> {
-    let npdu = decode(&ROUTED_READ)?;
-    let want = Npdu {
-        destination: Some(Destination {
-            network: 100,
-            mac: &[0x01],
-            hops: 254,
-        }),
-        source: Some(AddressRef {
-            network: 500,
-            mac: &[0x07],
-        }),
-        reply_expected: true,
-        priority: Priority::Normal,
-        payload: Payload::Apdu(&[
-            0x00, 0x05, 0x07, 0x0C, 0x0C, 0x01, 0x40, 0x00, 0x01, 0x19, 0x55,
-        ]),
-    };
-    assert_eq!(rt; npdu, want);
-    assert_eq!(rt; npdu.control().0, 0x2C);
-    assert_eq!(rt; npdu.header_len(), 11);
-    let mut out = Vec::new(rt.alloc());
-    encode(&npdu, &mut out)?;
-    assert_eq!(rt; out.as_slice(), ROUTED_READ.as_slice());
-    Ok(())
-}
+/// Octets, and the header before their payload where they are delivered, and where they are passed on, each with the source
+/// C0A80105BAC0 of network 1 where they name none.
+const HEADERS: &str = "\
+0120 0002 06 C0A80205BAC0 00 1008: 0108000106C0A80105BAC0 01280002 06C0A80205BAC0 000106C0A80105BAC0 00
+0120 FFFF 00 FF 1008: 0108000106C0A80105BAC0 0128FFFF 00 000106C0A80105BAC0 FE
+012C 0064 01 01 01F4 01 07 FE 1008: 010C01F40107 012C0064 0101 01F40107 FD
+01A3 012C 00 00 80 0102 AA: 018B000106C0A80105BAC0800102 01AB012C 00 000106C0A80105BAC0 00 800102";
 
-#[test]
-fn faults(rt: HostRuntime) {
-    let rows: [(&[u8], NpduFault); 19] = [
-        (&[], NpduFault::Short),
-        (&[0x01], NpduFault::Short),
-        (&[0x00, 0x20], NpduFault::Short),
-        (&[0x01, 0x20, 0x00, 0x00], NpduFault::Short),
-        (&[0x01, 0x20, 0x00, 0x00, 0x00], NpduFault::Short),
-        (
-            &[0x01, 0x20, 0x00, 0x64, 0x02, 0x01, 0xFF],
-            NpduFault::Short,
-        ),
-        (&[0x01, 0x08, 0x00, 0x64, 0x02, 0x01], NpduFault::Short),
-        (&[0x01, 0x80], NpduFault::Short),
-        (&[0x01, 0x80, 0x80], NpduFault::Short),
-        (&[0x01, 0x80, 0xFF, 0x01], NpduFault::Short),
-        (&[0x00, 0x00], NpduFault::Version),
-        (&[0x02, 0x00, 0x10, 0x08], NpduFault::Version),
-        (&[0x02, 0x20, 0x00, 0x00, 0x00, 0xFF], NpduFault::Version),
-        (&[0x01, 0x20, 0x00, 0x00, 0x00, 0xFF], NpduFault::Address),
-        (
-            &[0x01, 0x20, 0xFF, 0xFF, 0x01, 0x07, 0xFF],
-            NpduFault::Address,
-        ),
-        (&[0x01, 0x08, 0x00, 0x00, 0x01, 0x07], NpduFault::Address),
-        (&[0x01, 0x08, 0xFF, 0xFF, 0x01, 0x07], NpduFault::Address),
-        (&[0x01, 0x08, 0x00, 0x64, 0x00], NpduFault::Address),
-        (
-            &[0x01, 0x28, 0x00, 0x64, 0x00, 0xFF, 0xFF, 0x01, 0x07, 0xFF],
-            NpduFault::Address,
-        ),
-    ];
-    for (octets, fault) in rows {
-        assert_eq!(rt; decode(octets), Err(fault), "{octets:?}");
-    }
-}
+/// The first has each field; each other line has one field changed.
+const DIFFERENT: &str = "\
+012D 0064 02 0102 01F4 01 07 FE 1008
+010D 01F4 01 07 1008
+012D 0065 02 0102 01F4 01 07 FE 1008
+012D 0064 02 0103 01F4 01 07 FE 1008
+012D 0064 01 01 01F4 01 07 FE 1008
+012D 0064 02 0102 01F4 01 07 FD 1008
+0125 0064 02 0102 FE 1008
+012D 0064 02 0102 01F5 01 07 FE 1008
+012D 0064 02 0102 01F4 02 0700 FE 1008
+0129 0064 02 0102 01F4 01 07 FE 1008
+012F 0064 02 0102 01F4 01 07 FE 1008
+012D 0064 02 0102 01F4 01 07 FE 10
+012D 0064 02 0102 01F4 01 07 FE 1009
+0180 80 0102 AA
+0180 81 0102 AA
+0180 80 0103 AA
+0180 80 0202 AA
+0180 80 0102 AB
+0180 80 0102
+0100 AA";
 
-#[test]
-fn network_layer_messages(rt: HostRuntime) -> Result<(), Fail> {
-    let plain = |message| Npdu {
-        destination: None,
-        source: None,
-        reply_expected: false,
-        priority: Priority::Normal,
-        payload: Payload::Message(message),
-    };
-    let reject = plain(NetMessage {
-        kind: 0x03,
-        vendor: None,
-        octets: &[0x01, 0x01, 0x90],
-    });
-    let of_vendor = plain(NetMessage {
-        kind: 0x80,
-        vendor: Some(0x0102),
-        octets: &[0xAA],
-    });
-    let highest = plain(NetMessage {
-        kind: 0x7F,
-        vendor: None,
-        octets: &[],
-    });
-    let asked = Npdu {
-        destination: Some(Destination {
-            network: 500,
-            mac: &[0x07],
-            hops: 255,
-        }),
-        ..reject
-    };
-    let rows: [(Npdu<'_>, &[u8]); 4] = [
-        (reject, &[0x01, 0x80, 0x03, 0x01, 0x01, 0x90]),
-        (of_vendor, &[0x01, 0x80, 0x80, 0x01, 0x02, 0xAA]),
-        (highest, &[0x01, 0x80, 0x7F]),
-        (
-            asked,
-            &[
-                0x01, 0xA0, 0x01, 0xF4, 0x01, 0x07, 0xFF, 0x03, 0x01, 0x01, 0x90,
-            ],
-        ),
-    ];
-    for (npdu, octets) in rows {
-        assert_eq!(rt; decode(octets)?, npdu, "{octets:?}");
-        let mut out = Vec::new(rt.alloc());
-        encode(&npdu, &mut out)?;
-        assert_eq!(rt; out.as_slice(), octets);
-    }
-    Ok(())
-}
+/// Source C0A80105BAC0 of network 1.
+const SOURCE: AddressRef<'_> = AddressRef {
+    network: 1,
+    mac: &[0xC0, 0xA8, 0x01, 0x05, 0xBA, 0xC0],
+};
 
-#[test]
-fn reserved_bits_and_priorities(rt: HostRuntime) -> Result<(), Fail> {
-    let priorities = [
-        Priority::Normal,
-        Priority::Urgent,
-        Priority::CriticalEquipment,
-        Priority::LifeSafety,
-    ];
-    for (bits, priority) in [0u8, 1, 2, 3].into_iter().zip(priorities) {
-        for reserved in [0x00u8, 0x10, 0x40, 0x50] {
-            let octets = [0x01, bits | reserved, 0x10, 0x08];
-            let npdu = decode(&octets)?;
-            assert_eq!(rt; npdu.priority, priority);
-            assert_eq!(rt; npdu.payload, Payload::Apdu(&[0x10, 0x08]));
-            let mut out = Vec::new(rt.alloc());
+/// What is read of a frame; where it is written in other octets, these too.
+fn answer(alloc: Global, frame: &[u8]) -> Result<String, Fail> {
+    match decode(frame) {
+        Ok(npdu) => {
+            let mut out = Vec::new(alloc);
             encode(&npdu, &mut out)?;
-            assert_eq!(rt; out.as_slice(), [0x01, bits, 0x10, 0x08].as_slice());
-        }
+            if out.as_slice() == frame {
+                return Ok(format!(in alloc; "{npdu:?}")?);
+            }
+            let written = hex::encode_upper(alloc, out)?;
+            Ok(format!(in alloc; "{npdu:?} as {written}")?)
+        },
+        Err(fault) => Ok(format!(in alloc; "{fault:?}")?),
+    }
+}
+
+#[test]
+fn octets_from_outside(rt: HostRuntime) -> Result<(), Fail> {
+    for line in FRAMES.lines() {
+        let (octets, wanted) = parts(rt.alloc(), line)?;
+        assert_eq!(rt; answer(rt.alloc(), &octets)?.as_str(), wanted, "at {line}");
     }
     Ok(())
 }
 
-#[test]
-fn the_longest_message(rt: HostRuntime) -> Result<(), Fail> {
-    let apdu = [7; 1496];
-    let plain = |apdu| Npdu {
-        destination: None,
-        source: None,
-        reply_expected: false,
-        priority: Priority::Normal,
-        payload: Payload::Apdu(apdu),
+/// The header of a message for the next hop.
+fn header(alloc: Global, octets: &[u8], keeps_destination: bool) -> Result<Vec<u8>, Fail> {
+    let npdu = decode(octets)?;
+    let how = Onward {
+        keeps_destination,
+        source: SOURCE,
     };
-    let mut out = Vec::from_slice(rt.alloc(), b"before")?;
-    assert_eq!(rt; encode(&plain(&apdu), &mut out), Err(EncodeFault::TooLong));
-    assert_eq!(rt; out.as_slice(), b"before".as_slice());
-    encode(&plain(&apdu[..1495]), &mut out)?;
-    assert_eq!(rt; out.len(), 6 + 1497);
-    Ok(())
+    let mut out = Vec::new(alloc);
+    relay_header(&npdu, &how, npdu.payload.octets().len(), &mut out)?;
+    Ok(out)
 }
-
-/// A message to station C0A80205BAC0 of network 2, and its header where it is delivered there.
-const TO_TWO: [u8; 13] = [
-    0x01, 0x20, 0x00, 0x02, 0x06, 0xC0, 0xA8, 0x02, 0x05, 0xBA, 0xC0, 0x00, 0x10,
-];
-
-const FROM_ONE: [u8; 6] = [0xC0, 0xA8, 0x01, 0x05, 0xBA, 0xC0];
 
 #[test]
 fn headers_for_the_next_hop(rt: HostRuntime) -> Result<(), Fail> {
-    let source = AddressRef {
-        network: 1,
-        mac: &FROM_ONE,
-    };
-    let delivered = Onward {
-        keeps_destination: false,
-        source,
-    };
-    let passed_on = Onward {
-        keeps_destination: true,
-        source,
-    };
-    let rows: [(&[u8], Onward<'_>, &[u8]); 5] = [
-        (
-            &TO_TWO,
-            delivered,
-            &[
-                0x01, 0x08, 0x00, 0x01, 0x06, 0xC0, 0xA8, 0x01, 0x05, 0xBA, 0xC0,
-            ],
-        ),
-        (
-            &[0x01, 0x20, 0xFF, 0xFF, 0x00, 0xFF, 0x10, 0x08],
-            passed_on,
-            &[
-                0x01, 0x28, 0xFF, 0xFF, 0x00, 0x00, 0x01, 0x06, 0xC0, 0xA8, 0x01, 0x05, 0xBA, 0xC0,
-                0xFE,
-            ],
-        ),
-        (
-            &ROUTED_READ,
-            passed_on,
-            &[
-                0x01, 0x2C, 0x00, 0x64, 0x01, 0x01, 0x01, 0xF4, 0x01, 0x07, 0xFD,
-            ],
-        ),
-        (
-            &ROUTED_READ,
-            delivered,
-            &[0x01, 0x0C, 0x01, 0xF4, 0x01, 0x07],
-        ),
-        (
-            &[0x01, 0xA3, 0x01, 0x2C, 0x00, 0x00, 0x80, 0x01, 0x02, 0xAA],
-            passed_on,
-            &[
-                0x01, 0xAB, 0x01, 0x2C, 0x00, 0x00, 0x01, 0x06, 0xC0, 0xA8, 0x01, 0x05, 0xBA, 0xC0,
-                0x00, 0x80, 0x01, 0x02,
-            ],
-        ),
-    ];
-    for (octets, how, header) in rows {
-        let npdu = decode(octets)?;
-        let n = npdu.payload.octets().len();
-        let mut out = Vec::from_slice(rt.alloc(), b"before")?;
-        relay_header(&npdu, &how, n, &mut out)?;
-        assert_eq!(rt;
-            out.as_slice().strip_prefix(b"before".as_slice()),
-            Some(header),
-            "{octets:?}"
-        );
+    for line in HEADERS.lines() {
+        let (octets, wanted) = parts(rt.alloc(), line)?;
+        let (delivered, passed_on) = wanted.split_once(' ').ok_or("two headers")?;
+        let wanted = [delivered, passed_on];
+        for (keeps_destination, wanted) in [false, true].into_iter().zip(wanted) {
+            let made = header(rt.alloc(), &octets, keeps_destination)?;
+            assert_eq!(rt; made, octets_of(rt.alloc(), wanted)?, "at {line}");
+        }
     }
     Ok(())
 }
 
 #[test]
-fn the_longest_header(rt: HostRuntime) -> Result<(), Fail> {
-    let npdu = decode(&TO_TWO)?;
-    let how = Onward {
-        keeps_destination: false,
-        source: AddressRef {
-            network: 1,
-            mac: &FROM_ONE,
-        },
-    };
-    let mut out = Vec::from_slice(rt.alloc(), b"before")?;
-    assert_eq!(rt;
-        relay_header(&npdu, &how, 1487, &mut out),
-        Err(EncodeFault::TooLong)
-    );
-    assert_eq!(rt;
-        relay_header(&npdu, &how, usize::MAX, &mut out),
-        Err(EncodeFault::TooLong)
-    );
-    assert_eq!(rt; out.as_slice(), b"before".as_slice());
-    relay_header(&npdu, &how, 1486, &mut out)?;
-    assert_eq!(rt; out.len(), 6 + 11);
+fn messages_that_differ_in_one_field(rt: HostRuntime) -> Result<(), Fail> {
+    for one in DIFFERENT.lines() {
+        let first = octets_of(rt.alloc(), one)?;
+        for other in DIFFERENT.lines() {
+            let second = octets_of(rt.alloc(), other)?;
+            assert!(rt; (decode(&first)? == decode(&second)?) == (first == second));
+        }
+    }
     Ok(())
 }
 
-/// Each growth is refused in turn under `rt try --test --fail-alloc`: the buffer is then as before.
+/// The longest message and header; each growth is refused in turn under `rt try --test --fail-alloc`: the buffer is then as before,
+/// and room that it has it keeps.
 #[test]
-fn a_refused_growth_leaves_the_buffer(rt: HostRuntime) -> Result<(), Fail> {
-    let npdu = decode(&ROUTED_READ)?;
+fn the_longest_messages(rt: HostRuntime) -> Result<(), Fail> {
+    let apdu = [7; 1496];
+    let mut npdu = Npdu {
+        destination: None,
+        source: None,
+        reply_expected: false,
+        priority: Priority::Normal,
+        payload: Payload::Apdu(&apdu),
+    };
+    let mut out = Vec::new(rt.alloc());
+    out.push(9)?;
+    assert_eq!(rt; encode(&npdu, &mut out), Err(EncodeFault::TooLong));
     let how = Onward {
-        keeps_destination: true,
-        source: AddressRef {
-            network: 1,
-            mac: &FROM_ONE,
-        },
+        keeps_destination: false,
+        source: SOURCE,
     };
-    let Ok(mut out) = Vec::from_slice(rt.alloc(), b"before") else {
-        return Ok(());
-    };
-    for _ in 0..40u8 {
+    for count in [1487, usize::MAX] {
+        let refused = relay_header(&npdu, &how, count, &mut out);
+        assert_eq!(rt; refused, Err(EncodeFault::TooLong));
+    }
+    npdu.payload = Payload::Apdu(&apdu[..1495]);
+    for _ in 0..20u8 {
         let before = out.len();
         match encode(&npdu, &mut out) {
-            Ok(()) => assert_eq!(rt; out.len(), before + 22),
+            Ok(()) => assert_eq!(rt; out.len(), before + 1497),
             Err(fault) => {
                 assert_eq!(rt; fault, EncodeFault::Memory);
                 assert_eq!(rt; out.len(), before);
-            }
+            },
         }
+        let capacity = out.capacity();
         let before = out.len();
-        match relay_header(&npdu, &how, 11, &mut out) {
+        match relay_header(&npdu, &how, 1486, &mut out) {
             Ok(()) => assert_eq!(rt; out.len(), before + 11),
-            Err(fault) => {
-                assert_eq!(rt; fault, EncodeFault::Memory);
-                assert_eq!(rt; out.len(), before);
-            }
+            Err(_) => assert_eq!(rt; out.len(), before),
         }
+        assert!(rt; out.capacity() >= capacity);
     }
-    assert!(rt; out.starts_with(b"before"));
+    assert_eq!(rt; out.first().copied(), Some(9));
     Ok(())
 }
 
 #[test]
-fn networks(rt: HostRuntime) {
-    let station = AddressRef {
-        network: 7,
-        mac: &[1],
-    };
-    assert_eq!(rt; station.net().get(), 7);
-    let one = Destination {
-        network: 65534,
-        mac: &[],
-        hops: 1,
-    };
-    assert_eq!(rt; one.net().map(|net| net.get()), Some(65534));
+fn names_and_numbers(rt: HostRuntime) -> Result<(), Fail> {
+    let known = [
+        (0x00, MessageKind::WhoIsRouterToNetwork),
+        (0x01, MessageKind::IAmRouterToNetwork),
+        (0x03, MessageKind::RejectMessageToNetwork),
+        (0x09, MessageKind::DisconnectConnectionToNetwork),
+        (0x12, MessageKind::WhatIsNetworkNumber),
+        (0x13, MessageKind::NetworkNumberIs),
+    ];
+    for (number, kind) in known {
+        assert_eq!(rt; kind.number(), number);
+        assert_eq!(rt; MessageKind::from_number(number), Some(kind));
+    }
+    for number in [0x0A, 0x11, 0x14, 0x7F, 0x80, 0xFF] {
+        assert_eq!(rt; MessageKind::from_number(number), None);
+    }
+    assert_eq!(rt; SOURCE.net().get(), 1);
     let every = Destination {
         network: Destination::EVERY_NETWORK,
         mac: &[],
         hops: 1,
     };
     assert!(rt; every.net().is_none());
-}
-
-#[test]
-fn texts_of_faults(rt: HostRuntime) -> Result<(), Fail> {
     let short = NpduFault::Short.to_string(rt.alloc())?;
     assert_eq!(rt;
         short.as_str(),
@@ -333,106 +247,5 @@ fn texts_of_faults(rt: HostRuntime) -> Result<(), Fail> {
     );
     let long = EncodeFault::TooLong.to_string(rt.alloc())?;
     assert_eq!(rt; long.as_str(), "the message would be over 1497 octets");
-    Ok(())
-}
-
-/// `==` tells messages apart that differ in one field alone: each row but the first has one field of the first changed.
-#[test]
-fn messages_that_differ_in_one_field(rt: HostRuntime) -> Result<(), Fail> {
-    let rows: [&[u8]; 13] = [
-        &[1, 0x2D, 0, 100, 2, 1, 2, 1, 244, 1, 7, 254, 0x10, 8],
-        // The destination: none, and its network, its station, its hop count.
-        &[1, 0x0D, 1, 244, 1, 7, 0x10, 8],
-        &[1, 0x2D, 0, 101, 2, 1, 2, 1, 244, 1, 7, 254, 0x10, 8],
-        &[1, 0x2D, 0, 100, 2, 1, 3, 1, 244, 1, 7, 254, 0x10, 8],
-        &[1, 0x2D, 0, 100, 1, 1, 1, 244, 1, 7, 254, 0x10, 8],
-        &[1, 0x2D, 0, 100, 2, 1, 2, 1, 244, 1, 7, 253, 0x10, 8],
-        // The source: none, and its network and its station.
-        &[1, 0x25, 0, 100, 2, 1, 2, 254, 0x10, 8],
-        &[1, 0x2D, 0, 100, 2, 1, 2, 1, 245, 1, 7, 254, 0x10, 8],
-        &[1, 0x2D, 0, 100, 2, 1, 2, 1, 244, 2, 7, 0, 254, 0x10, 8],
-        // Reply expected, the priority, and the payload.
-        &[1, 0x29, 0, 100, 2, 1, 2, 1, 244, 1, 7, 254, 0x10, 8],
-        &[1, 0x2F, 0, 100, 2, 1, 2, 1, 244, 1, 7, 254, 0x10, 8],
-        &[1, 0x2D, 0, 100, 2, 1, 2, 1, 244, 1, 7, 254, 0x10],
-        &[1, 0x2D, 0, 100, 2, 1, 2, 1, 244, 1, 7, 254, 0x10, 9],
-    ];
-    for one in rows {
-        for other in rows {
-            assert_eq!(rt;
-                decode(one)? == decode(other)?,
-                one == other,
-                "{one:?} {other:?}"
-            );
-        }
-    }
-    Ok(())
-}
-
-/// The same of network layer messages.
-#[test]
-fn network_layer_messages_that_differ_in_one_field(rt: HostRuntime) -> Result<(), Fail> {
-    let rows: [&[u8]; 7] = [
-        &[1, 0x80, 0x80, 1, 2, 0xAA],
-        // The type, the vendor, and the octets.
-        &[1, 0x80, 0x81, 1, 2, 0xAA],
-        &[1, 0x80, 0x80, 1, 3, 0xAA],
-        &[1, 0x80, 0x80, 2, 2, 0xAA],
-        &[1, 0x80, 0x80, 1, 2, 0xAB],
-        &[1, 0x80, 0x80, 1, 2],
-        // An APDU of those octets.
-        &[1, 0x00, 0xAA],
-    ];
-    for one in rows {
-        for other in rows {
-            assert_eq!(rt;
-                decode(one)? == decode(other)?,
-                one == other,
-                "{one:?} {other:?}"
-            );
-        }
-    }
-    Ok(())
-}
-
-#[test]
-fn types_of_network_layer_messages(rt: HostRuntime) {
-    let rows = [
-        (0x00, MessageKind::WhoIsRouterToNetwork),
-        (0x01, MessageKind::IAmRouterToNetwork),
-        (0x02, MessageKind::ICouldBeRouterToNetwork),
-        (0x03, MessageKind::RejectMessageToNetwork),
-        (0x04, MessageKind::RouterBusyToNetwork),
-        (0x05, MessageKind::RouterAvailableToNetwork),
-        (0x06, MessageKind::InitializeRoutingTable),
-        (0x07, MessageKind::InitializeRoutingTableAck),
-        (0x08, MessageKind::EstablishConnectionToNetwork),
-        (0x09, MessageKind::DisconnectConnectionToNetwork),
-        (0x12, MessageKind::WhatIsNetworkNumber),
-        (0x13, MessageKind::NetworkNumberIs),
-    ];
-    for (number, kind) in rows {
-        assert_eq!(rt; kind.number(), number);
-        assert_eq!(rt; MessageKind::from_number(number), Some(kind));
-    }
-    for number in [0x0A, 0x11, 0x14, 0x7F, 0x80, 0xFF] {
-        assert_eq!(rt; MessageKind::from_number(number), None);
-    }
-}
-
-/// A buffer with room keeps it, so that the next message is written where it stands.
-#[test]
-fn room_stays(rt: HostRuntime) -> Result<(), Fail> {
-    let npdu = Npdu {
-        destination: None,
-        source: None,
-        reply_expected: false,
-        priority: Priority::Normal,
-        payload: Payload::Apdu(&[0x10, 0x08]),
-    };
-    let mut out = Vec::with_capacity(rt.alloc(), 64)?;
-    encode(&npdu, &mut out)?;
-    assert_eq!(rt; out.as_slice(), [0x01, 0x00, 0x10, 0x08].as_slice());
-    assert!(rt; out.capacity() >= 64);
     Ok(())
 }

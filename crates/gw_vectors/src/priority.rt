@@ -1,83 +1,66 @@
-//! The priority rule on the standard's kind of example, at numbers, booleans and texts.
+//! The priority rule on the standard's kind of example, at numbers and at texts.
 use gw_priority::{LOWEST, PRIORITIES, PriorityArray, PriorityFault, RESERVED, laws};
 use std::alloc::{AllocError, Global};
-use std::test::Fail;
+use std::test::*;
 
-/// The values in the slots of priorities 1 to 16, 0 for an empty slot.
-fn contents(property: &PriorityArray<u32>) -> [u32; PRIORITIES] {
-    let mut contents = [0; PRIORITIES];
-    for place in 0..LOWEST {
-        contents[usize::from(place)] = property.slot(place + 1).copied().unwrap_or(0);
+/// Acts on a property whose default is 1, and what is refused of them, then the present value and the slots that aren't empty.
+/// `8=3` commands 3 at priority 8, `-8` relinquishes, `=2` sets the default.
+const ACTS: &str = "\
+=1: 1
+8=3: 3 8=3
+8=3 16=2: 3 8=3 16=2
+8=3 16=2 -8: 2 16=2
+8=3 16=2 -8 -16: 1
+16=9 1=7 1=8: 8 1=8 16=9
+16=9 1=8 -1 -1: 9 16=9
+5=4 7=4 6=9 -6: reserved reserved 4 5=4 7=4
+10=3 =2: 3 10=3
+10=3 =2 -10: 2";
+
+/// What acts lead to. A priority outside 1 to 16 ends it.
+fn answer(alloc: Global, acts: &str) -> Result<String, Fail> {
+    let mut property = PriorityArray::new(1u32);
+    let mut answer = String::new(alloc);
+    for act in acts.split(' ') {
+        let (priority, value) = match act.strip_prefix('-') {
+            Some(priority) => (priority, None),
+            None => {
+                let (priority, value) = act.split_once('=').ok_or("an act")?;
+                (priority, Some(value.parse()?))
+            },
+        };
+        let acted = match (priority.parse().ok(), value) {
+            (Some(priority @ 1..=16), Some(value)) => property
+                .command(priority, value)
+                .map_err(|refused| refused.fault),
+            (Some(priority @ 1..=16), None) => property.relinquish(priority),
+            (_, Some(value)) => {
+                property.set_default(value);
+                Ok(())
+            },
+            (_, None) => return Err("a priority from 1 to 16".into()),
+        };
+        if acted == Err(PriorityFault::Reserved) {
+            answer.push_str(" reserved")?;
+        }
     }
-    contents
+    answer.push_str(&format!(in alloc; " {}", property.present())?)?;
+    for priority in 1..LOWEST + 1 {
+        if let Some(value) = property.slot(priority) {
+            answer.push_str(&format!(in alloc; " {priority}={value}")?)?;
+        }
+    }
+    Ok(answer)
 }
 
 #[test]
 fn the_highest_priority_decides(rt: HostRuntime) -> Result<(), Fail> {
-    let mut mode = PriorityArray::new(1u32);
-    assert_eq!(rt; *mode.present(), 1);
-    assert!(rt; mode.command(8, 3).is_ok());
-    assert_eq!(rt; *mode.present(), 3);
-    assert!(rt; mode.command(LOWEST, 2).is_ok());
-    assert_eq!(rt; *mode.present(), 3);
-    assert_eq!(rt;
-        contents(&mode),
-        [0, 0, 0, 0, 0, 0, 0, 3, 0, 0, 0, 0, 0, 0, 0, 2]
-    );
-    assert!(rt; mode.relinquish(8).is_ok());
-    assert_eq!(rt; *mode.present(), 2);
-    assert!(rt; mode.relinquish(16).is_ok());
-    assert_eq!(rt; *mode.present(), 1);
-    assert_eq!(rt; contents(&mode), [0; 16]);
-    Ok(())
-}
-
-#[test]
-fn the_first_and_the_last_priority_have_slots(rt: HostRuntime) -> Result<(), Fail> {
-    let mut level = PriorityArray::new(-5i32);
-    assert!(rt; level.command(16, -129).is_ok());
-    assert!(rt; level.command(1, 7).is_ok());
-    assert_eq!(rt; *level.present(), 7);
-    assert!(rt; level.command(1, 8).is_ok());
-    assert_eq!(rt; *level.present(), 8);
-    assert!(rt; level.relinquish(1).is_ok());
-    assert_eq!(rt; *level.present(), -129);
-    assert!(rt; level.relinquish(1).is_ok());
-    assert_eq!(rt; *level.present(), -129);
-    Ok(())
-}
-
-#[test]
-fn nobody_commands_at_priority_6(rt: HostRuntime) -> Result<(), Fail> {
-    let mut fan = PriorityArray::new(false);
-    assert!(rt; fan.command(5, true).is_ok());
-    assert!(rt; fan.command(7, true).is_ok());
-    match fan.command(RESERVED, true) {
-        Ok(()) => assert!(rt; false, "a command at priority 6 was accepted"),
-        Err(refused) => {
-            assert_eq!(rt; refused.fault, PriorityFault::Reserved);
-            assert!(rt; refused.value);
-        }
+    for line in ACTS.lines() {
+        let (acts, wanted) = line.split_once(':').ok_or("a line has a colon")?;
+        assert_eq!(rt; answer(rt.alloc(), acts)?.as_str(), wanted, "at {line}");
     }
-    assert_eq!(rt; fan.relinquish(6), Err(PriorityFault::Reserved));
-    assert_eq!(rt; fan.slot(5).copied(), Some(true));
-    assert_eq!(rt; fan.slot(6).copied(), None);
-    assert_eq!(rt; fan.slot(7).copied(), Some(true));
-    Ok(())
-}
-
-#[test]
-fn a_new_default_changes_no_slot(rt: HostRuntime) -> Result<(), Fail> {
-    let mut mode = PriorityArray::new(1u32);
-    assert!(rt; mode.command(10, 3).is_ok());
-    mode.set_default(2);
-    assert_eq!(rt; *mode.present(), 3);
-    assert_eq!(rt;
-        contents(&mode),
-        [0, 0, 0, 0, 0, 0, 0, 0, 0, 3, 0, 0, 0, 0, 0, 0]
-    );
-    assert!(rt; mode.relinquish(10).is_ok());
-    assert_eq!(rt; *mode.present(), 2);
+    laws::present_value::<u32>();
+    laws::slots_after::<String>();
     Ok(())
 }
 
@@ -88,11 +71,6 @@ fn text(alloc: Global, text: &str) -> Result<String, AllocError> {
 #[test]
 fn texts_move_in_and_back_out(rt: HostRuntime) -> Result<(), Fail> {
     let mut note = PriorityArray::new(text(rt.alloc(), "hi")?);
-    assert_eq!(rt; note.present().as_str(), "hi");
-    assert!(rt;
-        note.command(9, text(rt.alloc(), "closed on Monday")?)
-            .is_ok()
-    );
     assert!(rt; note.command(9, text(rt.alloc(), "open")?).is_ok());
     assert_eq!(rt; note.present().as_str(), "open");
     match note.command(RESERVED, text(rt.alloc(), "mine")?) {
@@ -100,26 +78,10 @@ fn texts_move_in_and_back_out(rt: HostRuntime) -> Result<(), Fail> {
         Err(refused) => assert_eq!(rt; refused.value.as_str(), "mine"),
     }
     note.set_default(text(rt.alloc(), "bye")?);
-    assert_eq!(rt; note.slot(9).map(|text| text.as_str()), Some("open"));
     assert!(rt; note.relinquish(9).is_ok());
     assert_eq!(rt; note.present().as_str(), "bye");
-    assert!(rt; note.slot(9).is_none());
-    Ok(())
-}
-
-#[test]
-fn numbers_and_words_of_the_faults(rt: HostRuntime) -> Result<(), Fail> {
-    assert_eq!(rt; PRIORITIES, 16);
-    assert_eq!(rt; LOWEST, 16);
-    assert_eq!(rt; RESERVED, 6);
+    assert_eq!(rt; (PRIORITIES, LOWEST, RESERVED), (16, 16, 6));
     let fault = PriorityFault::Reserved.to_string(rt.alloc())?;
     assert_eq!(rt; fault.as_str(), "priority 6 is reserved");
-    Ok(())
-}
-
-#[test]
-fn the_laws_can_be_called(_rt: HostRuntime) -> Result<(), Fail> {
-    laws::present_value::<u32>();
-    laws::slots_after::<String>();
     Ok(())
 }

@@ -39,58 +39,53 @@ fn plays(
     Ok(end == want && written.as_slice() == text)
 }
 
-/// A script, how its replay ends, and what it writes.
-type Case = (&'static [u8], Result<(), RunFault>, &'static [u8]);
+/// Scripts, the number of the line at which their replay ends or 0, and what it writes. `|` stands for a line feed.
+const SCRIPTS: &str = "\
+tick => 0 => end|
+ => 0 =>
+tick|1 192.168.1.5:47808 -| => 0 => end|end|
+1 192.168.1.5:47808 810A0016012400640101FF0005070C0C014000011955| => 0 => \
+send 1 192.168.1.5:47808 810A001801080064010130070C0C0140000119553E91003F|end|
+2 192.168.2.5:47808 810a0016012400640101Ff0005070c0C014000011955 => 0 => \
+send 2 192.168.2.5:47808 810A001801080064010130070C0C0140000119553E91003F|end|
+1 192.168.1.5:47808 810A0016012400640101FF0005080C0C014000021955|tick => 0 => \
+send 1 192.168.1.5:47808 810A001101080064010150080C9102911B|end|end|
+tick|3 192.168.1.5:47808 -| => 2 => end|
+| => 1 =>
+tick||tick| => 2 => end|
+tick\r| => 1 =>
+tick|1 192.168.1.5:47808 -\r| => 2 => end|
+tick  => 1 =>
+0 192.168.1.5:47808 - => 1 =>
+01 192.168.1.5:47808 - => 1 =>
+1 192.168.1.5:47808  => 1 =>
+1 192.168.1.5:47808 => 1 =>
+1 192.168.1.5:47808 0 => 1 =>
+1 192.168.1.5:47808 0G => 1 =>
+1  192.168.1.5:47808 00 => 1 =>
+1 192.168.1.05:47808 00 => 1 =>";
 
-const WHOLE_RUNS: [Case; 6] = [
-    (b"", Ok(()), b""),
-    (b"tick", Ok(()), b"end\n"),
-    (b"tick\n1 192.168.1.5:47808 -\n", Ok(()), b"end\nend\n"),
-    (READ, Ok(()), ANSWER),
-    (
-        b"2 192.168.2.5:47808 810a0016012400640101Ff0005070c0C014000011955",
-        Ok(()),
-        b"send 2 192.168.2.5:47808 810A001801080064010130070C0C0140000119553E91003F\nend\n",
-    ),
-    (
-        b"1 192.168.1.5:47808 810A0016012400640101FF0005080C0C014000021955\ntick",
-        Ok(()),
-        b"send 1 192.168.1.5:47808 810A001101080064010150080C9102911B\nend\nend\n",
-    ),
-];
-
-const BAD_LINES: [Case; 14] = [
-    (
-        b"tick\n3 192.168.1.5:47808 -\n",
-        Err(RunFault::Line(2)),
-        b"end\n",
-    ),
-    (b"\n", Err(RunFault::Line(1)), b""),
-    (b"tick\n\ntick\n", Err(RunFault::Line(2)), b"end\n"),
-    (b"tick\r\n", Err(RunFault::Line(1)), b""),
-    (
-        b"tick\n1 192.168.1.5:47808 -\r\n",
-        Err(RunFault::Line(2)),
-        b"end\n",
-    ),
-    (b"tick ", Err(RunFault::Line(1)), b""),
-    (b"0 192.168.1.5:47808 -", Err(RunFault::Line(1)), b""),
-    (b"01 192.168.1.5:47808 -", Err(RunFault::Line(1)), b""),
-    (b"1 192.168.1.5:47808 ", Err(RunFault::Line(1)), b""),
-    (b"1 192.168.1.5:47808", Err(RunFault::Line(1)), b""),
-    (b"1 192.168.1.5:47808 0", Err(RunFault::Line(1)), b""),
-    (b"1 192.168.1.5:47808 0G", Err(RunFault::Line(1)), b""),
-    (b"1  192.168.1.5:47808 00", Err(RunFault::Line(1)), b""),
-    (b"1 192.168.1.05:47808 00", Err(RunFault::Line(1)), b""),
-];
+/// The text, with line feeds.
+fn unfolded(alloc: Global, text: &str) -> Result<Vec<u8>, Fail> {
+    let mut octets = Vec::new(alloc);
+    for octet in text.bytes() {
+        octets.push(if octet == b'|' { b'\n' } else { octet })?;
+    }
+    Ok(octets)
+}
 
 #[test]
 fn scripts_and_their_text(rt: HostRuntime) -> Result<(), Fail> {
-    for (script, want, text) in WHOLE_RUNS {
-        assert!(rt; plays(rt.alloc(), script, want, text)?, "{script:?}");
-    }
-    for (script, want, text) in BAD_LINES {
-        assert!(rt; plays(rt.alloc(), script, want, text)?, "{script:?}");
+    for row in SCRIPTS.split('\n') {
+        let (rest, text) = row.rsplit_once(" =>").ok_or("a text")?;
+        let (script, line) = rest.rsplit_once(" => ").ok_or("a line")?;
+        let end = match line.parse()? {
+            0u64 => Ok(()),
+            number => Err(RunFault::Line(number)),
+        };
+        let script = unfolded(rt.alloc(), script)?;
+        let text = unfolded(rt.alloc(), text.trim_start())?;
+        assert!(rt; plays(rt.alloc(), &script, end, &text)?, "{row}");
     }
     Ok(())
 }

@@ -2,6 +2,7 @@
 ghost use Rattle.std.specs.Prelude.{◌≡◌, ◌≤◌, ◌<◌, IsTrue};
 ghost use Rattle.gw_addr.specs.Station.{is_network};
 
+use crate::table::Chosen;
 use gw_addr::{BipAddr, NetNum};
 use gw_routes::{LearnFault, MAX_ROUTES, Route, Routes, Way, laws};
 use std::alloc::{AllocError, Global};
@@ -72,27 +73,70 @@ fn run_of(alloc: Global, first: u16, count: u16) -> Result<Vec<NetNum>, AllocErr
     Ok(nets)
 }
 
-#[test]
-fn what_is_learned_is_reachable_from_the_other_port(rt: HostRuntime) -> Result<(), Fail> {
-    let mut routes = table(rt.alloc())?;
-    let nets = [net(400), net(300)];
-    routes.learn_all(&nets, 2, NEXT)?;
-    let learned = Route {
-        port: 2,
-        next: NEXT,
-    };
-    assert_eq!(rt; routes.find(400), Way::Router(learned));
-    assert_eq!(rt; routes.find(300), Way::Router(CONFIGURED));
-    assert!(rt; are(&routes.reachable_from(rt.alloc(), 1)?, &[2, 100, 300, 400]));
-    assert!(rt; are(&routes.reachable_from(rt.alloc(), 2)?, &[1, 100]));
-    for none in [0, 3, 255] {
-        assert!(rt;
-            are(
-                &routes.reachable_from(rt.alloc(), none)?,
-                &[1, 2, 100, 300, 400]
-            )
-        );
+/// Learnings one after the other, and what is refused of them, then what port 1 hears that the gateway reaches. `400/2/21` learns
+/// network 400 by port 2 and 192.168.2.21.
+const ACTS: &str = "\
+: 2 100 300
+400/2/21: 2 100 300 400
+400/1/9: 2 100 300
+400/2/21 401/2/21 402/2/21 400/3/9: 2 100 300 400 401 402
+300/2/21 2/1/9 100/1/9: fixed fixed fixed 2 100 300
+401/2/21 400/2/21 401/1/9 401/3/9: 2 100 300 401 400";
+
+/// What learnings lead to.
+fn answer(alloc: Global, acts: &str) -> Result<String, Fail> {
+    let mut routes = table(alloc)?;
+    let mut answer = String::new(alloc);
+    for act in acts.split_whitespace() {
+        let mut words = act.split('/');
+        let mut next = || words.next().ok_or("a learning has three numbers");
+        let (number, port, last) = (next()?, next()?, next()?);
+        let net = NetNum::new(number.parse()?).ok_or("a network")?;
+        match routes.learn(net, port.parse()?, router(last.parse()?)) {
+            Err(LearnFault::Fixed) => answer.push_str(" fixed")?,
+            learned => learned?,
+        }
     }
+    for net in &routes.reachable_from(alloc, 1)? {
+        answer.push_str(&format!(in alloc; " {net}")?)?;
+    }
+    Ok(answer)
+}
+
+#[test]
+fn routes_by_their_learnings(rt: HostRuntime) -> Result<(), Fail> {
+    for line in ACTS.lines() {
+        let (acts, wanted) = line.split_once(':').ok_or("a line has a colon")?;
+        assert_eq!(rt; answer(rt.alloc(), acts)?.as_str(), wanted, "at {line}");
+    }
+    laws::learned_networks();
+    laws::fixed_ways();
+    Ok(())
+}
+
+#[test]
+fn each_way(rt: HostRuntime) -> Result<(), Fail> {
+    let mut routes = table(rt.alloc())?;
+    let route = Route {
+        port: 1,
+        next: router(9),
+    };
+    for _ in 0..10_000 {
+        assert_eq!(rt; routes.learn(net(300), 2, NEXT), Err(LearnFault::Fixed));
+    }
+    routes.learn(net(400), route.port, route.next)?;
+    for (number, way) in [
+        (0, Way::Unknown),
+        (2, Way::Port(2)),
+        (100, Way::Device),
+        (300, Way::Router(CONFIGURED)),
+        (400, Way::Router(route)),
+        (65534, Way::Unknown),
+        (65535, Way::Everywhere),
+    ] {
+        assert_eq!(rt; routes.find(number), way, "{number}");
+    }
+    assert!(rt; are(routes.direct(), &[1, 2, 100]));
     Ok(())
 }
 
@@ -116,26 +160,6 @@ fn the_513th_route_is_refused(rt: HostRuntime) -> Result<(), Fail> {
     assert_eq!(rt; routes.learn(net(1511), 1, NEXT), Ok(()));
     assert!(rt; routes.reachable_from(rt.alloc(), 3)?.len() == 3 + MAX_ROUTES);
     Ok(())
-}
-
-/// Numbers that look random, the same ones in each run.
-#[derive(Drop)]
-struct Chosen {
-    state: u64,
-}
-
-impl Chosen {
-    /// The next number below a bound.
-    fn below(&mut self, bound: u64) -> u64
-        requires { 0 < bound }
-        ensures { result < bound }
-    {
-        self.state = self
-            .state
-            .wrapping_mul(6_364_136_223_846_793_005)
-            .wrapping_add(1_442_695_040_888_963_407);
-        (self.state >> 33) % bound
-    }
 }
 
 /// The routes of `table` as a plain list.
@@ -188,9 +212,9 @@ impl Plain {
     }
 }
 
-/// A network number from 1 on, mostly few enough that they come again.
-fn chosen_net(chosen: &mut Chosen) -> Option<NetNum> {
-    NetNum::new(chosen.below(700) as u16 + 1)
+/// A network number from 1 to 700, few enough that they come again.
+fn chosen_net(chosen: &mut Chosen) -> Result<NetNum, Fail> {
+    Ok(NetNum::new(chosen.below(700) as u16 + 1).ok_or("a network")?)
 }
 
 /// One of eight routers, by one of three ports.
@@ -201,6 +225,32 @@ fn chosen_route(chosen: &mut Chosen) -> Route {
     }
 }
 
+/// A route to one network, and then to two in one message: whether both tables answer alike.
+fn learn(
+    routes: &mut Routes,
+    plain: &mut Plain,
+    nets: [NetNum; 2],
+    route: Route,
+) -> Result<bool, AllocError> {
+    let answer = routes.learn(nets[0], route.port, route.next);
+    let alike = answer == plain.learn(nets[0], route);
+    routes.learn_all(&nets, route.port, NEXT)?;
+    let port = route.port;
+    for net in nets {
+        let _answer = plain.learn(net, Route { port, next: NEXT });
+    }
+    Ok(alike)
+}
+
+/// One random act on both tables: whether they answer alike.
+fn act(chosen: &mut Chosen, routes: &mut Routes, plain: &mut Plain) -> Result<bool, Fail> {
+    let nets = [chosen_net(chosen)?, chosen_net(chosen)?];
+    let route = chosen_route(chosen);
+    let alike = learn(routes, plain, nets, route)?;
+    let number = chosen.below(700) as u16 + 301;
+    Ok(alike && routes.find(number) == plain.find(number))
+}
+
 #[test]
 fn ten_thousand_acts_beside_a_plain_list(rt: HostRuntime) -> Result<(), Fail> {
     let mut chosen = Chosen { state: 135 };
@@ -208,57 +258,11 @@ fn ten_thousand_acts_beside_a_plain_list(rt: HostRuntime) -> Result<(), Fail> {
         learned: Vec::new(rt.alloc()),
     };
     let mut routes = table(rt.alloc())?;
-    for act in 0..10_000 {
-        let Some(net) = chosen_net(&mut chosen) else {
-            continue;
-        };
-        let route = chosen_route(&mut chosen);
-        assert_eq!(rt;
-            routes.learn(net, route.port, route.next),
-            plain.learn(net, route),
-            "act {act}: {net}"
-        );
-        let number = chosen.below(700) as u16 + 1000;
-        assert_eq!(rt;
-            routes.find(number),
-            plain.find(number),
-            "act {act}: {number}"
-        );
-        assert_eq!(rt;
-            routes.find(net.get()) == plain.find(net.get()),
-            !matches!(net.get(), 1 | 2 | 100 | 300),
-            "act {act}: {net}"
-        );
-        if act % 500 == 0 {
-            routes = routes.copy()?;
-            let named = routes.reachable_from(rt.alloc(), 3)?;
-            assert!(rt; are(&named, &plain.reachable(rt.alloc())?), "act {act}");
-        }
+    for _ in 0..10_000 {
+        assert!(rt; act(&mut chosen, &mut routes, &mut plain)?);
     }
-    Ok(())
-}
-
-#[test]
-fn a_set_is_learned_as_one_after_the_other(rt: HostRuntime) -> Result<(), Fail> {
-    let mut chosen = Chosen { state: 7 };
-    let mut plain = Plain {
-        learned: Vec::new(rt.alloc()),
-    };
-    let mut routes = table(rt.alloc())?;
-    for act in 0..500 {
-        let route = chosen_route(&mut chosen);
-        let mut nets = Vec::new(rt.alloc());
-        for _ in 0..chosen.below(9) {
-            let Some(net) = chosen_net(&mut chosen) else {
-                continue;
-            };
-            nets.push(net)?;
-            let _answer = plain.learn(net, route);
-        }
-        routes.learn_all(&nets, route.port, route.next)?;
-        let named = routes.reachable_from(rt.alloc(), 3)?;
-        assert!(rt; are(&named, &plain.reachable(rt.alloc())?), "act {act}");
-    }
+    let named = routes.copy()?.reachable_from(rt.alloc(), 3)?;
+    assert!(rt; are(&named, &plain.reachable(rt.alloc())?));
     Ok(())
 }
 

@@ -5,11 +5,11 @@ ghost use Rattle.gw_rules.specs.Authorizer.{denied_of};
 ghost use Rattle.gw_rules.specs.RuleList.{allows, first};
 
 use gw_rules::{
-    Ask, Authorizer, Decision, FieldName, Fields, Judge, MAX_RANGES, MAX_RULES, Operation, Range,
-    Ranges, Refusal, Refusals, Rule, RuleFault, RuleList, Service, laws,
+    Ask, Authorizer, Decision, FieldName, Judge, MAX_RANGES, MAX_RULES, Operation, Range, Ranges,
+    Refusal, Refusals, Rule, RuleFault, RuleList, Service, laws,
 };
 use std::alloc::{AllocError, Global};
-use std::test::Fail;
+use std::test::*;
 
 /// The broadcast key, all of whose 48 bits are set.
 const LAST_KEY: u64 = 0xffff_ffff_ffff;
@@ -26,6 +26,20 @@ fn denial<J: Judge>(judge: &J, ask: &Ask) -> Option<Option<u16>>
     }
 }
 
+/// A rule that names these fields.
+fn rule(
+    alloc: Global,
+    name: &str,
+    allow: bool,
+    ranges: &[(FieldName, Range)],
+) -> Result<Rule, RuleFault> {
+    let mut rule = Rule::new(alloc, name, allow)?;
+    for (field, range) in ranges {
+        rule = rule.with(*field, *range)?;
+    }
+    Ok(rule)
+}
+
 /// Two rules in order.
 fn pair(alloc: Global, first: Rule, second: Rule) -> Result<Vec<Rule>, RuleFault> {
     let mut rules = Vec::new(alloc);
@@ -36,9 +50,8 @@ fn pair(alloc: Global, first: Rule, second: Rule) -> Result<Vec<Rule>, RuleFault
 
 /// A rule that denies these source keys, before one that allows all.
 fn keys_denied(alloc: Global, keys: Range) -> Result<RuleList, RuleFault> {
-    let denies = Rule::new(alloc, "broadcast", false)?.with(FieldName::SourceKey, keys)?;
-    let allows = Rule::new(alloc, "all", true)?;
-    RuleList::new(pair(alloc, denies, allows)?)
+    let denies = rule(alloc, "broadcast", false, &[(FieldName::SourceKey, keys)])?;
+    RuleList::new(pair(alloc, denies, rule(alloc, "all", true, &[])?)?)
 }
 
 fn from_key(key: Option<u64>) -> Ask {
@@ -62,11 +75,6 @@ fn the_first_matching_rule_decides(rt: HostRuntime) -> Result<(), Fail> {
         let denied = if allowed { None } else { Some(first) };
         assert_eq!(rt; denial(&rules, &ask), denied, "at {key:?}");
     }
-    Ok(())
-}
-
-#[test]
-fn a_range_reaches_the_last_number(rt: HostRuntime) -> Result<(), Fail> {
     let keys = Range {
         low: LAST_KEY,
         high: u64::MAX,
@@ -74,15 +82,8 @@ fn a_range_reaches_the_last_number(rt: HostRuntime) -> Result<(), Fail> {
     let rules = keys_denied(rt.alloc(), keys)?;
     assert_eq!(rt; rules.first(&from_key(Some(u64::MAX))), Some(1));
     assert_eq!(rt; rules.first(&from_key(Some(LAST_KEY - 1))), Some(2));
-    Ok(())
-}
-
-#[test]
-fn no_rules_deny_every_ask(rt: HostRuntime) -> Result<(), Fail> {
-    let rules = RuleList::new(Vec::new(rt.alloc()))?;
-    assert_eq!(rt; rules.first(&from_key(None)), None);
-    assert!(rt; !rules.allows(&from_key(None)));
-    assert_eq!(rt; denial(&rules, &from_key(None)), Some(None));
+    let none = RuleList::new(Vec::new(rt.alloc()))?;
+    assert_eq!(rt; denial(&none, &from_key(None)), Some(None));
     Ok(())
 }
 
@@ -90,8 +91,8 @@ fn no_rules_deny_every_ask(rt: HostRuntime) -> Result<(), Fail> {
 fn numbered(alloc: Global, count: u64) -> Result<Vec<Rule>, RuleFault> {
     let mut rules = Vec::new(alloc);
     for port in 0..count {
-        let rule = Rule::new(alloc, "port", true)?.with(FieldName::Port, Range::only(port))?;
-        rules.push(rule)?;
+        let port = (FieldName::Port, Range::only(port));
+        rules.push(rule(alloc, "port", true, &[port])?)?;
     }
     Ok(rules)
 }
@@ -156,37 +157,14 @@ fn each_field_has_its_own_place(rt: HostRuntime) -> Result<(), Fail> {
     Ok(())
 }
 
-#[test]
-fn faults_are_told_in_words(rt: HostRuntime) -> Result<(), Fail> {
-    let alloc = rt.alloc();
-    assert_eq!(rt;
-        RuleFault::TooMany.to_string(alloc)?.as_str(),
-        "too many rules or ranges"
-    );
-    assert_eq!(rt;
-        RuleFault::Range.to_string(alloc)?.as_str(),
-        "a range's low end is above its high end"
-    );
-    assert_eq!(rt;
-        RuleFault::Memory.to_string(alloc)?.as_str(),
-        "out of memory"
-    );
-    Ok(())
-}
-
 /// Reads of Binary Values 2 to 9 are denied by rule 1, all other reads are allowed by rule 2, and
 /// nothing else matches.
 fn policy(alloc: Global) -> Result<RuleList, RuleFault> {
-    let read = Range::only(Operation::Read.number());
-    let hide = Rule::new(alloc, "hide", false)?
-        .with(FieldName::Operation, read)?
-        .with(FieldName::ObjectType, Range::only(5))?
-        .with(FieldName::Instance, Range { low: 2, high: 9 })?;
-    let reads = Rule::new(alloc, "reads", true)?.with(FieldName::Operation, read)?;
-    let mut rules = Vec::new(alloc);
-    rules.push(hide)?;
-    rules.push(reads)?;
-    RuleList::new(rules)
+    let read = (FieldName::Operation, Range::only(Operation::Read.number()));
+    let values = (FieldName::ObjectType, Range::only(5));
+    let hidden = (FieldName::Instance, Range { low: 2, high: 9 });
+    let hide = rule(alloc, "hide", false, &[read, values, hidden])?;
+    RuleList::new(pair(alloc, hide, rule(alloc, "reads", true, &[read])?)?)
 }
 
 fn read_of(instance: u64) -> Ask {
@@ -212,24 +190,51 @@ fn refused<J: Judge>(alloc: Global, judge: &J, asks: [Ask; 3]) -> Result<Refusal
 }
 
 #[test]
-fn operations_go_by_name_and_by_number(rt: HostRuntime) -> Result<(), Fail> {
-    let rows = [
-        ("cast", 1, Operation::Cast),
-        ("route", 2, Operation::Route),
-        ("register", 3, Operation::Register),
-        ("delete", 4, Operation::Delete),
-        ("read-table", 5, Operation::ReadTable),
-        ("write-table", 6, Operation::WriteTable),
-        ("learn", 7, Operation::Learn),
-        ("network", 8, Operation::Network),
-        ("read", 9, Operation::Read),
-        ("write", 10, Operation::Write),
-        ("list", 11, Operation::List),
-    ];
-    for (name, number, operation) in rows {
-        assert_eq!(rt; operation.name(), name);
-        assert_eq!(rt; operation.number(), number);
-        assert_eq!(rt; Operation::from_name(name), Some(operation));
+fn what_is_denied_is_kept_in_order(rt: HostRuntime) -> Result<(), Fail> {
+    let alloc = rt.alloc();
+    let rules = policy(alloc)?;
+    let write = Ask::new(Operation::Write);
+    assert_eq!(rt; rules.decide(&read_of(1)), Decision::Allow);
+    assert_eq!(rt; Judge::decide(&rules, &write), Decision::Deny { by: None });
+    let kept = refused(alloc, &rules, [write, read_of(1), read_of(9)])?;
+    let unmatched = Refusal {
+        ask: write,
+        by: None,
+    };
+    let hidden = Refusal {
+        ask: read_of(9),
+        by: Some(1),
+    };
+    assert_eq!(rt; kept.as_slice(), [unmatched, hidden].as_slice());
+    assert!(rt;
+        unmatched != hidden
+            && unmatched
+                != Refusal {
+                    by: Some(1),
+                    ..unmatched
+                }
+    );
+    laws::matching();
+    laws::first_match();
+    laws::decision();
+    laws::limits();
+    laws::fields();
+    laws::operations();
+    laws::services();
+    laws::refusals();
+    laws::equality();
+    Ok(())
+}
+
+/// The operations in the order of their numbers, from 1.
+const OPERATIONS: &str =
+    "cast route register delete read-table write-table learn network read write list";
+
+#[test]
+fn names_and_numbers(rt: HostRuntime) -> Result<(), Fail> {
+    for (name, number) in OPERATIONS.split(' ').zip(1u64..12) {
+        let operation = Operation::from_name(name).ok_or("an operation")?;
+        assert_eq!(rt; (operation.name(), operation.number()), (name, number));
         assert_eq!(rt; Operation::from_number(number), Some(operation));
     }
     for text in ["", "Read", "read ", "read-", "reading", "default"] {
@@ -238,15 +243,22 @@ fn operations_go_by_name_and_by_number(rt: HostRuntime) -> Result<(), Fail> {
     for number in [0, 12, 256 + 9, u64::MAX] {
         assert_eq!(rt; Operation::from_number(number), None, "at {number}");
     }
+    for (service, number) in [
+        (Service::Confirmed(12), 12),
+        (Service::Unconfirmed(8), 264),
+        (Service::NetworkMessage(1), 513),
+        (Service::BvllFunction(5), 773),
+        (Service::Pdu(2), 1026),
+    ] {
+        assert_eq!(rt; service.number(), number);
+    }
+    for (fault, words) in [
+        (RuleFault::TooMany, "too many rules or ranges"),
+        (RuleFault::Range, "a range's low end is above its high end"),
+        (RuleFault::Memory, "out of memory"),
+    ] {
+        assert_eq!(rt; fault.to_string(rt.alloc())?.as_str(), words);
+    }
+    assert_eq!(rt; (MAX_RULES, MAX_RANGES), (512, 4));
     Ok(())
-}
-
-#[test]
-fn each_kind_of_service_has_its_base(rt: HostRuntime) {
-    assert_eq!(rt; Service::Confirmed(12).number(), 12);
-    assert_eq!(rt; Service::Confirmed(255).number(), 255);
-    assert_eq!(rt; Service::Unconfirmed(8).number(), 264);
-    assert_eq!(rt; Service::NetworkMessage(1).number(), 513);
-    assert_eq!(rt; Service::BvllFunction(5).number(), 773);
-    assert_eq!(rt; Service::Pdu(2).number(), 1026);
 }
