@@ -1,5 +1,4 @@
-use Rattle.std.proofs.Common.{◌≡◌, ◌<◌, ◌*◌, get_or, sym, ap, Some, ◌∙◌, arith}
-use Rattle.std.specs.Int.{IsInRange}
+use Rattle.std.proofs.Common.{◌<◌, get_or, sym, ◌∙◌, arith}
 use Rattle.gw_addr.proofs.Decimal.{not_canonical, too_long, no_digit, few_digits, more_digits, number_found, number_only, found_below, only_below}
 use Rattle.gw_addr.proofs.digits.number_in.Goals as goal
 
