@@ -1,6 +1,5 @@
-use Rattle.std.proofs.Common.{◌≡◌, ◌<◌, ◌≤◌, ◌*◌, ◌+◌, ◌%◌, max, sym, ap, refl, subst, arith}
-use Rattle.std.proofs.lemmas.Bool.Decides.{nat_tests}
-use Rattle.gw_script.proofs.PairLemmas.{IsReadTo, read_none, read_more, is_read, is_refused}
+use Rattle.std.proofs.Common.{◌*◌, ◌+◌, ◌%◌, refl, arith}
+use Rattle.gw_script.proofs.PairLemmas.{read_none, read_more, is_read, is_refused}
 use Rattle.gw_script.proofs.line.read_pairs.Goals as goal
 
 pub loop-i-init : goal.loop-i-init

@@ -1,4 +1,4 @@
-use Rattle.std.proofs.Common.{ℕ, get_or, sym, ap, ◌∙◌, arith}
+use Rattle.std.proofs.Common.{ℕ, get_or, ap, ◌∙◌, arith}
 use Rattle.std.proofs.lemmas.Nat.{and_mask}
 use Rattle.hex.specs.Hex.{upper_digits}
 use Rattle.hex.proofs.Pairs.{encode_step, encode_done}
