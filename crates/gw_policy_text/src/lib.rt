@@ -1,0 +1,18 @@
+//! The configuration of a gateway, read from TOML to values that keep every range and limit.
+#![tactic(auto)]
+
+mod device;
+mod fault;
+mod instance;
+mod object;
+mod port;
+mod route;
+mod text;
+
+pub use device::Device;
+pub use fault::ConfigFault;
+pub use instance::Instance;
+pub use object::{MultiState, Object, ObjectKind, ObjectValue};
+pub use port::Port;
+pub use route::Route;
+pub use text::Text;
