@@ -1,7 +1,133 @@
--- What a gateway is configured with.
-use Rattle.std.specs.Prelude.{ℕ, List}
+-- What a gateway is configured with, and how it is read from the tables of its text.
+use Rattle.std.specs.Prelude.{ℕ, ◌+◌, List, [], ◌∷◌, length, Bool, codes, ◌==◌, Option, Some, None, Result, Ok, Err}
+use Rattle.std.specs.Option.{ok_or, option_and_then, option_map}
+use Rattle.std.specs.Result.{result_ok}
+use Rattle.toml.specs.Data.{Data, Members, get_member}
+use Rattle.gw_addr.specs.Reading.{◌>>=◌}
+use Rattle.gw_addr.specs.declared.bip.BipAddr.{BipAddr}
+use Rattle.gw_addr.specs.declared.mask.Mask.{Mask}
+use Rattle.gw_addr.specs.declared.entry.BdtEntry.{BdtEntry}
+use Rattle.gw_rules.specs.declared.fields.Fields.{Fields}
+use Rattle.gw_rules.specs.declared.range.Range.{Range as RuleRange}
+use Rattle.gw_rules.specs.declared.rule.Rule.{Rule}
+use Rattle.gw_policy_text.specs.declared.device.Device.{Device}
+use Rattle.gw_policy_text.specs.declared.fault.ConfigFault.{ConfigFault}
+use Rattle.gw_policy_text.specs.declared.fault.ConfigFault.TheVariants.{Missing}
+use Rattle.gw_policy_text.specs.declared.object.Object.{Object}
+use Rattle.gw_policy_text.specs.declared.object.ObjectKind.{ObjectKind}
+use Rattle.gw_policy_text.specs.declared.object.ObjectKind.TheVariants as kinds
+use Rattle.gw_policy_text.specs.declared.object.ObjectValue.{ObjectValue}
+use Rattle.gw_policy_text.specs.declared.object.ObjectValue.TheVariants as values
+use Rattle.gw_policy_text.specs.declared.port.Port.{Port}
+use Rattle.gw_policy_text.specs.declared.route.Route.{Route}
+use Rattle.gw_policy_text.specs.declared.shape.Scalar.{Scalar}
+use Rattle.gw_policy_text.specs.declared.shape.Scalar.TheVariants.{Number, Operation, Address}
+use Rattle.gw_policy_text.specs.Field.{fault_of, range_in}
+use Rattle.gw_policy_text.specs.Tables.{device_fields, object_fields, peer_fields, port_fields, route_fields, rule_fields, top_fields}
+use Rattle.gw_policy_text.specs.Value.{Read, address_in, boolean_in, kind_in, list_in, mask_in, number_in, rule_name_in, signed_in, table_in, text_in}
 
--- the states of a Multi-state Value, and which of them is the default, counted from 1
-pub record States : Type 0 where
-  pub default : ℕ
-  pub states : List (List ℕ)
+-- what is read where there is no fault
+abbrev pub unless : {A : Type 0} → Option ConfigFault → Read A → Read A
+unless None reading = reading
+unless (Some fault) reading = Err fault
+
+-- the value at a key
+abbrev pub at : List ℕ → Members → Read Data
+at key table = ok_or (get_member key table) Missing
+
+abbrev pub number_at : ℕ → ℕ → List ℕ → Members → Read ℕ
+number_at low high key table = at key table >>= number_in low high
+
+abbrev pub text_at : ℕ → List ℕ → Members → Read (List ℕ)
+text_at least key table = at key table >>= text_in least
+
+abbrev pub address_at : List ℕ → Members → Read BipAddr
+address_at key table = at key table >>= address_in
+
+abbrev pub mask_at : List ℕ → Members → Read Mask
+mask_at key table = at key table >>= mask_in
+
+-- a text that may be missing
+abbrev pub text_or : List ℕ → Option Data → Read (List ℕ)
+text_or default None = Ok default
+text_or default (Some value) = text_in 0 value
+
+abbrev pub optional_text : List ℕ → List ℕ → Members → Read (List ℕ)
+optional_text default key table = text_or default (get_member key table)
+
+-- a list that may be missing
+abbrev pub list_or : Option Data → Read (List Data)
+list_or None = Ok []
+list_or (Some value) = list_in value
+
+abbrev pub list_at : List ℕ → Members → Read (List Data)
+list_at key table = list_or (get_member key table)
+
+-- each value of a list, in order, up to the first fault
+abbrev pub each : {A : Type 0} → (Data → Read A) → List Data → Read (List A)
+each read [] = Ok []
+each read (value ∷ later) = read value >>= λ first. each read later >>= λ others. Ok (first ∷ others)
+
+-- the device
+
+abbrev pub device_parts : Members → Read Device
+device_parts table = do
+  network ← number_at 1 65534 (codes "network") table
+  instance ← number_at 0 4194302 (codes "instance") table
+  name ← text_at 1 (codes "name") table
+  vendor ← number_at 0 65535 (codes "vendor") table
+  vendor_name ← text_at 0 (codes "vendor_name") table
+  model ← text_at 0 (codes "model") table
+  firmware ← text_at 0 (codes "firmware") table
+  software ← text_at 0 (codes "software") table
+  revision ← number_at 0 255 (codes "revision") table
+  database ← number_at 0 4294967295 (codes "database") table
+  description ← optional_text [] (codes "description") table
+  Ok (record { network = network; instance = instance; name = name; vendor = vendor; vendor_name = vendor_name; model = model; firmware = firmware; software = software; revision = revision; database = database; description = description })
+
+unfoldable pub device_of : Members → Read Device
+device_of table = unless (fault_of device_fields table) (device_parts table)
+
+-- a port, followed by its peers
+
+abbrev pub peer_parts : Members → Read BdtEntry
+peer_parts table = do
+  address ← address_at (codes "address") table
+  mask ← mask_at (codes "mask") table
+  Ok (record { address = address; mask = mask.octets })
+
+unfoldable pub peer_of : Members → Read BdtEntry
+peer_of table = unless (fault_of peer_fields table) (peer_parts table)
+
+abbrev pub peer_in : Data → Read BdtEntry
+peer_in value = table_in value >>= peer_of
+
+abbrev pub port_parts : Members → Read Port
+port_parts table = do
+  network ← number_at 1 65534 (codes "network") table
+  address ← address_at (codes "address") table
+  broadcast ← address_at (codes "broadcast") table
+  entries ← list_at (codes "peer") table
+  peers ← each peer_in entries
+  Ok (record { network = network; address = address; broadcast = broadcast; peers = peers })
+
+unfoldable pub port_of : Members → Read Port
+port_of table = unless (fault_of port_fields table) (port_parts table)
+
+abbrev pub port_in : Data → Read Port
+port_in value = table_in value >>= port_of
+
+-- a route by one of so many ports
+
+abbrev pub route_parts : ℕ → Members → Read Route
+route_parts ports table = do
+  network ← number_at 1 65534 (codes "network") table
+  port ← number_at 1 ports (codes "port") table
+  next ← address_at (codes "next") table
+  Ok (record { network = network; port = port; next = next })
+
+unfoldable pub route_of : ℕ → Members → Read Route
+route_of ports table = unless (fault_of (route_fields ports) table) (route_parts ports table)
+
+abbrev pub route_in : ℕ → Data → Read Route
+route_in ports value = table_in value >>= route_of ports

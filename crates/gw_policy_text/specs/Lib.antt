@@ -1,4 +1,7 @@
-pub mod Reading
-pub mod Written
-pub mod Value
 pub mod Configuration
+pub mod Field
+pub mod Reading
+pub mod States
+pub mod Tables
+pub mod Value
+pub mod Written

@@ -3,11 +3,17 @@
 
 mod device;
 mod fault;
+mod field;
 mod instance;
 mod object;
 mod port;
+mod range;
+mod reading;
 mod route;
+mod shape;
+mod tables;
 mod text;
+mod value;
 
 pub use device::Device;
 pub use fault::ConfigFault;

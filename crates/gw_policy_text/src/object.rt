@@ -65,7 +65,7 @@ pub struct MultiState {
 
 impl Model for MultiState {
     ghost use Rattle.std.specs.Prelude.{◌≤◌, length};
-    ghost use Rattle.gw_policy_text.specs.Configuration.{States};
+    ghost use Rattle.gw_policy_text.specs.States.{States};
 
     ghost Value = { States };
 
