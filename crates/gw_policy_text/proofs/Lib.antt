@@ -1,3 +1,4 @@
+pub mod Each
 pub mod Named
 pub mod Values
 pub mod Written

@@ -1,5 +1,5 @@
 -- What a gateway is configured with, and how it is read from the tables of its text.
-use Rattle.std.specs.Prelude.{ℕ, ◌+◌, List, [], ◌∷◌, length, Bool, codes, ◌==◌, Option, Some, None, Result, Ok, Err}
+use Rattle.std.specs.Prelude.{ℕ, ℤ, List, [], ◌∷◌, length, Bool, codes, ◌==◌, nat_lt, if◌then◌else◌, Option, Some, None, Result, Ok, Err}
 use Rattle.std.specs.Option.{ok_or, option_and_then, option_map}
 use Rattle.std.specs.Result.{result_ok}
 use Rattle.toml.specs.Data.{Data, Members, get_member}
@@ -12,7 +12,7 @@ use Rattle.gw_rules.specs.declared.range.Range.{Range as RuleRange}
 use Rattle.gw_rules.specs.declared.rule.Rule.{Rule}
 use Rattle.gw_policy_text.specs.declared.device.Device.{Device}
 use Rattle.gw_policy_text.specs.declared.fault.ConfigFault.{ConfigFault}
-use Rattle.gw_policy_text.specs.declared.fault.ConfigFault.TheVariants.{Missing}
+use Rattle.gw_policy_text.specs.declared.fault.ConfigFault.TheVariants.{Missing, TooMany}
 use Rattle.gw_policy_text.specs.declared.object.Object.{Object}
 use Rattle.gw_policy_text.specs.declared.object.ObjectKind.{ObjectKind}
 use Rattle.gw_policy_text.specs.declared.object.ObjectKind.TheVariants as kinds
@@ -23,8 +23,9 @@ use Rattle.gw_policy_text.specs.declared.route.Route.{Route}
 use Rattle.gw_policy_text.specs.declared.shape.Scalar.{Scalar}
 use Rattle.gw_policy_text.specs.declared.shape.Scalar.TheVariants.{Number, Operation, Address}
 use Rattle.gw_policy_text.specs.Field.{fault_of, range_in}
+use Rattle.gw_policy_text.specs.States.{States}
 use Rattle.gw_policy_text.specs.Tables.{device_fields, object_fields, peer_fields, port_fields, route_fields, rule_fields, top_fields}
-use Rattle.gw_policy_text.specs.Value.{Read, address_in, boolean_in, kind_in, list_in, mask_in, number_in, rule_name_in, signed_in, table_in, text_in}
+use Rattle.gw_policy_text.specs.Value.{Read, address_in, boolean_in, kind_in, list_in, mask_in, number_in, rule_name_in, signed_in, table_in, text_in, text_within}
 
 -- what is read where there is no fault
 abbrev pub unless : {A : Type 0} → Option ConfigFault → Read A → Read A
@@ -49,7 +50,7 @@ mask_at key table = at key table >>= mask_in
 
 -- a text that may be missing
 abbrev pub text_or : List ℕ → Option Data → Read (List ℕ)
-text_or default None = Ok default
+text_or default None = text_within 0 default
 text_or default (Some value) = text_in 0 value
 
 abbrev pub optional_text : List ℕ → List ℕ → Members → Read (List ℕ)
@@ -131,3 +132,121 @@ route_of ports table = unless (fault_of (route_fields ports) table) (route_parts
 
 abbrev pub route_in : ℕ → Data → Read Route
 route_in ports value = table_in value >>= route_of ports
+
+-- an object, by its type
+
+abbrev pub kind_at : List ℕ → Members → Read ObjectKind
+kind_at key table = at key table >>= kind_in
+
+abbrev pub signed_at : List ℕ → Members → Read ℤ
+signed_at key table = at key table >>= signed_in
+
+-- how many values stand in the list at a key
+abbrev pub count_or : Read (List Data) → ℕ
+count_or (Ok values) = length values
+count_or (Err _) = 0
+
+abbrev pub count_at : List ℕ → Members → ℕ
+count_at key table = count_or (list_at key table)
+
+-- a default of 1 is active
+abbrev pub binary_value : Members → Read ObjectValue
+binary_value table = do
+  default ← number_at 0 1 (codes "default") table
+  active ← optional_text (codes "active") (codes "active") table
+  inactive ← optional_text (codes "inactive") (codes "inactive") table
+  Ok (values.BinaryValue (default == 1) active inactive)
+
+-- the default is one of the states
+abbrev pub states_with : List (List ℕ) → Members → Read States
+states_with states table =
+    if nat_lt 64 (length states) then Err TooMany
+    else (number_at 1 (length states) (codes "default") table >>= λ default. Ok (record { default = default; states = states }))
+
+abbrev pub multi_state_value : Members → Read ObjectValue
+multi_state_value table = do
+  texts ← list_at (codes "states") table
+  states ← each (text_in 0) texts
+  value ← states_with states table
+  Ok (values.MultiStateValue value)
+
+abbrev pub character_string_value : Members → Read ObjectValue
+character_string_value table = do
+  default ← text_at 0 (codes "default") table
+  Ok (values.CharacterStringValue default)
+
+abbrev pub integer_value : Members → Read ObjectValue
+integer_value table = do
+  default ← signed_at (codes "default") table
+  units ← number_at 0 65535 (codes "units") table
+  Ok (values.IntegerValue default units)
+
+abbrev pub positive_integer_value : Members → Read ObjectValue
+positive_integer_value table = do
+  default ← number_at 0 4294967295 (codes "default") table
+  units ← number_at 0 65535 (codes "units") table
+  Ok (values.PositiveIntegerValue default units)
+
+abbrev pub value_of : ObjectKind → Members → Read ObjectValue
+value_of kinds.BinaryValue table = binary_value table
+value_of kinds.MultiStateValue table = multi_state_value table
+value_of kinds.CharacterStringValue table = character_string_value table
+value_of kinds.IntegerValue table = integer_value table
+value_of kinds.PositiveIntegerValue table = positive_integer_value table
+
+abbrev pub object_parts : ObjectKind → Members → Read Object
+object_parts kind table = do
+  instance ← number_at 0 4194302 (codes "instance") table
+  name ← text_at 1 (codes "name") table
+  description ← optional_text [] (codes "description") table
+  value ← value_of kind table
+  Ok (record { instance = instance; name = name; description = description; value = value })
+
+unfoldable pub object_of_kind : ObjectKind → Members → Read Object
+object_of_kind kind table =
+    unless (fault_of (object_fields kind (count_at (codes "states") table)) table) (object_parts kind table)
+
+-- its type is judged first
+abbrev pub object_of : Members → Read Object
+object_of table = kind_at (codes "type") table >>= λ kind. object_of_kind kind table
+
+abbrev pub object_in : Data → Read Object
+object_in value = table_in value >>= object_of
+
+-- a rule
+
+abbrev pub ranges_at : Scalar → List ℕ → Members → Read (List RuleRange)
+ranges_at scalar key table = list_at key table >>= each (range_in scalar)
+
+abbrev pub rule_name_at : List ℕ → Members → Read (List ℕ)
+rule_name_at key table = at key table >>= rule_name_in
+
+abbrev pub boolean_at : List ℕ → Members → Read Bool
+boolean_at key table = at key table >>= boolean_in
+
+abbrev pub fields_of : Members → Read (Fields (List RuleRange))
+fields_of table = do
+  operation ← ranges_at Operation (codes "operation") table
+  port ← ranges_at (Number 1 8) (codes "port") table
+  source_network ← ranges_at (Number 1 65534) (codes "source_network") table
+  source_key ← ranges_at Address (codes "source") table
+  destination_network ← ranges_at (Number 1 65534) (codes "destination") table
+  service ← ranges_at (Number 0 1031) (codes "service") table
+  object_type ← ranges_at (Number 0 1023) (codes "object_type") table
+  instance ← ranges_at (Number 0 4194303) (codes "instance") table
+  property ← ranges_at (Number 0 4194303) (codes "property") table
+  priority ← ranges_at (Number 1 16) (codes "priority") table
+  Ok (record { operation = operation; port = port; source_network = source_network; source_key = source_key; destination_network = destination_network; service = service; object_type = object_type; instance = instance; property = property; priority = priority })
+
+abbrev pub rule_parts : Members → Read Rule
+rule_parts table = do
+  name ← rule_name_at (codes "name") table
+  allow ← boolean_at (codes "allow") table
+  ranges ← fields_of table
+  Ok (record { name = name; allow = allow; ranges = ranges })
+
+unfoldable pub rule_of : Members → Read Rule
+rule_of table = unless (fault_of rule_fields table) (rule_parts table)
+
+abbrev pub rule_in : Data → Read Rule
+rule_in value = table_in value >>= rule_of

@@ -75,6 +75,17 @@ impl Model for MultiState {
 }
 
 impl MultiState {
+    /// These states, of which the one of that number is the default. The caller sees to the bounds.
+    pub(crate) fn new(default: u8, states: Sequence<Text>) -> Self
+        requires low { 1 ≤ default }
+        requires high { default ≤ length states }
+        requires most { length states ≤ 64 }
+        ensures default { result.default ≡ default }
+        ensures states { result.states ≡ states }
+    {
+        MultiState { default, states }
+    }
+
     /// The number of the default state, counted from 1.
     pub fn default(&self) -> u8
         ensures value { result ≡ self.now.default }
