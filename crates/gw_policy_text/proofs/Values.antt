@@ -39,7 +39,7 @@ pub keys_view : (fields : List Field) (es : List (String Global × Value)) → a
 keys_view fields [] = refl
 keys_view fields (e ∷ es) = ap (λ b. is_key fields (string_bytes e.0) && b) (keys_view fields es)
 
-length_view : (vs : List Value) → length (map view vs) ≡ length vs
+pub length_view : (vs : List Value) → length (map view vs) ≡ length vs
 length_view [] = refl
 length_view (v ∷ vs) = ap suc (length_view vs)
 

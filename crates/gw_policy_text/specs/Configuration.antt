@@ -1,5 +1,5 @@
 -- What a gateway is configured with, and how it is read from the tables of its text.
-use Rattle.std.specs.Prelude.{ℕ, ℤ, List, [], ◌∷◌, length, Bool, codes, ◌==◌, nat_lt, if◌then◌else◌, Option, Some, None, Result, Ok, Err}
+use Rattle.std.specs.Prelude.{ℕ, ℤ, List, [], ◌∷◌, length, Bool, codes, ◌==◌, nat_le, nat_lt, ◌&&◌, not, if◌then◌else◌, Option, Some, None, Result, Ok, Err}
 use Rattle.std.specs.Option.{ok_or, option_and_then, option_map}
 use Rattle.std.specs.Result.{result_ok}
 use Rattle.toml.specs.Data.{Data, Members, get_member}
@@ -10,9 +10,10 @@ use Rattle.gw_addr.specs.declared.entry.BdtEntry.{BdtEntry}
 use Rattle.gw_rules.specs.declared.fields.Fields.{Fields}
 use Rattle.gw_rules.specs.declared.range.Range.{Range as RuleRange}
 use Rattle.gw_rules.specs.declared.rule.Rule.{Rule}
+use Rattle.gw_rules.specs.RuleList.{keeps_counts, keeps_order}
 use Rattle.gw_policy_text.specs.declared.device.Device.{Device}
 use Rattle.gw_policy_text.specs.declared.fault.ConfigFault.{ConfigFault}
-use Rattle.gw_policy_text.specs.declared.fault.ConfigFault.TheVariants.{Missing, TooMany}
+use Rattle.gw_policy_text.specs.declared.fault.ConfigFault.TheVariants.{Duplicate, Missing, Range, TooMany}
 use Rattle.gw_policy_text.specs.declared.object.Object.{Object}
 use Rattle.gw_policy_text.specs.declared.object.ObjectKind.{ObjectKind}
 use Rattle.gw_policy_text.specs.declared.object.ObjectKind.TheVariants as kinds
@@ -56,13 +57,20 @@ text_or default (Some value) = text_in 0 value
 abbrev pub optional_text : List ℕ → List ℕ → Members → Read (List ℕ)
 optional_text default key table = text_or default (get_member key table)
 
--- a list that may be missing
+-- a list of least to most values
+abbrev pub within : {A : Type 0} → ℕ → ℕ → List A → Read (List A)
+within least most values =
+    if nat_lt (length values) least then Err Range
+    else if nat_lt most (length values) then Err TooMany
+    else Ok values
+
+-- a list that may be missing, which is then an empty one
 abbrev pub list_or : Option Data → Read (List Data)
 list_or None = Ok []
 list_or (Some value) = list_in value
 
-abbrev pub list_at : List ℕ → Members → Read (List Data)
-list_at key table = list_or (get_member key table)
+abbrev pub list_at : ℕ → ℕ → List ℕ → Members → Read (List Data)
+list_at least most key table = list_or (get_member key table) >>= within least most
 
 -- each value of a list, in order, up to the first fault
 abbrev pub each : {A : Type 0} → (Data → Read A) → List Data → Read (List A)
@@ -108,7 +116,7 @@ port_parts table = do
   network ← number_at 1 65534 (codes "network") table
   address ← address_at (codes "address") table
   broadcast ← address_at (codes "broadcast") table
-  entries ← list_at (codes "peer") table
+  entries ← list_at 0 64 (codes "peer") table
   peers ← each peer_in entries
   Ok (record { network = network; address = address; broadcast = broadcast; peers = peers })
 
@@ -133,6 +141,10 @@ route_of ports table = unless (fault_of (route_fields ports) table) (route_parts
 abbrev pub route_in : ℕ → Data → Read Route
 route_in ports value = table_in value >>= route_of ports
 
+-- a route by one of so many ports
+abbrev pub is_by : ℕ → Route → Bool
+is_by ports route = nat_le 1 route.port && nat_le route.port ports
+
 -- an object, by its type
 
 abbrev pub kind_at : List ℕ → Members → Read ObjectKind
@@ -147,7 +159,7 @@ count_or (Ok values) = length values
 count_or (Err _) = 0
 
 abbrev pub count_at : List ℕ → Members → ℕ
-count_at key table = count_or (list_at key table)
+count_at key table = count_or (list_or (get_member key table))
 
 -- a default of 1 is active
 abbrev pub binary_value : Members → Read ObjectValue
@@ -160,12 +172,11 @@ binary_value table = do
 -- the default is one of the states
 abbrev pub states_with : List (List ℕ) → Members → Read States
 states_with states table =
-    if nat_lt 64 (length states) then Err TooMany
-    else (number_at 1 (length states) (codes "default") table >>= λ default. Ok (record { default = default; states = states }))
+    number_at 1 (length states) (codes "default") table >>= λ default. Ok (record { default = default; states = states })
 
 abbrev pub multi_state_value : Members → Read ObjectValue
 multi_state_value table = do
-  texts ← list_at (codes "states") table
+  texts ← list_at 1 64 (codes "states") table
   states ← each (text_in 0) texts
   value ← states_with states table
   Ok (values.MultiStateValue value)
@@ -216,7 +227,7 @@ object_in value = table_in value >>= object_of
 -- a rule
 
 abbrev pub ranges_at : Scalar → List ℕ → Members → Read (List RuleRange)
-ranges_at scalar key table = list_at key table >>= each (range_in scalar)
+ranges_at scalar key table = list_at 0 4 key table >>= each (range_in scalar)
 
 abbrev pub rule_name_at : List ℕ → Members → Read (List ℕ)
 rule_name_at key table = at key table >>= rule_name_in
@@ -250,3 +261,44 @@ rule_of table = unless (fault_of rule_fields table) (rule_parts table)
 
 abbrev pub rule_in : Data → Read Rule
 rule_in value = table_in value >>= rule_of
+
+-- the whole
+
+-- what contracts see of a configuration
+pub record Configuration : Type 0 where
+  pub device : Device
+  pub ports : List Port
+  pub routes : List Route
+  pub objects : List Object
+  pub rules : List Rule
+
+abbrev pub device_at : List ℕ → Members → Read Device
+device_at key table = at key table >>= table_in >>= device_of
+
+abbrev pub ports_at : List ℕ → Members → Read (List Port)
+ports_at key table = list_at 1 8 key table >>= each port_in
+
+abbrev pub routes_at : ℕ → List ℕ → Members → Read (List Route)
+routes_at ports key table = list_at 0 512 key table >>= each (route_in ports)
+
+abbrev pub objects_at : List ℕ → Members → Read (List Object)
+objects_at key table = list_at 0 256 key table >>= each object_in
+
+abbrev pub rules_at : List ℕ → Members → Read (List Rule)
+rules_at key table = list_at 0 512 key table >>= each rule_in
+
+-- the rules as a policy
+abbrev pub policy_of : List Rule → Read (List Rule)
+policy_of rules =
+    if not (keeps_counts rules) then Err TooMany else if not (keeps_order rules) then Err Range else Ok rules
+
+-- the tables in their order
+abbrev pub parts_of : Members → Read Configuration
+parts_of top = do
+  device ← device_at (codes "device") top
+  ports ← ports_at (codes "port") top
+  routes ← routes_at (length ports) (codes "route") top
+  objects ← objects_at (codes "object") top
+  rules ← rules_at (codes "rule") top
+  policy ← policy_of rules
+  Ok (record { device = device; ports = ports; routes = routes; objects = objects; rules = policy })

@@ -1,4 +1,5 @@
 pub mod Configuration
+pub mod Duplicates
 pub mod Field
 pub mod Reading
 pub mod States

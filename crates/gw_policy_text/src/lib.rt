@@ -21,6 +21,6 @@ pub use device::Device;
 pub use fault::ConfigFault;
 pub use instance::Instance;
 pub use object::{MultiState, Object, ObjectKind, ObjectValue};
-pub use port::Port;
+pub use port::{Peers, Port};
 pub use route::Route;
 pub use text::Text;

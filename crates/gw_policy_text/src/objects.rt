@@ -1,5 +1,5 @@
 //! What the objects of a configuration are read to.
-ghost use Rattle.std.specs.Prelude.{◌≡◌, codes, map};
+ghost use Rattle.std.specs.Prelude.{◌≡◌, ◌≤◌, codes, length, map, IfOk};
 ghost use Rattle.gw_addr.specs.Reading as plain;
 ghost use Rattle.toml.specs.View.{table_view, view};
 ghost use Rattle.gw_policy_text.specs.Configuration.{binary_value, character_string_value, count_at, each, integer_value, kind_at, multi_state_value, object_in, object_of, object_of_kind, object_parts, positive_integer_value, signed_at, states_with, value_of};
@@ -10,7 +10,7 @@ ghost use Rattle.gw_policy_text.specs.Value.{text_in};
 
 use crate::field::fault_of;
 use crate::object::MAX_STATES;
-use crate::reading::{at, instance_at, list_at, long_at, number_at, optional_text, short_at, text_at};
+use crate::reading::{any_list, at, instance_at, list_at, long_at, number_at, optional_text, short_at, text_at};
 use crate::tables::{
     binary_fields, character_string_fields, integer_fields, multi_state_fields,
     positive_integer_fields,
@@ -23,7 +23,8 @@ use toml::{Table, Value};
 
 /// The objects that some values say, in order.
 pub(crate) fn objects(alloc: Global, values: &[Value]) -> Result<Sequence<Object>, ConfigFault>
-    ensures { Gives (λ os. os) result (each object_in (map view values.now)) }
+    ensures count { IfOk result (λ os. length os ≡ length values.now) }
+    ensures objects { Gives (λ os. os) result (each object_in (map view values.now)) }
 {
     let mut all = Sequence::new(alloc);
     for value in values {
@@ -83,7 +84,7 @@ fn object_fault(kind: ObjectKind, table: &Table) -> Option<ConfigFault>
 fn count_at(table: &Table) -> usize
     ensures { result ≡ count_at (codes "states") (table_view table.now) }
 {
-    match list_at("states", table) {
+    match any_list("states", table) {
         Ok(states) => states.len(),
         Err(_) => 0,
     }
@@ -138,23 +139,22 @@ fn binary_value(alloc: Global, table: &Table) -> Result<ObjectValue, ConfigFault
 fn multi_state_value(alloc: Global, table: &Table) -> Result<ObjectValue, ConfigFault>
     ensures { Gives (λ v. v) result (multi_state_value (table_view table.now)) }
 {
-    let states = texts(alloc, list_at("states", table)?)?;
+    let states = texts(alloc, list_at(1, MAX_STATES, "states", table)?)?;
     Ok(ObjectValue::MultiStateValue(multi_state(states, table)?))
 }
 
 /// The default is one of the states.
 fn multi_state(states: Sequence<Text>, table: &Table) -> Result<MultiState, ConfigFault>
+    requires { length states ≤ 64 }
     ensures { plain.Gives (λ m. m) result (states_with states (table_view table.now)) }
 {
-    if states.len() > MAX_STATES {
-        return Err(ConfigFault::TooMany);
-    }
     let default = number_at(1, states.len() as u64, "default", table)? as u8;
     Ok(MultiState::new(default, states))
 }
 
 fn texts(alloc: Global, values: &[Value]) -> Result<Sequence<Text>, ConfigFault>
-    ensures { Gives (λ ts. ts) result (each (text_in 0) (map view values.now)) }
+    ensures count { IfOk result (λ ts. length ts ≡ length values.now) }
+    ensures texts { Gives (λ ts. ts) result (each (text_in 0) (map view values.now)) }
 {
     let mut all = Sequence::new(alloc);
     for value in values {

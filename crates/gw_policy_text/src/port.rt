@@ -1,6 +1,6 @@
 //! The ports of a gateway.
 
-ghost use Rattle.std.specs.Prelude.{◌≡◌, map};
+ghost use Rattle.std.specs.Prelude.{◌≡◌, ◌≤◌, length, map, IfOk};
 ghost use Rattle.toml.specs.View.{table_view, view};
 ghost use Rattle.gw_policy_text.specs.Configuration.{each, peer_in, peer_of, peer_parts, port_in, port_of, port_parts};
 ghost use Rattle.gw_policy_text.specs.Reading.{Gives};
@@ -12,6 +12,7 @@ use crate::tables::{peer_fields, port_fields};
 use crate::value::table;
 use gw_addr::{BdtEntry, BipAddr, NetNum, Sequence};
 use std::alloc::Global;
+use std::marker::Model;
 use toml::{Table, Value};
 
 /// How many peers a port has at most.
@@ -28,7 +29,34 @@ pub struct Port {
     pub broadcast: BipAddr,
     /// The broadcast managers of the other subnets with which it starts, at most 64 of which no two
     /// have one address (Annex J.4).
-    pub peers: Sequence<BdtEntry>,
+    pub peers: Peers,
+}
+
+/// Peers in order, at most 64. Contracts see the list of them.
+#[derive(Debug, Drop)]
+pub struct Peers {
+    entries: Sequence<BdtEntry>,
+}
+
+impl Model for Peers {
+    ghost use Rattle.std.specs.Prelude.{◌≤◌, List, length};
+    ghost use Rattle.gw_addr.specs.declared.entry.BdtEntry.{BdtEntry};
+
+    ghost Value = { List BdtEntry };
+
+    ghost view = { λ p. p.entries };
+
+    ghost invariant = { λ p. length p.entries ≤ 64 };
+}
+
+impl Peers {
+    /// The peers in order, at most 64.
+    pub fn as_slice(&self) -> &[BdtEntry]
+        ensures peers { result.now ≡ self.now }
+        ensures few { length self.now ≤ 64 }
+    {
+        self.entries.as_slice()
+    }
 }
 
 impl Port {
@@ -57,14 +85,15 @@ impl Port {
             network: network_at("network", table)?,
             address: address_at("address", table)?,
             broadcast: address_at("broadcast", table)?,
-            peers: peers(alloc, list_at("peer", table)?)?,
+            peers: peers_of(alloc, list_at(0, MAX_PEERS, "peer", table)?)?,
         })
     }
 }
 
 /// The ports that some values say, in order.
 pub(crate) fn ports(alloc: Global, values: &[Value]) -> Result<Sequence<Port>, ConfigFault>
-    ensures { Gives (λ ps. ps) result (each port_in (map view values.now)) }
+    ensures count { IfOk result (λ ps. length ps ≡ length values.now) }
+    ensures ports { Gives (λ ps. ps) result (each port_in (map view values.now)) }
 {
     let mut all = Sequence::new(alloc);
     for value in values {
@@ -74,8 +103,17 @@ pub(crate) fn ports(alloc: Global, values: &[Value]) -> Result<Sequence<Port>, C
 }
 
 /// The peers that some values say, in order.
-fn peers(alloc: Global, values: &[Value]) -> Result<Sequence<BdtEntry>, ConfigFault>
+fn peers_of(alloc: Global, values: &[Value]) -> Result<Peers, ConfigFault>
+    requires { length values.now ≤ 64 }
     ensures { Gives (λ ps. ps) result (each peer_in (map view values.now)) }
+{
+    let entries = entries(alloc, values)?;
+    Ok(Peers { entries })
+}
+
+fn entries(alloc: Global, values: &[Value]) -> Result<Sequence<BdtEntry>, ConfigFault>
+    ensures count { IfOk result (λ ps. length ps ≡ length values.now) }
+    ensures entries { Gives (λ ps. ps) result (each peer_in (map view values.now)) }
 {
     let mut all = Sequence::new(alloc);
     for value in values {

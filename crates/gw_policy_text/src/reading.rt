@@ -1,8 +1,9 @@
 //! What the values at the keys of a table are read to.
-ghost use Rattle.std.specs.Prelude.{◌≡◌, ◌≤◌, [], map, IfOk};
+ghost use Rattle.std.specs.Prelude.{◌≡◌, ◌≤◌, [], length, map, IfOk};
 ghost use Rattle.gw_addr.specs.Reading as plain;
+ghost use Rattle.toml.specs.Data.{get_member};
 ghost use Rattle.toml.specs.View.{table_view, view};
-ghost use Rattle.gw_policy_text.specs.Configuration.{address_at, at, list_at, mask_at, number_at, optional_text, text_at};
+ghost use Rattle.gw_policy_text.specs.Configuration.{address_at, at, list_at, list_or, mask_at, number_at, optional_text, text_at};
 ghost use Rattle.gw_policy_text.specs.Reading.{Gives};
 
 use crate::value::{self, member, string};
@@ -119,12 +120,34 @@ pub(crate) fn optional_text(
     }
 }
 
-/// The values of the list at a key that may be missing.
-pub(crate) fn list_at<'a>(key: &str, table: &'a Table) -> Result<&'a [Value], ConfigFault>
-    ensures { plain.Gives (λ vs. map view vs.now) result (list_at key.now (table_view table.now)) }
+/// The values of the list at a key that may be missing, however many.
+pub(crate) fn any_list<'a>(key: &str, table: &'a Table) -> Result<&'a [Value], ConfigFault>
+    ensures { plain.Gives (λ vs. map view vs.now) result (list_or (get_member key.now (table_view table.now))) }
 {
     match member(table, key) {
         Some(value) => value::list(value),
         None => Ok(&[]),
     }
+}
+
+/// The values of the list at a key that may be missing, `least` to `most` of them.
+#[tactic(auto, using(crate::proofs::Values::length_view))]
+pub(crate) fn list_at<'a>(
+    least: usize,
+    most: usize,
+    key: &str,
+    table: &'a Table,
+) -> Result<&'a [Value], ConfigFault>
+    ensures values { plain.Gives (λ vs. map view vs.now) result (list_at least most key.now (table_view table.now)) }
+    ensures least { IfOk result (λ vs. least ≤ length vs.now) }
+    ensures most { IfOk result (λ vs. length vs.now ≤ most) }
+{
+    let values = any_list(key, table)?;
+    if values.len() < least {
+        return Err(ConfigFault::Range);
+    }
+    if most < values.len() {
+        return Err(ConfigFault::TooMany);
+    }
+    Ok(values)
 }

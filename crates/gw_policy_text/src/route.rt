@@ -1,8 +1,9 @@
 //! The routes with which a gateway starts.
 
-ghost use Rattle.std.specs.Prelude.{◌≡◌, map};
+ghost use Rattle.std.specs.Prelude.{◌≡◌, length, map, IfOk, IsTrue};
+ghost use Rattle.std.specs.List.{list_all};
 ghost use Rattle.toml.specs.View.{table_view, view};
-ghost use Rattle.gw_policy_text.specs.Configuration.{each, route_in, route_of, route_parts};
+ghost use Rattle.gw_policy_text.specs.Configuration.{each, is_by, route_in, route_of, route_parts};
 ghost use Rattle.gw_policy_text.specs.Reading.{Gives};
 
 use crate::ConfigFault;
@@ -28,14 +29,16 @@ pub struct Route {
 impl Route {
     /// The route that a value says, by one of so many ports.
     fn read(ports: u8, value: &Value) -> Result<Self, ConfigFault>
-        ensures { Gives (λ r. r) result (route_in ports (view value.now)) }
+        ensures exists { IfOk result (λ r. IsTrue (is_by ports r)) }
+        ensures route { Gives (λ r. r) result (route_in ports (view value.now)) }
     {
         Route::of_table(ports, table(value)?)
     }
 
     #[tactic(auto, unfolding(crate::specs::Configuration::route_of))]
     fn of_table(ports: u8, table: &Table) -> Result<Self, ConfigFault>
-        ensures { Gives (λ r. r) result (route_of ports (table_view table.now)) }
+        ensures exists { IfOk result (λ r. IsTrue (is_by ports r)) }
+        ensures route { Gives (λ r. r) result (route_of ports (table_view table.now)) }
     {
         match fault_of(&route_fields(ports), table) {
             Some(fault) => Err(fault),
@@ -45,7 +48,8 @@ impl Route {
 
     /// The parts of a table without a fault.
     fn parts(ports: u8, table: &Table) -> Result<Self, ConfigFault>
-        ensures { Gives (λ r. r) result (route_parts ports (table_view table.now)) }
+        ensures exists { IfOk result (λ r. IsTrue (is_by ports r)) }
+        ensures route { Gives (λ r. r) result (route_parts ports (table_view table.now)) }
     {
         Ok(Route {
             network: network_at("network", table)?,
@@ -61,7 +65,9 @@ pub(crate) fn routes(
     ports: u8,
     values: &[Value],
 ) -> Result<Sequence<Route>, ConfigFault>
-    ensures { Gives (λ rs. rs) result (each (route_in ports) (map view values.now)) }
+    ensures count { IfOk result (λ rs. length rs ≡ length values.now) }
+    ensures exist { IfOk result (λ rs. IsTrue (list_all (is_by ports) rs)) }
+    ensures routes { Gives (λ rs. rs) result (each (route_in ports) (map view values.now)) }
 {
     let mut all = Sequence::new(alloc);
     for value in values {

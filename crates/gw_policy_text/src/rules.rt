@@ -13,7 +13,7 @@ use crate::reading::{at, list_at};
 use crate::shape::Scalar;
 use crate::tables::{self, rule_fields};
 use crate::value::{self, table};
-use gw_rules::{Fields, Ranges, Rule, RuleName};
+use gw_rules::{Fields, MAX_RANGES, Ranges, Rule, RuleName};
 use std::alloc::Global;
 use toml::{Table, Value};
 
@@ -95,7 +95,7 @@ fn ranges_at(
 ) -> Result<Ranges, ConfigFault>
     ensures { Gives (λ rs. rs) result (ranges_at of key.now (table_view table.now)) }
 {
-    ranges(alloc, of, list_at(key, table)?)
+    ranges(alloc, of, list_at(0, MAX_RANGES, key, table)?)
 }
 
 /// The ranges that some items name, in order.
