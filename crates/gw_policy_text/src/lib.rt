@@ -1,7 +1,9 @@
 //! The configuration of a gateway, read from TOML to values that keep every range and limit.
 #![tactic(auto)]
 
+mod config;
 mod device;
+mod duplicates;
 mod fault;
 mod field;
 mod instance;
@@ -17,6 +19,7 @@ mod tables;
 mod text;
 mod value;
 
+pub use config::Config;
 pub use device::Device;
 pub use fault::ConfigFault;
 pub use instance::Instance;
