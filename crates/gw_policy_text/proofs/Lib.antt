@@ -1,3 +1,4 @@
+pub mod Documents
 pub mod Each
 pub mod Named
 pub mod Values

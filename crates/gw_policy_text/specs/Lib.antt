@@ -1,4 +1,5 @@
 pub mod Configuration
+pub mod Document
 pub mod Duplicates
 pub mod Field
 pub mod Reading

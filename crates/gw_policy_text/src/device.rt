@@ -6,7 +6,9 @@ ghost use Rattle.gw_policy_text.specs.Configuration.{device_of, device_parts};
 ghost use Rattle.gw_policy_text.specs.Reading.{Gives};
 
 use crate::field::fault_of;
-use crate::reading::{instance_at, long_at, network_at, octet_at, optional_text, short_at, text_at};
+use crate::reading::{
+    instance_at, long_at, network_at, octet_at, optional_text, short_at, text_at,
+};
 use crate::tables::device_fields;
 use crate::{ConfigFault, Instance, Text};
 use gw_addr::NetNum;

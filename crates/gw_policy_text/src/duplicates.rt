@@ -22,12 +22,14 @@ pub(crate) fn has_duplicates(
 ) -> Result<bool, AllocError>
     ensures { IfOk result (λ b. b ≡ has_duplicates (record { device = device.now; ports = ports.now; routes = routes.now; objects = objects.now; rules = rules.now })) }
 {
-    Ok(networks_repeat(alloc, device, ports, routes)?
-        || addresses_repeat(alloc, ports)?
-        || any_peers_repeat(alloc, ports)?
-        || identifiers_repeat(alloc, objects)?
-        || names_repeat(alloc, device, objects)?
-        || rule_names_repeat(alloc, rules)?)
+    Ok(
+        networks_repeat(alloc, device, ports, routes)?
+            || addresses_repeat(alloc, ports)?
+            || any_peers_repeat(alloc, ports)?
+            || identifiers_repeat(alloc, objects)?
+            || names_repeat(alloc, device, objects)?
+            || rule_names_repeat(alloc, rules)?,
+    )
 }
 
 fn networks_repeat(
@@ -124,11 +126,7 @@ fn type_number(value: &ObjectValue) -> u64
     }
 }
 
-fn names_repeat(
-    alloc: Global,
-    device: &Device,
-    objects: &[Object],
-) -> Result<bool, AllocError>
+fn names_repeat(alloc: Global, device: &Device, objects: &[Object]) -> Result<bool, AllocError>
     ensures { IfOk result (λ b. b ≡ has_twice (pointwise nat_eq) (names device.now objects.now)) }
 {
     let mut all = Vec::new(alloc);
@@ -176,5 +174,10 @@ fn texts_repeat(texts: &[&str]) -> Result<bool, AllocError>
 fn has_text(texts: &[&str], text: &str) -> bool
     ensures { result ≡ list_any (pointwise nat_eq text.now) (map (λ t. t.now) texts.now) }
 {
-    texts.iter().any(|other| text == *other)
+    for other in texts {
+        if text == *other {
+            return true;
+        }
+    }
+    false
 }

@@ -6,8 +6,8 @@ ghost use Rattle.toml.specs.View.{table_view, view};
 ghost use Rattle.gw_policy_text.specs.Field.{fault_of, field_fault, has, is_key, is_kind, is_missing, is_range, is_too_many, knows, list_fault, list_fault_by, range_in, scalar_fault, value_fault};
 
 use crate::ConfigFault;
-use crate::shape::{Scalar, Shape};
 use crate::range::range;
+use crate::shape::{Scalar, Shape};
 use crate::value::{self, member};
 use gw_rules::MAX_RANGES;
 use std::marker::Model;
@@ -86,17 +86,13 @@ fn scalar_fault(scalar: Scalar, value: &Value) -> Option<ConfigFault>
 fn have_kind(of: Scalar, values: &[Value]) -> bool
     ensures { result ≡ list_any (λ value. is_kind (scalar_fault of (view value))) values.now }
 {
-    values
-        .iter()
-        .any(|value| matches!(scalar_fault(of, value), Some(ConfigFault::Kind)))
+    values.iter().any(|value| matches!(scalar_fault(of, value), Some(ConfigFault::Kind)))
 }
 
 fn have_range(of: Scalar, values: &[Value]) -> bool
     ensures { result ≡ list_any (λ value. is_range (scalar_fault of (view value))) values.now }
 {
-    values
-        .iter()
-        .any(|value| matches!(scalar_fault(of, value), Some(ConfigFault::Range)))
+    values.iter().any(|value| matches!(scalar_fault(of, value), Some(ConfigFault::Range)))
 }
 
 /// The fault of a list, by what is known of its values and of its length.
@@ -192,33 +188,25 @@ fn knows(fields: &[Field], table: &Table) -> bool
 fn has_missing(fields: &[Field], table: &Table) -> bool
     ensures { result ≡ has is_missing fields.now (table_view table.now) }
 {
-    fields
-        .iter()
-        .any(|field| matches!(field.fault(table), Some(ConfigFault::Missing)))
+    fields.iter().any(|field| matches!(field.fault(table), Some(ConfigFault::Missing)))
 }
 
 fn has_kind(fields: &[Field], table: &Table) -> bool
     ensures { result ≡ has is_kind fields.now (table_view table.now) }
 {
-    fields
-        .iter()
-        .any(|field| matches!(field.fault(table), Some(ConfigFault::Kind)))
+    fields.iter().any(|field| matches!(field.fault(table), Some(ConfigFault::Kind)))
 }
 
 fn has_range(fields: &[Field], table: &Table) -> bool
     ensures { result ≡ has is_range fields.now (table_view table.now) }
 {
-    fields
-        .iter()
-        .any(|field| matches!(field.fault(table), Some(ConfigFault::Range)))
+    fields.iter().any(|field| matches!(field.fault(table), Some(ConfigFault::Range)))
 }
 
 fn has_too_many(fields: &[Field], table: &Table) -> bool
     ensures { result ≡ has is_too_many fields.now (table_view table.now) }
 {
-    fields
-        .iter()
-        .any(|field| matches!(field.fault(table), Some(ConfigFault::TooMany)))
+    fields.iter().any(|field| matches!(field.fault(table), Some(ConfigFault::TooMany)))
 }
 
 /// The fault of a table, each of the five judged for the whole table before the next.

@@ -49,11 +49,19 @@ pub enum ObjectValue {
     /// Multi-state Value.
     MultiStateValue(MultiState),
     /// CharacterString Value.
-    CharacterStringValue { default: Text },
+    CharacterStringValue {
+        default: Text,
+    },
     /// Integer Value, with its Units.
-    IntegerValue { default: i32, units: u16 },
+    IntegerValue {
+        default: i32,
+        units: u16,
+    },
     /// Positive Integer Value, with its Units.
-    PositiveIntegerValue { default: u32, units: u16 },
+    PositiveIntegerValue {
+        default: u32,
+        units: u16,
+    },
 }
 
 /// The states of a Multi-state Value, 1 to 64 of them, and which is the default, counted from 1.

@@ -10,7 +10,9 @@ ghost use Rattle.gw_policy_text.specs.Value.{text_in};
 
 use crate::field::fault_of;
 use crate::object::MAX_STATES;
-use crate::reading::{any_list, at, instance_at, list_at, long_at, number_at, optional_text, short_at, text_at};
+use crate::reading::{
+    any_list, at, instance_at, list_at, long_at, number_at, optional_text, short_at, text_at,
+};
 use crate::tables::{
     binary_fields, character_string_fields, integer_fields, multi_state_fields,
     positive_integer_fields,
@@ -54,11 +56,7 @@ fn kind_at(table: &Table) -> Result<ObjectKind, ConfigFault>
 }
 
 #[tactic(auto, unfolding(crate::specs::Configuration::object_of_kind))]
-fn object_of_kind(
-    alloc: Global,
-    kind: ObjectKind,
-    table: &Table,
-) -> Result<Object, ConfigFault>
+fn object_of_kind(alloc: Global, kind: ObjectKind, table: &Table) -> Result<Object, ConfigFault>
     ensures { Gives (λ o. o) result (object_of_kind kind (table_view table.now)) }
 {
     match object_fault(kind, table) {
@@ -107,11 +105,7 @@ fn object_parts(alloc: Global, kind: ObjectKind, table: &Table) -> Result<Object
 }
 
 /// What is configured of that type alone.
-fn object_value(
-    alloc: Global,
-    kind: ObjectKind,
-    table: &Table,
-) -> Result<ObjectValue, ConfigFault>
+fn object_value(alloc: Global, kind: ObjectKind, table: &Table) -> Result<ObjectValue, ConfigFault>
     ensures { Gives (λ v. v) result (value_of kind (table_view table.now)) }
 {
     match kind {

@@ -23,12 +23,7 @@ pub(crate) fn at<'a>(key: &str, table: &'a Table) -> Result<&'a Value, ConfigFau
 }
 
 /// The number at a key, from `low` to `high`.
-pub(crate) fn number_at(
-    low: u64,
-    high: u64,
-    key: &str,
-    table: &Table,
-) -> Result<u64, ConfigFault>
+pub(crate) fn number_at(low: u64, high: u64, key: &str, table: &Table) -> Result<u64, ConfigFault>
     ensures number { plain.Gives (λ n. n) result (number_at low high key.now (table_view table.now)) }
     ensures low { IfOk result (λ n. low ≤ n) }
     ensures high { IfOk result (λ n. n ≤ high) }

@@ -87,12 +87,7 @@ fn fields(alloc: Global, table: &Table) -> Result<Fields<Ranges>, ConfigFault>
     })
 }
 
-fn ranges_at(
-    alloc: Global,
-    of: Scalar,
-    key: &str,
-    table: &Table,
-) -> Result<Ranges, ConfigFault>
+fn ranges_at(alloc: Global, of: Scalar, key: &str, table: &Table) -> Result<Ranges, ConfigFault>
     ensures { Gives (λ rs. rs) result (ranges_at of key.now (table_view table.now)) }
 {
     ranges(alloc, of, list_at(0, MAX_RANGES, key, table)?)

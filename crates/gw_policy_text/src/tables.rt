@@ -3,13 +3,18 @@ ghost use Rattle.std.specs.Prelude.{◌≡◌};
 ghost use Rattle.gw_policy_text.specs.Tables as spec;
 ghost use Rattle.gw_policy_text.specs.declared.object.ObjectKind.{ObjectKind};
 
+use crate::config::{MAX_OBJECTS, MAX_PORTS, MAX_ROUTES};
 use crate::field::Field;
-use crate::port::MAX_PEERS;
 use crate::object::MAX_STATES;
+use crate::port::MAX_PEERS;
 use crate::shape::{Scalar, Shape};
+use gw_rules::MAX_RULES;
 
 /// A network.
-pub(crate) const NETWORK: Scalar = Scalar::Number { low: 1, high: 65534 };
+pub(crate) const NETWORK: Scalar = Scalar::Number {
+    low: 1,
+    high: 65534,
+};
 /// The number of a port.
 pub(crate) const PORT: Scalar = Scalar::Number { low: 1, high: 8 };
 /// A service, by the number that rules have for it.
@@ -33,18 +38,38 @@ const INSTANCE: Shape = Shape::One(Scalar::Number {
     low: 0,
     high: 4_194_302,
 });
+
 const OCTET: Shape = Shape::One(Scalar::Number { low: 0, high: 255 });
+
 const SHORT: Shape = Shape::One(Scalar::Number {
     low: 0,
     high: 65535,
 });
+
 const LONG: Shape = Shape::One(Scalar::Number {
     low: 0,
     high: 4_294_967_295,
 });
+
 const TEXT: Shape = Shape::One(Scalar::Text { least: 0 });
+
 const NAME: Shape = Shape::One(Scalar::Text { least: 1 });
+
 const ADDRESS: Shape = Shape::One(Scalar::Address);
+
+/// The fields of the top table.
+pub(crate) fn top_fields() -> [Field; 6]
+    ensures { result ≡ spec.top_fields }
+{
+    [
+        Field::needs("format", Shape::One(Scalar::Number { low: 1, high: 1 })),
+        Field::needs("device", Shape::One(Scalar::Table)),
+        Field::needs("port", tables(1, MAX_PORTS)),
+        Field::may("route", tables(0, MAX_ROUTES)),
+        Field::may("object", tables(0, MAX_OBJECTS)),
+        Field::may("rule", tables(0, MAX_RULES)),
+    ]
+}
 
 /// The fields of the device.
 pub(crate) fn device_fields() -> [Field; 11]
