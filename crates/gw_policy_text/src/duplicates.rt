@@ -9,6 +9,7 @@ use crate::{Device, Object, ObjectValue, Port, Route};
 use gw_addr::BdtEntry;
 use gw_rules::Rule;
 use std::alloc::{AllocError, Global};
+use std::collections::BTreeSet;
 
 /// Whether something stands twice that may stand only once.
 #[tactic(auto, unfolding(crate::specs::Duplicates::has_duplicates))]
@@ -44,7 +45,7 @@ fn networks_repeat(
     put_port_networks(&mut all, ports)?;
     all.push(u64::from(device.network.get()))?;
     put_route_networks(&mut all, routes)?;
-    repeats(&all)
+    repeats(alloc, &all)
 }
 
 fn put_port_networks(all: &mut Vec<u64>, ports: &[Port]) -> Result<(), AllocError>
@@ -73,7 +74,7 @@ fn addresses_repeat(alloc: Global, ports: &[Port]) -> Result<bool, AllocError>
         all.push(port.address.key48())?;
         all.push(port.broadcast.key48())?;
     }
-    repeats(&all)
+    repeats(alloc, &all)
 }
 
 fn any_peers_repeat(alloc: Global, ports: &[Port]) -> Result<bool, AllocError>
@@ -94,7 +95,7 @@ fn peers_repeat(alloc: Global, peers: &[BdtEntry]) -> Result<bool, AllocError>
     for peer in peers {
         all.push(peer.address.key48())?;
     }
-    repeats(&all)
+    repeats(alloc, &all)
 }
 
 fn identifiers_repeat(alloc: Global, objects: &[Object]) -> Result<bool, AllocError>
@@ -104,7 +105,7 @@ fn identifiers_repeat(alloc: Global, objects: &[Object]) -> Result<bool, AllocEr
     for object in objects {
         all.push(identifier(object))?;
     }
-    repeats(&all)
+    repeats(alloc, &all)
 }
 
 /// Type and instance as one number of 32 bits (clause 20.2.14).
@@ -134,7 +135,7 @@ fn names_repeat(alloc: Global, device: &Device, objects: &[Object]) -> Result<bo
     for object in objects {
         all.push(object.name.as_str())?;
     }
-    texts_repeat(&all)
+    texts_repeat(alloc, &all)
 }
 
 fn rule_names_repeat(alloc: Global, rules: &[Rule]) -> Result<bool, AllocError>
@@ -144,15 +145,16 @@ fn rule_names_repeat(alloc: Global, rules: &[Rule]) -> Result<bool, AllocError>
     for rule in rules {
         all.push(rule.name.as_str())?;
     }
-    texts_repeat(&all)
+    texts_repeat(alloc, &all)
 }
 
 /// Whether a number stands twice.
-fn repeats(numbers: &[u64]) -> Result<bool, AllocError>
+fn repeats(alloc: Global, numbers: &[u64]) -> Result<bool, AllocError>
     ensures { IfOk result (λ b. b ≡ has_twice nat_eq numbers.now) }
 {
-    for place in 0..numbers.len() {
-        if numbers[place + 1..].contains(&numbers[place]) {
+    let mut seen = BTreeSet::new(alloc);
+    for number in numbers {
+        if !seen.insert(*number)? {
             return Ok(true);
         }
     }
@@ -160,24 +162,14 @@ fn repeats(numbers: &[u64]) -> Result<bool, AllocError>
 }
 
 /// Whether a text stands twice.
-fn texts_repeat(texts: &[&str]) -> Result<bool, AllocError>
+fn texts_repeat(alloc: Global, texts: &[&str]) -> Result<bool, AllocError>
     ensures { IfOk result (λ b. b ≡ has_twice (pointwise nat_eq) (map (λ t. t.now) texts.now)) }
 {
-    for place in 0..texts.len() {
-        if has_text(&texts[place + 1..], texts[place]) {
+    let mut seen = BTreeSet::new(alloc);
+    for text in texts {
+        if !seen.insert(*text)? {
             return Ok(true);
         }
     }
     Ok(false)
-}
-
-fn has_text(texts: &[&str], text: &str) -> bool
-    ensures { result ≡ list_any (pointwise nat_eq text.now) (map (λ t. t.now) texts.now) }
-{
-    for other in texts {
-        if text == *other {
-            return true;
-        }
-    }
-    false
 }
