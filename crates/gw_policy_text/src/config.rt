@@ -1,0 +1,95 @@
+//! What a gateway is configured with.
+ghost use Rattle.std.specs.Prelude.{◌≡◌, ◌≤◌, length, IsFalse, IsTrue};
+ghost use Rattle.std.specs.List.{list_all};
+ghost use Rattle.gw_policy_text.specs.Configuration.{is_by};
+ghost use Rattle.gw_policy_text.specs.Duplicates.{has_duplicates, unique};
+ghost use Rattle.gw_policy_text.specs.Reading.{Gives};
+
+use crate::duplicates::has_duplicates;
+use crate::parts::Parts;
+use crate::{ConfigFault, Device, Object, Port, Route};
+use gw_rules::RuleList;
+use std::alloc::Global;
+use std::marker::Model;
+
+/// What a gateway is configured with: its parts, each in the order of the text, in which nothing
+/// stands twice that may stand only once. Contracts see the parts.
+#[derive(Debug, Drop)]
+pub struct Config {
+    parts: Parts,
+}
+
+impl Model for Config {
+    ghost use Rattle.std.specs.Prelude.{IsFalse};
+    ghost use Rattle.gw_policy_text.specs.Configuration.{Configuration};
+    ghost use Rattle.gw_policy_text.specs.Duplicates.{has_duplicates};
+
+    ghost Value = { Configuration };
+
+    ghost view = { λ c. c.parts };
+
+    ghost invariant = { λ c. IsFalse (has_duplicates c.parts) };
+}
+
+impl Config {
+    /// The configuration of these parts. `Duplicate` where something stands twice that may stand
+    /// only once.
+    pub(crate) fn of_parts(alloc: Global, parts: Parts) -> Result<Self, ConfigFault>
+        ensures { Gives (λ c. c) result (unique parts) }
+    {
+        let twice = has_duplicates(
+            alloc,
+            parts.device(),
+            parts.ports(),
+            parts.routes(),
+            parts.objects(),
+            parts.rules().rules(),
+        )?;
+        if twice {
+            return Err(ConfigFault::Duplicate);
+        }
+        Ok(Config { parts })
+    }
+
+    /// The gateway's own device.
+    pub fn device(&self) -> &Device
+        ensures device { result.now ≡ self.now.device }
+        // No network, address, identifier or name stands twice in the whole configuration.
+        ensures once { IsFalse (has_duplicates self.now) }
+    {
+        self.parts.device()
+    }
+
+    /// The ports in order, 1 to 8 of them: the first is port 1.
+    pub fn ports(&self) -> &[Port]
+        ensures ports { result.now ≡ self.now.ports }
+        ensures some { 1 ≤ length self.now.ports }
+        ensures most { length self.now.ports ≤ 8 }
+    {
+        self.parts.ports()
+    }
+
+    /// The routes in order, at most 512, each by one of the ports.
+    pub fn routes(&self) -> &[Route]
+        ensures routes { result.now ≡ self.now.routes }
+        ensures most { length self.now.routes ≤ 512 }
+        ensures by { IsTrue (list_all (is_by (length self.now.ports)) self.now.routes) }
+    {
+        self.parts.routes()
+    }
+
+    /// The objects in order, at most 256.
+    pub fn objects(&self) -> &[Object]
+        ensures objects { result.now ≡ self.now.objects }
+        ensures most { length self.now.objects ≤ 256 }
+    {
+        self.parts.objects()
+    }
+
+    /// The policy.
+    pub fn rules(&self) -> &RuleList
+        ensures { result.now ≡ self.now.rules }
+    {
+        self.parts.rules()
+    }
+}
