@@ -8,6 +8,8 @@
 #[cfg(test)]
 mod addr;
 #[cfg(test)]
+mod apdu;
+#[cfg(test)]
 mod bdt_fdt;
 #[cfg(test)]
 mod bvll;
