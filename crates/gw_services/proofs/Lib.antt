@@ -1,0 +1,5 @@
+pub mod Contents
+pub mod Parameters
+pub mod Bodies
+pub mod Steps
+pub mod ReadBody
