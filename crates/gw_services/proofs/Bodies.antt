@@ -210,8 +210,8 @@ module _ {R : Type 0} (body : Body) (held : R → Contents) (reading : List ℕ 
       | is_faulty other is e2 ↦ subst (λ (f : BodyFault). HasFault f body octets) (err_is other fault (sym e2 ∙ read_err octets fault e)) is
     ],
     λ is. let read = fault_again fault body octets small fits is in
-    elim (either (reading octets)) [
-      | inl (s, e) ↦ absurd (let never = read_ok octets s e in cc)
-      | inr (other, e) ↦ e ∙ ap Err (err_is other fault (sym (read_err octets other e) ∙ read))
-    ],
+        elim (either (reading octets)) [
+          | inl (s, e) ↦ absurd (let never = read_ok octets s e in cc)
+          | inr (other, e) ↦ e ∙ ap Err (err_is other fault (sym (read_err octets other e) ∙ read))
+        ],
   )

@@ -3,3 +3,8 @@ pub mod Parameters
 pub mod Bodies
 pub mod Steps
 pub mod ReadBody
+pub mod WriteBody
+pub mod WhoIsBody
+pub mod WhoHasBody
+pub mod IAmBody
+pub mod IHaveBody

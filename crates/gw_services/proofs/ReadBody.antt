@@ -9,7 +9,7 @@ use Rattle.gw_tags.specs.Object.{Object}
 use Rattle.gw_services.specs.Reading.{object_at, number_at, number_maybe_at, ended}
 use Rattle.gw_services.specs.Read.{Read, read_body, read_held, number_held, IsRead, read_at}
 use Rattle.gw_services.proofs.Bodies.{body_at, Reads, service_takes, service_again, service_faults}
-use Rattle.gw_services.proofs.Steps.{must_object, must_number, may_number, joined, held_of, must_step, may_step, done_step, all_contents}
+use Rattle.gw_services.proofs.Steps.{must_object, must_number, may_number, joined, held_of, must_step, may_step, done_step, all_contents, tells_number}
 
 -- what is to come
 abbrev index_body : Body
@@ -51,12 +51,6 @@ reads octets =
     (object_at 0 octets) (λ id. property_next id.0 id.1)
     (must_object 0 octets)
     (λ x. property_reads x.0 x.1)
-
-tells_number : (a b : Option ℕ) → number_held a ≡ number_held b → a ≡ b
-tells_number None None e = refl
-tells_number None (Some n) e = absurd cc
-tells_number (Some n) None e = absurd cc
-tells_number (Some n) (Some m) e = cc
 
 same_made : (o o' : Object) (p p' : ℕ) (i i' : Option ℕ) → o ≡ o' → p ≡ p' → i ≡ i' → made o p i ≡ made o' p' i'
 same_made o o' p p' i i' same_object same_property same_index = cc

@@ -6,7 +6,8 @@ use Rattle.gw_tags.specs.Object.{Object}
 use Rattle.gw_services.specs.declared.fault.BodyFault.{BodyFault}
 use Rattle.gw_services.specs.Parameter.{Content, object, number, values, text, Shape, an_object, a_number, a_text, Parameter, under, between, plain_object, plain_unsigned, plain_enumerated, plain_text}
 use Rattle.gw_services.specs.Body.{Body, done, must, may}
-use Rattle.gw_services.specs.Reading.{due_at, given_at, object_in, number_in, text_in, object_at, number_at, text_at, number_given, number_maybe_at, values_at, ended}
+use Rattle.gw_services.specs.Reading.{due_at, given_at, object_in, number_in, text_in, object_at, number_at, text_at, number_given, number_maybe_at, object_given, object_maybe_at, values_at, ended}
+use Rattle.gw_services.specs.Read.{number_held}
 use Rattle.gw_services.proofs.Contents.{interpret}
 use Rattle.gw_services.proofs.Parameters.{Found, FoundMaybe, must_at, may_at, given_content}
 use Rattle.gw_services.proofs.Bodies.{Contents, body_at, more, behind_may}
@@ -55,7 +56,27 @@ number_maybe_is (Err fault) least most octets = refl
 pub may_number : (tag least most : ℕ) (octets : List ℕ) → may_at tag (a_number least most) octets ≡ (number_maybe_at tag least most octets >>= makes_maybe number)
 may_number tag least most octets = number_maybe_is (given_at tag octets) least most octets
 
+object_maybe_is : (r : Result (Option Pair) BodyFault) (octets : List ℕ) → (r >>= given_content an_object octets) ≡ ((r >>= object_given octets) >>= makes_maybe object)
+object_maybe_is (Ok None) octets = refl
+object_maybe_is (Ok (Some c)) octets = inner_maybe (object_in c.0) object c.1
+object_maybe_is (Err fault) octets = refl
+
+pub may_object : (tag : ℕ) (octets : List ℕ) → may_at tag an_object octets ≡ (object_maybe_at tag octets >>= makes_maybe object)
+may_object tag octets = object_maybe_is (given_at tag octets) octets
+
+-- ---- what contents tell of the fields
+
+pub tells_number : (a b : Option ℕ) → number_held a ≡ number_held b → a ≡ b
+tells_number None None e = refl
+tells_number None (Some n) e = absurd cc
+tells_number (Some n) None e = absurd cc
+tells_number (Some n) (Some m) e = cc
+
 -- ---- steps
+
+pub bind_assoc : {A B C : Type 0} (r : Result A BodyFault) (f : A → Result B BodyFault) (g : B → Result C BodyFault) → ((r >>= f) >>= g) ≡ (r >>= λ x. f x >>= g)
+bind_assoc (Ok x) f g = refl
+bind_assoc (Err fault) f g = refl
 
 -- contents that are put together with those before them
 abbrev pub joined : (Contents → Contents) → Result Contents BodyFault → Result Contents BodyFault

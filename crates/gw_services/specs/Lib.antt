@@ -3,3 +3,8 @@ pub mod Parameter
 pub mod Body
 pub mod Reading
 pub mod Read
+pub mod Write
+pub mod WhoIs
+pub mod WhoHas
+pub mod IAm
+pub mod IHave

@@ -94,6 +94,19 @@ number_maybe_at tag least most octets = do
   content ← given_at tag octets
   number_given least most octets content
 
+abbrev pub object_given : List ℕ → Option (List ℕ × List ℕ)
+    → Result (Option Object × List ℕ) BodyFault
+object_given octets None = Ok (None, octets)
+object_given octets (Some content) = do
+  object ← object_in content.0
+  Ok (Some object, content.1)
+
+-- an object that may be there
+abbrev pub object_maybe_at : ℕ → List ℕ → Result (Option Object × List ℕ) BodyFault
+object_maybe_at tag octets = do
+  content ← given_at tag octets
+  object_given octets content
+
 -- the values between an opening and a closing tag, which have to be there
 abbrev pub values_at : ℕ → List ℕ → Result (List ℕ × List ℕ) BodyFault
 values_at tag [] = Err Missing
@@ -123,12 +136,16 @@ abbrev pub text_value : Value → Option (ℕ × List ℕ)
 text_value (character_string charset own) = Some (charset, own)
 text_value _ = None
 
+-- a value that has to be there
+abbrev pub any_value_at : List ℕ → Result (Value × List ℕ) BodyFault
+any_value_at [] = Err Missing
+any_value_at (octet ∷ octets) = or_invalid_value (value_at (octet ∷ octets))
+
 -- a value of the kind that has to be there
 abbrev pub value_of_kind_at : {A : Type 0} → (Value → Option A) → List ℕ
     → Result (A × List ℕ) BodyFault
-value_of_kind_at kind [] = Err Missing
-value_of_kind_at kind (octet ∷ octets) = do
-  value ← or_invalid_value (value_at (octet ∷ octets))
+value_of_kind_at kind octets = do
+  value ← any_value_at octets
   own ← ok_or (kind value.0) InvalidTag
   Ok (own, value.1)
 

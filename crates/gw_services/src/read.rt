@@ -62,7 +62,8 @@ pub(crate) fn put_number(out: &mut Vec<u8>, tag: u8, number: Option<u32>) -> Res
     }
 }
 
-fn put(out: &mut Vec<u8>, request: &ReadReq) -> Result<(), AllocError>
+/// Appends the body. After an `Err` a front of it may stand there.
+pub(crate) fn put(out: &mut Vec<u8>, request: &ReadReq) -> Result<(), AllocError>
     ensures ok { OnOk result (out.new.items
         ≡ out.old.items ++ read_encoding (read_view request.now)) }
     ensures front { Keeps out.old.items out.new.items }
