@@ -8,3 +8,6 @@ pub mod WhoIsBody
 pub mod WhoHasBody
 pub mod IAmBody
 pub mod IHaveBody
+pub mod MultiParts
+pub mod MultiBody
+pub mod MultiCalls

@@ -8,3 +8,6 @@ pub mod WhoIs
 pub mod WhoHas
 pub mod IAm
 pub mod IHave
+pub mod Multi
+pub mod MultiReading
+pub mod internal
