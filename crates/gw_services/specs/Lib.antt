@@ -10,4 +10,6 @@ pub mod IAm
 pub mod IHave
 pub mod Multi
 pub mod MultiReading
+pub mod Reply
+pub mod Laws
 pub mod internal

@@ -169,8 +169,29 @@ HasMultiFault fault octets = IsBadMulti fault most_references None octets
 
 -- ---- as it is written
 
-abbrev pub head_part : Object → List ℕ
-head_part id = in_context 0 (object_octets id) ++ canonical (context 1 Opening)
+-- [0] object and [1] opening, where an object's list begins
+abbrev pub head_part : Bool → Object → List ℕ
+head_part false id = []
+head_part true id = in_context 0 (object_octets id) ++ canonical (context 1 Opening)
 
-abbrev pub name_part : Reference → List ℕ
-name_part r = in_context 0 (unsigned_encoding r.property) ++ number_part 1 r.index
+-- [1] closing, where it ends
+abbrev pub tail_part : Bool → List ℕ
+tail_part false = []
+tail_part true = canonical (context 1 Closing)
+
+-- [0] property, and [1] index where it is given
+abbrev pub name_part : ℕ → Option ℕ → List ℕ
+name_part p i = in_context 0 (unsigned_encoding p) ++ number_part 1 i
+
+-- a list ends where the next one begins, and with the body
+abbrev pub list_ends : List Reference → Bool
+list_ends [] = true
+list_ends (r ∷ others) = r.begins
+
+abbrev pub reference_part : Reference → Bool → List ℕ
+reference_part r ends =
+    head_part r.begins r.object ++ name_part r.property r.index ++ tail_part ends
+
+abbrev pub multi_encoding : List Reference → List ℕ
+multi_encoding [] = []
+multi_encoding (r ∷ others) = reference_part r (list_ends others) ++ multi_encoding others
