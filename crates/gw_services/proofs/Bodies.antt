@@ -1,13 +1,13 @@
 -- A body is read exactly where the octets are one, and each fault exactly where its own condition holds.
-use Rattle.std.proofs.Common.{◌≡◌, ◌≢◌, ◌↔◌, ℕ, Bool, true, false, ◌&&◌, ltb, List, [], ◌∷◌, Option, Some, None, Result, Ok, Err, refl, sym, ap, subst, ◌∙◌, inl, inr, ◌⊎◌}
+use Rattle.std.proofs.Common.{◌≡◌, ◌≢◌, ◌↔◌, ℕ, Bool, true, ◌&&◌, ltb, List, [], ◌∷◌, Some, None, Result, Ok, Err, refl, sym, ap, subst, ◌∙◌, inl, inr}
 use Rattle.gw_addr.specs.Reading.{◌>>=◌, AreOctets}
 use Rattle.gw_addr.proofs.Reading.{both_true, ok_is, either}
 use Rattle.gw_services.specs.declared.fault.BodyFault.{BodyFault}
 use Rattle.gw_services.specs.declared.fault.BodyFault.TheVariants.{TooMany}
-use Rattle.gw_services.specs.Parameter.{Content, Shape, Parameter, under, Holds}
-use Rattle.gw_services.specs.Body.{Body, done, must, may, Begins, IsAbsent, IsBody, nothing_more, required, given, left_out, IsWrong, HasFault, octets_behind, at_required, behind_required, at_given, behind_given, behind_absent}
+use Rattle.gw_services.specs.Parameter.{Content, Shape, Parameter, under}
+use Rattle.gw_services.specs.Body.{Body, done, must, may, Begins, IsAbsent, IsBody, nothing_more, required, given, left_out, HasFault, octets_behind, at_required, behind_required, at_given, behind_given, behind_absent}
 use Rattle.gw_services.specs.Reading.{ended}
-use Rattle.gw_services.proofs.Parameters.{Found, FoundMaybe, must_at, may_at, some_of, is_small, MustBe, wrong, right, must_be, MayBe, is_absent, is_there, may_be, must_again, wrong_again, rest_fits, not_both}
+use Rattle.gw_services.proofs.Parameters.{Found, FoundMaybe, must_at, may_at, some_of, is_small, MustBe, wrong, right, must_be, is_absent, is_there, may_be, must_again, wrong_again, rest_fits, not_both}
 
 abbrev pub Contents : Type 0
 Contents = List Content

@@ -1,18 +1,18 @@
 -- Which content octets are: read as it exactly there, and a fault exactly elsewhere.
-use Rattle.std.proofs.Common.{◌≡◌, ◌≢◌, ℕ, ◌≤◌, Bool, true, false, ◌&&◌, not, eqb, leb, List, [], ◌∷◌, length, Option, Some, None, Result, Ok, Err, refl, sym, ap, ◌∙◌, inl, inr, ◌⊎◌, arith}
+use Rattle.std.proofs.Common.{◌≡◌, ℕ, Bool, true, false, ◌&&◌, not, eqb, leb, List, [], ◌∷◌, length, Result, Ok, Err, refl, sym, ap, ◌∙◌, inl, inr, ◌⊎◌}
 use Rattle.std.specs.Str.{is_utf8}
 use Rattle.std.proofs.lemmas.Bool.{eq-eqb, ne_eqb, eqb-true, leb-true, le-leb, cases_eq}
 use Rattle.gw_addr.specs.Reading.{◌>>=◌, AreOctets}
 use Rattle.gw_addr.specs.Address.{big_endian}
 use Rattle.gw_addr.proofs.Reading.{both_true}
-use Rattle.gw_tags.specs.Number.{EncodesUnsigned, unsigned_of}
-use Rattle.gw_tags.specs.Object.{Object, object_of, object_octets}
+use Rattle.gw_tags.specs.Number.{EncodesUnsigned}
+use Rattle.gw_tags.specs.Object.{object_of}
 use Rattle.gw_tags.specs.Strings.{IsText}
 use Rattle.gw_tags.proofs.Objects.{object_read, object_encoded}
 use Rattle.gw_services.specs.declared.fault.BodyFault.{BodyFault}
 use Rattle.gw_services.specs.declared.fault.BodyFault.TheVariants.{InvalidTag, OutOfRange}
-use Rattle.gw_services.specs.Parameter.{Content, object, number, values, text, Shape, an_object, a_number, a_text, IsContentOf, of_object, of_number, of_text, in_range, shape_allows}
-use Rattle.gw_services.specs.Reading.{object_in, ranged, number_in, text_in}
+use Rattle.gw_services.specs.Parameter.{Content, object, number, text, Shape, an_object, a_number, a_text, IsContentOf, of_object, of_number, of_text, in_range, shape_allows}
+use Rattle.gw_services.specs.Reading.{object_in, number_in, text_in}
 
 -- what a content of the shape holds
 abbrev pub interpret : Shape → List ℕ → Result Content BodyFault

@@ -1,14 +1,14 @@
 -- The body of I-Am.
-use Rattle.std.proofs.Common.{◌≡◌, ◌↔◌, ℕ, List, [], ◌∷◌, ◌++◌, Option, Some, None, Result, Ok, Err, refl, sym, ap, ◌∙◌}
+use Rattle.std.proofs.Common.{◌≡◌, ◌↔◌, ℕ, List, ◌∷◌, Result, Ok, Err, refl, ◌∙◌}
 use Rattle.gw_addr.specs.Reading.{◌>>=◌, AreOctets}
 use Rattle.gw_tags.specs.Object.{Object}
 use Rattle.gw_services.specs.declared.fault.BodyFault.{BodyFault}
 use Rattle.gw_services.specs.Limits.{last_short_number, last_segmentation}
-use Rattle.gw_services.specs.Parameter.{Content, object, number, plain_object, plain_unsigned, plain_enumerated}
+use Rattle.gw_services.specs.Parameter.{object, number, plain_object, plain_unsigned, plain_enumerated}
 use Rattle.gw_services.specs.Body.{Body, done, must, HasFault}
 use Rattle.gw_services.specs.Reading.{value_of_kind_at, number_of_kind_at, object_value, unsigned_value, enumerated_value, ended}
 use Rattle.gw_services.specs.IAm.{IAm, i_am_body, i_am_held, IsIAm, i_am_at}
-use Rattle.gw_services.proofs.Bodies.{Contents, body_at, Reads, service_takes, service_again, service_faults}
+use Rattle.gw_services.proofs.Bodies.{body_at, Reads, service_takes, service_again, service_faults}
 use Rattle.gw_services.proofs.Steps.{joined, held_of, must_step, done_step, all_contents}
 
 abbrev vendor_body : Body

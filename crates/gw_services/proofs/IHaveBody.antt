@@ -1,13 +1,13 @@
 -- The body of I-Have.
-use Rattle.std.proofs.Common.{◌≡◌, ◌↔◌, ℕ, List, [], ◌∷◌, ◌++◌, Option, Some, None, Result, Ok, Err, refl, sym, ap, ◌∙◌}
+use Rattle.std.proofs.Common.{◌≡◌, ◌↔◌, ℕ, List, ◌∷◌, Result, Ok, Err, refl, ◌∙◌}
 use Rattle.gw_addr.specs.Reading.{◌>>=◌, AreOctets}
 use Rattle.gw_tags.specs.Object.{Object}
 use Rattle.gw_services.specs.declared.fault.BodyFault.{BodyFault}
-use Rattle.gw_services.specs.Parameter.{Content, object, text, plain_object, plain_text}
+use Rattle.gw_services.specs.Parameter.{object, plain_object, plain_text}
 use Rattle.gw_services.specs.Body.{Body, done, must, HasFault}
 use Rattle.gw_services.specs.Reading.{value_of_kind_at, object_value, text_value, ended}
 use Rattle.gw_services.specs.IHave.{IHave, i_have_body, i_have_held, IsIHave, i_have_at}
-use Rattle.gw_services.proofs.Bodies.{Contents, body_at, Reads, service_takes, service_again, service_faults}
+use Rattle.gw_services.proofs.Bodies.{body_at, Reads, service_takes, service_again, service_faults}
 use Rattle.gw_services.proofs.Steps.{text_made, joined, held_of, must_step, done_step, all_contents}
 
 abbrev name_body : Body

@@ -1,9 +1,8 @@
 -- The body of ReadPropertyMultiple.
-use Rattle.std.proofs.Common.{◌≡◌, ◌≢◌, ℕ, zero, suc, ◌-◌, ◌++◌, map, append_assoc, arith, Bool, true, false, cond, List, [], ◌∷◌, Option, Some, None, Result, Ok, Err, refl, sym, ap, subst, ◌∙◌, inl, inr, ◌⊎◌}
+use Rattle.std.proofs.Common.{◌≡◌, ◌≢◌, ℕ, zero, suc, ◌-◌, ◌++◌, map, append_assoc, arith, true, false, cond, List, [], ◌∷◌, Option, Some, None, Result, Ok, Err, refl, sym, ap, subst, ◌∙◌, inl, inr}
 use Rattle.gw_addr.specs.Reading.{◌>>=◌, AreOctets}
 use Rattle.gw_addr.proofs.Reading.{ok_is}
 use Rattle.gw_tags.specs.declared.tag.Kind.TheVariants.{Closing}
-use Rattle.gw_tags.specs.declared.fault.ContextFault.{ContextFault}
 use Rattle.gw_tags.specs.List.{context}
 use Rattle.gw_tags.specs.Tag.{BeginsWith}
 use Rattle.gw_tags.specs.ContextReading.{closing_tag_at}
@@ -13,10 +12,10 @@ use Rattle.gw_services.specs.declared.fault.BodyFault.{BodyFault}
 use Rattle.gw_services.specs.declared.fault.BodyFault.TheVariants.{TooMany, Inconsistent}
 use Rattle.std.proofs.lemmas.List.{map-append}
 use Rattle.gw_services.specs.declared.multi_req.Reference.{Reference as RustReference}
-use Rattle.gw_services.specs.Multi.{Reference, reference_view, most_references, is_consistent, IsReference, IsBadReference, IsClosed, IsList, last_one, next_object, next_property, IsBadMulti, in_reference, one_too_many, set_with_index, behind_list, behind_reference, IsMulti, HasMultiFault}
+use Rattle.gw_services.specs.Multi.{Reference, reference_view, most_references, is_consistent, IsReference, IsClosed, IsList, last_one, next_object, next_property, IsBadMulti, in_reference, one_too_many, set_with_index, behind_list, behind_reference, IsMulti, HasMultiFault}
 use Rattle.gw_services.specs.MultiReading.{reference_at, Next, finished, more_at, behind_closing, next_of, next_at, and_more, references_at, behind_these, multi_at}
 use Rattle.gw_services.proofs.Contents.{either_bool}
-use Rattle.gw_services.proofs.MultiParts.{reference_again, bad_reference_again, reference_fits, ReferenceBe, r_right, r_wrong, reference_be, ClosedBe, c_closed, c_not, closed_be, closed_again, reference_not_closed}
+use Rattle.gw_services.proofs.MultiParts.{reference_again, bad_reference_again, reference_fits, r_right, r_wrong, reference_be, c_closed, c_not, closed_be, closed_again, reference_not_closed}
 
 abbrev pub Refs : Type 0
 Refs = Result (List Reference) BodyFault

@@ -1,6 +1,5 @@
 -- One reference of a ReadPropertyMultiple: read exactly where it stands, and a fault exactly elsewhere.
-use Rattle.std.proofs.Common.{◌≡◌, ◌≢◌, ℕ, ◌<◌, Bool, true, false, ltb, List, [], ◌∷◌, ◌++◌, Option, Some, None, Result, Ok, Err, refl, sym, ap, subst, ◌∙◌, inl, inr, ◌⊎◌, arith}
-use Rattle.std.specs.Option.{option_map}
+use Rattle.std.proofs.Common.{◌≡◌, ℕ, Bool, true, false, List, [], ◌∷◌, Option, Some, None, Result, Ok, Err, refl, sym, ap, subst, ◌∙◌, inl, inr, arith}
 use Rattle.gw_addr.specs.Reading.{◌>>=◌, AreOctets}
 use Rattle.gw_addr.proofs.Reading.{ok_is, either}
 use Rattle.gw_tags.specs.declared.tag.Kind.{Kind}
@@ -16,12 +15,12 @@ use Rattle.gw_tags.proofs.ContextLaws.{content_only, opening_found, opening_only
 use Rattle.gw_services.specs.declared.fault.BodyFault.{BodyFault}
 use Rattle.gw_services.specs.declared.fault.BodyFault.TheVariants.{InvalidTag, Missing, OutOfRange, TooMany, Inconsistent, Memory}
 use Rattle.gw_services.specs.Limits.{last_property, last_number}
-use Rattle.gw_services.specs.Parameter.{Content, object, number, Shape, an_object, a_number, Parameter, under, Holds, tagged, allows}
+use Rattle.gw_services.specs.Parameter.{Content, object, number, Shape, a_number, Parameter, Holds, tagged}
 use Rattle.gw_services.specs.Body.{Begins, IsAbsent, IsWrong}
 use Rattle.gw_services.specs.Reading.{or_invalid, object_at, number_at, number_maybe_at}
 use Rattle.gw_services.specs.Multi.{Reference, a_property, an_index, the_object, IsNamed, with_index, whole, IsReference, in_new_list, in_same_list, IsClosed, IsWrongOpening, nothing_opens, something_else, IsBadName, at_property, at_index, IsBadReference, at_object, at_opening, empty_list, at_first, at_next}
 use Rattle.gw_services.specs.MultiReading.{reference, opened_at, named_at, first_at, reference_at}
-use Rattle.gw_services.proofs.Parameters.{Found, FoundMaybe, must_at, may_at, some_of, MustBe, wrong, right, must_be, MayBe, is_absent, is_there, may_be, must_again, wrong_again, rest_fits, not_both}
+use Rattle.gw_services.proofs.Parameters.{Found, FoundMaybe, must_at, may_at, some_of, MustBe, wrong, right, must_be, is_absent, is_there, may_be, must_again, wrong_again, rest_fits, not_both}
 use Rattle.gw_services.proofs.Steps.{makes, makes_maybe, must_object, must_number, may_number}
 
 -- ---- one parameter by its own reading

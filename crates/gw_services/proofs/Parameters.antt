@@ -1,5 +1,5 @@
 -- What stands where a parameter is due: read as it exactly there, and a fault exactly elsewhere.
-use Rattle.std.proofs.Common.{◌≡◌, ◌≢◌, ◌↔◌, ℕ, ◌<◌, Bool, true, false, ltb, List, [], ◌∷◌, ◌++◌, Option, Some, None, Result, Ok, Err, refl, sym, ap, subst, ◌∙◌, inl, inr, ◌⊎◌, append_assoc}
+use Rattle.std.proofs.Common.{◌≡◌, ◌≢◌, ℕ, ◌<◌, Bool, true, false, ltb, List, [], ◌∷◌, ◌++◌, Option, Some, None, Result, Ok, Err, refl, sym, ap, subst, ◌∙◌, inl, inr, ◌⊎◌}
 use Rattle.std.specs.Option.{ok_or}
 use Rattle.std.proofs.lemmas.Bool.{ltb-true}
 use Rattle.gw_addr.specs.Reading.{◌>>=◌, AreOctets}
@@ -10,7 +10,7 @@ use Rattle.gw_tags.specs.declared.fault.ContextFault.TheVariants as tags
 use Rattle.gw_tags.specs.declared.fault.ValueFault.{ValueFault}
 use Rattle.gw_tags.specs.List.{context, EndsList}
 use Rattle.gw_tags.specs.Tag.{BeginsWith}
-use Rattle.gw_tags.specs.Context.{BeginsWithContent, BeginsWithOther}
+use Rattle.gw_tags.specs.Context.{BeginsWithContent}
 use Rattle.gw_tags.specs.ContextReading.{content_at, opening_at}
 use Rattle.gw_tags.specs.Walk.{list_at}
 use Rattle.gw_tags.specs.Reading.{value_at}
@@ -23,10 +23,10 @@ use Rattle.gw_tags.proofs.ValueFaults.{value_found, value_only}
 use Rattle.gw_tags.proofs.Written.{value_within}
 use Rattle.gw_services.specs.declared.fault.BodyFault.{BodyFault}
 use Rattle.gw_services.specs.declared.fault.BodyFault.TheVariants.{InvalidTag, Missing, OutOfRange, TooMany, Inconsistent, Memory}
-use Rattle.gw_services.specs.Parameter.{Content, object, number, values, text, Shape, Parameter, under, between, plain_object, plain_unsigned, plain_enumerated, plain_text, IsContentOf, Holds, tagged, enclosed, an_object_value, an_unsigned_value, an_enumerated_value, a_text_value, in_range, shape_allows, allows}
+use Rattle.gw_services.specs.Parameter.{Content, object, number, values, text, Shape, Parameter, under, between, plain_object, plain_unsigned, plain_enumerated, plain_text, IsContentOf, Holds, tagged, enclosed, an_object_value, an_unsigned_value, an_enumerated_value, a_text_value, in_range, allows}
 use Rattle.gw_services.specs.Body.{Begins, IsAbsent, IsWrong, body_ends, something_else, outside_its_range}
-use Rattle.gw_services.specs.Reading.{or_invalid, or_invalid_value, due_at, if_there, given_at, values_at, value_of_kind_at, number_of_kind_at, object_value, unsigned_value, enumerated_value, text_value, ranged}
-use Rattle.gw_services.proofs.Contents.{interpret, Interpreted, content_none, content_past, content_is, interpreted, one_content, either_bool}
+use Rattle.gw_services.specs.Reading.{or_invalid, or_invalid_value, due_at, given_at, values_at, value_of_kind_at, number_of_kind_at, object_value, unsigned_value, enumerated_value, text_value}
+use Rattle.gw_services.proofs.Contents.{interpret, content_none, content_past, content_is, interpreted, one_content, either_bool}
 
 abbrev pub Found : Type 0
 Found = Content × List ℕ

@@ -1,10 +1,10 @@
 -- The body of ReadProperty.
-use Rattle.std.proofs.Common.{◌≡◌, ◌↔◌, ℕ, List, [], ◌∷◌, Option, Some, None, Result, Ok, Err, refl, ◌∙◌}
+use Rattle.std.proofs.Common.{◌≡◌, ◌↔◌, ℕ, List, ◌∷◌, Option, Some, None, Result, Ok, Err, refl, ◌∙◌}
 use Rattle.gw_addr.specs.Reading.{◌>>=◌, AreOctets}
 use Rattle.gw_services.specs.declared.fault.BodyFault.{BodyFault}
 use Rattle.gw_services.specs.Limits.{last_property, last_number}
-use Rattle.gw_services.specs.Parameter.{Content, object, number, an_object, a_number, under}
-use Rattle.gw_services.specs.Body.{Body, done, must, may, IsBody, HasFault}
+use Rattle.gw_services.specs.Parameter.{object, number, an_object, a_number, under}
+use Rattle.gw_services.specs.Body.{Body, done, must, may, HasFault}
 use Rattle.gw_tags.specs.Object.{Object}
 use Rattle.gw_services.specs.Reading.{object_at, number_at, number_maybe_at, ended}
 use Rattle.gw_services.specs.Read.{Read, read_body, read_held, number_held, IsRead, read_at}

@@ -1,14 +1,12 @@
 -- The steps by which a body is read as fields of its own are those by which it is read as contents.
-use Rattle.std.proofs.Common.{◌≡◌, ℕ, List, [], ◌∷◌, Option, Some, None, Result, Ok, Err, refl, sym, ap, ◌∙◌}
+use Rattle.std.proofs.Common.{◌≡◌, ℕ, List, [], ◌∷◌, Option, Some, None, Result, Ok, Err, refl, ap, ◌∙◌}
 use Rattle.std.specs.Option.{option_map}
 use Rattle.gw_addr.specs.Reading.{◌>>=◌}
-use Rattle.gw_tags.specs.Object.{Object}
 use Rattle.gw_services.specs.declared.fault.BodyFault.{BodyFault}
-use Rattle.gw_services.specs.Parameter.{Content, object, number, values, text, Shape, an_object, a_number, a_text, Parameter, under, between, plain_object, plain_unsigned, plain_enumerated, plain_text}
+use Rattle.gw_services.specs.Parameter.{Content, object, number, text, Shape, an_object, a_number, a_text, Parameter, under}
 use Rattle.gw_services.specs.Body.{Body, done, must, may}
-use Rattle.gw_services.specs.Reading.{due_at, given_at, object_in, number_in, text_in, object_at, number_at, text_at, number_given, number_maybe_at, object_given, object_maybe_at, values_at, ended}
+use Rattle.gw_services.specs.Reading.{due_at, given_at, object_in, number_in, text_in, object_at, number_at, text_at, number_given, number_maybe_at, object_given, object_maybe_at, ended}
 use Rattle.gw_services.specs.Read.{number_held}
-use Rattle.gw_services.proofs.Contents.{interpret}
 use Rattle.gw_services.proofs.Parameters.{Found, FoundMaybe, must_at, may_at, given_content}
 use Rattle.gw_services.proofs.Bodies.{Contents, body_at, more, behind_may}
 

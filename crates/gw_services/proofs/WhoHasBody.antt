@@ -1,12 +1,11 @@
 -- The body of Who-Has.
-use Rattle.std.proofs.Common.{◌≡◌, ◌↔◌, ℕ, List, [], ◌∷◌, ◌++◌, Option, Some, None, Result, Ok, Err, refl, sym, ap, ◌∙◌}
-use Rattle.gw_addr.specs.Reading.{◌>>=◌, AreOctets}
-use Rattle.gw_tags.specs.Object.{Object}
+use Rattle.std.proofs.Common.{◌≡◌, ◌↔◌, ℕ, List, ◌∷◌, ◌++◌, Option, Some, None, Ok, Err, refl, sym, ap, ◌∙◌}
+use Rattle.gw_addr.specs.Reading.{AreOctets}
 use Rattle.gw_services.specs.declared.fault.BodyFault.{BodyFault}
-use Rattle.gw_services.specs.Parameter.{Content, object, text, number, an_object, a_text, under}
-use Rattle.gw_services.specs.Body.{Body, done, must, may, HasFault}
+use Rattle.gw_services.specs.Parameter.{object, number, an_object, a_text, under}
+use Rattle.gw_services.specs.Body.{done, must, HasFault}
 use Rattle.gw_services.specs.Reading.{object_maybe_at, text_at, ended}
-use Rattle.gw_services.specs.WhoIs.{Limits, limits_held, limits_at}
+use Rattle.gw_services.specs.WhoIs.{Limits, limits_held}
 use Rattle.gw_services.specs.WhoHas.{Sought, the_object, the_name, sought_body, who_has_body, WhoHas, sought_held, who_has_held, IsWhoHas, asked_for, object_or_name, sought_at, who_has_at}
 use Rattle.gw_services.proofs.Bodies.{Contents, body_at, Reads, service_takes, service_again, service_faults}
 use Rattle.gw_services.proofs.Steps.{text_made, must_text, may_object, joined, held_of, must_step, may_step, done_step, all_contents}

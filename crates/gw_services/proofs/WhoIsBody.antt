@@ -1,11 +1,10 @@
 -- The body of Who-Is, and the limits of Who-Has.
-use Rattle.std.proofs.Common.{◌≡◌, ◌↔◌, ℕ, List, [], ◌∷◌, ◌++◌, Option, Some, None, Result, Ok, Err, refl, sym, ap, ◌∙◌}
+use Rattle.std.proofs.Common.{◌≡◌, ◌↔◌, ℕ, List, ◌∷◌, ◌++◌, Option, Some, None, Result, Ok, Err, refl, sym, ap, ◌∙◌}
 use Rattle.gw_addr.specs.Reading.{◌>>=◌, AreOctets}
-use Rattle.gw_tags.specs.Object.{Object}
 use Rattle.gw_services.specs.declared.fault.BodyFault.{BodyFault}
 use Rattle.gw_services.specs.Limits.{last_instance}
-use Rattle.gw_services.specs.Parameter.{Content, number, under}
-use Rattle.gw_services.specs.Body.{Body, done, must, may, HasFault}
+use Rattle.gw_services.specs.Parameter.{number, under}
+use Rattle.gw_services.specs.Body.{Body, done, must, HasFault}
 use Rattle.gw_services.specs.Reading.{number_at, number_maybe_at, ended}
 use Rattle.gw_services.specs.WhoIs.{an_instance, limits_then, Limits, WhoIs, limits_held, who_is_body, who_is_held, IsWhoIs, high_at, limits_at, who_is_at}
 use Rattle.gw_services.proofs.Bodies.{Contents, body_at, Reads, service_takes, service_again, service_faults}

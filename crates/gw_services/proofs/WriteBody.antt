@@ -1,10 +1,10 @@
 -- The body of WriteProperty.
-use Rattle.std.proofs.Common.{◌≡◌, ◌↔◌, ℕ, List, [], ◌∷◌, ◌++◌, Option, Some, None, Result, Ok, Err, refl, sym, ap, ◌∙◌}
+use Rattle.std.proofs.Common.{◌≡◌, ◌↔◌, ℕ, List, ◌∷◌, ◌++◌, Option, Some, None, Result, Ok, Err, refl, ◌∙◌}
 use Rattle.gw_addr.specs.Reading.{◌>>=◌, AreOctets}
 use Rattle.gw_tags.specs.Object.{Object}
 use Rattle.gw_services.specs.declared.fault.BodyFault.{BodyFault}
 use Rattle.gw_services.specs.Limits.{last_property, last_number, last_priority}
-use Rattle.gw_services.specs.Parameter.{Content, object, number, values, an_object, a_number, under, between}
+use Rattle.gw_services.specs.Parameter.{object, number, values, an_object, a_number, under, between}
 use Rattle.gw_services.specs.Body.{Body, done, must, may, HasFault}
 use Rattle.gw_services.specs.Reading.{object_at, number_at, number_maybe_at, values_at, ended}
 use Rattle.gw_services.specs.Read.{number_held}

@@ -8,7 +8,7 @@ use Rattle.gw_tags.specs.Context.{BeginsWithContent}
 use Rattle.gw_tags.specs.Number.{EncodesUnsigned}
 use Rattle.gw_tags.specs.Object.{Object, IsObject, object_octets}
 use Rattle.gw_tags.specs.Strings.{IsText}
-use Rattle.gw_tags.specs.Value.{Value, unsigned, enumerated, object_id, character_string, IsValue, BeginsWithValue}
+use Rattle.gw_tags.specs.Value.{unsigned, enumerated, object_id, character_string, IsValue, BeginsWithValue}
 
 -- what a parameter holds: an object, a number, the octets of any values, or a character string with
 -- its set

@@ -1,5 +1,5 @@
 -- ReadProperty (ISO 16484-5, clause 15.5).
-use Rattle.std.specs.Prelude.{ℕ, ◌^◌, ◌-◌, List, [], ◌∷◌, ◌++◌, Option, Some, None, Result, Ok}
+use Rattle.std.specs.Prelude.{ℕ, List, [], ◌∷◌, ◌++◌, Option, Some, None, Result}
 use Rattle.gw_addr.specs.Reading.{◌>>=◌}
 use Rattle.gw_tags.specs.Context.{in_context}
 use Rattle.gw_tags.specs.Number.{unsigned_encoding}

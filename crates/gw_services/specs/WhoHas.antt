@@ -1,5 +1,5 @@
 -- Who-Has (ISO 16484-5, clause 16.9).
-use Rattle.std.specs.Prelude.{ℕ, List, [], ◌∷◌, ◌++◌, Option, Some, None, Result}
+use Rattle.std.specs.Prelude.{ℕ, ◌<◌, ◌^◌, List, [], ◌∷◌, ◌++◌, length, Option, Some, None, Result}
 use Rattle.std.specs.Option.{option_map}
 use Rattle.gw_addr.specs.Reading.{◌>>=◌}
 use Rattle.gw_tags.specs.Context.{in_context}
@@ -56,6 +56,11 @@ IsWhoHas octets w = IsBody who_has_body octets (who_has_held w)
 abbrev pub sought_part : Sought → List ℕ
 sought_part (the_object id) = in_context 2 (object_octets id)
 sought_part (the_name charset own) = in_context 3 (charset ∷ own)
+
+-- a name can be written: the length of its content fits 32 bits
+abbrev pub NameFits : Sought → Type 0
+NameFits (the_object id) = Unit {0}
+NameFits (the_name charset own) = length (charset ∷ own) < 2 ^ 32
 
 abbrev pub who_has_encoding : WhoHas → List ℕ
 who_has_encoding w = limits_part w.limits ++ sought_part w.sought

@@ -1,5 +1,5 @@
 -- WriteProperty (ISO 16484-5, clause 15.9).
-use Rattle.std.specs.Prelude.{ℕ, List, [], ◌∷◌, ◌++◌, Option, Result}
+use Rattle.std.specs.Prelude.{ℕ, List, ◌∷◌, ◌++◌, Option, Result}
 use Rattle.gw_addr.specs.Reading.{◌>>=◌}
 use Rattle.gw_tags.specs.declared.tag.Kind.TheVariants.{Opening, Closing}
 use Rattle.gw_tags.specs.Tag.{canonical}

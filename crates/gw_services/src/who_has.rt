@@ -6,7 +6,7 @@ ghost use Rattle.gw_addr.specs.Reading.{Gives, Keeps};
 ghost use Rattle.gw_services.specs.Body.{HasFault};
 ghost use Rattle.std.specs.Option.{option_map};
 ghost use Rattle.gw_services.specs.WhoIs.{limits_view};
-ghost use Rattle.gw_services.specs.WhoHas.{WhoHas as WhoHasFields, who_has_view, who_has_body, IsWhoHas, who_has_at, who_has_encoding, sought_view, sought_at, sought_part, asked_for};
+ghost use Rattle.gw_services.specs.WhoHas.{WhoHas as WhoHasFields, who_has_view, who_has_body, IsWhoHas, who_has_at, who_has_encoding, sought_view, sought_at, sought_part, asked_for, NameFits};
 ghost use Rattle.gw_services.specs.Reading.{ended};
 ghost use Rattle.gw_tags.specs.declared.tag.Kind.TheVariants.{Length};
 ghost use Rattle.gw_tags.specs.Tag.{canonical};
@@ -116,7 +116,7 @@ fn put_name(out: &mut Vec<u8>, name: &CharacterString<'_>) -> Result<(), AllocEr
 
 /// What is sought.
 fn put_sought(out: &mut Vec<u8>, sought: &Sought<'_>) -> Result<(), AllocError>
-    requires { length (sought_part (sought_view sought.now)) < 2 ^ 32 }
+    requires { NameFits (sought_view sought.now) }
     ensures ok { OnOk result (out.new.items ≡ out.old.items ++ sought_part (sought_view sought.now)) }
     ensures front { Keeps out.old.items out.new.items }
     ensures room { vec_len out.old + length (sought_part (sought_view sought.now))
@@ -132,7 +132,7 @@ fn put_sought(out: &mut Vec<u8>, sought: &Sought<'_>) -> Result<(), AllocError>
 
 fn put(out: &mut Vec<u8>, request: &WhoHas<'_>) -> Result<(), AllocError>
     // A name has fewer than 2 to the power of 32 octets.
-    requires { length (sought_part (sought_view request.now.sought)) < 2 ^ 32 }
+    requires { NameFits (sought_view request.now.sought) }
     ensures ok { OnOk result (out.new.items
         ≡ out.old.items ++ who_has_encoding (who_has_view request.now)) }
     ensures front { Keeps out.old.items out.new.items }
@@ -152,7 +152,7 @@ fn put(out: &mut Vec<u8>, request: &WhoHas<'_>) -> Result<(), AllocError>
 /// 1 Memory, only where the buffer had no room.
 pub fn encode_who_has(request: &WhoHas<'_>, out: &mut Vec<u8>) -> Result<(), AllocError>
     // A name has fewer than 2 to the power of 32 octets.
-    requires { length (sought_part (sought_view request.now.sought)) < 2 ^ 32 }
+    requires { NameFits (sought_view request.now.sought) }
     ensures ok { OnOk result (out.new.items
         ≡ out.old.items ++ who_has_encoding (who_has_view request.now)) }
     ensures err { OnErr result (out.new.items ≡ out.old.items) }

@@ -29,6 +29,8 @@ mod rules;
 #[cfg(test)]
 mod script;
 #[cfg(test)]
+mod services;
+#[cfg(test)]
 mod tags;
 #[cfg(test)]
 mod tags_more;

@@ -1,10 +1,10 @@
-use Rattle.std.proofs.Common.{◌≡◌, ◌≢◌, ◌-◌, ◌++◌, List, [], ◌∷◌, Some, None, Result, Ok, Err, map, sym, ap, subst, ◌∙◌}
+use Rattle.std.proofs.Common.{◌-◌, Result, Ok, Err, map, sym, ap, ◌∙◌}
 use Rattle.std.specs.Prelude.{OnOk}
 use Rattle.std.specs.Option.{option_map}
 use Rattle.gw_tags.specs.Object.{object_view}
 use Rattle.gw_services.specs.declared.fault.BodyFault.{BodyFault}
 use Rattle.gw_services.specs.Multi.{reference_view}
-use Rattle.gw_services.specs.MultiReading.{finished, more_at, and_more, references_at, behind_these}
+use Rattle.gw_services.specs.MultiReading.{finished, more_at, references_at, behind_these}
 use Rattle.gw_services.proofs.MultiBody.{bad_again, many_again, set_again, good_again, shifted, pushed, and_err}
 use Rattle.gw_services.proofs.multi.+references.Goals as goal
 
