@@ -11,3 +11,6 @@ pub mod IHaveBody
 pub mod MultiParts
 pub mod MultiBody
 pub mod MultiCalls
+pub mod Encoded
+pub mod EncodedBodies
+pub mod Values
