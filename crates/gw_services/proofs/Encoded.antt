@@ -1,10 +1,10 @@
 -- What is written of a parameter holds it, whatever follows.
-use Rattle.std.proofs.Common.{◌≡◌, ℕ, ◌<◌, ◌≤◌, ◌^◌, ◌&&◌, true, false, eqb, leb, List, [], ◌∷◌, ◌++◌, length, Option, Some, None, refl, sym, ap, subst, ◌∙◌, append_assoc, inl, inr, arith}
+use Rattle.std.proofs.Common.{◌≡◌, ℕ, ◌<◌, ◌≤◌, ◌^◌, true, false, eqb, List, [], ◌∷◌, ◌++◌, length, Option, Some, None, refl, subst, ◌∙◌, append_assoc, inl, inr, arith}
 use Rattle.std.specs.Prelude.{IfSome}
 use Rattle.std.proofs.lemmas.Bool.{le-leb, eqb-true}
 use Rattle.std.proofs.lemmas.List.{append-nil}
 use Rattle.gw_tags.specs.declared.tag.Kind.TheVariants.{Length, Opening, Closing}
-use Rattle.gw_tags.specs.Tag.{Tag, IsTag, BeginsWith, canonical}
+use Rattle.gw_tags.specs.Tag.{IsTag, BeginsWith, canonical}
 use Rattle.gw_tags.specs.List.{context, IsBalanced, deepest, EndsList}
 use Rattle.gw_tags.specs.Context.{in_context, BeginsWithContent, BeginsWithOther}
 use Rattle.gw_tags.specs.Number.{unsigned_encoding}
@@ -14,7 +14,7 @@ use Rattle.gw_tags.specs.Value.{Value, unsigned, enumerated, object_id, characte
 use Rattle.gw_tags.proofs.Canonical.{canonical_encodes}
 use Rattle.gw_tags.proofs.Numbers.{unsigned_encodes}
 use Rattle.gw_tags.proofs.Written.{value_encoding_encodes}
-use Rattle.gw_services.specs.Parameter.{Content, object, number, values, text, Shape, an_object, a_number, a_text, Parameter, under, between, plain_object, plain_unsigned, plain_enumerated, plain_text, of_object, of_number, of_text, tagged, enclosed, an_object_value, an_unsigned_value, an_enumerated_value, a_text_value, in_range}
+use Rattle.gw_services.specs.Parameter.{Content, object, number, values, text, an_object, a_number, a_text, under, between, plain_object, plain_unsigned, plain_enumerated, plain_text, of_object, of_number, of_text, tagged, enclosed, an_object_value, an_unsigned_value, an_enumerated_value, a_text_value, in_range}
 use Rattle.gw_services.specs.Body.{Body, may, Begins, IsAbsent, IsBody, given, left_out}
 use Rattle.gw_services.specs.Read.{number_held, number_part}
 use Rattle.gw_services.specs.Write.{values_part}

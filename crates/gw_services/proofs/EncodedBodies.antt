@@ -1,22 +1,22 @@
 -- What is written of a body is that body.
-use Rattle.std.proofs.Common.{◌≡◌, ℕ, ◌<◌, ◌≤◌, ◌^◌, List, [], ◌∷◌, ◌++◌, length, Option, Some, None, refl, sym, subst, ◌∙◌, append_assoc, inl, inr, arith}
+use Rattle.std.proofs.Common.{◌≡◌, ℕ, ◌<◌, ◌≤◌, ◌^◌, List, [], ◌∷◌, ◌++◌, length, Option, Some, None, refl, sym, subst, append_assoc, inl, inr, arith}
 use Rattle.std.specs.Prelude.{IfSome}
 use Rattle.std.proofs.lemmas.List.{append-nil}
 use Rattle.gw_tags.specs.List.{IsBalanced, deepest}
 use Rattle.gw_tags.specs.Context.{in_context, BeginsWithOther}
 use Rattle.gw_tags.specs.Number.{unsigned_encoding}
-use Rattle.gw_tags.specs.Object.{Object, IsObject, object_octets}
+use Rattle.gw_tags.specs.Object.{IsObject, object_octets}
 use Rattle.gw_tags.specs.Strings.{IsText}
 use Rattle.gw_tags.specs.Value.{unsigned, enumerated, object_id, character_string, value_encoding}
 use Rattle.gw_services.specs.Limits.{last_property, last_number, last_priority, last_instance, last_short_number, last_segmentation}
 use Rattle.gw_services.specs.Parameter.{Content, object, number, values, text}
 use Rattle.gw_services.specs.Body.{Body, done, IsAbsent, IsBody, nothing_more, required, given, left_out}
-use Rattle.gw_services.specs.Read.{Read, IsRead, read_body, read_held, read_encoding, number_part, number_held}
-use Rattle.gw_services.specs.Write.{Write, IsWrite, write_body, write_held, write_encoding, values_part}
-use Rattle.gw_services.specs.WhoIs.{Limits, limits_then, limits_held, limits_part, WhoIs, IsWhoIs, who_is_body, who_is_held, who_is_encoding}
-use Rattle.gw_services.specs.WhoHas.{Sought, the_object, the_name, NameFits, sought_body, sought_held, sought_part, WhoHas, IsWhoHas, who_has_encoding}
-use Rattle.gw_services.specs.IAm.{IAm, IsIAm, i_am_body, i_am_held, i_am_encoding}
-use Rattle.gw_services.specs.IHave.{IHave, IsIHave, i_have_body, i_have_held, i_have_encoding}
+use Rattle.gw_services.specs.Read.{Read, IsRead, read_encoding, number_part, number_held}
+use Rattle.gw_services.specs.Write.{Write, IsWrite, write_encoding, values_part}
+use Rattle.gw_services.specs.WhoIs.{Limits, limits_then, limits_held, limits_part, WhoIs, IsWhoIs, who_is_body, who_is_encoding}
+use Rattle.gw_services.specs.WhoHas.{Sought, the_object, the_name, sought_body, sought_held, sought_part, WhoHas, IsWhoHas, who_has_encoding}
+use Rattle.gw_services.specs.IAm.{IAm, IsIAm, i_am_encoding}
+use Rattle.gw_services.specs.IHave.{IHave, IsIHave, i_have_encoding}
 use Rattle.gw_services.proofs.Encoded.{FitsMaybe, object_begins, number_begins, text_begins, values_begin, other_content, other_opening, number_maybe, number_last, plain_object_begins, plain_unsigned_begins, plain_enumerated_begins, plain_text_begins}
 
 abbrev pub FitsIndex : Option ℕ → Type 0

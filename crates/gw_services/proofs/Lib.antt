@@ -14,3 +14,4 @@ pub mod MultiCalls
 pub mod Encoded
 pub mod EncodedBodies
 pub mod Values
+pub mod MultiEncoded

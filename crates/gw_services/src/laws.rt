@@ -1,13 +1,13 @@
 //! Laws of the definitions that the contracts cite. The functions change nothing and answer nothing:
 //! their contracts are the laws.
 
-ghost use Rattle.std.specs.Prelude.{◌≤◌, ◌<◌, ◌∷◌, ◌^◌, length, IfSome};
+ghost use Rattle.std.specs.Prelude.{◌≤◌, ◌<◌, ◌∷◌, ◌^◌, ℕ, List, length, IfSome};
 ghost use Rattle.gw_tags.specs.List.{IsBalanced, deepest};
 ghost use Rattle.gw_services.specs.Limits.{last_number, last_short_number};
 ghost use Rattle.gw_services.specs.Laws.{HasOneReading};
 ghost use Rattle.gw_services.specs.Read.{IsRead, read_view, read_encoding};
 ghost use Rattle.gw_services.specs.Write.{IsWrite, write_view, write_encoding};
-ghost use Rattle.gw_services.specs.Multi.{IsMulti};
+ghost use Rattle.gw_services.specs.Multi.{Reference, IsMulti, multi_encoding};
 ghost use Rattle.gw_services.specs.WhoIs.{IsWhoIs, who_is_view, who_is_encoding};
 ghost use Rattle.gw_services.specs.WhoHas.{IsWhoHas, who_has_view, who_has_encoding, sought_view, NameFits};
 ghost use Rattle.gw_services.specs.IAm.{IsIAm, i_am_view, i_am_encoding};
@@ -79,6 +79,12 @@ pub fn write_encoded(request: &WriteReq<'_>)
 {
     index_fits(request.index);
 }
+
+/// What is written of a ReadPropertyMultiple request that octets are is its body.
+pub fn multi_encoded()
+    ensures { (octets : List ℕ) (rs : List Reference) → IsMulti octets rs
+        → IsMulti (multi_encoding rs) rs }
+{}
 
 /// What is written of a Who-Is request is its body.
 pub fn who_is_encoded(request: &WhoIs)
