@@ -191,7 +191,16 @@ fn faults_and_longest_apdus(rt: HostRuntime) {
         assert_eq!(rt; decode(octets), Err(fault), "{octets:?}");
         assert_eq!(rt; service_code(octets), None);
     }
-    for (max_apdu, most) in [(0, 50), (1, 128), (2, 206), (3, 480), (4, 1024), (5, 1476), (6, 1476), (15, 1476)] {
+    for (max_apdu, most) in [
+        (0, 50),
+        (1, 128),
+        (2, 206),
+        (3, 480),
+        (4, 1024),
+        (5, 1476),
+        (6, 1476),
+        (15, 1476),
+    ] {
         assert_eq!(rt; ConfirmedRequest { max_apdu, ..READ }.max_apdu_len(), most);
     }
 }

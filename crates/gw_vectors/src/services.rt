@@ -4,11 +4,12 @@ ghost use Rattle.std.specs.Prelude.{◌≤◌, vec_len};
 
 use gw_apdu::ServiceError;
 use gw_services::{
-    BodyFault, IAm, IHave, Limits, MultiReq, ReadReq, Reference, Segmentation, Sought, WhoHas, WhoIs,
-    WriteReq, decode_i_am, decode_i_have, decode_multi, decode_read, decode_who_has, decode_who_is,
-    decode_write, encode_i_am, encode_i_have, encode_multi, encode_read, encode_who_has,
-    encode_who_is, encode_write, write_error_item, write_object_head, write_object_tail,
-    write_read_answer_head, write_read_answer_tail, write_value_item_head, write_value_item_tail,
+    BodyFault, IAm, IHave, Limits, MultiReq, ReadReq, Reference, Segmentation, Sought, WhoHas,
+    WhoIs, WriteReq, decode_i_am, decode_i_have, decode_multi, decode_read, decode_who_has,
+    decode_who_is, decode_write, encode_i_am, encode_i_have, encode_multi, encode_read,
+    encode_who_has, encode_who_is, encode_write, write_error_item, write_object_head,
+    write_object_tail, write_read_answer_head, write_read_answer_tail, write_value_item_head,
+    write_value_item_tail,
 };
 use gw_tags::{CharacterString, ObjectId};
 use std::alloc::{AllocError, Global};
@@ -24,11 +25,15 @@ const WRITE: [u8; 13] = [
 const MULTI: [u8; 13] = [
     0x0C, 0x01, 0x40, 0x00, 0x01, 0x1E, 0x09, 0x55, 0x09, 0x57, 0x19, 0x00, 0x1F,
 ];
+
 const WHO_IS: [u8; 6] = [0x09, 0x00, 0x1B, 0x3F, 0xFF, 0xFF];
+
 const WHO_HAS: [u8; 5] = [0x3C, 0x00, 0x66, 0x61, 0x6E];
+
 const I_AM: [u8; 13] = [
     0xC4, 0x02, 0x00, 0x04, 0xD2, 0x22, 0x05, 0xC4, 0x91, 0x03, 0x22, 0x03, 0xE7,
 ];
+
 const I_HAVE: [u8; 15] = [
     0xC4, 0x02, 0x00, 0x04, 0xD2, 0xC4, 0x01, 0x40, 0x00, 0x01, 0x74, 0x00, 0x66, 0x61, 0x6E,
 ];
@@ -130,6 +135,18 @@ fn fault_of_i_have(octets: &[u8]) -> Option<BodyFault> {
     decode_i_have(octets).err()
 }
 
+/// The fault of a body that is cut to this length: where a parameter is due it lacks, at some lengths it is whole, and elsewhere a
+/// parameter is cut.
+fn cut_fault(len: usize, due: &[usize], whole: &[usize]) -> Option<BodyFault> {
+    if due.contains(&len) {
+        Some(BodyFault::Missing)
+    } else if whole.contains(&len) {
+        None
+    } else {
+        Some(BodyFault::InvalidTag)
+    }
+}
+
 #[test]
 fn faults(rt: HostRuntime) {
     let reads: [(&[u8], BodyFault); 14] = [
@@ -141,9 +158,7 @@ fn faults(rt: HostRuntime) {
         ),
         (&[0x0B, 0x01, 0x40, 0x00], BodyFault::InvalidTag),
         (
-            &[
-                0x0C, 0x01, 0x40, 0x00, 0x01, 0x1C, 0x00, 0x40, 0x00, 0x00,
-            ],
+            &[0x0C, 0x01, 0x40, 0x00, 0x01, 0x1C, 0x00, 0x40, 0x00, 0x00],
             BodyFault::OutOfRange,
         ),
         (
@@ -221,26 +236,32 @@ fn faults(rt: HostRuntime) {
     for (octets, fault) in who_has {
         assert_eq!(rt; fault_of_who_has(octets), fault, "{octets:?}");
     }
+    for len in 0..READ.len() {
+        let want = cut_fault(len, &[0, 5], &[7]);
+        assert_eq!(rt; fault_of_read(&READ[..len]), want, "{len}");
+    }
+    for len in 0..WRITE.len() {
+        let want = cut_fault(len, &[0, 5, 7], &[11]);
+        assert_eq!(rt; fault_of_write(&WRITE[..len]), want, "{len}");
+    }
+    for len in 0..WHO_IS.len() {
+        let want = cut_fault(len, &[2], &[0]);
+        assert_eq!(rt; fault_of_who_is(&WHO_IS[..len]), want, "{len}");
+    }
+    for len in 0..WHO_HAS.len() {
+        let want = cut_fault(len, &[0], &[]);
+        assert_eq!(rt; fault_of_who_has(&WHO_HAS[..len]), want, "{len}");
+    }
     let mut announced = I_AM;
     announced[9] = 4;
     assert_eq!(rt; fault_of_i_am(&announced), Some(BodyFault::OutOfRange));
     for len in 0..I_AM.len() {
-        let at_boundary = [0, 5, 8, 10].contains(&len);
-        let want = if at_boundary {
-            BodyFault::Missing
-        } else {
-            BodyFault::InvalidTag
-        };
-        assert_eq!(rt; fault_of_i_am(&I_AM[..len]), Some(want), "{len}");
+        let want = cut_fault(len, &[0, 5, 8, 10], &[]);
+        assert_eq!(rt; fault_of_i_am(&I_AM[..len]), want, "{len}");
     }
     for len in 0..I_HAVE.len() {
-        let at_boundary = [0, 5, 10].contains(&len);
-        let want = if at_boundary {
-            BodyFault::Missing
-        } else {
-            BodyFault::InvalidTag
-        };
-        assert_eq!(rt; fault_of_i_have(&I_HAVE[..len]), Some(want), "{len}");
+        let want = cut_fault(len, &[0, 5, 10], &[]);
+        assert_eq!(rt; fault_of_i_have(&I_HAVE[..len]), want, "{len}");
     }
 }
 
@@ -272,7 +293,10 @@ fn properties(alloc: Global, count: usize, behind: &[u8]) -> Result<Vec<u8>, All
 fn limits_and_sets(rt: HostRuntime) -> Result<(), Fail> {
     let alloc = rt.alloc();
     assert_eq!(rt; fault_of_write(&nested(alloc, 16)?), None);
-    assert_eq!(rt; fault_of_write(&nested(alloc, 17)?), Some(BodyFault::InvalidTag));
+    assert_eq!(rt;
+        fault_of_write(&nested(alloc, 17)?),
+        Some(BodyFault::InvalidTag)
+    );
 
     let fan = ObjectId::new(5, 1).ok_or("an object")?;
     let multi = decode_multi(alloc, &MULTI).ok().ok_or("a body")?;
@@ -296,7 +320,14 @@ fn limits_and_sets(rt: HostRuntime) -> Result<(), Fail> {
     encode_multi(&MultiReq { references: list }, &mut out)?;
     assert_eq!(rt; out.as_slice(), MULTI.as_slice());
 
-    let many = decode_multi(alloc, &properties(alloc, 128, &[0x1F])?).ok().ok_or("128")?;
+    for len in 0..MULTI.len() {
+        let want = cut_fault(len, &[0, 5, 6, 8, 10, 12], &[]);
+        assert_eq!(rt; decode_multi(alloc, &MULTI[..len]).err(), want, "{len}");
+    }
+
+    let many = decode_multi(alloc, &properties(alloc, 128, &[0x1F])?)
+        .ok()
+        .ok_or("128")?;
     assert_eq!(rt; many.references.len(), 128);
     let rows: [(usize, &[u8], BodyFault); 10] = [
         (129, &[0x1F], BodyFault::TooMany),
@@ -312,7 +343,11 @@ fn limits_and_sets(rt: HostRuntime) -> Result<(), Fail> {
     ];
     for (count, behind, fault) in rows {
         let octets = properties(alloc, count, behind)?;
-        assert_eq!(rt; decode_multi(alloc, &octets).err(), Some(fault), "{count} {behind:?}");
+        assert_eq!(rt;
+            decode_multi(alloc, &octets).err(),
+            Some(fault),
+            "{count} {behind:?}"
+        );
     }
     Ok(())
 }
