@@ -8,6 +8,8 @@
 #[cfg(test)]
 mod addr;
 #[cfg(test)]
+mod apdu;
+#[cfg(test)]
 mod bdt_fdt;
 #[cfg(test)]
 mod bvll;
@@ -28,6 +30,8 @@ mod routes;
 mod rules;
 #[cfg(test)]
 mod script;
+#[cfg(test)]
+mod services;
 #[cfg(test)]
 mod table;
 #[cfg(test)]

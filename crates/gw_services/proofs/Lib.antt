@@ -1,0 +1,17 @@
+pub mod Contents
+pub mod Parameters
+pub mod Bodies
+pub mod Steps
+pub mod ReadBody
+pub mod WriteBody
+pub mod WhoIsBody
+pub mod WhoHasBody
+pub mod IAmBody
+pub mod IHaveBody
+pub mod MultiParts
+pub mod MultiBody
+pub mod MultiCalls
+pub mod Encoded
+pub mod EncodedBodies
+pub mod Values
+pub mod MultiEncoded

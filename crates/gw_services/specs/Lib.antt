@@ -1,0 +1,15 @@
+pub mod Limits
+pub mod Parameter
+pub mod Body
+pub mod Reading
+pub mod Read
+pub mod Write
+pub mod WhoIs
+pub mod WhoHas
+pub mod IAm
+pub mod IHave
+pub mod Multi
+pub mod MultiReading
+pub mod Reply
+pub mod Laws
+pub mod internal

@@ -1,0 +1,49 @@
+-- The bodies by which the device answers a ReadProperty and a ReadPropertyMultiple (ISO 16484-5,
+-- clauses 15.5.1.2 and 15.7.1.2), as they are written. Values stand between what opens and what
+-- closes them.
+use Rattle.std.specs.Prelude.{ℕ, List, ◌++◌, Option}
+use Rattle.gw_tags.specs.declared.tag.Kind.TheVariants.{Opening, Closing}
+use Rattle.gw_tags.specs.Tag.{canonical}
+use Rattle.gw_tags.specs.List.{context}
+use Rattle.gw_tags.specs.Context.{in_context}
+use Rattle.gw_tags.specs.Number.{unsigned_encoding}
+use Rattle.gw_tags.specs.Object.{Object, object_octets}
+use Rattle.gw_apdu.specs.declared.writing.ServiceError.{ServiceError}
+use Rattle.gw_apdu.specs.Answers.{class_and_code}
+use Rattle.gw_services.specs.Read.{Read, read_encoding, number_part}
+
+abbrev pub opening : ℕ → List ℕ
+opening tag = canonical (context tag Opening)
+
+abbrev pub closing : ℕ → List ℕ
+closing tag = canonical (context tag Closing)
+
+-- ReadProperty: [0] object, [1] property, [2] index where it was asked for; then the value between
+-- [3] and [3]
+abbrev pub read_answer_head : Read → List ℕ
+read_answer_head r = read_encoding r ++ opening 3
+
+abbrev pub read_answer_tail : List ℕ
+read_answer_tail = closing 3
+
+-- ReadPropertyMultiple, for each object: [0] object, then its items between [1] and [1]
+abbrev pub object_head : Object → List ℕ
+object_head id = in_context 0 (object_octets id) ++ opening 1
+
+abbrev pub object_tail : List ℕ
+object_tail = closing 1
+
+-- an item: [2] property, [3] index where it was asked for
+abbrev pub item_name : ℕ → Option ℕ → List ℕ
+item_name p i = in_context 2 (unsigned_encoding p) ++ number_part 3 i
+
+-- then its value between [4] and [4]
+abbrev pub value_item_head : ℕ → Option ℕ → List ℕ
+value_item_head p i = item_name p i ++ opening 4
+
+abbrev pub value_item_tail : List ℕ
+value_item_tail = closing 4
+
+-- or the class and the code of an error between [5] and [5]
+abbrev pub error_item : ℕ → Option ℕ → ServiceError → List ℕ
+error_item p i why = item_name p i ++ (opening 5 ++ class_and_code why ++ closing 5)

@@ -1,0 +1,109 @@
+//! I-Am (clause 16.10).
+
+ghost use Rattle.std.specs.Prelude.{◌≡◌, ◌↔◌, ◌≤◌, ◌<◌, ◌+◌, ◌++◌, ◌^◌, List, ℕ, length, vec_len, IfOk, IsOkAnd, IsOk, OnOk, OnErr, Err};
+ghost use Rattle.std.specs.Vec.{vec_capacity};
+ghost use Rattle.gw_addr.specs.Reading.{Gives, Keeps};
+ghost use Rattle.gw_services.specs.Body.{HasFault};
+ghost use Rattle.gw_services.specs.Limits.{last_segmentation};
+ghost use Rattle.gw_services.specs.IAm.{IAm as IAmFields, i_am_view, i_am_body, IsIAm, i_am_at, i_am_encoding, segmentation_number};
+
+use crate::discovery::IAm;
+use crate::fault::BodyFault;
+use crate::parameter::{plain_enumerated, plain_object, plain_unsigned};
+use crate::segmentation::Segmentation;
+use gw_tags::{AppValue, write_value};
+use std::alloc::AllocError;
+
+/// The last choice of [`Segmentation`].
+const LAST_SEGMENTATION: u32 = 3;
+/// The last number of two octets.
+const LAST_SHORT: u32 = 65535;
+
+/// The choice of a number.
+fn segmentation_of(number: u32) -> Segmentation
+    requires { number ≤ last_segmentation }
+    ensures { segmentation_number result ≡ number }
+{
+    match number {
+        0 => Segmentation::Both,
+        1 => Segmentation::Transmit,
+        2 => Segmentation::Receive,
+        _ => Segmentation::None,
+    }
+}
+
+fn read(octets: &[u8]) -> Result<IAm, BodyFault>
+    ensures { Gives (λ i. i_am_view i) result (i_am_at octets.now) }
+{
+    let (device, rest) = plain_object(octets)?;
+    let (max_apdu, rest) = plain_unsigned(LAST_SHORT, rest)?;
+    let (segmentation, rest) = plain_enumerated(LAST_SEGMENTATION, rest)?;
+    let (vendor, rest) = plain_unsigned(LAST_SHORT, rest)?;
+    if !rest.is_empty() {
+        return Err(BodyFault::TooMany);
+    }
+    Ok(IAm {
+        device,
+        max_apdu: max_apdu as u16,
+        segmentation: segmentation_of(segmentation),
+        vendor: vendor as u16,
+    })
+}
+
+/// Reads the body of an I-Am, all of it.
+///
+/// # Errors
+///
+/// 1 `InvalidTag`, 2 `Missing`, 3 `OutOfRange` and 4 `TooMany`, as [`BodyFault`] says: the first in
+/// the order of the octets.
+pub fn decode_i_am(octets: &[u8]) -> Result<IAm, BodyFault>
+    // What is read is what the octets are.
+    ensures found { IfOk result (λ i. IsIAm octets.now (i_am_view i)) }
+    // What the octets are is read.
+    ensures only { (i : IAmFields) → IsIAm octets.now i
+        → IsOkAnd result (λ x. i_am_view x ≡ i) }
+    // What is wrong with octets that are no such body.
+    ensures fault { (fault : BodyFault) → (result ≡ Err fault)
+        ↔ HasFault fault i_am_body octets.now }
+    // The answer as a function of the octets.
+    ensures exact { Gives (λ i. i_am_view i) result (i_am_at octets.now) }
+{
+    read(octets)
+}
+
+fn put(out: &mut Vec<u8>, announced: &IAm) -> Result<(), AllocError>
+    ensures ok { OnOk result (out.new.items
+        ≡ out.old.items ++ i_am_encoding (i_am_view announced.now)) }
+    ensures front { Keeps out.old.items out.new.items }
+    ensures room { vec_len out.old + length (i_am_encoding (i_am_view announced.now)) ≤ vec_capacity out.old
+        → IsOk result }
+    ensures capacity { vec_capacity out.old ≤ vec_capacity out.new }
+{
+    write_value(out, AppValue::Object(announced.device))?;
+    write_value(out, AppValue::Unsigned(u32::from(announced.max_apdu)))?;
+    let segmentation = announced.segmentation.number();
+    write_value(out, AppValue::Enumerated(u32::from(segmentation)))?;
+    write_value(out, AppValue::Unsigned(u32::from(announced.vendor)))
+}
+
+/// Appends the body of an I-Am, in the fewest octets. The buffer keeps what it held, also after
+/// an error.
+///
+/// # Errors
+///
+/// 1 Memory, only where the buffer had no room.
+pub fn encode_i_am(announced: &IAm, out: &mut Vec<u8>) -> Result<(), AllocError>
+    ensures ok { OnOk result (out.new.items
+        ≡ out.old.items ++ i_am_encoding (i_am_view announced.now)) }
+    ensures err { OnErr result (out.new.items ≡ out.old.items) }
+    ensures room { vec_len out.old + length (i_am_encoding (i_am_view announced.now)) ≤ vec_capacity out.old
+        → IsOk result }
+    ensures capacity { vec_capacity out.old ≤ vec_capacity out.new }
+{
+    let len = out.len();
+    let written = put(out, announced);
+    if written.is_err() {
+        out.truncate(len);
+    }
+    written
+}

@@ -1,0 +1,297 @@
+//! ReadPropertyMultiple (clause 15.7).
+
+ghost use Rattle.std.specs.Prelude.{◌≡◌, ◌≢◌, ◌≤◌, ◌<◌, ◌+◌, ◌++◌, ◌⊎◌, List, ℕ, map, None, length, vec_len, IfOk, IsOk, MatchResult, OnOk, OnErr, Ok, Err};
+ghost use Rattle.std.specs.Vec.{vec_capacity};
+ghost use Rattle.std.specs.Option.{option_map};
+ghost use Rattle.gw_addr.specs.Reading.{Gives, Keeps};
+ghost use Rattle.gw_tags.specs.Object.{object_view};
+ghost use Rattle.gw_services.specs.Multi.{Reference as ReferenceFields, reference_view, multi_view, IsMulti, HasMultiFault, is_consistent, is_set_name, most_references, head_part, tail_part, name_part, list_ends, reference_part, multi_encoding};
+ghost use Rattle.gw_services.specs.MultiReading.{opened_at, named_at, reference_at, next_at, references_at, multi_at, behind_these};
+ghost use Rattle.gw_services.specs.internal.Next.{next_view};
+
+use crate::fault::BodyFault;
+use crate::multi_req::{MultiReq, Reference};
+use crate::next::Next;
+use crate::parameter::{number, number_maybe, object};
+use crate::read::put_number;
+use crate::request::LAST_PROPERTY;
+use gw_tags::{
+    ObjectId, read_closing, read_opening, write_closing, write_context, write_context_unsigned,
+    write_opening,
+};
+use std::alloc::{AllocError, Global};
+
+/// How many properties a body may name: our own limit.
+const MOST_REFERENCES: u8 = 128;
+/// The names for sets of properties (clause 15.7.3.1).
+const ALL: u32 = 8;
+
+const REQUIRED: u32 = 105;
+
+const OPTIONAL: u32 = 80;
+
+/// The opening tag of a list, which has to be there.
+fn opened(octets: &[u8]) -> Result<&[u8], BodyFault>
+    ensures { Gives (λ x. x.now) result (opened_at octets.now) }
+{
+    if octets.is_empty() {
+        return Err(BodyFault::Missing);
+    }
+    match read_opening(1, octets) {
+        Ok(inner) => Ok(inner),
+        Err(_) => Err(BodyFault::InvalidTag),
+    }
+}
+
+/// A property, and its index where it is given.
+fn named(begins: bool, object: ObjectId, octets: &[u8]) -> Result<(Reference, &[u8]), BodyFault>
+    ensures { Gives (λ x. (reference_view x.0, x.1.now)) result
+        (named_at begins (object_view object) octets.now) }
+{
+    let (property, rest) = number(0, 0, LAST_PROPERTY, octets)?;
+    let (index, rest) = number_maybe(1, 0, u32::MAX, rest)?;
+    let reference = Reference {
+        begins,
+        object,
+        property,
+        index,
+    };
+    Ok((reference, rest))
+}
+
+/// The first property of an object's list.
+fn first(octets: &[u8]) -> Result<(Reference, &[u8]), BodyFault>
+    ensures { Gives (λ x. (reference_view x.0, x.1.now)) result (reference_at None octets.now) }
+{
+    let (object, rest) = object(0, octets)?;
+    let inner = opened(rest)?;
+    match read_closing(1, inner) {
+        Ok(_) => Err(BodyFault::Missing),
+        Err(_) => named(true, object, inner),
+    }
+}
+
+/// A reference: of the object whose list is open, or where none is, the first of a new list.
+fn reference(current: Option<ObjectId>, octets: &[u8]) -> Result<(Reference, &[u8]), BodyFault>
+    ensures { Gives (λ x. (reference_view x.0, x.1.now)) result
+        (reference_at (option_map object_view current) octets.now) }
+{
+    match current {
+        None => first(octets),
+        Some(object) => named(false, object, octets),
+    }
+}
+
+/// Whether the property is a name for a set.
+pub(crate) fn is_set(property: u32) -> bool
+    ensures { result ≡ is_set_name property }
+{
+    property == ALL || property == REQUIRED || property == OPTIONAL
+}
+
+/// Whether the reference names no element of a set.
+fn is_consistent(reference: &Reference) -> bool
+    ensures { result ≡ is_consistent (reference_view reference.now) }
+{
+    !(is_set(reference.property) && reference.index.is_some())
+}
+
+/// What comes behind a reference.
+fn next<'a>(object: ObjectId, octets: &'a [u8]) -> Next<'a>
+    ensures { next_view result ≡ next_at (object_view object) octets.now }
+{
+    match read_closing(1, octets) {
+        Err(_) => Next::More(Some(object), octets),
+        Ok(rest) if rest.is_empty() => Next::Finished,
+        Ok(rest) => Next::More(None, rest),
+    }
+}
+
+/// Appends the references, at most so many. After a fault a front of them may stand there.
+fn references(
+    left: u8,
+    current: Option<ObjectId>,
+    octets: &[u8],
+    out: &mut Vec<Reference>,
+) -> Result<(), BodyFault>
+    ensures ok { OnOk result
+        (behind_these (map reference_view out.old.items)
+        (references_at left (option_map object_view current) octets.now)
+        ≡ Ok (map reference_view out.new.items)) }
+    ensures err { (fault : BodyFault) → result ≡ Err fault → fault ≢ BodyFault.Memory
+        → references_at left (option_map object_view current) octets.now ≡ Err fault }
+{
+    let (reference, behind) = match reference(current, octets) {
+        Ok(found) => found,
+        Err(fault) => return Err(fault),
+    };
+    if left == 0 {
+        return Err(BodyFault::TooMany);
+    }
+    if !is_consistent(&reference) {
+        return Err(BodyFault::Inconsistent);
+    }
+    let Ok(()) = out.push(reference) else {
+        return Err(BodyFault::Memory);
+    };
+    match next(reference.object, behind) {
+        Next::Finished => Ok(()),
+        Next::More(current, rest) => references(left - 1, current, rest, out),
+    }
+}
+
+/// What `decode_multi` gives, said by the reading function alone.
+fn read(alloc: Global, octets: &[u8]) -> Result<MultiReq, BodyFault>
+    ensures ok { IfOk result (λ m. multi_at octets.now ≡ Ok (multi_view m)) }
+    ensures err { (fault : BodyFault) → result ≡ Err fault → fault ≢ BodyFault.Memory
+        → multi_at octets.now ≡ Err fault }
+{
+    let Ok(mut list) = Vec::with_capacity(alloc, most_of(octets.len())) else {
+        return Err(BodyFault::Memory);
+    };
+    match references(MOST_REFERENCES, None, octets, &mut list) {
+        Ok(()) => Ok(MultiReq { references: list }),
+        Err(fault) => Err(fault),
+    }
+}
+
+/// The most references that so many octets can have.
+fn most_of(len: usize) -> usize {
+    if len / 2 < MOST_REFERENCES as usize {
+        len / 2
+    } else {
+        MOST_REFERENCES as usize
+    }
+}
+
+/// Reads the body of a ReadPropertyMultiple request, all of it. The list of references takes memory
+/// once, as much as the octets can need.
+///
+/// # Errors
+///
+/// 1 `InvalidTag`, 2 `Missing`, 3 `OutOfRange`, 4 `TooMany` and 5 `Inconsistent`, as [`BodyFault`]
+/// says: the first in the order of the octets. A reference is read whole, and then counted, and then
+/// judged. 6 `Memory` where no memory was granted.
+pub fn decode_multi(alloc: Global, octets: &[u8]) -> Result<MultiReq, BodyFault>
+    // What is read is what the octets are.
+    ensures found { IfOk result (λ m. IsMulti octets.now (multi_view m)) }
+    // What the octets are is read, or memory was refused.
+    ensures only { (rs : List ReferenceFields) → IsMulti octets.now rs
+        → MatchResult result (λ m. multi_view m ≡ rs) (λ fault. fault ≡ BodyFault.Memory) }
+    // What is wrong with octets that are no such body.
+    ensures fault { (fault : BodyFault) → result ≡ Err fault → fault ≢ BodyFault.Memory
+        → HasMultiFault fault octets.now }
+    // What is wrong is told, or memory was refused.
+    ensures told { (fault : BodyFault) → HasMultiFault fault octets.now
+        → (result ≡ Err fault) ⊎ (result ≡ Err BodyFault.Memory) }
+{
+    read(alloc, octets)
+}
+
+/// The head of an object's list.
+fn put_head(out: &mut Vec<u8>, begins: bool, object: ObjectId) -> Result<(), AllocError>
+    ensures ok { OnOk result (out.new.items
+        ≡ out.old.items ++ head_part begins (object_view object)) }
+    ensures front { Keeps out.old.items out.new.items }
+    ensures room { vec_len out.old + length (head_part begins (object_view object))
+        ≤ vec_capacity out.old
+        → IsOk result }
+    ensures capacity { vec_capacity out.old ≤ vec_capacity out.new }
+{
+    if begins {
+        write_context(out, 0, &object.to_octets())?;
+        write_opening(out, 1)?;
+    }
+    Ok(())
+}
+
+/// The end of an object's list.
+fn put_tail(out: &mut Vec<u8>, ends: bool) -> Result<(), AllocError>
+    ensures ok { OnOk result (out.new.items ≡ out.old.items ++ tail_part ends) }
+    ensures front { Keeps out.old.items out.new.items }
+    ensures room { vec_len out.old + length (tail_part ends) ≤ vec_capacity out.old → IsOk result }
+    ensures capacity { vec_capacity out.old ≤ vec_capacity out.new }
+{
+    if ends {
+        write_closing(out, 1)?;
+    }
+    Ok(())
+}
+
+/// A property, and its index where it is given.
+fn put_name(out: &mut Vec<u8>, property: u32, index: Option<u32>) -> Result<(), AllocError>
+    ensures ok { OnOk result (out.new.items ≡ out.old.items ++ name_part property index) }
+    ensures front { Keeps out.old.items out.new.items }
+    ensures room { vec_len out.old + length (name_part property index) ≤ vec_capacity out.old
+        → IsOk result }
+    ensures capacity { vec_capacity out.old ≤ vec_capacity out.new }
+{
+    write_context_unsigned(out, 0, property)?;
+    put_number(out, 1, index)
+}
+
+fn put_reference(out: &mut Vec<u8>, reference: &Reference, ends: bool) -> Result<(), AllocError>
+    ensures ok { OnOk result (out.new.items
+        ≡ out.old.items ++ reference_part (reference_view reference.now) ends) }
+    ensures front { Keeps out.old.items out.new.items }
+    ensures room { vec_len out.old + length (reference_part (reference_view reference.now) ends)
+        ≤ vec_capacity out.old
+        → IsOk result }
+    ensures capacity { vec_capacity out.old ≤ vec_capacity out.new }
+{
+    put_head(out, reference.begins, reference.object)?;
+    put_name(out, reference.property, reference.index)?;
+    put_tail(out, ends)
+}
+
+/// Whether an object's list ends before these.
+fn list_ends(references: &[Reference]) -> bool
+    ensures { result ≡ list_ends (map reference_view references.now) }
+{
+    match references {
+        [] => true,
+        [first, ..] => first.begins,
+    }
+}
+
+/// Appends the references. After an `Err` a front of them may stand there.
+fn put(out: &mut Vec<u8>, references: &[Reference]) -> Result<(), AllocError>
+    ensures ok { OnOk result (out.new.items
+        ≡ out.old.items ++ multi_encoding (map reference_view references.now)) }
+    ensures front { Keeps out.old.items out.new.items }
+    ensures room { vec_len out.old
+        + length (multi_encoding (map reference_view references.now)) ≤ vec_capacity out.old
+        → IsOk result }
+    ensures capacity { vec_capacity out.old ≤ vec_capacity out.new }
+{
+    let Some((first, others)) = references.split_first() else {
+        return Ok(());
+    };
+    put_reference(out, first, list_ends(others))?;
+    put(out, others)
+}
+
+/// Appends the body of a ReadPropertyMultiple request, in the fewest octets. The buffer keeps what
+/// it held, also after an error.
+///
+/// # Errors
+///
+/// 1 Memory, only where the buffer had no room.
+pub fn encode_multi(request: &MultiReq, out: &mut Vec<u8>) -> Result<(), AllocError>
+    // A body names at most 128 properties.
+    requires { vec_len request.now.references ≤ most_references }
+    ensures ok { OnOk result (out.new.items
+        ≡ out.old.items ++ multi_encoding (multi_view request.now)) }
+    ensures err { OnErr result (out.new.items ≡ out.old.items) }
+    ensures room { vec_len out.old + length (multi_encoding (multi_view request.now))
+        ≤ vec_capacity out.old
+        → IsOk result }
+    ensures capacity { vec_capacity out.old ≤ vec_capacity out.new }
+{
+    let len = out.len();
+    let written = put(out, request.references.as_slice());
+    if written.is_err() {
+        out.truncate(len);
+    }
+    written
+}

@@ -1,0 +1,38 @@
+//! What the body of a ReadPropertyMultiple request says (clause 15.7).
+
+ghost use Rattle.std.specs.Prelude.{◌≤◌};
+ghost use Rattle.gw_services.specs.Limits.{last_property};
+
+use gw_tags::ObjectId;
+
+/// A property of an object, or one element of it, among those that a request asks for.
+#[derive(Clone, Copy, Debug, PartialEq, Eq)]
+pub struct Reference {
+    /// Whether an object's list begins with this one. One object may have several lists, one
+    /// behind the other.
+    pub begins: bool,
+    /// The object.
+    pub object: ObjectId,
+    /// The property, 0 to 4194303.
+    pub property: u32,
+    /// The index of an element.
+    pub index: Option<u32>,
+    pub ghost numbered: { property ≤ last_property },
+}
+
+/// A ReadPropertyMultiple request: lists of properties, each of one object.
+///
+/// | Tag | Parameter |
+/// |---|---|
+/// | 0 | object |
+/// | 1 | opening |
+/// | 0 | property |
+/// | 1 | index, may be absent |
+/// | | more properties and indices |
+/// | 1 | closing |
+/// | | more objects and lists |
+#[derive(Debug, Drop)]
+pub struct MultiReq {
+    /// The properties in the order in which they are asked for.
+    pub references: Vec<Reference>,
+}

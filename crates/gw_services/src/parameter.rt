@@ -1,0 +1,239 @@
+//! The parameters of a body, each read from the front of octets with what stands behind it.
+
+ghost use Rattle.std.specs.Prelude.{◌≡◌, ◌≤◌, ◌<◌, IfOk, IfSome, Option};
+ghost use Rattle.gw_addr.specs.Reading.{Gives};
+ghost use Rattle.std.specs.Option.{option_map};
+ghost use Rattle.gw_tags.specs.Object.{object_view};
+ghost use Rattle.gw_tags.specs.Value.{Value, value_view};
+ghost use Rattle.gw_services.specs.Reading.{object_in, number_in, text_in, due_at, given_at, object_at, number_at, text_at, number_maybe_at, object_maybe_at, values_at, any_value_at, value_of_kind_at, number_of_kind_at, object_value, unsigned_value, enumerated_value, text_value, ranged};
+
+use crate::fault::BodyFault;
+use gw_tags::{
+    AppValue, CharacterString, ContextFault, ObjectId, read_context, read_list, read_opening,
+    read_unsigned, read_value,
+};
+
+/// A content under a context tag, and the octets behind it.
+type Content<'a> = (&'a [u8], &'a [u8]);
+
+/// Four octets are an object.
+fn object_of(own: &[u8]) -> Result<ObjectId, BodyFault>
+    ensures { Gives (λ o. object_view o) result (object_in own.now) }
+{
+    let [a, b, c, d] = own else {
+        return Err(BodyFault::InvalidTag);
+    };
+    Ok(ObjectId::from_octets([*a, *b, *c, *d]))
+}
+
+/// One to four octets are a number, which has its range.
+fn number_of(least: u32, most: u32, own: &[u8]) -> Result<u32, BodyFault>
+    ensures exact { Gives (λ n. n) result (number_in least most own.now) }
+    ensures range { IfOk result (λ n. (least ≤ n) × (n ≤ most)) }
+{
+    let Some(number) = read_unsigned(own) else {
+        return Err(BodyFault::InvalidTag);
+    };
+    within(least, most, number)
+}
+
+/// A number in its range.
+fn within(least: u32, most: u32, number: u32) -> Result<u32, BodyFault>
+    ensures exact { Gives (λ n. n) result (ranged least most number) }
+    ensures range { IfOk result (λ n. (least ≤ n) × (n ≤ most)) }
+{
+    if number < least || number > most {
+        return Err(BodyFault::OutOfRange);
+    }
+    Ok(number)
+}
+
+/// A character set and octets, which in set 0 are UTF-8.
+fn text_of(own: &[u8]) -> Result<CharacterString<'_>, BodyFault>
+    ensures { Gives (λ t. (t.charset, t.octets.now)) result (text_in own.now) }
+{
+    let [charset, octets @ ..] = own else {
+        return Err(BodyFault::InvalidTag);
+    };
+    match CharacterString::new(*charset, octets) {
+        Some(text) => Ok(text),
+        None => Err(BodyFault::InvalidTag),
+    }
+}
+
+/// The content under the tag, which has to be there.
+fn due(tag: u8, octets: &[u8]) -> Result<Content<'_>, BodyFault>
+    requires { tag < 255 }
+    ensures { Gives (λ x. (x.0.now, x.1.now)) result (due_at tag octets.now) }
+{
+    if octets.is_empty() {
+        return Err(BodyFault::Missing);
+    }
+    match read_context(tag, octets) {
+        Ok(content) => Ok(content),
+        Err(_) => Err(BodyFault::InvalidTag),
+    }
+}
+
+/// The content under the tag, which may be there.
+fn given(tag: u8, octets: &[u8]) -> Result<Option<Content<'_>>, BodyFault>
+    requires { tag < 255 }
+    ensures { Gives (λ g. option_map (λ x. (x.0.now, x.1.now)) g) result (given_at tag octets.now) }
+{
+    if octets.is_empty() {
+        return Ok(None);
+    }
+    match read_context(tag, octets) {
+        Ok(content) => Ok(Some(content)),
+        Err(ContextFault::OtherTag) => Ok(None),
+        Err(ContextFault::Short | ContextFault::BadTag) => Err(BodyFault::InvalidTag),
+    }
+}
+
+/// An object that has to be there.
+pub fn object(tag: u8, octets: &[u8]) -> Result<(ObjectId, &[u8]), BodyFault>
+    requires { tag < 255 }
+    ensures { Gives (λ x. (object_view x.0, x.1.now)) result (object_at tag octets.now) }
+{
+    let (own, rest) = due(tag, octets)?;
+    let object = object_of(own)?;
+    Ok((object, rest))
+}
+
+/// A number that has to be there, with its range.
+pub fn number(tag: u8, least: u32, most: u32, octets: &[u8]) -> Result<(u32, &[u8]), BodyFault>
+    requires { tag < 255 }
+    ensures exact { Gives (λ x. (x.0, x.1.now)) result (number_at tag least most octets.now) }
+    ensures range { IfOk result (λ x. (least ≤ x.0) × (x.0 ≤ most)) }
+{
+    let (own, rest) = due(tag, octets)?;
+    let number = number_of(least, most, own)?;
+    Ok((number, rest))
+}
+
+/// A number that may be there, with its range.
+pub fn number_maybe(
+    tag: u8,
+    least: u32,
+    most: u32,
+    octets: &[u8],
+) -> Result<(Option<u32>, &[u8]), BodyFault>
+    requires { tag < 255 }
+    ensures exact { Gives (λ x. (x.0, x.1.now)) result (number_maybe_at tag least most octets.now) }
+    ensures range { IfOk result (λ x. IfSome x.0 (λ n. (least ≤ n) × (n ≤ most))) }
+{
+    let Some((own, rest)) = given(tag, octets)? else {
+        return Ok((None, octets));
+    };
+    let number = number_of(least, most, own)?;
+    Ok((Some(number), rest))
+}
+
+/// An object that may be there.
+pub fn object_maybe(tag: u8, octets: &[u8]) -> Result<(Option<ObjectId>, &[u8]), BodyFault>
+    requires { tag < 255 }
+    ensures { Gives (λ x. (option_map object_view x.0, x.1.now))
+        result (object_maybe_at tag octets.now) }
+{
+    let Some((own, rest)) = given(tag, octets)? else {
+        return Ok((None, octets));
+    };
+    let object = object_of(own)?;
+    Ok((Some(object), rest))
+}
+
+/// A character string that has to be there.
+pub fn text(tag: u8, octets: &[u8]) -> Result<(CharacterString<'_>, &[u8]), BodyFault>
+    requires { tag < 255 }
+    ensures { Gives (λ x. ((x.0.charset, x.0.octets.now), x.1.now)) result (text_at tag octets.now) }
+{
+    let (own, rest) = due(tag, octets)?;
+    let text = text_of(own)?;
+    Ok((text, rest))
+}
+
+/// The values between an opening and a closing tag, which have to be there.
+pub fn values(tag: u8, octets: &[u8]) -> Result<(&[u8], &[u8]), BodyFault>
+    requires { tag < 255 }
+    ensures { Gives (λ x. (x.0.now, x.1.now)) result (values_at tag octets.now) }
+{
+    if octets.is_empty() {
+        return Err(BodyFault::Missing);
+    }
+    let Ok(inner) = read_opening(tag, octets) else {
+        return Err(BodyFault::InvalidTag);
+    };
+    match read_list(tag, inner) {
+        Some(list) => Ok(list),
+        None => Err(BodyFault::InvalidTag),
+    }
+}
+
+/// A value that has to be there.
+fn any_value(octets: &[u8]) -> Result<(AppValue<'_>, &[u8]), BodyFault>
+    ensures { Gives (λ x. (value_view x.0, x.1.now)) result (any_value_at octets.now) }
+{
+    if octets.is_empty() {
+        return Err(BodyFault::Missing);
+    }
+    match read_value(octets) {
+        Ok(value) => Ok(value),
+        Err(_) => Err(BodyFault::InvalidTag),
+    }
+}
+
+/// An Object that has to be there.
+pub fn plain_object(octets: &[u8]) -> Result<(ObjectId, &[u8]), BodyFault>
+    ensures { Gives (λ x. (object_view x.0, x.1.now))
+        result (value_of_kind_at object_value octets.now) }
+{
+    let (value, rest) = any_value(octets)?;
+    match value {
+        AppValue::Object(object) => Ok((object, rest)),
+        _ => Err(BodyFault::InvalidTag),
+    }
+}
+
+/// An Unsigned that has to be there, at most so much.
+pub fn plain_unsigned(most: u32, octets: &[u8]) -> Result<(u32, &[u8]), BodyFault>
+    ensures exact { Gives (λ x. (x.0, x.1.now))
+        result (number_of_kind_at unsigned_value 0 most octets.now) }
+    ensures range { IfOk result (λ x. x.0 ≤ most) }
+{
+    let (value, rest) = any_value(octets)?;
+    match value {
+        AppValue::Unsigned(number) => {
+            let number = within(0, most, number)?;
+            Ok((number, rest))
+        }
+        _ => Err(BodyFault::InvalidTag),
+    }
+}
+
+/// An Enumerated that has to be there, at most so much.
+pub fn plain_enumerated(most: u32, octets: &[u8]) -> Result<(u32, &[u8]), BodyFault>
+    ensures exact { Gives (λ x. (x.0, x.1.now))
+        result (number_of_kind_at enumerated_value 0 most octets.now) }
+    ensures range { IfOk result (λ x. x.0 ≤ most) }
+{
+    let (value, rest) = any_value(octets)?;
+    match value {
+        AppValue::Enumerated(number) => {
+            let number = within(0, most, number)?;
+            Ok((number, rest))
+        }
+        _ => Err(BodyFault::InvalidTag),
+    }
+}
+
+/// A character string that has to be there, with its application tag.
+pub fn plain_text(octets: &[u8]) -> Result<(CharacterString<'_>, &[u8]), BodyFault>
+    ensures { Gives (λ x. ((x.0.charset, x.0.octets.now), x.1.now))
+        result (value_of_kind_at text_value octets.now) }
+{
+    let (value, rest) = any_value(octets)?;
+    match value {
+        AppValue::Text(text) => Ok((text, rest)),
+        _ => Err(BodyFault::InvalidTag),
+    }
+}

@@ -1,0 +1,169 @@
+//! Who-Has (clause 16.9).
+
+ghost use Rattle.std.specs.Prelude.{◌≡◌, ◌↔◌, ◌≤◌, ◌<◌, ◌+◌, ◌++◌, ◌∷◌, ◌^◌, List, ℕ, length, vec_len, IfOk, IsOkAnd, IsOk, OnOk, OnErr, Err};
+ghost use Rattle.std.specs.Vec.{vec_capacity};
+ghost use Rattle.gw_addr.specs.Reading.{Gives, Keeps};
+ghost use Rattle.gw_services.specs.Body.{HasFault};
+ghost use Rattle.std.specs.Option.{option_map};
+ghost use Rattle.gw_services.specs.WhoIs.{limits_view};
+ghost use Rattle.gw_services.specs.WhoHas.{WhoHas as WhoHasFields, who_has_view, who_has_body, IsWhoHas, who_has_at, who_has_encoding, sought_view, sought_at, sought_part, asked_for, NameFits};
+ghost use Rattle.gw_services.specs.Reading.{ended};
+ghost use Rattle.gw_tags.specs.declared.tag.Kind.TheVariants.{Length};
+ghost use Rattle.gw_tags.specs.Tag.{canonical};
+ghost use Rattle.gw_tags.specs.List.{context};
+ghost use Rattle.gw_tags.specs.Context.{in_context};
+
+use crate::discovery::{Limits, Sought, WhoHas};
+use crate::fault::BodyFault;
+use crate::parameter::{object_maybe, text};
+use crate::who_is::{limits, put_limits};
+use gw_addr::{put_octet, put_slice};
+use gw_tags::{CharacterString, Kind, Tag, write_context, write_tag};
+use std::alloc::AllocError;
+
+/// A whole request, where nothing stands behind it.
+fn whole<'a>(
+    limits: Option<Limits>,
+    sought: Sought<'a>,
+    octets: &[u8],
+) -> Result<WhoHas<'a>, BodyFault>
+    ensures { Gives (λ w. who_has_view w) result
+        (ended (asked_for (option_map limits_view limits) (sought_view sought.entry))
+        octets.now) }
+{
+    if !octets.is_empty() {
+        return Err(BodyFault::TooMany);
+    }
+    Ok(WhoHas { limits, sought })
+}
+
+/// What is sought, and the end.
+fn sought<'a>(limits: Option<Limits>, octets: &'a [u8]) -> Result<WhoHas<'a>, BodyFault>
+    ensures { Gives (λ w. who_has_view w) result
+        (sought_at (option_map limits_view limits) octets.now) }
+{
+    let (object, rest) = object_maybe(2, octets)?;
+    match object {
+        Some(object) => whole(limits, Sought::Object(object), rest),
+        None => {
+            let (name, rest) = text(3, rest)?;
+            whole(limits, Sought::Name(name), rest)
+        }
+    }
+}
+
+fn read(octets: &[u8]) -> Result<WhoHas<'_>, BodyFault>
+    ensures { Gives (λ w. who_has_view w) result (who_has_at octets.now) }
+{
+    let (limits, rest) = limits(octets)?;
+    sought(limits, rest)
+}
+
+/// Reads the body of a Who-Has request, all of it.
+///
+/// # Errors
+///
+/// 1 `InvalidTag`, 2 `Missing`, 3 `OutOfRange` and 4 `TooMany`, as [`BodyFault`] says: the first in
+/// the order of the octets.
+pub fn decode_who_has(octets: &[u8]) -> Result<WhoHas<'_>, BodyFault>
+    // What is read is what the octets are.
+    ensures found { IfOk result (λ w. IsWhoHas octets.now (who_has_view w)) }
+    // What the octets are is read.
+    ensures only { (w : WhoHasFields) → IsWhoHas octets.now w
+        → IsOkAnd result (λ x. who_has_view x ≡ w) }
+    // What is wrong with octets that are no such body.
+    ensures fault { (fault : BodyFault) → (result ≡ Err fault)
+        ↔ HasFault fault who_has_body octets.now }
+    // The answer as a function of the octets.
+    ensures exact { Gives (λ w. who_has_view w) result (who_has_at octets.now) }
+{
+    read(octets)
+}
+
+/// Context tag 3, which announces so many octets.
+fn put_name_tag(out: &mut Vec<u8>, count: u32) -> Result<(), AllocError>
+    ensures ok { OnOk result (out.new.items
+        ≡ out.old.items ++ canonical (context 3 (Length count))) }
+    ensures front { Keeps out.old.items out.new.items }
+    ensures room { vec_len out.old + length (canonical (context 3 (Length count)))
+        ≤ vec_capacity out.old
+        → IsOk result }
+    ensures capacity { vec_capacity out.old ≤ vec_capacity out.new }
+{
+    let tag = Tag {
+        number: 3,
+        context: true,
+        kind: Kind::Length(count),
+    };
+    write_tag(out, tag)
+}
+
+/// A name, as a character set and octets under context tag 3.
+fn put_name(out: &mut Vec<u8>, name: &CharacterString<'_>) -> Result<(), AllocError>
+    requires { length (name.now.charset ∷ name.now.octets.now) < 2 ^ 32 }
+    ensures ok { OnOk result (out.new.items
+        ≡ out.old.items ++ in_context 3 (name.now.charset ∷ name.now.octets.now)) }
+    ensures front { Keeps out.old.items out.new.items }
+    ensures room { vec_len out.old
+        + length (in_context 3 (name.now.charset ∷ name.now.octets.now)) ≤ vec_capacity out.old
+        → IsOk result }
+    ensures capacity { vec_capacity out.old ≤ vec_capacity out.new }
+{
+    put_name_tag(out, name.octets.len() as u32 + 1)?;
+    put_octet(out, name.charset)?;
+    put_slice(out, name.octets)
+}
+
+/// What is sought.
+fn put_sought(out: &mut Vec<u8>, sought: &Sought<'_>) -> Result<(), AllocError>
+    requires { NameFits (sought_view sought.now) }
+    ensures ok { OnOk result (out.new.items ≡ out.old.items ++ sought_part (sought_view sought.now)) }
+    ensures front { Keeps out.old.items out.new.items }
+    ensures room { vec_len out.old + length (sought_part (sought_view sought.now))
+        ≤ vec_capacity out.old
+        → IsOk result }
+    ensures capacity { vec_capacity out.old ≤ vec_capacity out.new }
+{
+    match sought {
+        Sought::Object(object) => write_context(out, 2, &object.to_octets()),
+        Sought::Name(name) => put_name(out, name),
+    }
+}
+
+fn put(out: &mut Vec<u8>, request: &WhoHas<'_>) -> Result<(), AllocError>
+    // A name has fewer than 2 to the power of 32 octets.
+    requires { NameFits (sought_view request.now.sought) }
+    ensures ok { OnOk result (out.new.items
+        ≡ out.old.items ++ who_has_encoding (who_has_view request.now)) }
+    ensures front { Keeps out.old.items out.new.items }
+    ensures room { vec_len out.old + length (who_has_encoding (who_has_view request.now)) ≤ vec_capacity out.old
+        → IsOk result }
+    ensures capacity { vec_capacity out.old ≤ vec_capacity out.new }
+{
+    put_limits(out, &request.limits)?;
+    put_sought(out, &request.sought)
+}
+
+/// Appends the body of a Who-Has request, in the fewest octets. The buffer keeps what it held, also after
+/// an error.
+///
+/// # Errors
+///
+/// 1 Memory, only where the buffer had no room.
+pub fn encode_who_has(request: &WhoHas<'_>, out: &mut Vec<u8>) -> Result<(), AllocError>
+    // A name has fewer than 2 to the power of 32 octets.
+    requires { NameFits (sought_view request.now.sought) }
+    ensures ok { OnOk result (out.new.items
+        ≡ out.old.items ++ who_has_encoding (who_has_view request.now)) }
+    ensures err { OnErr result (out.new.items ≡ out.old.items) }
+    ensures room { vec_len out.old + length (who_has_encoding (who_has_view request.now)) ≤ vec_capacity out.old
+        → IsOk result }
+    ensures capacity { vec_capacity out.old ≤ vec_capacity out.new }
+{
+    let len = out.len();
+    let written = put(out, request);
+    if written.is_err() {
+        out.truncate(len);
+    }
+    written
+}

@@ -1,0 +1,111 @@
+//! Who-Is (clause 16.10).
+
+ghost use Rattle.std.specs.Prelude.{◌≡◌, ◌↔◌, ◌≤◌, ◌<◌, ◌+◌, ◌++◌, ◌^◌, List, ℕ, length, vec_len, IfOk, IsOkAnd, IsOk, OnOk, OnErr, Err};
+ghost use Rattle.std.specs.Vec.{vec_capacity};
+ghost use Rattle.gw_addr.specs.Reading.{Gives, Keeps};
+ghost use Rattle.gw_services.specs.Body.{HasFault};
+ghost use Rattle.std.specs.Option.{option_map};
+ghost use Rattle.gw_services.specs.WhoIs.{WhoIs as WhoIsFields, who_is_view, who_is_body, IsWhoIs, who_is_at, who_is_encoding, limits_view, limits_at, limits_part};
+
+use crate::discovery::{LAST_INSTANCE, Limits, WhoIs};
+use crate::fault::BodyFault;
+use crate::parameter::{number, number_maybe};
+use gw_tags::write_context_unsigned;
+use std::alloc::AllocError;
+
+/// The limits, where the first of them is there.
+pub(crate) fn limits(octets: &[u8]) -> Result<(Option<Limits>, &[u8]), BodyFault>
+    ensures { Gives (λ x. (option_map limits_view x.0, x.1.now)) result (limits_at octets.now) }
+{
+    let (low, rest) = number_maybe(0, 0, LAST_INSTANCE, octets)?;
+    match low {
+        None => Ok((None, rest)),
+        Some(low) => {
+            let (high, rest) = number(1, 0, LAST_INSTANCE, rest)?;
+            Ok((Some(Limits { low, high }), rest))
+        }
+    }
+}
+
+fn read(octets: &[u8]) -> Result<WhoIs, BodyFault>
+    ensures { Gives (λ w. who_is_view w) result (who_is_at octets.now) }
+{
+    let (limits, rest) = limits(octets)?;
+    if !rest.is_empty() {
+        return Err(BodyFault::TooMany);
+    }
+    Ok(WhoIs { limits })
+}
+
+/// Reads the body of a Who-Is request, all of it.
+///
+/// # Errors
+///
+/// 1 `InvalidTag`, 2 `Missing`, 3 `OutOfRange` and 4 `TooMany`, as [`BodyFault`] says: the first in
+/// the order of the octets.
+pub fn decode_who_is(octets: &[u8]) -> Result<WhoIs, BodyFault>
+    // What is read is what the octets are.
+    ensures found { IfOk result (λ w. IsWhoIs octets.now (who_is_view w)) }
+    // What the octets are is read.
+    ensures only { (w : WhoIsFields) → IsWhoIs octets.now w
+        → IsOkAnd result (λ x. who_is_view x ≡ w) }
+    // What is wrong with octets that are no such body.
+    ensures fault { (fault : BodyFault) → (result ≡ Err fault)
+        ↔ HasFault fault who_is_body octets.now }
+    // The answer as a function of the octets.
+    ensures exact { Gives (λ w. who_is_view w) result (who_is_at octets.now) }
+{
+    read(octets)
+}
+
+/// The limits, where there are any. After an `Err` a front of them may stand there.
+pub(crate) fn put_limits(out: &mut Vec<u8>, limits: &Option<Limits>) -> Result<(), AllocError>
+    ensures ok { OnOk result (out.new.items
+        ≡ out.old.items ++ limits_part (option_map limits_view limits.now)) }
+    ensures front { Keeps out.old.items out.new.items }
+    ensures room { vec_len out.old + length (limits_part (option_map limits_view limits.now))
+        ≤ vec_capacity out.old
+        → IsOk result }
+    ensures capacity { vec_capacity out.old ≤ vec_capacity out.new }
+{
+    match limits {
+        None => Ok(()),
+        Some(limits) => {
+            write_context_unsigned(out, 0, limits.low)?;
+            write_context_unsigned(out, 1, limits.high)
+        }
+    }
+}
+
+fn put(out: &mut Vec<u8>, request: &WhoIs) -> Result<(), AllocError>
+    ensures ok { OnOk result (out.new.items
+        ≡ out.old.items ++ who_is_encoding (who_is_view request.now)) }
+    ensures front { Keeps out.old.items out.new.items }
+    ensures room { vec_len out.old + length (who_is_encoding (who_is_view request.now)) ≤ vec_capacity out.old
+        → IsOk result }
+    ensures capacity { vec_capacity out.old ≤ vec_capacity out.new }
+{
+    put_limits(out, &request.limits)
+}
+
+/// Appends the body of a Who-Is request, in the fewest octets. The buffer keeps what it held, also after
+/// an error.
+///
+/// # Errors
+///
+/// 1 Memory, only where the buffer had no room.
+pub fn encode_who_is(request: &WhoIs, out: &mut Vec<u8>) -> Result<(), AllocError>
+    ensures ok { OnOk result (out.new.items
+        ≡ out.old.items ++ who_is_encoding (who_is_view request.now)) }
+    ensures err { OnErr result (out.new.items ≡ out.old.items) }
+    ensures room { vec_len out.old + length (who_is_encoding (who_is_view request.now)) ≤ vec_capacity out.old
+        → IsOk result }
+    ensures capacity { vec_capacity out.old ≤ vec_capacity out.new }
+{
+    let len = out.len();
+    let written = put(out, request);
+    if written.is_err() {
+        out.truncate(len);
+    }
+    written
+}
