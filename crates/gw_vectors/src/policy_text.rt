@@ -1,6 +1,6 @@
 //! Configurations: each fault by one edit of the built-in text, faults that the order decides, and the limits.
 
-use gw_policy_text::{ConfigFault, MAX_OCTETS, ObjectValue, SETTING, read_config};
+use gw_policy_text::{Config, ConfigFault, MAX_OCTETS, SETTING, read_config};
 use std::alloc::Global;
 use std::test::Fail;
 
@@ -204,32 +204,42 @@ fn limits(rt: HostRuntime) -> Result<(), Fail> {
 }
 
 /// The parts of the built-in configuration.
+/// What the built-in configuration has.
+const PARTS: &str = "\
+1 2 300/2 \
+fan BinaryValue { default: false, active: Text { text: \"active\" }, inactive: Text { text: \"inactive\" } }~\
+door BinaryValue { default: false, active: Text { text: \"active\" }, inactive: Text { text: \"inactive\" } }~\
+mode MultiStateValue(MultiState { default: 1, states: Sequence { items: [Text { text: \"off\" }, \
+Text { text: \"auto\" }, Text { text: \"on\" }] } })~\
+note CharacterStringValue { default: Text { text: \"hi\" } }~\
+offset IntegerValue { default: -5, units: 95 }~\
+count PositiveIntegerValue { default: 0, units: 95 }~\
+hide no-desc all ";
+
+/// What a configuration has: ports by their networks, routes, objects by their names and values, and rules by their names.
+fn shown(alloc: Global, config: &Config) -> Result<String, Fail> {
+    let mut shown = String::new(alloc);
+    for port in config.ports() {
+        shown.push_str(&format!(in alloc; "{} ", port.network)?)?;
+    }
+    for route in config.routes() {
+        shown.push_str(&format!(in alloc; "{}/{} ", route.network, route.port)?)?;
+    }
+    for object in config.objects() {
+        shown.push_str(object.name.as_str())?;
+        shown.push_str(&format!(in alloc; " {:?}~", object.value)?)?;
+    }
+    for rule in config.rules().rules() {
+        shown.push_str(rule.name.as_str())?;
+        shown.push(' ')?;
+    }
+    Ok(shown)
+}
+
 #[test]
 fn parts(rt: HostRuntime) -> Result<(), Fail> {
     let config = read_config(rt.alloc(), SETTING.as_bytes())?;
-    assert_eq!(rt; config.device().network.get(), 100);
     assert_eq!(rt; config.device().name.as_str(), "gw");
-    assert_eq!(rt; config.device().description.as_str(), "");
-    assert_eq!(rt; config.ports().len(), 2);
-    assert_eq!(rt; config.ports()[1].network.get(), 2);
-    assert_eq!(rt; config.ports()[1].peers.as_slice().len(), 0);
-    assert_eq!(rt; config.routes().len(), 1);
-    assert_eq!(rt; config.routes()[0].port, 2);
-    assert_eq!(rt; config.objects().len(), 6);
-    assert_eq!(rt; config.objects()[1].name.as_str(), "door");
-    let ObjectValue::MultiStateValue(states) = &config.objects()[2].value else {
-        return Err(Fail::from("a Multi-state Value"));
-    };
-    assert_eq!(rt; states.default(), 1);
-    assert_eq!(rt; states.states()[2].as_str(), "on");
-    let is_offset = matches!(
-        config.objects()[4].value,
-        ObjectValue::IntegerValue {
-            default: -5,
-            units: 95
-        }
-    );
-    assert!(rt; is_offset);
-    assert_eq!(rt; config.rules().rules().len(), 3);
+    assert_eq!(rt; shown(rt.alloc(), &config)?.as_str(), PARTS);
     Ok(())
 }
