@@ -1,0 +1,2 @@
+pub mod Property
+pub mod internal
