@@ -1,2 +1,5 @@
 pub mod Property
+pub mod Objects
+pub mod Contents
+pub mod Table
 pub mod internal

@@ -2,6 +2,12 @@
 //! (ISO 16484-5 clauses 12, 15 and 19).
 #![tactic(auto)]
 
+mod configured;
+mod fault;
 mod property;
+mod value;
 
+pub use configured::{ConfiguredObject, Details, States};
+pub use fault::{ReadFault, WriteFault};
 pub use property::{ObjectType, Property, PropertySet, properties};
+pub use value::PropertyValue;
