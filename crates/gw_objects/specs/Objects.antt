@@ -1,6 +1,6 @@
 -- The objects of a device: what is configured of them, which never changes, and for each value
 -- object its slots and its default, which writes change.
-use Rattle.std.specs.Prelude.{ℕ, ℤ, ◌==◌, ◌&&◌, ◌-◌, Bool, List, [], ◌∷◌, length, map, find, slice_get, position, Option, Some, None}
+use Rattle.std.specs.Prelude.{ℕ, ◌==◌, ◌&&◌, Bool, List, ◌∷◌, map, position, Option}
 use Rattle.gw_policy_text.specs.declared.device.Device.{Device}
 use Rattle.gw_policy_text.specs.declared.object.Object.{Object as PolicyObject}
 use Rattle.gw_policy_text.specs.declared.object.ObjectValue.{ObjectValue}
@@ -8,6 +8,7 @@ use Rattle.gw_policy_text.specs.declared.object.ObjectValue.TheVariants as polic
 use Rattle.gw_policy_text.specs.Configuration.{Configuration}
 use Rattle.gw_priority.specs.Commandable.{Commandable, no_command}
 use Rattle.gw_tags.specs.Object.{Object}
+use Rattle.gw_objects.specs.declared.configured.Configured.{Configured}
 use Rattle.gw_objects.specs.declared.configured.ConfiguredObject.{ConfiguredObject}
 use Rattle.gw_objects.specs.declared.configured.Details.{Details}
 use Rattle.gw_objects.specs.declared.configured.Details.TheVariants.{BinaryValue, MultiStateValue, CharacterStringValue, IntegerValue, PositiveIntegerValue}
@@ -20,11 +21,6 @@ use Rattle.gw_objects.specs.Property.{type_number}
 -- the slots and the default of a value object
 abbrev pub Slots : Type 0
 Slots = Commandable PropertyValue
-
--- what is configured: the device, and the value objects in the order of the configuration
-pub record Configured : Type 0 where
-  pub device : Device
-  pub objects : List ConfiguredObject
 
 -- what is configured, and the slots and the default of each value object in the same order
 pub record Database : Type 0 where

@@ -8,6 +8,7 @@ use Rattle.gw_policy_text.specs.declared.device.Device.{Device}
 use Rattle.gw_priority.specs.Commandable.{present}
 use Rattle.gw_tags.specs.Object.{Object}
 use Rattle.gw_tags.specs.Value.{Value, null, boolean, unsigned, signed, character_string, bit_string, enumerated, object_id, bit_of}
+use Rattle.gw_objects.specs.declared.configured.Configured.{Configured}
 use Rattle.gw_objects.specs.declared.configured.ConfiguredObject.{ConfiguredObject}
 use Rattle.gw_objects.specs.declared.configured.Details.{Details}
 use Rattle.gw_objects.specs.declared.configured.Details.TheVariants.{BinaryValue, MultiStateValue, CharacterStringValue, IntegerValue, PositiveIntegerValue}
@@ -20,7 +21,7 @@ use Rattle.gw_objects.specs.declared.property.Property.TheVariants as the
 use Rattle.gw_objects.specs.declared.value.PropertyValue.{PropertyValue}
 use Rattle.gw_objects.specs.declared.value.PropertyValue.TheVariants.{Binary, State, Text, Integer, PositiveInteger}
 use Rattle.gw_objects.specs.Contents.{Contents, one, array, empty_list, octets_of}
-use Rattle.gw_objects.specs.Objects.{Slots, Configured, Database, type_of, device_id, object_id_of, ids, same, place_of}
+use Rattle.gw_objects.specs.Objects.{Slots, Database, type_of, device_id, object_id_of, ids, same, place_of}
 use Rattle.gw_objects.specs.Property.{type_number, property_of}
 
 -- a text in character set 0

@@ -1,14 +1,24 @@
 //! What is configured of objects, and never changes.
 
 ghost use Rattle.std.specs.Prelude.{◌≡◌, ◌≤◌, length};
-ghost use Rattle.gw_objects.specs.Objects.{object_id_of, type_of};
+ghost use Rattle.gw_objects.specs.Objects.{device_id, object_id_of, type_of};
 ghost use Rattle.gw_tags.specs.Object.{object_view};
 
 use crate::ObjectType;
 use gw_addr::Sequence;
-use gw_policy_text::{Instance, Text};
+use gw_policy_text::{Device, Instance, Text};
 use gw_tags::ObjectId;
 use std::marker::Model;
+
+/// What is configured of a device: the Device object, and the value objects in the order of the
+/// configuration.
+#[derive(Debug, Drop)]
+pub struct Configured {
+    /// What the Device object says.
+    pub device: Device,
+    /// The value objects.
+    pub objects: Sequence<ConfiguredObject>,
+}
 
 /// A value object as it is configured, but for its default.
 #[derive(Debug, Drop)]
@@ -70,6 +80,13 @@ impl States {
         States { texts }
     }
 
+    /// How many there are.
+    pub fn count(&self) -> u32
+        ensures { result ≡ length self.now }
+    {
+        self.texts.len() as u32
+    }
+
     /// The texts in their order, at most 64.
     pub fn as_slice(&self) -> &[Text]
         ensures texts { result.now ≡ self.now }
@@ -90,6 +107,18 @@ impl Details {
             Details::CharacterStringValue => ObjectType::CharacterStringValue,
             Details::IntegerValue { .. } => ObjectType::IntegerValue,
             Details::PositiveIntegerValue { .. } => ObjectType::PositiveIntegerValue,
+        }
+    }
+}
+
+impl Configured {
+    /// The identifier of the device.
+    pub fn device_id(&self) -> ObjectId
+        ensures { object_view result ≡ device_id self.now.device }
+    {
+        ObjectId {
+            kind: ObjectType::Device.number(),
+            instance: self.device.instance.get(),
         }
     }
 }

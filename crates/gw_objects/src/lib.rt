@@ -3,11 +3,13 @@
 #![tactic(auto)]
 
 mod configured;
+mod contents;
 mod fault;
 mod property;
+mod table;
 mod value;
 
-pub use configured::{ConfiguredObject, Details, States};
+pub use configured::{Configured, ConfiguredObject, Details, States};
 pub use fault::{ReadFault, WriteFault};
 pub use property::{ObjectType, Property, PropertySet, properties};
 pub use value::PropertyValue;

@@ -72,6 +72,13 @@ impl<T> PriorityArray<T> {
         }
         &self.default
     }
+
+    /// The default.
+    pub fn default(&self) -> &T
+        ensures { result.now ≡ self.now.default }
+    {
+        &self.default
+    }
 }
 
 impl<T: Drop> PriorityArray<T> {
