@@ -1,5 +1,5 @@
 -- What a property holds, and its octets.
-use Rattle.std.specs.Prelude.{ℕ, zero, suc, List, [], ◌∷◌, length, slice_get, Option, Some, None, Result, Ok, Err}
+use Rattle.std.specs.Prelude.{ℕ, ◌-◌, ◌==◌, if◌then◌else◌, List, [], ◌∷◌, length, slice_get, Option, Some, None, Result, Ok, Err}
 use Rattle.std.specs.List.{flat_map}
 use Rattle.std.specs.Option.{ok_or, option_map}
 use Rattle.gw_tags.specs.Value.{Value, unsigned, value_encoding}
@@ -14,8 +14,8 @@ pub data Contents : Type 0 where
 
 -- an element of an array: 0 is how many there are, and they are counted from 1 (clause 15.5.1.1.3)
 abbrev pub element : List Value → ℕ → Option Value
-element values zero = Some (unsigned (length values))
-element values (suc place) = slice_get values place
+element values index =
+    if index == 0 then Some (unsigned (length values)) else slice_get values (index - 1)
 
 -- the octets of a property, or of one element of an array where an index is given
 abbrev pub octets_of : Contents → Option ℕ → Result (List ℕ) ReadFault

@@ -17,7 +17,43 @@ pub struct Configured {
     /// What the Device object says.
     pub device: Device,
     /// The value objects.
-    pub objects: Sequence<ConfiguredObject>,
+    pub objects: ValueObjects,
+}
+
+/// The value objects of a device in the order of the configuration, at most 256. Contracts see the
+/// list of them.
+#[derive(Debug, Drop)]
+pub struct ValueObjects {
+    objects: Sequence<ConfiguredObject>,
+}
+
+impl Model for ValueObjects {
+    ghost use Rattle.std.specs.Prelude.{◌≤◌, List, length};
+    ghost use Rattle.gw_objects.specs.declared.configured.ConfiguredObject.{ConfiguredObject};
+
+    ghost Value = { List ConfiguredObject };
+
+    ghost view = { λ o. o.objects };
+
+    ghost invariant = { λ o. length o.objects ≤ 256 };
+}
+
+impl ValueObjects {
+    /// These objects, at most 256.
+    pub(crate) fn new(objects: Sequence<ConfiguredObject>) -> Self
+        requires { length objects ≤ 256 }
+        ensures { result ≡ objects }
+    {
+        ValueObjects { objects }
+    }
+
+    /// The objects in their order, at most 256.
+    pub fn as_slice(&self) -> &[ConfiguredObject]
+        ensures objects { result.now ≡ self.now }
+        ensures most { length self.now ≤ 256 }
+    {
+        self.objects.as_slice()
+    }
 }
 
 /// A value object as it is configured, but for its default.

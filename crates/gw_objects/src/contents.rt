@@ -1,6 +1,6 @@
 //! What a property holds, lent from its object.
 
-use crate::{ConfiguredObject, PropertyValue};
+use crate::{PropertyValue, States, ValueObjects};
 use gw_policy_text::Text;
 use gw_priority::PriorityArray;
 use gw_tags::ObjectId;
@@ -41,11 +41,11 @@ pub(crate) enum Item<'a> {
 #[derive(Clone, Copy)]
 pub(crate) enum Array<'a> {
     /// Object_List: the device, and the value objects.
-    Objects(ObjectId, &'a [ConfiguredObject]),
+    Objects(ObjectId, &'a ValueObjects),
     /// Priority_Array.
     Slots(&'a PriorityArray<PropertyValue>),
     /// State_Text.
-    Texts(&'a [Text]),
+    Texts(&'a States),
 }
 
 /// What a property holds.

@@ -8,8 +8,9 @@ mod fault;
 mod property;
 mod table;
 mod value;
+mod writing;
 
-pub use configured::{Configured, ConfiguredObject, Details, States};
+pub use configured::{Configured, ConfiguredObject, Details, States, ValueObjects};
 pub use fault::{ReadFault, WriteFault};
 pub use property::{ObjectType, Property, PropertySet, properties};
 pub use value::PropertyValue;

@@ -46,7 +46,7 @@ pub(crate) fn device_line<'a>(configured: &'a Configured, property: Property) ->
         Property::ProtocolObjectTypesSupported => Contents::One(Item::Bits(Flags::ObjectTypes)),
         Property::ObjectList => Contents::Array(Array::Objects(
             configured.device_id(),
-            configured.objects.as_slice(),
+            &configured.objects,
         )),
         Property::MaxApduLengthAccepted => Contents::One(Item::Unsigned(MAX_APDU)),
         Property::SegmentationSupported => Contents::One(Item::Enumerated(NO_SEGMENTATION)),
@@ -97,7 +97,7 @@ fn details_line<'a>(details: &'a Details, property: Property) -> Contents<'a>
             Contents::One(Item::Unsigned(states.count()))
         }
         (Details::MultiStateValue(states), Property::StateText) => {
-            Contents::Array(Array::Texts(states.as_slice()))
+            Contents::Array(Array::Texts(states))
         }
         (Details::IntegerValue { units }, Property::Units) => {
             Contents::One(Item::Enumerated(u32::from(*units)))
