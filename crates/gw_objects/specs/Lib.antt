@@ -2,4 +2,6 @@ pub mod Property
 pub mod Objects
 pub mod Contents
 pub mod Table
+pub mod Write
+pub mod History
 pub mod internal

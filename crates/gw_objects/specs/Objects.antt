@@ -1,6 +1,8 @@
 -- The objects of a device: what is configured of them, which never changes, and for each value
 -- object its slots and its default, which writes change.
-use Rattle.std.specs.Prelude.{ℕ, ◌==◌, ◌&&◌, Bool, List, ◌∷◌, map, position, Option}
+use Rattle.std.specs.Prelude.{ℕ, ◌==◌, ◌&&◌, nat_eq, Bool, if◌then◌else◌, List, ◌∷◌, map, find, position, slice_get, Option, Some}
+use Rattle.std.specs.Cmp.Lexicographic.{pointwise}
+use Rattle.std.specs.Option.{option_and_then, option_map}
 use Rattle.gw_policy_text.specs.declared.device.Device.{Device}
 use Rattle.gw_policy_text.specs.declared.object.Object.{Object as PolicyObject}
 use Rattle.gw_policy_text.specs.declared.object.ObjectValue.{ObjectValue}
@@ -94,3 +96,21 @@ database_of c = record {
   configured = record { device = c.device; objects = map configured_of c.objects };
   states = map (λ object. no_command (default_of object.value)) c.objects;
 }
+
+-- ---- finding
+
+-- the type of the object of an identifier
+abbrev pub type_at : Configured → Object → Option ObjectType
+type_at c wanted =
+    if same wanted (device_id c.device) then Some types.Device
+    else option_and_then (λ place. option_map (λ object. type_of object.details) (slice_get c.objects place)) (place_of c wanted)
+
+-- a name is these octets
+abbrev pub is_name : List ℕ → List ℕ → Bool
+is_name wanted name = pointwise nat_eq wanted name
+
+-- the identifier of the object of a name
+abbrev pub named : Configured → List ℕ → Option Object
+named c wanted =
+    if is_name wanted c.device.name then Some (device_id c.device)
+    else option_map object_id_of (find (λ object. is_name wanted object.name) c.objects)

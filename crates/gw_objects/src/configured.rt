@@ -73,22 +73,15 @@ pub struct ConfiguredObject {
 #[derive(Debug, Drop)]
 pub enum Details {
     /// Binary Value, with its Active_Text and Inactive_Text.
-    BinaryValue {
-        active: Text,
-        inactive: Text,
-    },
+    BinaryValue { active: Text, inactive: Text },
     /// Multi-state Value, with its State_Text.
     MultiStateValue(States),
     /// CharacterString Value.
     CharacterStringValue,
     /// Integer Value, with its Units.
-    IntegerValue {
-        units: u16,
-    },
+    IntegerValue { units: u16 },
     /// Positive Integer Value, with its Units.
-    PositiveIntegerValue {
-        units: u16,
-    },
+    PositiveIntegerValue { units: u16 },
 }
 
 /// The texts of the states of a Multi-state Value, at most 64. Contracts see the list of them.

@@ -4,13 +4,18 @@
 
 mod configured;
 mod contents;
+mod copying;
+mod database;
 mod fault;
 mod property;
 mod table;
 mod value;
+mod write;
 mod writing;
 
 pub use configured::{Configured, ConfiguredObject, Details, States, ValueObjects};
+pub use database::ObjectDb;
 pub use fault::{ReadFault, WriteFault};
 pub use property::{ObjectType, Property, PropertySet, properties};
 pub use value::PropertyValue;
+pub use write::Put;

@@ -34,10 +34,7 @@ fn write_text(out: &mut Vec<u8>, text: &Text) -> Result<(), AllocError>
     ensures capacity { vec_capacity out.old ≤ vec_capacity out.new }
 {
     let octets = text.as_str().as_bytes();
-    write_value(
-        out,
-        AppValue::Text(CharacterString { charset: 0, octets }),
-    )
+    write_value(out, AppValue::Text(CharacterString { charset: 0, octets }))
 }
 
 /// The bits.
