@@ -1,15 +1,15 @@
 -- What one write more in a history changes in the slots and the defaults.
-use Rattle.std.proofs.Common.{◌≡◌, ◌≢◌, ◌⊎◌, inl, inr, ℕ, ◌<◌, ◌≤◌, Bool, true, false, true≢false, if◌then◌else◌, List, [], ◌∷◌, length, map, set, get_or, Option, Some, None, is_some, option_map, arith, refl, sym, ap, subst, ◌∙◌, zero, suc}
+use Rattle.std.proofs.Common.{◌≡◌, ◌≢◌, ◌⊎◌, inl, inr, ℕ, ◌<◌, true≢false, if◌then◌else◌, List, [], ◌∷◌, length, map, set, Option, Some, None, is_some, option_map, arith, refl, sym, ap, subst, ◌∙◌, zero, suc}
 use Rattle.std.specs.Prelude.{slice_get, unwrap_or}
 use Rattle.std.specs.List.{cons_option}
 use Rattle.std.proofs.lemmas.Bool.{cases_eq, eq-eqb, ne_eqb}
 use Rattle.std.proofs.lemmas.List.{length-set, length-map, get_or-set_same}
 use Rattle.std.proofs.lemmas.Option.{slice_get-get_or, slice_get_within, slice_get-map}
-use Rattle.gw_priority.specs.Commandable.{Commandable, no_command, with_default}
+use Rattle.gw_priority.specs.Commandable.{no_command, with_default}
 use Rattle.gw_priority.specs.History.{Act, Command, Relinquish, SetDefault, state_after}
 use Rattle.gw_priority.proofs.History.{command_next, relinquish_next}
 use Rattle.gw_objects.specs.declared.value.PropertyValue.{PropertyValue}
-use Rattle.gw_objects.specs.History.{IsStateAfter, acted, act_at, acts_at, put_at}
+use Rattle.gw_objects.specs.History.{IsStateAfter, acted, acts_at, put_at}
 use Rattle.gw_objects.specs.Objects.{Slots}
 use Rattle.gw_objects.specs.Write.{CanAct, Write}
 

@@ -1,6 +1,7 @@
 pub mod Property
 pub mod Objects
 pub mod Contents
+pub mod Answer
 pub mod Table
 pub mod Write
 pub mod History

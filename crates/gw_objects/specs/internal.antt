@@ -1,4 +1,3 @@
 pub mod Part
 pub mod View
-pub mod Answer
 pub mod Act

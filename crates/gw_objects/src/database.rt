@@ -12,7 +12,7 @@ ghost use Rattle.gw_objects.specs.Property.{property_of};
 ghost use Rattle.gw_objects.specs.History.{IsStateAfter, acted, put_at, with_write};
 ghost use Rattle.gw_objects.specs.Write.{CanAct, Decides, Write, write_of};
 ghost use Rattle.gw_objects.specs.internal.Act.{act_view};
-ghost use Rattle.gw_objects.specs.internal.Answer.{Answers, HasRoom};
+ghost use Rattle.gw_objects.specs.Answer.{Answers, HasRoom};
 ghost use Rattle.gw_objects.specs.internal.View.{contents_view};
 
 use crate::contents::Contents;

@@ -7,7 +7,7 @@ ghost use Rattle.gw_tags.specs.Value.{value_encoding, value_view};
 ghost use Rattle.gw_objects.specs.Contents as contents;
 ghost use Rattle.gw_objects.specs.Contents.{octets_of};
 ghost use Rattle.gw_objects.specs.Table as table;
-ghost use Rattle.gw_objects.specs.internal.Answer.{Answers, HasRoom};
+ghost use Rattle.gw_objects.specs.Answer.{Answers, HasRoom};
 ghost use Rattle.gw_objects.specs.internal.View.{array_view, contents_view, flags_view, item_view};
 
 use crate::contents::{Array, Contents, Flags, Item};
