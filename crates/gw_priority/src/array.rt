@@ -72,6 +72,21 @@ impl<T> PriorityArray<T> {
         }
         &self.default
     }
+
+    /// The sixteen slots, that of priority 1 first.
+    pub fn slots(&self) -> &[Option<T>]
+        ensures slots { result.now ≡ self.now.slots }
+        ensures sixteen { length self.now.slots ≡ PRIORITIES }
+    {
+        &self.slots
+    }
+
+    /// The default.
+    pub fn default(&self) -> &T
+        ensures { result.now ≡ self.now.default }
+    {
+        &self.default
+    }
 }
 
 impl<T: Drop> PriorityArray<T> {

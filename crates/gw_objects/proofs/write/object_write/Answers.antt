@@ -1,0 +1,8 @@
+use Rattle.gw_objects.specs.Write.{act_of}
+use Rattle.gw_objects.specs.internal.Act.{act_view}
+use Rattle.gw_objects.proofs.Deciding.{decided}
+use Rattle.gw_objects.proofs.write.object_write.Goals as goal
+
+pub returns-in-Err-clause-write : goal.returns-in-Err-clause-write
+returns-in-Err-clause-write c =
+    decided act_view (λ act. record { place = c.args.place; act = act }) (λ put. put) c.in-Err.fault (act_of c.args.object.now c.args.property c.args.index c.args.priority c.args.value.now) c.in-Err.ensures.act

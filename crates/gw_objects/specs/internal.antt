@@ -1,0 +1,3 @@
+pub mod Part
+pub mod View
+pub mod Act

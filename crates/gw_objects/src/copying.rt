@@ -1,0 +1,131 @@
+//! Copies of what is configured.
+ghost use Rattle.std.specs.Prelude.{◌≡◌, ◌≤◌, length, map, IfOk};
+ghost use Rattle.gw_objects.specs.Objects.{configured_of, default_of, details_of};
+ghost use Rattle.gw_priority.specs.Commandable.{no_command};
+
+use crate::{ConfiguredObject, Details, PropertyValue, States, ValueObjects};
+use gw_addr::Sequence;
+use gw_policy_text::{Device, Object, ObjectValue, Text};
+use gw_priority::PriorityArray;
+use std::alloc::{AllocError, Global};
+
+/// A text. The only fault is want of memory.
+fn text(alloc: Global, text: &Text) -> Result<Text, AllocError>
+    ensures { IfOk result (λ copy. copy ≡ text.now) }
+{
+    match Text::new(alloc, 0, text.as_str()) {
+        Ok(copy) => Ok(copy),
+        Err(_) => Err(AllocError),
+    }
+}
+
+/// Texts, in their order.
+fn texts(alloc: Global, texts: &[Text]) -> Result<Sequence<Text>, AllocError>
+    ensures { IfOk result (λ copies. copies ≡ texts.now) }
+{
+    let mut copies = Sequence::new(alloc);
+    for one in texts {
+        copies.push(text(alloc, one)?)?;
+    }
+    Ok(copies)
+}
+
+/// What the Device object says.
+pub(crate) fn device(alloc: Global, device: &Device) -> Result<Device, AllocError>
+    ensures { IfOk result (λ copy. copy ≡ device.now) }
+{
+    Ok(Device {
+        network: device.network,
+        instance: device.instance,
+        name: text(alloc, &device.name)?,
+        vendor: device.vendor,
+        vendor_name: text(alloc, &device.vendor_name)?,
+        model: text(alloc, &device.model)?,
+        firmware: text(alloc, &device.firmware)?,
+        software: text(alloc, &device.software)?,
+        revision: device.revision,
+        database: device.database,
+        description: text(alloc, &device.description)?,
+    })
+}
+
+/// What stays of a value object.
+fn details(alloc: Global, value: &ObjectValue) -> Result<Details, AllocError>
+    ensures { IfOk result (λ details. details ≡ details_of value.now) }
+{
+    match value {
+        ObjectValue::BinaryValue {
+            active,
+            inactive,
+            ..
+        } => Ok(Details::BinaryValue {
+            active: text(alloc, active)?,
+            inactive: text(alloc, inactive)?,
+        }),
+        ObjectValue::MultiStateValue(value) => Ok(Details::MultiStateValue(States::new(texts(
+            alloc,
+            value.states(),
+        )?))),
+        ObjectValue::CharacterStringValue { .. } => Ok(Details::CharacterStringValue),
+        ObjectValue::IntegerValue { units, .. } => Ok(Details::IntegerValue { units: *units }),
+        ObjectValue::PositiveIntegerValue { units, .. } => {
+            Ok(Details::PositiveIntegerValue { units: *units })
+        }
+    }
+}
+
+fn object(alloc: Global, object: &Object) -> Result<ConfiguredObject, AllocError>
+    ensures { IfOk result (λ copy. copy ≡ configured_of object.now) }
+{
+    Ok(ConfiguredObject {
+        instance: object.instance,
+        name: text(alloc, &object.name)?,
+        description: text(alloc, &object.description)?,
+        details: details(alloc, &object.value)?,
+    })
+}
+
+/// What stays of the value objects, in their order.
+pub(crate) fn objects(
+    alloc: Global,
+    objects: &[Object],
+) -> Result<Sequence<ConfiguredObject>, AllocError>
+    ensures { IfOk result (λ copies. copies ≡ map configured_of objects.now) }
+{
+    let mut copies = Sequence::new(alloc);
+    for one in objects {
+        copies.push(object(alloc, one)?)?;
+    }
+    Ok(copies)
+}
+
+/// The default that a value object begins with.
+fn default(alloc: Global, value: &ObjectValue) -> Result<PropertyValue, AllocError>
+    ensures { IfOk result (λ default. default ≡ default_of value.now) }
+{
+    match value {
+        ObjectValue::BinaryValue { default, .. } => Ok(PropertyValue::Binary(*default)),
+        ObjectValue::MultiStateValue(value) => Ok(PropertyValue::State(u32::from(value.default()))),
+        ObjectValue::CharacterStringValue { default } => {
+            Ok(PropertyValue::Text(text(alloc, default)?))
+        }
+        ObjectValue::IntegerValue { default, .. } => Ok(PropertyValue::Integer(*default)),
+        ObjectValue::PositiveIntegerValue { default, .. } => {
+            Ok(PropertyValue::PositiveInteger(*default))
+        }
+    }
+}
+
+/// Empty slots with the default, for each value object in their order.
+pub(crate) fn states(
+    alloc: Global,
+    objects: &[Object],
+) -> Result<Vec<PriorityArray<PropertyValue>>, AllocError>
+    ensures { IfOk result (λ states. states.items ≡ map (λ object. no_command (default_of object.value)) objects.now) }
+{
+    let mut states = Vec::with_capacity(alloc, objects.len())?;
+    for one in objects {
+        states.push(PriorityArray::new(default(alloc, &one.value)?))?;
+    }
+    Ok(states)
+}

@@ -1,0 +1,309 @@
+//! The objects of a device, with their values.
+ghost use Rattle.std.specs.Prelude.{◌≡◌, ◌≢◌, ◌<◌, ◌≤◌, List, [], ◌∷◌, length, slice_get, vec_len, find, Err, option_copied, option_map, IfOk, IfSome, OnErr};
+ghost use Rattle.std.specs.Option.{ok_or};
+ghost use Rattle.std.specs.Vec.{vec_capacity};
+ghost use Rattle.gw_addr.specs.Reading.{Gives};
+ghost use Rattle.gw_priority.specs.Commandable.{IsPriority};
+ghost use Rattle.gw_tags.specs.Object.{object_view};
+ghost use Rattle.gw_objects.specs.Objects.{database_of, defaults_of, is_name, named, place_of, same, type_at};
+ghost use Rattle.gw_objects.specs.Table.{contents_of, object_at, read_of};
+ghost use Rattle.gw_objects.specs.Contents.{octets_of};
+ghost use Rattle.gw_objects.specs.Property.{property_of};
+ghost use Rattle.gw_objects.specs.History.{IsStateAfter, acted, put_at, with_write};
+ghost use Rattle.gw_objects.specs.Write.{CanAct, Decides, Write, write_of};
+ghost use Rattle.gw_objects.specs.internal.Act.{act_view};
+ghost use Rattle.gw_objects.specs.Answer.{Answers, HasRoom};
+ghost use Rattle.gw_objects.specs.internal.View.{contents_view};
+
+use crate::contents::Contents;
+use crate::property::property_of;
+use crate::table::{device_line, object_line};
+use crate::write::{Act, Put, check};
+use crate::writing::write_contents;
+use crate::{
+    Configured, ConfiguredObject, ObjectType, Property, PropertyValue, ReadFault, ValueObjects,
+    WriteFault, copying,
+};
+use gw_policy_text::Config;
+use gw_priority::PriorityArray;
+use gw_tags::ObjectId;
+use std::alloc::{AllocError, Global};
+use std::marker::Model;
+
+/// The objects of a device: what is configured of them, and the slots and the default of each value
+/// object. Contracts see the two apart.
+#[derive(Debug, Drop)]
+pub struct ObjectDb {
+    configured: Configured,
+    states: Vec<PriorityArray<PropertyValue>>,
+}
+
+impl Model for ObjectDb {
+    ghost use Rattle.std.specs.Prelude.{◌≡◌, length};
+    ghost use Rattle.gw_objects.specs.Objects.{Database};
+
+    ghost Value = { Database };
+
+    ghost view = { λ d. record { configured = d.configured; states = d.states.items } };
+
+    ghost invariant = { λ d. length d.states.items ≡ length d.configured.objects };
+}
+
+impl ObjectDb {
+    /// The objects of a configuration, each value object with its default and no command. The only
+    /// fault is want of memory.
+    pub fn from_config(alloc: Global, config: &Config) -> Result<Self, AllocError>
+        ensures objects { IfOk result (λ db. db ≡ database_of config.now) }
+        ensures stands { IfOk result (λ db. IsStateAfter (defaults_of config.now) [] db.states) }
+    {
+        let configured = Configured {
+            device: copying::device(alloc, config.device())?,
+            objects: ValueObjects::new(copying::objects(alloc, config.objects())?),
+        };
+        let states = copying::states(alloc, config.objects())?;
+        Ok(ObjectDb { configured, states })
+    }
+
+    /// The type of the object, or `None` where there is no such object.
+    pub fn find(&self, id: ObjectId) -> Option<ObjectType>
+        ensures { result ≡ type_at self.now.configured (object_view id) }
+    {
+        find(&self.configured, id)
+    }
+
+    /// The object of that name, in character set 0, or `None` where there is none.
+    pub fn find_name(&self, name: &[u8]) -> Option<ObjectId>
+        ensures { option_map (λ id. object_view id) result ≡ named self.now.configured name.now }
+    {
+        find_name(&self.configured, name)
+    }
+
+    /// Appends the octets of a property of an object, or of one element of an array, counted from 1;
+    /// index 0 is how many elements there are (clause 15.5).
+    ///
+    /// # Errors
+    ///
+    /// 1 `UnknownObject`, 2 `UnknownProperty`, 3 `NotArray`, 4 `BadIndex` and 5 `Memory`, as
+    /// [`ReadFault`] says. Then the buffer holds what it held. `Memory` comes only where it had no
+    /// room for the octets.
+    pub fn read(
+        &self,
+        id: ObjectId,
+        property: u32,
+        index: Option<u32>,
+        out: &mut Vec<u8>,
+    ) -> Result<(), ReadFault>
+        ensures answer { Answers result (read_of self.now (object_view id) property index) out.old.items out.new.items }
+        ensures err { OnErr result (out.new.items ≡ out.old.items) }
+        ensures room { HasRoom (read_of self.now (object_view id) property index) (vec_len out.old) (vec_capacity out.old) → result ≢ Err ReadFault.Memory }
+        ensures capacity { vec_capacity out.old ≤ vec_capacity out.new }
+    {
+        read(&self.configured, &self.states, id, property, index, out)
+    }
+
+    /// What a write of a property does, or its first fault; nothing changes. The octets are those of
+    /// the value. The caller sees to it that the priority is 1 to 16; a write that names none has 16.
+    /// Whether there is a fault depends on what is configured and on the write alone.
+    ///
+    /// # Errors
+    ///
+    /// 1 `UnknownObject`, 2 `UnknownProperty`, 3 `NotWritable`, 4 `NotArray`, 5 `Reserved`, 6
+    /// `WrongKind`, 7 `CharacterSet`, 8 `OutOfRange`, 9 `NoSpace` and 10 `Memory`, as [`WriteFault`]
+    /// says. `Memory` comes only where no other fault is due.
+    pub fn check(
+        &self,
+        alloc: Global,
+        id: ObjectId,
+        property: u32,
+        index: Option<u32>,
+        priority: u8,
+        value: &[u8],
+    ) -> Result<Put, WriteFault>
+        requires { IsPriority priority }
+        ensures write { Decides (λ put. put) result (write_of self.now.configured (object_view id) property index priority value.now) }
+        ensures place { IfOk result (λ put. put.place < length self.now.configured.objects) }
+    {
+        check(
+            alloc,
+            &self.configured,
+            id,
+            property,
+            index,
+            priority,
+            value,
+        )
+    }
+
+    /// Makes a write, which `check` of these objects gave (clause 19.2). It takes no memory.
+    pub fn put(&mut self, put: Put)
+        requires { put.place < length self.old.configured.objects }
+        ensures write { self.new ≡ with_write put self.old }
+        ensures stands { (starts : List PropertyValue) (history : List Write) →
+            IsStateAfter starts history self.old.states →
+            IsStateAfter starts (put ∷ history) self.new.states }
+    {
+        let (place, act) = put.parts();
+        change(&mut self.states, place, act);
+    }
+}
+
+/// Lets the value object at a place act.
+fn change(states: &mut Vec<PriorityArray<PropertyValue>>, place: usize, act: Act)
+    requires there { place < vec_len states.old }
+    requires can { CanAct (act_view act) }
+    ensures { states.new.items ≡ put_at place (option_map (acted (act_view act)) (slice_get states.old.items place)) states.old.items }
+{
+    make(&mut states[place], act);
+}
+
+/// Changes one slot, or the default.
+fn make(slots: &mut PriorityArray<PropertyValue>, act: Act)
+    requires { CanAct (act_view act) }
+    ensures { slots.new ≡ acted (act_view act) slots.old }
+{
+    match act {
+        Act::Command(priority, value) => {
+            let _ = slots.command(priority, value);
+        }
+        Act::Relinquish(priority) => {
+            let _ = slots.relinquish(priority);
+        }
+        Act::SetDefault(value) => slots.set_default(value),
+    }
+}
+
+/// Appends the octets of a property, or of one element of it. After an `Err` the buffer holds what it
+/// held.
+#[tactic(auto, unfolding(crate::specs::Table::read_of))]
+fn read(
+    configured: &Configured,
+    states: &[PriorityArray<PropertyValue>],
+    id: ObjectId,
+    property: u32,
+    index: Option<u32>,
+    out: &mut Vec<u8>,
+) -> Result<(), ReadFault>
+    requires { length states.now ≡ length configured.now.objects }
+    ensures answer { Answers result (read_of (record { configured = configured.now; states = states.now }) (object_view id) property index) out.old.items out.new.items }
+    ensures err { OnErr result (out.new.items ≡ out.old.items) }
+    ensures room { HasRoom (read_of (record { configured = configured.now; states = states.now }) (object_view id) property index) (vec_len out.old) (vec_capacity out.old) → result ≢ Err ReadFault.Memory }
+    ensures capacity { vec_capacity out.old ≤ vec_capacity out.new }
+{
+    match contents(configured, states, id, property) {
+        Ok(contents) => append(out, &contents, index),
+        Err(fault) => Err(fault),
+    }
+}
+
+/// Appends what a property holds, or one element of it. After an `Err` the buffer holds what it held.
+fn append(out: &mut Vec<u8>, contents: &Contents<'_>, index: Option<u32>) -> Result<(), ReadFault>
+    ensures answer { Answers result (octets_of (contents_view contents.now) index) out.old.items out.new.items }
+    ensures err { OnErr result (out.new.items ≡ out.old.items) }
+    ensures room { HasRoom (octets_of (contents_view contents.now) index) (vec_len out.old) (vec_capacity out.old) → result ≢ Err ReadFault.Memory }
+    ensures capacity { vec_capacity out.old ≤ vec_capacity out.new }
+{
+    let len = out.len();
+    let written = write_contents(out, contents, index);
+    if written.is_err() {
+        out.truncate(len);
+    }
+    written
+}
+
+/// Whether two identifiers are one.
+pub(crate) fn same(a: ObjectId, b: ObjectId) -> bool
+    ensures { result ≡ same (object_view a) (object_view b) }
+{
+    a.kind == b.kind && a.instance == b.instance
+}
+
+/// The place of a value object.
+pub(crate) fn place_of(configured: &Configured, id: ObjectId) -> Option<usize>
+    ensures place { result ≡ place_of configured.now (object_view id) }
+    ensures within { IfSome result (λ place. place < length configured.now.objects) }
+{
+    configured
+        .objects
+        .as_slice()
+        .iter()
+        .position(|object| same(id, object.id()))
+}
+
+fn find(configured: &Configured, id: ObjectId) -> Option<ObjectType>
+    ensures { result ≡ type_at configured.now (object_view id) }
+{
+    if same(id, configured.device_id()) {
+        return Some(ObjectType::Device);
+    }
+    match place_of(configured, id) {
+        Some(place) => Some(configured.objects.as_slice()[place].details.object_type()),
+        None => None,
+    }
+}
+
+fn find_name(configured: &Configured, name: &[u8]) -> Option<ObjectId>
+    ensures { option_map (λ id. object_view id) result ≡ named configured.now name.now }
+{
+    if name == configured.device.name.as_str().as_bytes() {
+        return Some(configured.device_id());
+    }
+    match value_object_named(configured.objects.as_slice(), name) {
+        Some(object) => Some(object.id()),
+        None => None,
+    }
+}
+
+fn value_object_named<'a>(
+    objects: &'a [ConfiguredObject],
+    name: &[u8],
+) -> Option<&'a ConfiguredObject>
+    ensures { option_copied result ≡ find (λ object. is_name name.now object.name) objects.now }
+{
+    objects
+        .iter()
+        .find(|object| name == object.name.as_str().as_bytes())
+}
+
+/// A value object with its slots.
+fn object<'a>(
+    configured: &'a Configured,
+    states: &'a [PriorityArray<PropertyValue>],
+    id: ObjectId,
+) -> Result<(&'a ConfiguredObject, &'a PriorityArray<PropertyValue>), ReadFault>
+    requires { length states.now ≡ length configured.now.objects }
+    ensures { Gives (λ x. (x.0.now, x.1.now)) result (object_at (record { configured = configured.now; states = states.now }) (object_view id)) }
+{
+    match place_of(configured, id) {
+        Some(place) => Ok((&configured.objects.as_slice()[place], &states[place])),
+        None => Err(ReadFault::UnknownObject),
+    }
+}
+
+/// The property of that number, where the type has it.
+fn known(kind: ObjectType, property: u32) -> Result<Property, ReadFault>
+    ensures { Gives (λ p. p) result (ok_or (property_of kind property) ReadFault.UnknownProperty) }
+{
+    match property_of(kind, property) {
+        Some(property) => Ok(property),
+        None => Err(ReadFault::UnknownProperty),
+    }
+}
+
+/// What a property of an object holds.
+fn contents<'a>(
+    configured: &'a Configured,
+    states: &'a [PriorityArray<PropertyValue>],
+    id: ObjectId,
+    property: u32,
+) -> Result<Contents<'a>, ReadFault>
+    requires { length states.now ≡ length configured.now.objects }
+    ensures { Gives (λ x. contents_view x) result (contents_of (record { configured = configured.now; states = states.now }) (object_view id) property) }
+{
+    if same(id, configured.device_id()) {
+        let property = known(ObjectType::Device, property)?;
+        return Ok(device_line(configured, property));
+    }
+    let (object, slots) = object(configured, states, id)?;
+    let property = known(object.details.object_type(), property)?;
+    Ok(object_line(object, slots, property))
+}

@@ -1,0 +1,314 @@
+//! Writes of Present_Value and Relinquish_Default (clauses 15.9 and 19.2).
+ghost use Rattle.std.specs.Prelude.{◌≡◌, ◌≢◌, ◌<◌, ◌==◌, ◌&&◌, nat_le, nat_lt, if◌then◌else◌, length, Ok, Err, IfOk, IfSome, IsFalse};
+ghost use Rattle.gw_addr.specs.Reading.{Gives};
+ghost use Rattle.gw_priority.specs.Commandable.{IsPriority};
+ghost use Rattle.gw_tags.specs.Object.{object_view};
+ghost use Rattle.gw_tags.specs.Reading.{value_at};
+ghost use Rattle.gw_tags.specs.Value.{value_view};
+ghost use Rattle.gw_objects.specs.Write.{CanAct, Decides, act_for, act_of, device_write, is_reserved, is_writable, object_write, present_act, property_for, text_in, value_for, whole, write_of};
+ghost use Rattle.gw_objects.specs.internal.Act.{act_view};
+
+use crate::database::{place_of, same};
+use crate::property::property_of;
+use crate::{
+    Configured, ConfiguredObject, Details, ObjectType, Property, PropertyValue, WriteFault,
+};
+use gw_policy_text::Text;
+use gw_priority::RESERVED;
+use gw_tags::{AppValue, CharacterString, ObjectId, ValueFault, read_value};
+use std::alloc::Global;
+use std::marker::Model;
+
+/// How many octets a text has at most.
+const MAX_TEXT: usize = 255;
+
+/// A write that [`check`](crate::ObjectDb::check) found without a fault, for
+/// [`put`](crate::ObjectDb::put). Contracts see the place of its object and what it does there.
+#[derive(Debug, Drop)]
+pub struct Put {
+    place: usize,
+    act: Act,
+}
+
+impl Model for Put {
+    ghost use Rattle.gw_objects.specs.Write.{CanAct, Write};
+    ghost use Rattle.gw_objects.specs.internal.Act.{act_view};
+
+    ghost Value = { Write };
+
+    ghost view = { λ p. record { place = p.place; act = act_view p.act } };
+
+    ghost invariant = { λ p. CanAct (act_view p.act) };
+}
+
+/// What a write does.
+#[derive(Debug, Drop)]
+pub(crate) enum Act {
+    /// Puts a value into the slot of a priority.
+    Command(u8, PropertyValue),
+    /// Empties the slot of a priority.
+    Relinquish(u8),
+    /// Puts another default in the place of the old one.
+    SetDefault(PropertyValue),
+}
+
+impl Put {
+    /// The place of its object, and what it does.
+    pub(crate) fn parts(self) -> (usize, Act)
+        ensures place { result.0 ≡ self.place }
+        ensures act { act_view result.1 ≡ self.act }
+        ensures can { CanAct (act_view result.1) }
+    {
+        (self.place, self.act)
+    }
+}
+
+/// The write, or its first fault.
+#[tactic(auto, unfolding(crate::specs::Write::write_of))]
+pub(crate) fn check(
+    alloc: Global,
+    configured: &Configured,
+    id: ObjectId,
+    property: u32,
+    index: Option<u32>,
+    priority: u8,
+    value: &[u8],
+) -> Result<Put, WriteFault>
+    requires { IsPriority priority }
+    ensures write { Decides (λ put. put) result (write_of configured.now (object_view id) property index priority value.now) }
+    ensures place { IfOk result (λ put. put.place < length configured.now.objects) }
+{
+    if same(id, configured.device_id()) {
+        return Err(device_fault(property));
+    }
+    let Some(place) = place_of(configured, id) else {
+        return Err(WriteFault::UnknownObject);
+    };
+    let object = &configured.objects.as_slice()[place];
+    object_write(alloc, place, object, property, index, priority, value)
+}
+
+/// A write to the value object at that place.
+fn object_write(
+    alloc: Global,
+    place: usize,
+    object: &ConfiguredObject,
+    property: u32,
+    index: Option<u32>,
+    priority: u8,
+    value: &[u8],
+) -> Result<Put, WriteFault>
+    requires { IsPriority priority }
+    ensures write { Decides (λ put. put) result (object_write place object.now property index priority value.now) }
+    ensures place { IfOk result (λ put. put.place ≡ place) }
+{
+    match object_act(alloc, object, property, index, priority, value) {
+        Ok(act) => Ok(Put { place, act }),
+        Err(fault) => Err(fault),
+    }
+}
+
+/// Why a property of the Device object isn't written.
+fn device_fault(property: u32) -> WriteFault
+    ensures { device_write property ≡ Err result }
+{
+    match property_of(ObjectType::Device, property) {
+        Some(_) => WriteFault::NotWritable,
+        None => WriteFault::UnknownProperty,
+    }
+}
+
+/// What a write does to a value object.
+fn object_act(
+    alloc: Global,
+    object: &ConfiguredObject,
+    property: u32,
+    index: Option<u32>,
+    priority: u8,
+    value: &[u8],
+) -> Result<Act, WriteFault>
+    requires { IsPriority priority }
+    ensures act { Decides (λ act. act_view act) result (act_of object.now property index priority value.now) }
+    ensures can { IfOk result (λ act. CanAct (act_view act)) }
+{
+    let property = match property_for(object.details.object_type(), property, index, priority) {
+        Ok(property) => property,
+        Err(fault) => return Err(fault),
+    };
+    match whole(value) {
+        Ok(value) => act_for(alloc, &object.details, property, priority, &value),
+        Err(fault) => Err(fault),
+    }
+}
+
+/// The property, where it can be written.
+fn property_for(
+    kind: ObjectType,
+    property: u32,
+    index: Option<u32>,
+    priority: u8,
+) -> Result<Property, WriteFault>
+    ensures property { Gives (λ p. p) result (property_for kind property index priority) }
+    ensures reserved { IfOk result (λ p. IsFalse (is_reserved p priority)) }
+{
+    let Some(property) = property_of(kind, property) else {
+        return Err(WriteFault::UnknownProperty);
+    };
+    if !is_writable(property) {
+        return Err(WriteFault::NotWritable);
+    }
+    if index.is_some() {
+        return Err(WriteFault::NotArray);
+    }
+    if is_reserved(property, priority) {
+        return Err(WriteFault::Reserved);
+    }
+    Ok(property)
+}
+
+fn is_writable(property: Property) -> bool
+    ensures { result ≡ is_writable property }
+{
+    matches!(
+        property,
+        Property::PresentValue | Property::RelinquishDefault
+    )
+}
+
+fn is_reserved(property: Property, priority: u8) -> bool
+    ensures { result ≡ is_reserved property priority }
+{
+    match property {
+        Property::PresentValue => priority == RESERVED,
+        _ => false,
+    }
+}
+
+/// The one value that fills the octets.
+fn whole(octets: &[u8]) -> Result<AppValue<'_>, WriteFault>
+    ensures { Gives (λ v. value_view v) result (whole (value_at octets.now)) }
+{
+    match read_value(octets) {
+        Ok((value, [])) => Ok(value),
+        Ok(_) => Err(WriteFault::WrongKind),
+        Err(ValueFault::BadText) => Err(WriteFault::OutOfRange),
+        Err(_) => Err(WriteFault::WrongKind),
+    }
+}
+
+/// What a write of that value does.
+fn act_for(
+    alloc: Global,
+    details: &Details,
+    property: Property,
+    priority: u8,
+    value: &AppValue<'_>,
+) -> Result<Act, WriteFault>
+    requires priority { IsPriority priority }
+    requires reserved { IsFalse (is_reserved property priority) }
+    ensures act { Decides (λ act. act_view act) result (act_for details.now property priority (value_view value.now)) }
+    ensures can { IfOk result (λ act. CanAct (act_view act)) }
+{
+    match property {
+        Property::PresentValue => present_act(alloc, details, priority, value),
+        Property::RelinquishDefault => match value_for(alloc, details, value) {
+            Ok(value) => Ok(Act::SetDefault(value)),
+            Err(fault) => Err(fault),
+        },
+        _ => Err(WriteFault::NotWritable),
+    }
+}
+
+/// What a write of Present_Value does: Null empties the slot.
+fn present_act(
+    alloc: Global,
+    details: &Details,
+    priority: u8,
+    value: &AppValue<'_>,
+) -> Result<Act, WriteFault>
+    requires priority { IsPriority priority }
+    requires reserved { priority ≢ RESERVED }
+    ensures act { Decides (λ act. act_view act) result (present_act details.now priority (value_view value.now)) }
+    ensures can { IfOk result (λ act. CanAct (act_view act)) }
+{
+    if let AppValue::Null = value {
+        return Ok(Act::Relinquish(priority));
+    }
+    match value_for(alloc, details, value) {
+        Ok(value) => Ok(Act::Command(priority, value)),
+        Err(fault) => Err(fault),
+    }
+}
+
+/// The value that an object takes, by its type.
+fn value_for(
+    alloc: Global,
+    details: &Details,
+    value: &AppValue<'_>,
+) -> Result<PropertyValue, WriteFault>
+    ensures { Decides (λ v. v) result (value_for details.now (value_view value.now)) }
+{
+    match (details, value) {
+        (Details::BinaryValue { .. }, AppValue::Enumerated(number)) => binary(*number),
+        (Details::MultiStateValue(states), AppValue::Unsigned(number)) => {
+            state(states.count(), *number)
+        }
+        (Details::CharacterStringValue, AppValue::Text(text)) => text_in(alloc, text),
+        (Details::IntegerValue { .. }, AppValue::Signed(number)) => {
+            Ok(PropertyValue::Integer(*number))
+        }
+        (Details::PositiveIntegerValue { .. }, AppValue::Unsigned(number)) => {
+            Ok(PropertyValue::PositiveInteger(*number))
+        }
+        _ => Err(WriteFault::WrongKind),
+    }
+}
+
+fn binary(number: u32) -> Result<PropertyValue, WriteFault>
+    ensures { result ≡ (if nat_lt number 2 then Ok (PropertyValue.Binary (number == 1)) else Err WriteFault.OutOfRange) }
+{
+    if number < 2 {
+        Ok(PropertyValue::Binary(number == 1))
+    } else {
+        Err(WriteFault::OutOfRange)
+    }
+}
+
+fn state(count: u32, number: u32) -> Result<PropertyValue, WriteFault>
+    ensures { result ≡ (if nat_le 1 number && nat_le number count then Ok (PropertyValue.State number) else Err WriteFault.OutOfRange) }
+{
+    if 1 <= number && number <= count {
+        Ok(PropertyValue::State(number))
+    } else {
+        Err(WriteFault::OutOfRange)
+    }
+}
+
+/// A text in character set 0, of at most 255 octets.
+fn text_in(alloc: Global, text: &CharacterString<'_>) -> Result<PropertyValue, WriteFault>
+    ensures { Decides (λ v. v) result (text_in text.now.charset text.now.octets.now) }
+{
+    if text.charset != 0 {
+        return Err(WriteFault::CharacterSet);
+    }
+    if text.octets.len() > MAX_TEXT {
+        return Err(WriteFault::NoSpace);
+    }
+    match own_text(alloc, text.octets) {
+        Some(text) => Ok(PropertyValue::Text(text)),
+        None => Err(WriteFault::Memory),
+    }
+}
+
+/// A copy of a text, or `None` where there is no memory for it.
+fn own_text(alloc: Global, octets: &[u8]) -> Option<Text>
+    ensures { IfSome result (λ text. text ≡ octets.now) }
+{
+    let Ok(text) = str::from_utf8(octets) else {
+        return None;
+    };
+    match Text::new(alloc, 0, text) {
+        Ok(text) => Some(text),
+        Err(_) => None,
+    }
+}
