@@ -17,6 +17,8 @@ mod gateway;
 #[cfg(test)]
 mod npdu;
 #[cfg(test)]
+mod policy_text;
+#[cfg(test)]
 mod priority;
 #[cfg(test)]
 mod replay;

@@ -1,0 +1,6 @@
+use Rattle.std.proofs.Common.{◌≡◌, ◌∷◌, [], ◌++◌, Bool, drop, map, nat_eq, take}
+use Rattle.gw_policy_text.specs.Duplicates.{peer_addresses}
+use Rattle.gw_policy_text.proofs.duplicates.peers_repeat.Given as goal
+
+abbrev pub invariant-loop-peer : goal.invariant-loop-peer
+invariant-loop-peer l = l.all.items ≡ peer_addresses (take l.peer-index l.peers)

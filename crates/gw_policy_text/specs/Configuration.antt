@@ -1,0 +1,304 @@
+-- What a gateway is configured with, and how it is read from the tables of its text.
+use Rattle.std.specs.Prelude.{ℕ, ℤ, List, [], ◌∷◌, length, Bool, codes, ◌==◌, nat_le, nat_lt, ◌&&◌, not, if◌then◌else◌, Option, Some, None, Result, Ok, Err}
+use Rattle.std.specs.Option.{ok_or, option_and_then, option_map}
+use Rattle.std.specs.Result.{result_ok}
+use Rattle.toml.specs.Data.{Data, Members, get_member}
+use Rattle.gw_addr.specs.Reading.{◌>>=◌}
+use Rattle.gw_addr.specs.declared.bip.BipAddr.{BipAddr}
+use Rattle.gw_addr.specs.declared.mask.Mask.{Mask}
+use Rattle.gw_addr.specs.declared.entry.BdtEntry.{BdtEntry}
+use Rattle.gw_rules.specs.declared.fields.Fields.{Fields}
+use Rattle.gw_rules.specs.declared.range.Range.{Range as RuleRange}
+use Rattle.gw_rules.specs.declared.rule.Rule.{Rule}
+use Rattle.gw_rules.specs.RuleList.{keeps_counts, keeps_order}
+use Rattle.gw_policy_text.specs.declared.device.Device.{Device}
+use Rattle.gw_policy_text.specs.declared.fault.ConfigFault.{ConfigFault}
+use Rattle.gw_policy_text.specs.declared.fault.ConfigFault.TheVariants.{Duplicate, Missing, Range, TooMany}
+use Rattle.gw_policy_text.specs.declared.object.Object.{Object}
+use Rattle.gw_policy_text.specs.declared.object.ObjectKind.{ObjectKind}
+use Rattle.gw_policy_text.specs.declared.object.ObjectKind.TheVariants as kinds
+use Rattle.gw_policy_text.specs.declared.object.ObjectValue.{ObjectValue}
+use Rattle.gw_policy_text.specs.declared.object.ObjectValue.TheVariants as values
+use Rattle.gw_policy_text.specs.declared.port.Port.{Port}
+use Rattle.gw_policy_text.specs.declared.route.Route.{Route}
+use Rattle.gw_policy_text.specs.declared.shape.Scalar.{Scalar}
+use Rattle.gw_policy_text.specs.declared.shape.Scalar.TheVariants.{Number, Operation, Address}
+use Rattle.gw_policy_text.specs.Field.{fault_of, range_in}
+use Rattle.gw_policy_text.specs.States.{States}
+use Rattle.gw_policy_text.specs.Tables.{device_fields, object_fields, peer_fields, port_fields, route_fields, rule_fields, top_fields}
+use Rattle.gw_policy_text.specs.Value.{Read, address_in, boolean_in, kind_in, list_in, mask_in, number_in, rule_name_in, signed_in, table_in, text_in, text_within}
+
+-- what is read where there is no fault
+abbrev pub unless : {A : Type 0} → Option ConfigFault → Read A → Read A
+unless None reading = reading
+unless (Some fault) reading = Err fault
+
+-- the value at a key
+abbrev pub at : List ℕ → Members → Read Data
+at key table = ok_or (get_member key table) Missing
+
+abbrev pub number_at : ℕ → ℕ → List ℕ → Members → Read ℕ
+number_at low high key table = at key table >>= number_in low high
+
+abbrev pub text_at : ℕ → List ℕ → Members → Read (List ℕ)
+text_at least key table = at key table >>= text_in least
+
+abbrev pub address_at : List ℕ → Members → Read BipAddr
+address_at key table = at key table >>= address_in
+
+abbrev pub mask_at : List ℕ → Members → Read Mask
+mask_at key table = at key table >>= mask_in
+
+-- a text that may be missing
+abbrev pub text_or : List ℕ → Option Data → Read (List ℕ)
+text_or default None = text_within 0 default
+text_or default (Some value) = text_in 0 value
+
+abbrev pub optional_text : List ℕ → List ℕ → Members → Read (List ℕ)
+optional_text default key table = text_or default (get_member key table)
+
+-- a list of least to most values
+abbrev pub within : {A : Type 0} → ℕ → ℕ → List A → Read (List A)
+within least most values =
+    if nat_lt (length values) least then Err Range
+    else if nat_lt most (length values) then Err TooMany
+    else Ok values
+
+-- a list that may be missing, which is then an empty one
+abbrev pub list_or : Option Data → Read (List Data)
+list_or None = Ok []
+list_or (Some value) = list_in value
+
+abbrev pub list_at : ℕ → ℕ → List ℕ → Members → Read (List Data)
+list_at least most key table = list_or (get_member key table) >>= within least most
+
+-- each value of a list, in order, up to the first fault
+abbrev pub each : {A : Type 0} → (Data → Read A) → List Data → Read (List A)
+each read [] = Ok []
+each read (value ∷ later) = read value >>= λ first. each read later >>= λ others. Ok (first ∷ others)
+
+-- the device
+
+abbrev pub device_parts : Members → Read Device
+device_parts table = do
+  network ← number_at 1 65534 (codes "network") table
+  instance ← number_at 0 4194302 (codes "instance") table
+  name ← text_at 1 (codes "name") table
+  vendor ← number_at 0 65535 (codes "vendor") table
+  vendor_name ← text_at 0 (codes "vendor_name") table
+  model ← text_at 0 (codes "model") table
+  firmware ← text_at 0 (codes "firmware") table
+  software ← text_at 0 (codes "software") table
+  revision ← number_at 0 255 (codes "revision") table
+  database ← number_at 0 4294967295 (codes "database") table
+  description ← optional_text [] (codes "description") table
+  Ok (record { network = network; instance = instance; name = name; vendor = vendor; vendor_name = vendor_name; model = model; firmware = firmware; software = software; revision = revision; database = database; description = description })
+
+unfoldable pub device_of : Members → Read Device
+device_of table = unless (fault_of device_fields table) (device_parts table)
+
+-- a port, followed by its peers
+
+abbrev pub peer_parts : Members → Read BdtEntry
+peer_parts table = do
+  address ← address_at (codes "address") table
+  mask ← mask_at (codes "mask") table
+  Ok (record { address = address; mask = mask.octets })
+
+unfoldable pub peer_of : Members → Read BdtEntry
+peer_of table = unless (fault_of peer_fields table) (peer_parts table)
+
+abbrev pub peer_in : Data → Read BdtEntry
+peer_in value = table_in value >>= peer_of
+
+abbrev pub port_parts : Members → Read Port
+port_parts table = do
+  network ← number_at 1 65534 (codes "network") table
+  address ← address_at (codes "address") table
+  broadcast ← address_at (codes "broadcast") table
+  entries ← list_at 0 64 (codes "peer") table
+  peers ← each peer_in entries
+  Ok (record { network = network; address = address; broadcast = broadcast; peers = peers })
+
+unfoldable pub port_of : Members → Read Port
+port_of table = unless (fault_of port_fields table) (port_parts table)
+
+abbrev pub port_in : Data → Read Port
+port_in value = table_in value >>= port_of
+
+-- a route by one of so many ports
+
+abbrev pub route_parts : ℕ → Members → Read Route
+route_parts ports table = do
+  network ← number_at 1 65534 (codes "network") table
+  port ← number_at 1 ports (codes "port") table
+  next ← address_at (codes "next") table
+  Ok (record { network = network; port = port; next = next })
+
+unfoldable pub route_of : ℕ → Members → Read Route
+route_of ports table = unless (fault_of (route_fields ports) table) (route_parts ports table)
+
+abbrev pub route_in : ℕ → Data → Read Route
+route_in ports value = table_in value >>= route_of ports
+
+-- a route by one of so many ports
+abbrev pub is_by : ℕ → Route → Bool
+is_by ports route = nat_le 1 route.port && nat_le route.port ports
+
+-- an object, by its type
+
+abbrev pub kind_at : List ℕ → Members → Read ObjectKind
+kind_at key table = at key table >>= kind_in
+
+abbrev pub signed_at : List ℕ → Members → Read ℤ
+signed_at key table = at key table >>= signed_in
+
+-- how many values stand in the list at a key
+abbrev pub count_or : Read (List Data) → ℕ
+count_or (Ok values) = length values
+count_or (Err _) = 0
+
+abbrev pub count_at : List ℕ → Members → ℕ
+count_at key table = count_or (list_or (get_member key table))
+
+-- a default of 1 is active
+abbrev pub binary_value : Members → Read ObjectValue
+binary_value table = do
+  default ← number_at 0 1 (codes "default") table
+  active ← optional_text (codes "active") (codes "active") table
+  inactive ← optional_text (codes "inactive") (codes "inactive") table
+  Ok (values.BinaryValue (default == 1) active inactive)
+
+-- the default is one of the states
+abbrev pub states_with : List (List ℕ) → Members → Read States
+states_with states table =
+    number_at 1 (length states) (codes "default") table >>= λ default. Ok (record { default = default; states = states })
+
+abbrev pub multi_state_value : Members → Read ObjectValue
+multi_state_value table = do
+  texts ← list_at 1 64 (codes "states") table
+  states ← each (text_in 0) texts
+  value ← states_with states table
+  Ok (values.MultiStateValue value)
+
+abbrev pub character_string_value : Members → Read ObjectValue
+character_string_value table = do
+  default ← text_at 0 (codes "default") table
+  Ok (values.CharacterStringValue default)
+
+abbrev pub integer_value : Members → Read ObjectValue
+integer_value table = do
+  default ← signed_at (codes "default") table
+  units ← number_at 0 65535 (codes "units") table
+  Ok (values.IntegerValue default units)
+
+abbrev pub positive_integer_value : Members → Read ObjectValue
+positive_integer_value table = do
+  default ← number_at 0 4294967295 (codes "default") table
+  units ← number_at 0 65535 (codes "units") table
+  Ok (values.PositiveIntegerValue default units)
+
+abbrev pub value_of : ObjectKind → Members → Read ObjectValue
+value_of kinds.BinaryValue table = binary_value table
+value_of kinds.MultiStateValue table = multi_state_value table
+value_of kinds.CharacterStringValue table = character_string_value table
+value_of kinds.IntegerValue table = integer_value table
+value_of kinds.PositiveIntegerValue table = positive_integer_value table
+
+abbrev pub object_parts : ObjectKind → Members → Read Object
+object_parts kind table = do
+  instance ← number_at 0 4194302 (codes "instance") table
+  name ← text_at 1 (codes "name") table
+  description ← optional_text [] (codes "description") table
+  value ← value_of kind table
+  Ok (record { instance = instance; name = name; description = description; value = value })
+
+unfoldable pub object_of_kind : ObjectKind → Members → Read Object
+object_of_kind kind table =
+    unless (fault_of (object_fields kind (count_at (codes "states") table)) table) (object_parts kind table)
+
+-- its type is judged first
+abbrev pub object_of : Members → Read Object
+object_of table = kind_at (codes "type") table >>= λ kind. object_of_kind kind table
+
+abbrev pub object_in : Data → Read Object
+object_in value = table_in value >>= object_of
+
+-- a rule
+
+abbrev pub ranges_at : Scalar → List ℕ → Members → Read (List RuleRange)
+ranges_at scalar key table = list_at 0 4 key table >>= each (range_in scalar)
+
+abbrev pub rule_name_at : List ℕ → Members → Read (List ℕ)
+rule_name_at key table = at key table >>= rule_name_in
+
+abbrev pub boolean_at : List ℕ → Members → Read Bool
+boolean_at key table = at key table >>= boolean_in
+
+abbrev pub fields_of : Members → Read (Fields (List RuleRange))
+fields_of table = do
+  operation ← ranges_at Operation (codes "operation") table
+  port ← ranges_at (Number 1 8) (codes "port") table
+  source_network ← ranges_at (Number 1 65534) (codes "source_network") table
+  source_key ← ranges_at Address (codes "source") table
+  destination_network ← ranges_at (Number 1 65534) (codes "destination") table
+  service ← ranges_at (Number 0 1031) (codes "service") table
+  object_type ← ranges_at (Number 0 1023) (codes "object_type") table
+  instance ← ranges_at (Number 0 4194303) (codes "instance") table
+  property ← ranges_at (Number 0 4194303) (codes "property") table
+  priority ← ranges_at (Number 1 16) (codes "priority") table
+  Ok (record { operation = operation; port = port; source_network = source_network; source_key = source_key; destination_network = destination_network; service = service; object_type = object_type; instance = instance; property = property; priority = priority })
+
+abbrev pub rule_parts : Members → Read Rule
+rule_parts table = do
+  name ← rule_name_at (codes "name") table
+  allow ← boolean_at (codes "allow") table
+  ranges ← fields_of table
+  Ok (record { name = name; allow = allow; ranges = ranges })
+
+unfoldable pub rule_of : Members → Read Rule
+rule_of table = unless (fault_of rule_fields table) (rule_parts table)
+
+abbrev pub rule_in : Data → Read Rule
+rule_in value = table_in value >>= rule_of
+
+-- the whole
+
+-- what contracts see of a configuration
+pub record Configuration : Type 0 where
+  pub device : Device
+  pub ports : List Port
+  pub routes : List Route
+  pub objects : List Object
+  pub rules : List Rule
+
+abbrev pub device_at : List ℕ → Members → Read Device
+device_at key table = at key table >>= table_in >>= device_of
+
+abbrev pub ports_at : List ℕ → Members → Read (List Port)
+ports_at key table = list_at 1 8 key table >>= each port_in
+
+abbrev pub routes_at : ℕ → List ℕ → Members → Read (List Route)
+routes_at ports key table = list_at 0 512 key table >>= each (route_in ports)
+
+abbrev pub objects_at : List ℕ → Members → Read (List Object)
+objects_at key table = list_at 0 256 key table >>= each object_in
+
+abbrev pub rules_at : List ℕ → Members → Read (List Rule)
+rules_at key table = list_at 0 512 key table >>= each rule_in
+
+-- the rules as a policy
+abbrev pub policy_of : List Rule → Read (List Rule)
+policy_of rules =
+    if not (keeps_counts rules) then Err TooMany else if not (keeps_order rules) then Err Range else Ok rules
+
+-- the tables in their order
+abbrev pub parts_of : Members → Read Configuration
+parts_of top = do
+  device ← device_at (codes "device") top
+  ports ← ports_at (codes "port") top
+  routes ← routes_at (length ports) (codes "route") top
+  objects ← objects_at (codes "object") top
+  rules ← rules_at (codes "rule") top
+  policy ← policy_of rules
+  Ok (record { device = device; ports = ports; routes = routes; objects = objects; rules = policy })

@@ -1,0 +1,9 @@
+pub mod Configuration
+pub mod Document
+pub mod Duplicates
+pub mod Field
+pub mod Reading
+pub mod States
+pub mod Tables
+pub mod Value
+pub mod Written

@@ -1,0 +1,9 @@
+-- What a function returned, held against what the definition gives.
+use Rattle.std.specs.Prelude.{◌≡◌, ◌≢◌, Result, Ok, Err}
+use Rattle.gw_policy_text.specs.declared.fault.ConfigFault.{ConfigFault}
+use Rattle.gw_policy_text.specs.declared.fault.ConfigFault.TheVariants.{Memory}
+
+-- what a function returned, seen by view, is what the definition gives, unless there was no memory
+abbrev pub Gives : {X Y : Type 0} → (X → Y) → Result X ConfigFault → Result Y ConfigFault → Type 0
+Gives view (Ok x) reading = reading ≡ Ok (view x)
+Gives view (Err fault) reading = fault ≢ Memory → reading ≡ Err fault

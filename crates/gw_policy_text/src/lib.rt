@@ -1,0 +1,33 @@
+//! The configuration of a gateway, read from TOML to values that keep every range and limit.
+#![tactic(auto)]
+
+mod config;
+mod device;
+mod duplicates;
+mod fault;
+mod field;
+mod instance;
+mod object;
+mod objects;
+mod port;
+mod range;
+mod read;
+mod reading;
+mod route;
+mod rules;
+mod setting;
+mod shape;
+mod tables;
+mod text;
+mod value;
+
+pub use config::Config;
+pub use device::Device;
+pub use fault::ConfigFault;
+pub use instance::Instance;
+pub use object::{MultiState, Object, ObjectKind, ObjectValue};
+pub use port::{Peers, Port};
+pub use read::{MAX_OCTETS, read_config};
+pub use route::Route;
+pub use setting::SETTING;
+pub use text::Text;

@@ -1,0 +1,114 @@
+//! The objects of a device.
+ghost use Rattle.std.specs.Prelude.{◌≡◌, ◌≤◌, length};
+
+use crate::{Instance, Text};
+use gw_addr::Sequence;
+use std::marker::Model;
+
+/// How many states a Multi-state Value has at most.
+pub const MAX_STATES: usize = 64;
+
+/// The types of objects that a configuration may have, each with its number (clause 21).
+#[derive(Clone, Copy, Debug, PartialEq, Eq)]
+pub enum ObjectKind {
+    /// Binary Value (clause 12.8).
+    BinaryValue = 5,
+    /// Multi-state Value (clause 12.20).
+    MultiStateValue = 19,
+    /// CharacterString Value (clause 12.39).
+    CharacterStringValue = 40,
+    /// Integer Value (clause 12.43).
+    IntegerValue = 45,
+    /// Positive Integer Value (clause 12.44).
+    PositiveIntegerValue = 48,
+}
+
+/// An object as it is configured.
+#[derive(Debug, Drop)]
+pub struct Object {
+    /// Its instance.
+    pub instance: Instance,
+    /// Object_Name, which isn't empty.
+    pub name: Text,
+    /// Description, which may be empty.
+    pub description: Text,
+    /// Its type, with what is configured of that type alone.
+    pub value: ObjectValue,
+}
+
+/// The type of an object with its Relinquish_Default, which is in the range of its Present_Value,
+/// and what else is configured of that type.
+#[derive(Debug, Drop)]
+pub enum ObjectValue {
+    /// Binary Value: whether the default is active, and the texts of the two states.
+    BinaryValue {
+        default: bool,
+        active: Text,
+        inactive: Text,
+    },
+    /// Multi-state Value.
+    MultiStateValue(MultiState),
+    /// CharacterString Value.
+    CharacterStringValue {
+        default: Text,
+    },
+    /// Integer Value, with its Units.
+    IntegerValue {
+        default: i32,
+        units: u16,
+    },
+    /// Positive Integer Value, with its Units.
+    PositiveIntegerValue {
+        default: u32,
+        units: u16,
+    },
+}
+
+/// The states of a Multi-state Value, 1 to 64 of them, and which is the default, counted from 1.
+#[derive(Debug, Drop)]
+pub struct MultiState {
+    default: u8,
+    states: Sequence<Text>,
+}
+
+impl Model for MultiState {
+    ghost use Rattle.std.specs.Prelude.{◌≤◌, length};
+    ghost use Rattle.gw_policy_text.specs.States.{States};
+
+    ghost Value = { States };
+
+    ghost view = { λ m. record { default = m.default; states = m.states } };
+
+    ghost invariant = { λ m. (1 ≤ m.default) × ((m.default ≤ length m.states) × (length m.states ≤ 64)) };
+}
+
+impl MultiState {
+    /// These states, of which the one of that number is the default. The caller sees to the bounds.
+    pub(crate) fn new(default: u8, states: Sequence<Text>) -> Self
+        requires low { 1 ≤ default }
+        requires high { default ≤ length states }
+        requires most { length states ≤ 64 }
+        ensures default { result.default ≡ default }
+        ensures states { result.states ≡ states }
+    {
+        MultiState { default, states }
+    }
+
+    /// The number of the default state, counted from 1.
+    pub fn default(&self) -> u8
+        ensures value { result ≡ self.now.default }
+        ensures low { 1 ≤ result }
+        ensures high { result ≤ length self.now.states }
+    {
+        self.default
+    }
+
+    /// The texts of the states in order, 1 to 64.
+    pub fn states(&self) -> &[Text]
+        ensures value { result.now ≡ self.now.states }
+        ensures some { 1 ≤ length self.now.states }
+        ensures most { length self.now.states ≤ 64 }
+    {
+        self.states.as_slice()
+    }
+}

@@ -1,0 +1,190 @@
+//! What the objects of a configuration are read to.
+ghost use Rattle.std.specs.Prelude.{◌≡◌, ◌≤◌, codes, length, map, IfOk};
+ghost use Rattle.gw_addr.specs.Reading as plain;
+ghost use Rattle.toml.specs.View.{table_view, view};
+ghost use Rattle.gw_policy_text.specs.Configuration.{binary_value, character_string_value, count_at, each, integer_value, kind_at, multi_state_value, object_in, object_of, object_of_kind, object_parts, positive_integer_value, signed_at, states_with, value_of};
+ghost use Rattle.gw_policy_text.specs.Field as field;
+ghost use Rattle.gw_policy_text.specs.Reading.{Gives};
+ghost use Rattle.gw_policy_text.specs.Tables.{object_fields};
+ghost use Rattle.gw_policy_text.specs.Value.{text_in};
+
+use crate::field::fault_of;
+use crate::object::MAX_STATES;
+use crate::reading::{
+    any_list, at, instance_at, list_at, long_at, number_at, optional_text, short_at, text_at,
+};
+use crate::tables::{
+    binary_fields, character_string_fields, integer_fields, multi_state_fields,
+    positive_integer_fields,
+};
+use crate::value::{self, string, table};
+use crate::{ConfigFault, MultiState, Object, ObjectKind, ObjectValue, Text};
+use gw_addr::Sequence;
+use std::alloc::Global;
+use toml::{Table, Value};
+
+/// The objects that some values say, in order.
+pub(crate) fn objects(alloc: Global, values: &[Value]) -> Result<Sequence<Object>, ConfigFault>
+    ensures count { IfOk result (λ os. length os ≡ length values.now) }
+    ensures objects { Gives (λ os. os) result (each object_in (map view values.now)) }
+{
+    let mut all = Sequence::new(alloc);
+    for value in values {
+        all.push(object(alloc, value)?)?;
+    }
+    Ok(all)
+}
+
+/// The object that a value says.
+fn object(alloc: Global, value: &Value) -> Result<Object, ConfigFault>
+    ensures { Gives (λ o. o) result (object_in (view value.now)) }
+{
+    object_of_table(alloc, table(value)?)
+}
+
+/// Its type is judged first.
+fn object_of_table(alloc: Global, table: &Table) -> Result<Object, ConfigFault>
+    ensures { Gives (λ o. o) result (object_of (table_view table.now)) }
+{
+    object_of_kind(alloc, kind_at(table)?, table)
+}
+
+fn kind_at(table: &Table) -> Result<ObjectKind, ConfigFault>
+    ensures { plain.Gives (λ k. k) result (kind_at (codes "type") (table_view table.now)) }
+{
+    value::kind(at("type", table)?)
+}
+
+#[tactic(auto, unfolding(crate::specs::Configuration::object_of_kind))]
+fn object_of_kind(alloc: Global, kind: ObjectKind, table: &Table) -> Result<Object, ConfigFault>
+    ensures { Gives (λ o. o) result (object_of_kind kind (table_view table.now)) }
+{
+    match object_fault(kind, table) {
+        Some(fault) => Err(fault),
+        None => object_parts(alloc, kind, table),
+    }
+}
+
+/// The fault of the table of an object of that type.
+fn object_fault(kind: ObjectKind, table: &Table) -> Option<ConfigFault>
+    ensures { result ≡ field.fault_of (object_fields kind (count_at (codes "states") (table_view table.now))) (table_view table.now) }
+{
+    match kind {
+        ObjectKind::BinaryValue => fault_of(&binary_fields(), table),
+        ObjectKind::MultiStateValue => fault_of(&multi_state_fields(count_at(table)), table),
+        ObjectKind::CharacterStringValue => fault_of(&character_string_fields(), table),
+        ObjectKind::IntegerValue => fault_of(&integer_fields(), table),
+        ObjectKind::PositiveIntegerValue => fault_of(&positive_integer_fields(), table),
+    }
+}
+
+/// How many states there are.
+fn count_at(table: &Table) -> usize
+    ensures { result ≡ count_at (codes "states") (table_view table.now) }
+{
+    match any_list("states", table) {
+        Ok(states) => states.len(),
+        Err(_) => 0,
+    }
+}
+
+/// The parts of a table without a fault.
+fn object_parts(alloc: Global, kind: ObjectKind, table: &Table) -> Result<Object, ConfigFault>
+    ensures { Gives (λ o. o) result (object_parts kind (table_view table.now)) }
+{
+    let instance = instance_at("instance", table)?;
+    let name = text_at(alloc, 1, "name", table)?;
+    let description = optional_text(alloc, "", "description", table)?;
+    let value = object_value(alloc, kind, table)?;
+    Ok(Object {
+        instance,
+        name,
+        description,
+        value,
+    })
+}
+
+/// What is configured of that type alone.
+fn object_value(alloc: Global, kind: ObjectKind, table: &Table) -> Result<ObjectValue, ConfigFault>
+    ensures { Gives (λ v. v) result (value_of kind (table_view table.now)) }
+{
+    match kind {
+        ObjectKind::BinaryValue => binary_value(alloc, table),
+        ObjectKind::MultiStateValue => multi_state_value(alloc, table),
+        ObjectKind::CharacterStringValue => character_string_value(alloc, table),
+        ObjectKind::IntegerValue => integer_value(table),
+        ObjectKind::PositiveIntegerValue => positive_integer_value(table),
+    }
+}
+
+fn binary_value(alloc: Global, table: &Table) -> Result<ObjectValue, ConfigFault>
+    ensures { Gives (λ v. v) result (binary_value (table_view table.now)) }
+{
+    let default = number_at(0, 1, "default", table)? == 1;
+    let active = optional_text(alloc, "active", "active", table)?;
+    let inactive = optional_text(alloc, "inactive", "inactive", table)?;
+    Ok(ObjectValue::BinaryValue {
+        default,
+        active,
+        inactive,
+    })
+}
+
+fn multi_state_value(alloc: Global, table: &Table) -> Result<ObjectValue, ConfigFault>
+    ensures { Gives (λ v. v) result (multi_state_value (table_view table.now)) }
+{
+    let states = texts(alloc, list_at(1, MAX_STATES, "states", table)?)?;
+    Ok(ObjectValue::MultiStateValue(multi_state(states, table)?))
+}
+
+/// The default is one of the states.
+fn multi_state(states: Sequence<Text>, table: &Table) -> Result<MultiState, ConfigFault>
+    requires { length states ≤ 64 }
+    ensures { plain.Gives (λ m. m) result (states_with states (table_view table.now)) }
+{
+    let default = number_at(1, states.len() as u64, "default", table)? as u8;
+    Ok(MultiState::new(default, states))
+}
+
+fn texts(alloc: Global, values: &[Value]) -> Result<Sequence<Text>, ConfigFault>
+    ensures count { IfOk result (λ ts. length ts ≡ length values.now) }
+    ensures texts { Gives (λ ts. ts) result (each (text_in 0) (map view values.now)) }
+{
+    let mut all = Sequence::new(alloc);
+    for value in values {
+        all.push(text(alloc, value)?)?;
+    }
+    Ok(all)
+}
+
+fn text(alloc: Global, value: &Value) -> Result<Text, ConfigFault>
+    ensures { Gives (λ t. t) result (text_in 0 (view value.now)) }
+{
+    match string(value) {
+        Some(text) => Text::new(alloc, 0, text),
+        None => Err(ConfigFault::Kind),
+    }
+}
+
+fn character_string_value(alloc: Global, table: &Table) -> Result<ObjectValue, ConfigFault>
+    ensures { Gives (λ v. v) result (character_string_value (table_view table.now)) }
+{
+    let default = text_at(alloc, 0, "default", table)?;
+    Ok(ObjectValue::CharacterStringValue { default })
+}
+
+fn integer_value(table: &Table) -> Result<ObjectValue, ConfigFault>
+    ensures { Gives (λ v. v) result (integer_value (table_view table.now)) }
+{
+    let default = value::signed(at("default", table)?)?;
+    let units = short_at("units", table)?;
+    Ok(ObjectValue::IntegerValue { default, units })
+}
+
+fn positive_integer_value(table: &Table) -> Result<ObjectValue, ConfigFault>
+    ensures { Gives (λ v. v) result (positive_integer_value (table_view table.now)) }
+{
+    let default = long_at("default", table)?;
+    let units = short_at("units", table)?;
+    Ok(ObjectValue::PositiveIntegerValue { default, units })
+}

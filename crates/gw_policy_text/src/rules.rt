@@ -1,0 +1,105 @@
+//! What the rules of a configuration are read to.
+ghost use Rattle.std.specs.Prelude.{◌≡◌, codes, map};
+ghost use Rattle.gw_addr.specs.Reading as plain;
+ghost use Rattle.toml.specs.View.{table_view, view};
+ghost use Rattle.gw_policy_text.specs.Configuration.{boolean_at, each, fields_of, ranges_at, rule_in, rule_name_at, rule_of, rule_parts};
+ghost use Rattle.gw_policy_text.specs.Field.{range_in};
+ghost use Rattle.gw_policy_text.specs.Reading.{Gives};
+
+use crate::ConfigFault;
+use crate::field::fault_of;
+use crate::range::range;
+use crate::reading::{at, list_at};
+use crate::shape::Scalar;
+use crate::tables::{self, rule_fields};
+use crate::value::{self, table};
+use gw_rules::{Fields, MAX_RANGES, Ranges, Rule, RuleName};
+use std::alloc::Global;
+use toml::{Table, Value};
+
+/// The rules that some values say, in order.
+pub(crate) fn rules(alloc: Global, values: &[Value]) -> Result<Vec<Rule>, ConfigFault>
+    ensures { Gives (λ rs. rs.items) result (each rule_in (map view values.now)) }
+{
+    let mut all = Vec::new(alloc);
+    for value in values {
+        all.push(rule(alloc, value)?)?;
+    }
+    Ok(all)
+}
+
+/// The rule that a value says.
+fn rule(alloc: Global, value: &Value) -> Result<Rule, ConfigFault>
+    ensures { Gives (λ r. r) result (rule_in (view value.now)) }
+{
+    rule_of_table(alloc, table(value)?)
+}
+
+#[tactic(auto, unfolding(crate::specs::Configuration::rule_of))]
+fn rule_of_table(alloc: Global, table: &Table) -> Result<Rule, ConfigFault>
+    ensures { Gives (λ r. r) result (rule_of (table_view table.now)) }
+{
+    match fault_of(&rule_fields(), table) {
+        Some(fault) => Err(fault),
+        None => rule_parts(alloc, table),
+    }
+}
+
+/// The parts of a table without a fault.
+fn rule_parts(alloc: Global, table: &Table) -> Result<Rule, ConfigFault>
+    ensures { Gives (λ r. r) result (rule_parts (table_view table.now)) }
+{
+    let name = name_at(alloc, table)?;
+    let allow = value::boolean(at("allow", table)?)?;
+    let ranges = fields(alloc, table)?;
+    Ok(Rule {
+        name,
+        allow,
+        ranges,
+    })
+}
+
+fn name_at(alloc: Global, table: &Table) -> Result<RuleName, ConfigFault>
+    ensures { Gives (λ n. n) result (rule_name_at (codes "name") (table_view table.now)) }
+{
+    let name = value::rule_name(at("name", table)?)?;
+    match RuleName::new(alloc, name) {
+        Ok(name) => Ok(name),
+        Err(_) => Err(ConfigFault::Memory),
+    }
+}
+
+/// The ranges for each field of the rule.
+fn fields(alloc: Global, table: &Table) -> Result<Fields<Ranges>, ConfigFault>
+    ensures { Gives (λ fs. fs) result (fields_of (table_view table.now)) }
+{
+    Ok(Fields {
+        operation: ranges_at(alloc, Scalar::Operation, "operation", table)?,
+        port: ranges_at(alloc, tables::PORT, "port", table)?,
+        source_network: ranges_at(alloc, tables::NETWORK, "source_network", table)?,
+        source_key: ranges_at(alloc, Scalar::Address, "source", table)?,
+        destination_network: ranges_at(alloc, tables::NETWORK, "destination", table)?,
+        service: ranges_at(alloc, tables::SERVICE, "service", table)?,
+        object_type: ranges_at(alloc, tables::OBJECT_TYPE, "object_type", table)?,
+        instance: ranges_at(alloc, tables::ANY_INSTANCE, "instance", table)?,
+        property: ranges_at(alloc, tables::PROPERTY, "property", table)?,
+        priority: ranges_at(alloc, tables::PRIORITY, "priority", table)?,
+    })
+}
+
+fn ranges_at(alloc: Global, of: Scalar, key: &str, table: &Table) -> Result<Ranges, ConfigFault>
+    ensures { Gives (λ rs. rs) result (ranges_at of key.now (table_view table.now)) }
+{
+    ranges(alloc, of, list_at(0, MAX_RANGES, key, table)?)
+}
+
+/// The ranges that some items name, in order.
+fn ranges(alloc: Global, of: Scalar, values: &[Value]) -> Result<Ranges, ConfigFault>
+    ensures { Gives (λ rs. rs) result (each (range_in of) (map view values.now)) }
+{
+    let mut all = Ranges::new(alloc);
+    for value in values {
+        all.push(range(of, value)?)?;
+    }
+    Ok(all)
+}
