@@ -1,5 +1,5 @@
 -- Values of TOML, as code and as definitions see them.
-use Rattle.std.proofs.Common.{◌≡◌, ◌||◌, ◌&&◌, ℕ, suc, Bool, length, String, Global, string_bytes, List, [], ◌∷◌, map, Option, Some, Result, Ok, refl, sym, ap, ◌∙◌}
+use Rattle.std.proofs.Common.{◌≡◌, ◌||◌, ◌&&◌, ℕ, suc, Bool, length, String, Global, string_bytes, List, [], ◌∷◌, map, Option, Some, Ok, refl, sym, ap, ◌∙◌}
 use Rattle.std.specs.Map.{keys_of}
 use Rattle.std.specs.List.{list_all, list_any}
 use Rattle.std.specs.Option.{ok_or, option_map}

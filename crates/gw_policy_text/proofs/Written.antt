@@ -1,5 +1,5 @@
 -- Addresses and masks are read exactly where they are written.
-use Rattle.std.proofs.Common.{◌≡◌, ◌≢◌, ℕ, zero, suc, ◌^◌, ◌<◌, ◌≤◌, ◌&&◌, ◌==◌, Bool, true, false, cond, eqb, ltb, List, [], ◌∷◌, ◌++◌, length, get_or, Option, Some, None, Result, Ok, Err, refl, sym, ap, subst, ◌∙◌, arith, nat_lt}
+use Rattle.std.proofs.Common.{◌≡◌, ℕ, zero, suc, ◌^◌, ◌<◌, ◌≤◌, ◌&&◌, Bool, true, false, cond, eqb, List, [], ◌∷◌, ◌++◌, length, get_or, Option, Some, None, Result, Ok, Err, refl, sym, ap, subst, ◌∙◌, arith, nat_lt}
 use Rattle.std.specs.Char.{IsAsciiDigit}
 use Rattle.std.specs.Fmt.{decimal}
 use Rattle.std.specs.Option.{option_and_then, option_map}
@@ -112,6 +112,12 @@ fours a b c d ha hb hc hd (suc (suc (suc (suc i)))) = omega arith
 abbrev address : ℕ → ℕ → ℕ → ℕ → ℕ → BipAddr
 address a b c d udp = record { ip = a ∷ b ∷ c ∷ d ∷ []; udp = udp }
 
+-- four octets and a port, and the text that they are read from
+address_whole : (a b c d udp : ℕ) (text first second third fourth : List ℕ) → a < 256 → b < 256 → c < 256 → d < 256 → udp < 65536 → text ≡ decimal a ++ 46 ∷ first → first ≡ decimal b ++ 46 ∷ second → second ≡ decimal c ++ 46 ∷ third → third ≡ decimal d ++ 58 ∷ fourth → fourth ≡ decimal udp
+    → IsAddress (address a b c d udp) × (text ≡ text_of (address a b c d udp))
+address_whole a b c d udp text first second third fourth ha hb hc hd hu e1 e2 e3 e4 e5 =
+    (record { four = refl; octets = fours a b c d ha hb hc hd; udp = hu }, rw (e1, e2, e3, e4, e5) refl)
+
 pub address_found : (text : List ℕ) (x : BipAddr) → address_written text ≡ Some x → IsAddress x × (text ≡ text_of x)
 unfolding address_written
 address_found text x e =
@@ -125,13 +131,7 @@ address_found text x e =
     let c = octet_found 46 q.0.1 r.0.0 r.0.1 r.1 in
     let d = octet_found 58 r.0.1 s.0.0 s.0.1 s.1 in
     let u = number_found 65536 s.0.1 t.0 (omega arith) t.1 in
-    let is : IsAddress (address p.0.0 q.0.0 r.0.0 s.0.0 t.0) = record { four = refl; octets = fours p.0.0 q.0.0 r.0.0 s.0.0 a.1 b.1 c.1 d.1; udp = u.1 } in
-    let tail1 : s.0.1 ≡ decimal t.0 = u.0 in
-    let tail2 : r.0.1 ≡ decimal s.0.0 ++ 58 ∷ decimal t.0 = d.0 ∙ ap (λ (ys : List ℕ). decimal s.0.0 ++ 58 ∷ ys) tail1 in
-    let tail3 : q.0.1 ≡ decimal r.0.0 ++ 46 ∷ (decimal s.0.0 ++ 58 ∷ decimal t.0) = c.0 ∙ ap (λ (ys : List ℕ). decimal r.0.0 ++ 46 ∷ ys) tail2 in
-    let tail4 : p.0.1 ≡ decimal q.0.0 ++ 46 ∷ (decimal r.0.0 ++ 46 ∷ (decimal s.0.0 ++ 58 ∷ decimal t.0)) = b.0 ∙ ap (λ (ys : List ℕ). decimal q.0.0 ++ 46 ∷ ys) tail3 in
-    let whole : text ≡ text_of (address p.0.0 q.0.0 r.0.0 s.0.0 t.0) = a.0 ∙ ap (λ (ys : List ℕ). decimal p.0.0 ++ 46 ∷ ys) tail4 in
-    subst (λ (y : BipAddr). IsAddress y × (text ≡ text_of y)) t.2 (is, whole)
+    subst (λ (y : BipAddr). IsAddress y × (text ≡ text_of y)) t.2 (address_whole p.0.0 q.0.0 r.0.0 s.0.0 t.0 text p.0.1 q.0.1 r.0.1 s.0.1 a.1 b.1 c.1 d.1 u.1 a.0 b.0 c.0 d.0 u.0)
 
 pub address_again : (x : BipAddr) → IsAddress x → address_written (text_of x) ≡ Some x
 unfolding address_written
@@ -162,6 +162,12 @@ four_items (a ∷ b ∷ c ∷ d ∷ f ∷ xs) e = absurd (omega arith)
 mask_of_octets : List ℕ → Mask
 mask_of_octets octets = record { octets = octets }
 
+mask_whole : (a b c d : ℕ) (text first second third : List ℕ) → a < 256 → b < 256 → c < 256 → d < 256 → text ≡ decimal a ++ 46 ∷ first → first ≡ decimal b ++ 46 ∷ second → second ≡ decimal c ++ 46 ∷ third → third ≡ decimal d
+    → IsMask (mask a b c d) × (text ≡ mask_text (mask a b c d))
+unfolding four_text
+mask_whole a b c d text first second third ha hb hc hd e1 e2 e3 e4 =
+    (record { four = refl; octets = fours a b c d ha hb hc hd }, rw (e1, e2, e3, e4) refl)
+
 pub mask_found : (text : List ℕ) (x : Mask) → mask_written text ≡ Some x → IsMask x × (text ≡ mask_text x)
 unfolding mask_written four_text
 mask_found text x e =
@@ -173,11 +179,7 @@ mask_found text x e =
     let b = octet_found 46 p.0.1 q.0.0 q.0.1 q.1 in
     let c = octet_found 46 q.0.1 r.0.0 r.0.1 r.1 in
     let d = number_found 256 r.0.1 s.0 (omega arith) s.1 in
-    let is : IsMask (mask p.0.0 q.0.0 r.0.0 s.0) = record { four = refl; octets = fours p.0.0 q.0.0 r.0.0 s.0 a.1 b.1 c.1 d.1 } in
-    let tail3 : q.0.1 ≡ decimal r.0.0 ++ 46 ∷ decimal s.0 = c.0 ∙ ap (λ (ys : List ℕ). decimal r.0.0 ++ 46 ∷ ys) d.0 in
-    let tail4 : p.0.1 ≡ decimal q.0.0 ++ 46 ∷ (decimal r.0.0 ++ 46 ∷ decimal s.0) = b.0 ∙ ap (λ (ys : List ℕ). decimal q.0.0 ++ 46 ∷ ys) tail3 in
-    let whole : text ≡ mask_text (mask p.0.0 q.0.0 r.0.0 s.0) = a.0 ∙ ap (λ (ys : List ℕ). decimal p.0.0 ++ 46 ∷ ys) tail4 in
-    subst (λ (y : Mask). IsMask y × (text ≡ mask_text y)) s.2 (is, whole)
+    subst (λ (y : Mask). IsMask y × (text ≡ mask_text y)) s.2 (mask_whole p.0.0 q.0.0 r.0.0 s.0 text p.0.1 q.0.1 r.0.1 a.1 b.1 c.1 d.1 a.0 b.0 c.0 d.0)
 
 pub mask_again : (x : Mask) → IsMask x → mask_written (mask_text x) ≡ Some x
 unfolding mask_written four_text mask_of_octets

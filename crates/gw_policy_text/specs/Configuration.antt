@@ -1,7 +1,6 @@
 -- What a gateway is configured with, and how it is read from the tables of its text.
-use Rattle.std.specs.Prelude.{ℕ, ℤ, List, [], ◌∷◌, length, Bool, codes, ◌==◌, nat_le, nat_lt, ◌&&◌, not, if◌then◌else◌, Option, Some, None, Result, Ok, Err}
-use Rattle.std.specs.Option.{ok_or, option_and_then, option_map}
-use Rattle.std.specs.Result.{result_ok}
+use Rattle.std.specs.Prelude.{ℕ, ℤ, List, [], ◌∷◌, length, Bool, codes, ◌==◌, nat_le, nat_lt, ◌&&◌, not, if◌then◌else◌, Option, Some, None, Ok, Err}
+use Rattle.std.specs.Option.{ok_or}
 use Rattle.toml.specs.Data.{Data, Members, get_member}
 use Rattle.gw_addr.specs.Reading.{◌>>=◌}
 use Rattle.gw_addr.specs.declared.bip.BipAddr.{BipAddr}
@@ -13,7 +12,7 @@ use Rattle.gw_rules.specs.declared.rule.Rule.{Rule}
 use Rattle.gw_rules.specs.RuleList.{keeps_counts, keeps_order}
 use Rattle.gw_policy_text.specs.declared.device.Device.{Device}
 use Rattle.gw_policy_text.specs.declared.fault.ConfigFault.{ConfigFault}
-use Rattle.gw_policy_text.specs.declared.fault.ConfigFault.TheVariants.{Duplicate, Missing, Range, TooMany}
+use Rattle.gw_policy_text.specs.declared.fault.ConfigFault.TheVariants.{Missing, Range, TooMany}
 use Rattle.gw_policy_text.specs.declared.object.Object.{Object}
 use Rattle.gw_policy_text.specs.declared.object.ObjectKind.{ObjectKind}
 use Rattle.gw_policy_text.specs.declared.object.ObjectKind.TheVariants as kinds
@@ -25,7 +24,7 @@ use Rattle.gw_policy_text.specs.declared.shape.Scalar.{Scalar}
 use Rattle.gw_policy_text.specs.declared.shape.Scalar.TheVariants.{Number, Operation, Address}
 use Rattle.gw_policy_text.specs.Field.{fault_of, range_in}
 use Rattle.gw_policy_text.specs.States.{States}
-use Rattle.gw_policy_text.specs.Tables.{device_fields, object_fields, peer_fields, port_fields, route_fields, rule_fields, top_fields}
+use Rattle.gw_policy_text.specs.Tables.{device_fields, object_fields, peer_fields, port_fields, route_fields, rule_fields}
 use Rattle.gw_policy_text.specs.Value.{Read, address_in, boolean_in, kind_in, list_in, mask_in, number_in, rule_name_in, signed_in, table_in, text_in, text_within}
 
 -- what is read where there is no fault

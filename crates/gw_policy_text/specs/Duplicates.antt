@@ -1,5 +1,5 @@
 -- What may stand only once in a configuration.
-use Rattle.std.specs.Prelude.{ℕ, ◌+◌, ◌*◌, ◌^◌, ◌++◌, Bool, false, ◌||◌, nat_eq, List, [], ◌∷◌, map, if◌then◌else◌, Result, Ok, Err}
+use Rattle.std.specs.Prelude.{ℕ, ◌+◌, ◌*◌, ◌^◌, ◌++◌, Bool, false, ◌||◌, nat_eq, List, [], ◌∷◌, map, if◌then◌else◌, Ok, Err}
 use Rattle.std.specs.Cmp.Lexicographic.{pointwise}
 use Rattle.std.specs.List.{flat_map, list_any}
 use Rattle.gw_addr.specs.Address.{big_endian, octets_of}
@@ -12,7 +12,6 @@ use Rattle.gw_policy_text.specs.declared.object.Object.{Object}
 use Rattle.gw_policy_text.specs.declared.object.ObjectValue.{ObjectValue}
 use Rattle.gw_policy_text.specs.declared.object.ObjectValue.TheVariants.{BinaryValue, MultiStateValue, CharacterStringValue, IntegerValue, PositiveIntegerValue}
 use Rattle.gw_policy_text.specs.declared.port.Port.{Port}
-use Rattle.gw_policy_text.specs.declared.route.Route.{Route}
 use Rattle.gw_policy_text.specs.Configuration.{Configuration}
 use Rattle.gw_policy_text.specs.Value.{Read}
 

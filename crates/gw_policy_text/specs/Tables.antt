@@ -1,16 +1,11 @@
 -- The tables of a configuration, key by key, with what each key's value may be.
-use Rattle.std.specs.Prelude.{ℕ, ◌++◌, List, [], ◌∷◌, length, true, false, codes, Option, Some, None}
-use Rattle.std.specs.Result.{result_ok}
-use Rattle.std.specs.Option.{option_and_then, option_map, unwrap_or}
-use Rattle.toml.specs.Data.{Data, Members, get_member}
+use Rattle.std.specs.Prelude.{ℕ, ◌++◌, List, [], ◌∷◌, true, false, codes}
 use Rattle.gw_policy_text.specs.declared.object.ObjectKind.{ObjectKind}
 use Rattle.gw_policy_text.specs.declared.object.ObjectKind.TheVariants.{BinaryValue, MultiStateValue, CharacterStringValue, IntegerValue, PositiveIntegerValue}
-use Rattle.gw_policy_text.specs.declared.shape.Scalar.{Scalar}
 use Rattle.gw_policy_text.specs.declared.shape.Scalar.TheVariants.{Number, Signed, ObjectType, Text, RuleName, Operation, Boolean, Address, Mask, Table}
 use Rattle.gw_policy_text.specs.declared.shape.Shape.{Shape}
 use Rattle.gw_policy_text.specs.declared.shape.Shape.TheVariants.{One, List as Listing, Ranges}
 use Rattle.gw_policy_text.specs.Field.{Field}
-use Rattle.gw_policy_text.specs.Value.{list_in}
 
 -- a field that must be there
 abbrev pub needs : List ℕ → Shape → Field

@@ -1,16 +1,14 @@
 -- Single values of a configuration: what each is read to, or its fault.
-use Rattle.std.specs.Prelude.{ℕ, zero, suc, pos, negsuc, ℤ, ◌^◌, Bool, true, false, ◌&&◌, ◌||◌, ◌==◌, not, nat_le, nat_lt, nat_eq, if◌then◌else◌, List, [], ◌∷◌, length, codes, Option, Some, None, Result, Ok, Err, find}
+use Rattle.std.specs.Prelude.{ℕ, pos, negsuc, ℤ, ◌^◌, Bool, ◌&&◌, ◌||◌, ◌==◌, not, nat_le, nat_lt, nat_eq, if◌then◌else◌, List, [], ◌∷◌, length, codes, Option, Some, None, Result, Err, find}
 use Rattle.std.specs.Cmp.Lexicographic.{pointwise}
 use Rattle.std.specs.List.{list_all}
 use Rattle.std.specs.Option.{ok_or, option_map}
 use Rattle.toml.specs.Data.{Data, Items, no_items, item, Members, as_str, as_integer, as_bool, as_array, as_table}
-use Rattle.gw_addr.specs.Address.{big_endian, octets_of}
-use Rattle.gw_addr.specs.Reading.{◌>>=◌}
 use Rattle.gw_addr.specs.declared.bip.BipAddr.{BipAddr}
 use Rattle.gw_addr.specs.declared.mask.Mask.{Mask}
 use Rattle.gw_rules.specs.declared.operation.Operation.{Operation}
 use Rattle.gw_rules.specs.declared.operation.TheConstants.Operation.{ALL}
-use Rattle.gw_rules.specs.Operation.{operation_name, operation_number}
+use Rattle.gw_rules.specs.Operation.{operation_name}
 use Rattle.gw_policy_text.specs.declared.fault.ConfigFault.{ConfigFault}
 use Rattle.gw_policy_text.specs.declared.fault.ConfigFault.TheVariants.{Kind, Range}
 use Rattle.gw_policy_text.specs.declared.object.ObjectKind.{ObjectKind}

@@ -1,54 +1,63 @@
 //! What a gateway is configured with.
-ghost use Rattle.std.specs.Prelude.{◌≡◌, ◌≤◌, codes, length, IfOk, IsTrue};
+ghost use Rattle.std.specs.Prelude.{◌≡◌, ◌≤◌, length, IsFalse, IsTrue};
 ghost use Rattle.std.specs.List.{list_all};
-ghost use Rattle.toml.specs.View.{table_view};
-ghost use Rattle.gw_policy_text.specs.Configuration.{device_at, is_by, objects_at, parts_of, policy_of, ports_at, routes_at, rules_at};
+ghost use Rattle.gw_policy_text.specs.Configuration.{is_by};
+ghost use Rattle.gw_policy_text.specs.Duplicates.{has_duplicates, unique};
 ghost use Rattle.gw_policy_text.specs.Reading.{Gives};
 
-use crate::reading::{at, list_at};
-use crate::{ConfigFault, Device, Object, Port, Route, objects, port, route, rules, value};
-use gw_addr::Sequence;
-use gw_rules::{MAX_RULES, Rule, RuleFault, RuleList};
+use crate::duplicates::has_duplicates;
+use crate::parts::Parts;
+use crate::{ConfigFault, Device, Object, Port, Route};
+use gw_rules::RuleList;
 use std::alloc::Global;
 use std::marker::Model;
-use toml::Table;
 
-/// How many ports a gateway has at most.
-pub const MAX_PORTS: usize = 8;
-/// How many routes it starts with at most.
-pub const MAX_ROUTES: usize = 512;
-/// How many objects its device has at most, beside the Device object.
-pub const MAX_OBJECTS: usize = 256;
-
-/// What a gateway is configured with: its parts, each in the order of the text. Contracts see the
-/// parts.
+/// What a gateway is configured with: its parts, each in the order of the text, in which nothing
+/// stands twice that may stand only once. Contracts see the parts.
 #[derive(Debug, Drop)]
 pub struct Config {
-    device: Device,
-    ports: Sequence<Port>,
-    routes: Sequence<Route>,
-    objects: Sequence<Object>,
-    rules: RuleList,
+    parts: Parts,
 }
 
 impl Model for Config {
-    ghost use Rattle.std.specs.Prelude.{◌≤◌, length, IsTrue};
-    ghost use Rattle.std.specs.List.{list_all};
-    ghost use Rattle.gw_policy_text.specs.Configuration.{Configuration, is_by};
+    ghost use Rattle.std.specs.Prelude.{IsFalse};
+    ghost use Rattle.gw_policy_text.specs.Configuration.{Configuration};
+    ghost use Rattle.gw_policy_text.specs.Duplicates.{has_duplicates};
 
     ghost Value = { Configuration };
 
-    ghost view = { λ c. record { device = c.device; ports = c.ports; routes = c.routes; objects = c.objects; rules = c.rules } };
+    ghost view = { λ c. c.parts };
 
-    ghost invariant = { λ c. (1 ≤ length c.ports) × ((length c.ports ≤ 8) × ((length c.routes ≤ 512) × ((length c.objects ≤ 256) × IsTrue (list_all (is_by (length c.ports)) c.routes)))) };
+    ghost invariant = { λ c. IsFalse (has_duplicates c.parts) };
 }
 
 impl Config {
+    /// The configuration of these parts. `Duplicate` where something stands twice that may stand
+    /// only once.
+    pub(crate) fn of_parts(alloc: Global, parts: Parts) -> Result<Self, ConfigFault>
+        ensures { Gives (λ c. c) result (unique parts) }
+    {
+        let twice = has_duplicates(
+            alloc,
+            parts.device(),
+            parts.ports(),
+            parts.routes(),
+            parts.objects(),
+            parts.rules().rules(),
+        )?;
+        if twice {
+            return Err(ConfigFault::Duplicate);
+        }
+        Ok(Config { parts })
+    }
+
     /// The gateway's own device.
     pub fn device(&self) -> &Device
-        ensures { result.now ≡ self.now.device }
+        ensures device { result.now ≡ self.now.device }
+        // No network, address, identifier or name stands twice in the whole configuration.
+        ensures once { IsFalse (has_duplicates self.now) }
     {
-        &self.device
+        self.parts.device()
     }
 
     /// The ports in order, 1 to 8 of them: the first is port 1.
@@ -57,7 +66,7 @@ impl Config {
         ensures some { 1 ≤ length self.now.ports }
         ensures most { length self.now.ports ≤ 8 }
     {
-        self.ports.as_slice()
+        self.parts.ports()
     }
 
     /// The routes in order, at most 512, each by one of the ports.
@@ -66,7 +75,7 @@ impl Config {
         ensures most { length self.now.routes ≤ 512 }
         ensures by { IsTrue (list_all (is_by (length self.now.ports)) self.now.routes) }
     {
-        self.routes.as_slice()
+        self.parts.routes()
     }
 
     /// The objects in order, at most 256.
@@ -74,78 +83,13 @@ impl Config {
         ensures objects { result.now ≡ self.now.objects }
         ensures most { length self.now.objects ≤ 256 }
     {
-        self.objects.as_slice()
+        self.parts.objects()
     }
 
     /// The policy.
     pub fn rules(&self) -> &RuleList
         ensures { result.now ≡ self.now.rules }
     {
-        &self.rules
-    }
-
-    /// The parts that the tables say, in their order.
-    pub(crate) fn parts(alloc: Global, top: &Table) -> Result<Self, ConfigFault>
-        ensures { Gives (λ c. c) result (parts_of (table_view top.now)) }
-    {
-        let device = device_at(alloc, top)?;
-        let ports = ports_at(alloc, top)?;
-        let routes = routes_at(alloc, ports.len() as u8, top)?;
-        let objects = objects_at(alloc, top)?;
-        let rules = policy_of(rules_at(alloc, top)?)?;
-        Ok(Config {
-            device,
-            ports,
-            routes,
-            objects,
-            rules,
-        })
-    }
-}
-
-fn device_at(alloc: Global, top: &Table) -> Result<Device, ConfigFault>
-    ensures { Gives (λ d. d) result (device_at (codes "device") (table_view top.now)) }
-{
-    Device::read(alloc, value::table(at("device", top)?)?)
-}
-
-fn ports_at(alloc: Global, top: &Table) -> Result<Sequence<Port>, ConfigFault>
-    ensures ports { Gives (λ ps. ps) result (ports_at (codes "port") (table_view top.now)) }
-    ensures some { IfOk result (λ ps. 1 ≤ length ps) }
-    ensures most { IfOk result (λ ps. length ps ≤ 8) }
-{
-    port::ports(alloc, list_at(1, MAX_PORTS, "port", top)?)
-}
-
-fn routes_at(alloc: Global, ports: u8, top: &Table) -> Result<Sequence<Route>, ConfigFault>
-    ensures routes { Gives (λ rs. rs) result (routes_at ports (codes "route") (table_view top.now)) }
-    ensures most { IfOk result (λ rs. length rs ≤ 512) }
-    ensures by { IfOk result (λ rs. IsTrue (list_all (is_by ports) rs)) }
-{
-    route::routes(alloc, ports, list_at(0, MAX_ROUTES, "route", top)?)
-}
-
-fn objects_at(alloc: Global, top: &Table) -> Result<Sequence<Object>, ConfigFault>
-    ensures objects { Gives (λ os. os) result (objects_at (codes "object") (table_view top.now)) }
-    ensures most { IfOk result (λ os. length os ≤ 256) }
-{
-    objects::objects(alloc, list_at(0, MAX_OBJECTS, "object", top)?)
-}
-
-fn rules_at(alloc: Global, top: &Table) -> Result<Vec<Rule>, ConfigFault>
-    ensures { Gives (λ rs. rs.items) result (rules_at (codes "rule") (table_view top.now)) }
-{
-    rules::rules(alloc, list_at(0, MAX_RULES, "rule", top)?)
-}
-
-/// The rules as a policy.
-fn policy_of(rules: Vec<Rule>) -> Result<RuleList, ConfigFault>
-    ensures { Gives (λ rs. rs) result (policy_of rules.items) }
-{
-    match RuleList::new(rules) {
-        Ok(list) => Ok(list),
-        Err(RuleFault::TooMany) => Err(ConfigFault::TooMany),
-        Err(RuleFault::Range) => Err(ConfigFault::Range),
-        Err(RuleFault::Memory) => Err(ConfigFault::Memory),
+        self.parts.rules()
     }
 }

@@ -9,6 +9,7 @@ mod field;
 mod instance;
 mod object;
 mod objects;
+mod parts;
 mod port;
 mod range;
 mod read;

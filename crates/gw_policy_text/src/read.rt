@@ -1,13 +1,11 @@
 //! A configuration as it is read from its text.
 ghost use Rattle.std.specs.Prelude.{◌≡◌};
 ghost use Rattle.toml.specs.View.{table_view};
-ghost use Rattle.gw_policy_text.specs.Configuration.{parts_of};
 ghost use Rattle.gw_policy_text.specs.Document.{configuration, configuration_of, document};
-ghost use Rattle.gw_policy_text.specs.Duplicates.{unique};
 ghost use Rattle.gw_policy_text.specs.Reading.{Gives};
 
-use crate::duplicates::has_duplicates;
 use crate::field::fault_of;
+use crate::parts::Parts;
 use crate::tables::top_fields;
 use crate::{Config, ConfigFault};
 use std::alloc::Global;
@@ -56,24 +54,6 @@ fn config_of(alloc: Global, top: &Table) -> Result<Config, ConfigFault>
 {
     match fault_of(&top_fields(), top) {
         Some(fault) => Err(fault),
-        None => unique(alloc, Config::parts(alloc, top)?),
+        None => Config::of_parts(alloc, Parts::read(alloc, top)?),
     }
-}
-
-/// The configuration, if nothing stands twice that may stand only once.
-fn unique(alloc: Global, config: Config) -> Result<Config, ConfigFault>
-    ensures { Gives (λ c. c) result (unique config) }
-{
-    let twice = has_duplicates(
-        alloc,
-        config.device(),
-        config.ports(),
-        config.routes(),
-        config.objects(),
-        config.rules().rules(),
-    )?;
-    if twice {
-        return Err(ConfigFault::Duplicate);
-    }
-    Ok(config)
 }

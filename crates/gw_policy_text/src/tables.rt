@@ -3,9 +3,9 @@ ghost use Rattle.std.specs.Prelude.{◌≡◌};
 ghost use Rattle.gw_policy_text.specs.Tables as spec;
 ghost use Rattle.gw_policy_text.specs.declared.object.ObjectKind.{ObjectKind};
 
-use crate::config::{MAX_OBJECTS, MAX_PORTS, MAX_ROUTES};
 use crate::field::Field;
 use crate::object::MAX_STATES;
+use crate::parts::{MAX_OBJECTS, MAX_PORTS, MAX_ROUTES};
 use crate::port::MAX_PEERS;
 use crate::shape::{Scalar, Shape};
 use gw_rules::MAX_RULES;

@@ -1,4 +1,4 @@
-use Rattle.std.proofs.Common.{◌≡◌, ◌∷◌, [], ◌++◌, Bool, drop, map, nat_eq, take}
+use Rattle.std.proofs.Common.{◌≡◌, drop, nat_eq}
 use Rattle.std.specs.List.{list_any}
 use Rattle.gw_policy_text.specs.Duplicates.{has_twice, peer_addresses}
 use Rattle.gw_policy_text.proofs.duplicates.any_peers_repeat.Given as goal

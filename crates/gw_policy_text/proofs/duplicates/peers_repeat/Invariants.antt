@@ -1,4 +1,4 @@
-use Rattle.std.proofs.Common.{◌≡◌, ◌∷◌, [], ◌++◌, Bool, drop, map, nat_eq, take}
+use Rattle.std.proofs.Common.{◌≡◌, take}
 use Rattle.gw_policy_text.specs.Duplicates.{peer_addresses}
 use Rattle.gw_policy_text.proofs.duplicates.peers_repeat.Given as goal
 

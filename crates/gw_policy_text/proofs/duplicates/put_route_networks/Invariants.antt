@@ -1,4 +1,4 @@
-use Rattle.std.proofs.Common.{◌≡◌, ◌∷◌, [], ◌++◌, Bool, drop, map, nat_eq, take}
+use Rattle.std.proofs.Common.{◌≡◌, ◌++◌, map, take}
 use Rattle.gw_policy_text.proofs.duplicates.put_route_networks.Given as goal
 
 abbrev pub invariant-loop-route : goal.invariant-loop-route

@@ -1,4 +1,4 @@
-use Rattle.std.proofs.Common.{get_or, nat_cmp, refl, nat_eq, arith}
+use Rattle.std.proofs.Common.{get_or, nat_cmp, refl, nat_eq}
 use Rattle.gw_policy_text.proofs.Twice.{has_more, is_new, is_twice, number_tie, same_number, same_numbers}
 use Rattle.gw_policy_text.proofs.duplicates.repeats.Goals as goal
 

@@ -1,4 +1,4 @@
-use Rattle.std.proofs.Common.{◌≡◌, ◌∷◌, [], ◌++◌, Bool, drop, map, nat_eq, take}
+use Rattle.std.proofs.Common.{◌≡◌, map, take}
 use Rattle.gw_policy_text.specs.Duplicates.{rule_names}
 use Rattle.gw_policy_text.proofs.duplicates.rule_names_repeat.Given as goal
 

@@ -1,4 +1,4 @@
-use Rattle.std.proofs.Common.{get_or, length, map, [], nat_eq, arith}
+use Rattle.std.proofs.Common.{get_or, map, [], nat_eq, arith}
 use Rattle.std.specs.Cmp.Lexicographic.{pointwise}
 use Rattle.gw_policy_text.proofs.Twice.{has_more, is_new, is_twice, same_text_is, same_texts, text_at, text_cmp, text_tie, texts_length}
 use Rattle.gw_policy_text.proofs.duplicates.texts_repeat.Goals as goal
