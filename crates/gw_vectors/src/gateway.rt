@@ -1,7 +1,8 @@
-//! The gateway of the built-in configuration: worked frames, the ends of its counts, and a refused growth.
+//! The gateway of the built-in configuration and of others: worked frames, the ends of its counts, and a refused growth.
 
+use crate::policy_text::edited;
 use gw_addr::BipAddr;
-use gw_core::{Counts, Event, Gateway, StepFault, run, setting_s};
+use gw_core::{Config, Counts, Event, Gateway, StepFault, read_config, run, setting_s};
 use std::alloc::Global;
 use std::process::Abort;
 use std::test::*;
@@ -22,14 +23,25 @@ fn octets(alloc: Global, text: &str) -> Result<Vec<u8>, Fail> {
     Ok(hex::decode(alloc, digits.as_str())?)
 }
 
-/// Gives a fresh gateway a datagram from 192.168.1.5 on port 1, and wants this answer to it.
+/// Gives a fresh gateway of the built-in configuration a datagram from 192.168.1.5 on port 1, and wants this answer to it.
 fn answers<R: Abort + AllocGlobal>(
     rt: &R,
     datagram: &str,
     answer: &str,
     rule: Option<&str>,
 ) -> Result<(), Fail> {
-    let mut gateway = Gateway::new(rt.alloc(), setting_s(rt.alloc())?, Counts::default())?;
+    answers_under(rt, setting_s(rt.alloc())?, datagram, answer, rule)
+}
+
+/// The same of a gateway of this configuration.
+fn answers_under<R: Abort + AllocGlobal>(
+    rt: &R,
+    config: Config,
+    datagram: &str,
+    answer: &str,
+    rule: Option<&str>,
+) -> Result<(), Fail> {
+    let mut gateway = Gateway::new(rt.alloc(), config, Counts::default())?;
     let datagram = octets(rt.alloc(), datagram)?;
     let answer = octets(rt.alloc(), answer)?;
     let given = gateway.step(rt.alloc(), 1, node(5), &datagram)?;
@@ -96,13 +108,55 @@ fn an_object_that_is_not_there(rt: HostRuntime) -> Result<(), Fail> {
         "810A0011 0108 0064 01 01 50090C 9102 911B",
         Some("hide"),
     )?;
-    let unknown = "810A0016 0124 0064 01 01 FF 0005090C 0C01400032 1955";
-    answers(
-        &rt,
-        unknown,
-        "810A0011 0108 0064 01 01 50090C 9101 911F",
-        None,
-    )
+    for unknown in ["01400032", "04C00001", "0A000001", "0B400001", "0C000001"] {
+        let mut read = String::from_str(rt.alloc(), "810A0016 0124 0064 01 01 FF 0005090C 0C")?;
+        read.push_str(unknown)?;
+        read.push_str(" 1955")?;
+        answers(
+            &rt,
+            read.as_str(),
+            "810A0011 0108 0064 01 01 50090C 9101 911F",
+            None,
+        )?;
+    }
+    Ok(())
+}
+
+/// What a gateway of the built-in text with one edit answers: what stands in the text and what in its place, the read and the answer.
+#[test]
+fn other_configurations(rt: HostRuntime) -> Result<(), Fail> {
+    let cases = [
+        (
+            "default = 0",
+            "default = 1",
+            READ,
+            "810A0018 0108 0064 01 01 30070C 0C01400001 1955 3E 9101 3F",
+        ),
+        (
+            "[[2, 9]]",
+            "[[3, 9]]",
+            HIDDEN_READ,
+            "810A0018 0108 0064 01 01 30080C 0C01400002 1955 3E 9100 3F",
+        ),
+        (
+            "network = 100",
+            "network = 65534",
+            "810A0016 0124 FFFE 01 01 FF 0005070C 0C01400001 1955",
+            "810A0018 0108 FFFE 01 01 30070C 0C01400001 1955 3E 9100 3F",
+        ),
+        (
+            "instance = 1~",
+            "instance = 4194302~",
+            "810A0016 0124 0064 01 01 FF 0005070C 0C017FFFFE 1955",
+            "810A0018 0108 0064 01 01 30070C 0C017FFFFE 1955 3E 9100 3F",
+        ),
+    ];
+    for (old, new, read, answer) in cases {
+        let text = edited(rt.alloc(), old, new)?;
+        let config = read_config(rt.alloc(), text.as_bytes())?;
+        answers_under(&rt, config, read, answer, None)?;
+    }
+    Ok(())
 }
 
 #[test]
