@@ -36,19 +36,27 @@ fn file_of<'a>(choice: &'a Choice, name: &str) -> Option<Option<&'a str>> {
 
 #[test]
 fn takes_commands(rt: HostRuntime) -> Result<(), Fail> {
-    let cases: [(&[&str], Option<&str>); 7] = [
-        (&["replay"], None),
-        (&["replay", "--config", "site.toml"], Some("site.toml")),
-        (&["replay", "--config=a b"], Some("a b")),
-        (&["check", "--config", "site.toml"], Some("site.toml")),
-        (&["check", "--config=/dev/null"], Some("/dev/null")),
-        (&["check", "--config", "replay"], Some("replay")),
-        (&["check", "--config", "-"], Some("-")),
+    let cases: [(&[&str], &str, Option<&str>); 7] = [
+        (&["replay"], "replay", None),
+        (
+            &["replay", "--config", "site.toml"],
+            "replay",
+            Some("site.toml"),
+        ),
+        (&["replay", "--config=a b"], "replay", Some("a b")),
+        (
+            &["check", "--config", "site.toml"],
+            "check",
+            Some("site.toml"),
+        ),
+        (&["check", "--config=/dev/null"], "check", Some("/dev/null")),
+        (&["check", "--config", "replay"], "check", Some("replay")),
+        (&["check", "--config", "-"], "check", Some("-")),
     ];
-    for (words, file) in cases {
+    for (words, name, file) in cases {
         let call = call(rt.alloc(), words)?;
         match choice_of(rt.alloc(), call.as_slice()) {
-            Ok(choice) => { assert!(rt; file_of(&choice, words[0]) == Some(file), "{words:?}") }
+            Ok(choice) => { assert!(rt; file_of(&choice, name) == Some(file), "{words:?}") }
             Err(_) => panic!(rt; "not taken: {words:?}"),
         }
     }
