@@ -35,7 +35,9 @@ tells() {
 
 for script in "$here"/*.script; do
     name=${script%.script}
-    "$program" replay < "$script" > "$work/out" 2> "$work/err"
+    words=(replay)
+    [ -e "$name.toml" ] && words+=(--config "$name.toml")
+    "$program" "${words[@]}" < "$script" > "$work/out" 2> "$work/err"
     status=$?
     if [ -e "$name.err" ]; then
         agrees "$script" 2 "$name.out" "$name.err"
@@ -54,7 +56,12 @@ refused
 refused run
 refused replay replay
 refused replay run
-refused replay --config file
+refused check
+refused check site.toml
+refused check --config
+refused check --config a --config a
+refused replay --config
+refused replay --config a --config a
 refused --config file replay
 refused replay -v
 refused replay ''
@@ -72,6 +79,64 @@ helped --help
 helped -h
 helped help
 helped replay --help
+helped help check
+
+checked() {
+    "$program" check --config "$1" < /dev/null > "$work/out" 2> "$work/err"
+    status=$?
+}
+
+# accepts FILE LINE: `check` says this of a file
+accepts() {
+    checked "$here/$1"
+    printf '%s\n' "$2" > "$work/line"
+    agrees "$1" 0 "$work/line" /dev/null
+}
+accepts two_subnets.toml 'ok 2 ports 1 objects 3 rules'
+accepts workstation.toml 'ok 1 ports 1 objects 4 rules'
+accepts plant_room.toml 'ok 1 ports 4 objects 3 rules'
+
+# faulty TEXT NAME: `check` tells this fault of a text, and `replay` tells it before the script
+faulty() {
+    printf "$1" > "$work/faulty.toml"
+    checked "$work/faulty.toml"
+    tells "a configuration: $2" 2 "bacgw: configuration: $2"
+    "$program" replay --config "$work/faulty.toml" < "$here/bad_line.script" > "$work/out" 2> "$work/err"
+    status=$?
+    tells "a replay under a configuration: $2" 2 "bacgw: configuration: $2"
+}
+faulty '' Missing
+faulty 'format = ' NotToml
+faulty '\xff' NotToml
+faulty 'colour = 1' UnknownKey
+faulty 'format = 1\nport = []\n[device]\n' Range
+
+# Each recipe of the cookbook: its rules behind base.toml are accepted, and its line, marked by `> `, prints what stands under it.
+recipe() {
+    cat "$here/base.toml" "$work/rules" > "$work/recipe.toml"
+    checked "$work/recipe.toml"
+    agrees "recipe: $(head -1 "$work/lines")" 0 "$work/out" /dev/null
+    sed -n 's/^> //p' "$work/lines" > "$work/script"
+    sed '/^> /d' "$work/lines" > "$work/shown"
+    "$program" replay --config "$work/recipe.toml" < "$work/script" > "$work/out" 2> "$work/err"
+    status=$?
+    agrees "recipe: $(head -1 "$work/lines")" 0 "$work/shown" /dev/null
+}
+while IFS= read -r line; do
+    case $line in
+        '```toml') to=rules; : > "$work/rules" ;;
+        '```text') to=lines; : > "$work/lines" ;;
+        '```') [ "$to" = lines ] && recipe; to= ;;
+        *) [ -n "${to:-}" ] && printf '%s\n' "$line" >> "$work/$to" ;;
+    esac
+done < "$here/../docs/policy.md"
+
+checked /dev/zero
+tells "a file without an end" 2 'bacgw: configuration: TooMany'
+for file in "$work" "$work/none.toml" "$work/line/none.toml" ''; do
+    checked "$file"
+    tells "a file that can't be read: $file" 1 'bacgw: cannot read configuration'
+done
 
 "$program" replay < "$here" > /dev/null 2> "$work/err"
 status=$?
@@ -79,6 +144,9 @@ tells "a folder to read" 1 'bacgw: read failed'
 "$program" replay < "$here/read.script" > /dev/full 2> "$work/err"
 status=$?
 tells "a full device to write to" 1 'bacgw: write failed'
+"$program" check --config "$here/workstation.toml" > /dev/full 2> "$work/err"
+status=$?
+tells "check on a full device" 1 'bacgw: write failed'
 "$program" --help > /dev/full 2> "$work/err"
 status=$?
 tells "help on a full device" 1 'bacgw: write failed'

@@ -6,9 +6,7 @@ use Rattle.gw_core.specs.declared.replaying.RunFault.TheVariants as run
 use Rattle.gw_script.specs.Event.{Event}
 use Rattle.gw_core.specs.Replay.{RunsFront, RunsPart, RunsToEnd, RunsToLine, RunsToMemory, RunsWhole, OnKnown, run_text}
 use Rattle.gw_script.specs.Script.{AreLines, lines_of}
-use Rattle.gw_core.specs.Configuration.{Configuration}
-use Rattle.gw_core.specs.History.{run_after}
-use Rattle.gw_core.specs.Setting.{setting}
+use Rattle.gw_policy_text.specs.Configuration.{Configuration}
 use Rattle.bacgw.specs.Replay.{Plays}
 use Rattle.bacgw.specs.Ending.{first_fault}
 
@@ -59,27 +57,22 @@ nothing_more : (xs : List ℕ) → xs ++ [] ≡ xs
 nothing_more xs = search rules
 
 -- a whole run that isn't flushed leaves a front of its text
-whole_is_front : (script before after : List ℕ) → RunsWhole setting script before after → RunsFront setting script before after
-whole_is_front script before after whole = record {
+whole_is_front : (c : Configuration) (script before after : List ℕ) → RunsWhole c script before after → RunsFront c script before after
+whole_is_front c script before after whole = record {
   events = whole.events;
-  lines = all_are_first (length setting.ports) (lines_of script) whole.events whole.lines;
-  front = run_text setting whole.events;
+  lines = all_are_first (length c.ports) (lines_of script) whole.events whole.lines;
+  front = run_text c whole.events;
   unwritten = [];
-  parts = sym (nothing_more (run_text setting whole.events));
+  parts = sym (nothing_more (run_text c whole.events));
   text = whole.text;
 }
 
 -- the flush changes nothing of what is left written, and its failure is told behind a run without a fault
-pub flushed_plays : (script before after : List ℕ) (r : Result (Unit {0}) RunFault) (is_flushed : Bool) → Leaves setting script before r after → Plays script before (first_fault r is_flushed) after
-flushed_plays script before after (Ok done) true leaves = leaves
-flushed_plays script before after (Ok done) false leaves = whole_is_front script before after leaves
-flushed_plays script before after (Err (run.Line n)) flushed leaves = leaves
-flushed_plays script before after (Err run.Read) flushed leaves = leaves
-flushed_plays script before after (Err run.Write) flushed leaves = leaves
-flushed_plays script before after (Err run.Memory) flushed leaves = leaves
-flushed_plays script before after (Err run.CountEnd) flushed leaves = leaves
-
--- before the first event nothing is written
-pub nothing_plays : (script before : List ℕ) → RunsToMemory setting script before before
-unfolding run_after
-nothing_plays script before = record { events = []; lines = tt; cause = inl refl; text = sym (nothing_more before) }
+pub flushed_plays : (c : Configuration) (script before after : List ℕ) (r : Result (Unit {0}) RunFault) (is_flushed : Bool) → Leaves c script before r after → Plays c script before (first_fault r is_flushed) after
+flushed_plays c script before after (Ok done) true leaves = leaves
+flushed_plays c script before after (Ok done) false leaves = whole_is_front c script before after leaves
+flushed_plays c script before after (Err (run.Line n)) flushed leaves = leaves
+flushed_plays c script before after (Err run.Read) flushed leaves = leaves
+flushed_plays c script before after (Err run.Write) flushed leaves = leaves
+flushed_plays c script before after (Err run.Memory) flushed leaves = leaves
+flushed_plays c script before after (Err run.CountEnd) flushed leaves = leaves

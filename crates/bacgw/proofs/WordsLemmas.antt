@@ -1,10 +1,14 @@
 -- What the program makes of words, from what a parse of them gives.
-use Rattle.std.proofs.Common.{◌≡◌, ◌≢◌, ◌∙◌, ◌⊎◌, inl, inr, refl, sym, ap, subst, rules, true, ℕ, List, Result, Ok, Err, codes, [], ◌∷◌}
-use Rattle.clap.specs.Words.{IsAmong, Kinds, fault_of, is_simple_and_free}
+use Rattle.std.proofs.Common.{◌≡◌, ◌≢◌, ◌∙◌, ◌⊎◌, inl, inr, refl, sym, ap, subst, rules, true, ℕ, List, Option, Some, None, Result, Ok, Err, codes, [], ◌∷◌, string_bytes, option_map, Box}
+use Rattle.clap.specs.Words.{IsAmong, Kinds, Row, Text, fault_of, is_simple, is_simple_and_free}
+use Rattle.std.specs.Box.{box_value}
+use Rattle.clap.specs.Simple.{subcommand_rows}
+use Rattle.clap.specs.declared.parser.matches.ArgMatches.TheViews.{out-SubCommand}
+use Rattle.clap.specs.declared.parser.matches.SubCommand.{SubCommand}
 use Rattle.clap.specs.declared.error.kind.ErrorKind.{ErrorKind}
 use Rattle.clap.specs.declared.error.kind.ErrorKind.TheVariants as parse
 use Rattle.clap.proofs.OnLiterals.{clap_on_literals}
-use Rattle.bacgw.specs.CommandLine.{commands, CallsReplay, IsAnswer, IsRefusal}
+use Rattle.bacgw.specs.CommandLine.{called, commands, CallsCheck, CallsReplay, IsAnswer, IsCheck, IsChosen, IsMistake, IsRefusal, IsReplay, IsTaken}
 use Rattle.bacgw.specs.declared.command_line.Choice.{Choice}
 use Rattle.bacgw.specs.declared.command_line.Choice.TheVariants as choice
 use Rattle.bacgw.specs.declared.fault.Fault.{Fault}
@@ -14,6 +18,10 @@ use Rattle.bacgw.specs.declared.fault.Fault.TheVariants as fault
 pub commands_are_simple : is_simple_and_free commands ≡ true
 unfolding clap_on_literals
 commands_are_simple = refl
+
+pub parse_is_simple : is_simple commands ≡ true
+unfolding clap_on_literals
+parse_is_simple = refl
 
 -- a word of help comes among the kinds
 help_among : (kinds : Kinds) (k : ErrorKind) → (k ≡ parse.OutOfMemory) ⊎ IsAmong k kinds → k ≡ parse.DisplayHelp → IsAmong parse.DisplayHelp kinds
@@ -26,34 +34,107 @@ mistake_among kinds k (inl memory) other = absurd (other memory)
 mistake_among kinds k (inr among) other = among
 
 -- what is made of a failed parse answers the kinds of fault that it may have
-pub refusal_answers : (kinds : Kinds) (k : ErrorKind) (r : Result Choice Fault) → (k ≡ parse.OutOfMemory) ⊎ IsAmong k kinds → IsRefusal k r → IsAnswer kinds r
-refusal_answers kinds k (Ok choice.Replay) among is = absurd is
-refusal_answers kinds k (Ok (choice.Help text)) among is = help_among kinds k among is
-refusal_answers kinds k (Err fault.CommandLine) among is = (k, mistake_among kinds k among is.1, is.0)
-refusal_answers kinds k (Err fault.Memory) among is = tt
-refusal_answers kinds k (Err (fault.Line n)) among is = absurd is
-refusal_answers kinds k (Err fault.Read) among is = absurd is
-refusal_answers kinds k (Err fault.Write) among is = absurd is
-refusal_answers kinds k (Err fault.CountEnd) among is = absurd is
+pub refusal_answers : (words : List Text) (k : ErrorKind) (r : Result Choice Fault) → (k ≡ parse.OutOfMemory) ⊎ IsAmong k (fault_of commands words) → IsRefusal k r → IsAnswer words r
+refusal_answers words k (Ok (choice.Check file)) among is = absurd is
+refusal_answers words k (Ok (choice.Replay file)) among is = absurd is
+refusal_answers words k (Ok (choice.Help text)) among is = help_among (fault_of commands words) k among is
+refusal_answers words k (Err fault.CommandLine) among is = inl (k, mistake_among (fault_of commands words) k among is.1, is.0)
+refusal_answers words k (Err fault.Memory) among is = tt
+refusal_answers words k (Err fault.Unreadable) among is = absurd is
+refusal_answers words k (Err (fault.Configuration f)) among is = absurd is
+refusal_answers words k (Err (fault.Line n)) among is = absurd is
+refusal_answers words k (Err fault.Read) among is = absurd is
+refusal_answers words k (Err fault.Write) among is = absurd is
+refusal_answers words k (Err fault.CountEnd) among is = absurd is
 
--- the words of a call that plays a script have no fault
-pub no_fault : (program : List ℕ) → fault_of commands (program ∷ codes "replay" ∷ []) ≡ []
+-- what is chosen of words that the parser takes answers them
+pub taken_answers : (words : List Text) (r : Result Choice Fault) → fault_of commands words ≡ [] → IsChosen (called words) r → IsAnswer words r
+taken_answers words (Ok (choice.Check file)) none is = (none, is)
+taken_answers words (Ok (choice.Replay file)) none is = (none, is)
+taken_answers words (Ok (choice.Help text)) none is = absurd is
+taken_answers words (Err fault.CommandLine) none is = inr (none, is)
+taken_answers words (Err fault.Memory) none is = tt
+taken_answers words (Err fault.Unreadable) none is = absurd is
+taken_answers words (Err (fault.Configuration f)) none is = absurd is
+taken_answers words (Err (fault.Line n)) none is = absurd is
+taken_answers words (Err fault.Read) none is = absurd is
+taken_answers words (Err fault.Write) none is = absurd is
+taken_answers words (Err fault.CountEnd) none is = absurd is
+
+some_same : {A : Type 0} (x y : A) → Some x ≡ Some y → x ≡ y
+some_same x y e = cc
+
+-- the call that a parse entered, by its name and its rows
+pub entered_call : {Z : Type 0} (s : Option (Box SubCommand Z)) (name : Text) (rows : List Row)
+    → Some name ≡ option_map (λ b. (out-SubCommand (box_value b)).name.now) s → Some rows ≡ option_map (λ p. p.1) (subcommand_rows s)
+    → subcommand_rows s ≡ Some (name, rows)
+entered_call None name rows named has = search rules
+entered_call (Some b) name rows named has =
+    let same_name = some_same _ _ named in
+    let same_rows = some_same _ _ has in
+    rw (same_name, same_rows) refl
+
+-- the words of a call that plays a script, and of one that checks a file
+pub no_fault : (program : Text) → fault_of commands (program ∷ codes "replay" ∷ []) ≡ []
 unfolding clap_on_literals
 no_fault program = refl
 
--- what answers no fault is `replay`, or want of memory
-pub plays_or_memory : (kinds : Kinds) (r : Result Choice Fault) → kinds ≡ [] → IsAnswer kinds r → (r ≡ Ok choice.Replay) ⊎ (r ≡ Err fault.Memory)
-plays_or_memory [] (Ok choice.Replay) none is = inl refl
-plays_or_memory [] (Ok (choice.Help text)) none is = absurd is
-plays_or_memory [] (Err fault.CommandLine) none is = absurd is.1
-plays_or_memory [] (Err fault.Memory) none is = inr refl
-plays_or_memory [] (Err (fault.Line n)) none is = absurd is
-plays_or_memory [] (Err fault.Read) none is = absurd is
-plays_or_memory [] (Err fault.Write) none is = absurd is
-plays_or_memory [] (Err fault.CountEnd) none is = absurd is
-plays_or_memory (k ∷ kinds) r none is = search rules
+pub calls_replay : (program : Text) → called (program ∷ codes "replay" ∷ []) ≡ Some (codes "replay", None)
+unfolding clap_on_literals
+calls_replay program = refl
 
--- a call that plays a script is answered by `replay`, or memory ran out
-pub replay_is_taken : (words : List (List ℕ)) (r : Result Choice Fault) → IsAnswer (fault_of commands words) r → CallsReplay words → (r ≡ Ok choice.Replay) ⊎ (r ≡ Err fault.Memory)
-replay_is_taken words r is called =
-    plays_or_memory (fault_of commands words) r (ap (λ (w : List (List ℕ)). fault_of commands w) called.1 ∙ no_fault called.0) is
+no_kind : (kinds : Kinds) (k : ErrorKind) → kinds ≡ [] → IsAmong k kinds → ⊥
+no_kind [] k none among = among
+no_kind (x ∷ kinds) k none among = search rules
+
+abbrev pair : Text → Option Text → Text × Option Text
+pair name file = (name, file)
+
+no_check : (file other : Option Text) → Some (pair (codes "replay") file) ≡ Some (pair (codes "check") other) → ⊥
+no_check file other e = let bad : codes "replay" ≡ codes "check" = ap (λ (p : Text × Option Text). p.0) (some_same _ _ e) in search rules
+
+-- what answers a call that plays a script is that choice, or want of memory
+replay_or_memory : (words : List Text) (file : Option Text) (r : Result Choice Fault) → fault_of commands words ≡ [] → called words ≡ Some (codes "replay", file) → IsAnswer words r → IsReplay file r
+replay_or_memory words file (Ok (choice.Check name)) none calls is = absurd (no_check file (Some (string_bytes name)) (sym calls ∙ is.1))
+replay_or_memory words file (Ok (choice.Replay name)) none calls is = ap (λ (p : Text × Option Text). p.1) (some_same _ _ (sym is.1 ∙ calls))
+replay_or_memory words file (Ok (choice.Help text)) none calls is = absurd (no_kind (fault_of commands words) parse.DisplayHelp none is)
+replay_or_memory words file (Err fault.CommandLine) none calls (inl is) = absurd (no_kind (fault_of commands words) is.0 none is.1)
+replay_or_memory words file (Err fault.CommandLine) none calls (inr is) = absurd (is.1.0 file calls)
+replay_or_memory words file (Err fault.Memory) none calls is = tt
+replay_or_memory words file (Err fault.Unreadable) none calls is = absurd is
+replay_or_memory words file (Err (fault.Configuration f)) none calls is = absurd is
+replay_or_memory words file (Err (fault.Line n)) none calls is = absurd is
+replay_or_memory words file (Err fault.Read) none calls is = absurd is
+replay_or_memory words file (Err fault.Write) none calls is = absurd is
+replay_or_memory words file (Err fault.CountEnd) none calls is = absurd is
+
+pub replay_is_taken : (words : List Text) (r : Result Choice Fault) → IsAnswer words r → CallsReplay words → IsReplay None r
+replay_is_taken words r is call =
+    replay_or_memory words None r (ap (λ (w : List Text). fault_of commands w) call.1 ∙ no_fault call.0) (ap called call.1 ∙ calls_replay call.0) is
+
+check_or_memory : (words : List Text) (file : Text) (r : Result Choice Fault) → fault_of commands words ≡ [] → called words ≡ Some (codes "check", Some file) → IsAnswer words r → IsCheck file r
+check_or_memory words file (Ok (choice.Check name)) none calls is = some_same _ _ (ap (λ (p : Text × Option Text). p.1) (some_same _ _ (sym is.1 ∙ calls)))
+check_or_memory words file (Ok (choice.Replay name)) none calls is = absurd (no_check (option_map string_bytes name) (Some file) (sym is.1 ∙ calls))
+check_or_memory words file (Ok (choice.Help text)) none calls is = absurd (no_kind (fault_of commands words) parse.DisplayHelp none is)
+check_or_memory words file (Err fault.CommandLine) none calls (inl is) = absurd (no_kind (fault_of commands words) is.0 none is.1)
+check_or_memory words file (Err fault.CommandLine) none calls (inr is) = absurd (is.1.1 file calls)
+check_or_memory words file (Err fault.Memory) none calls is = tt
+check_or_memory words file (Err fault.Unreadable) none calls is = absurd is
+check_or_memory words file (Err (fault.Configuration f)) none calls is = absurd is
+check_or_memory words file (Err (fault.Line n)) none calls is = absurd is
+check_or_memory words file (Err fault.Read) none calls is = absurd is
+check_or_memory words file (Err fault.Write) none calls is = absurd is
+check_or_memory words file (Err fault.CountEnd) none calls is = absurd is
+
+check_no_fault : (program : Text) → fault_of commands (program ∷ codes "check" ∷ codes "--config" ∷ codes "site.toml" ∷ []) ≡ []
+unfolding clap_on_literals
+check_no_fault program = refl
+
+calls_check : (program : Text) → called (program ∷ codes "check" ∷ codes "--config" ∷ codes "site.toml" ∷ []) ≡ Some (codes "check", Some (codes "site.toml"))
+unfolding clap_on_literals
+calls_check program = refl
+
+-- a call that checks a file is answered by that choice, or memory ran out
+pub check_is_taken : (words : List Text) (r : Result Choice Fault) → IsAnswer words r → CallsCheck words → IsCheck (codes "site.toml") r
+check_is_taken words r is call =
+    check_or_memory words (codes "site.toml") r (ap (λ (w : List Text). fault_of commands w) call.1 ∙ check_no_fault call.0) (ap called call.1 ∙ calls_check call.0) is

@@ -2,12 +2,27 @@
 use Rattle.std.specs.Prelude.{ℕ, Bool, true, false, List, [], ◌∷◌, ◌++◌, codes, decimal, Result, Ok, Err}
 use Rattle.bacgw.specs.declared.fault.Fault.{Fault}
 use Rattle.bacgw.specs.declared.fault.Fault.TheVariants as fault
+use Rattle.gw_policy_text.specs.declared.fault.ConfigFault.{ConfigFault}
+use Rattle.gw_policy_text.specs.declared.fault.ConfigFault.TheVariants as config
 use Rattle.gw_core.specs.declared.replaying.RunFault.{RunFault}
 use Rattle.gw_core.specs.declared.replaying.RunFault.TheVariants as run
+
+-- the name of a fault of a configuration
+abbrev pub name_of : ConfigFault → List ℕ
+name_of config.NotToml = codes "NotToml"
+name_of config.UnknownKey = codes "UnknownKey"
+name_of config.Missing = codes "Missing"
+name_of config.Kind = codes "Kind"
+name_of config.Range = codes "Range"
+name_of config.Duplicate = codes "Duplicate"
+name_of config.TooMany = codes "TooMany"
+name_of config.Memory = codes "Memory"
 
 -- the line on standard error, without its line feed
 abbrev pub text_of : Fault → List ℕ
 text_of fault.CommandLine = codes "bacgw: bad command line"
+text_of fault.Unreadable = codes "bacgw: cannot read configuration"
+text_of (fault.Configuration f) = codes "bacgw: configuration: " ++ name_of f
 text_of (fault.Line n) = codes "bacgw: line " ++ decimal n
 text_of fault.Read = codes "bacgw: read failed"
 text_of fault.Write = codes "bacgw: write failed"
@@ -17,11 +32,18 @@ text_of fault.CountEnd = codes "bacgw: count at its end"
 -- 2 where what the program was given is wrong, 1 where what it stands on failed
 abbrev pub status_of : Fault → ℕ
 status_of fault.CommandLine = 2
+status_of fault.Unreadable = 1
+status_of (fault.Configuration f) = 2
 status_of (fault.Line n) = 2
 status_of fault.Read = 1
 status_of fault.Write = 1
 status_of fault.Memory = 1
 status_of fault.CountEnd = 1
+
+-- the fault of a configuration, as the program tells it
+abbrev pub fault_of_configuration : ConfigFault → Fault
+fault_of_configuration config.Memory = fault.Memory
+fault_of_configuration f = fault.Configuration f
 
 -- the fault of a run, as the program tells it
 abbrev pub fault_of : RunFault → Fault

@@ -1,11 +1,13 @@
 -- The program as a whole: what the words chose, what stands on standard output then, the line on standard error and the exit status.
-use Rattle.std.specs.Prelude.{◌≡◌, ℕ, List, [], ◌++◌, Option, Result, Ok, Err, OnOk, string_bytes}
+use Rattle.std.specs.Prelude.{◌≡◌, ℕ, List, [], ◌++◌, Option, Some, Result, Ok, Err, OnOk, option_map, string_bytes}
 use Rattle.std.specs.Io.KnownBytes.{Appends}
 use Rattle.gw_core.specs.Replay.{OnKnown}
+use Rattle.gw_policy_text.specs.Configuration.{Configuration}
 use Rattle.bacgw.specs.declared.command_line.Choice.{Choice}
 use Rattle.bacgw.specs.declared.command_line.Choice.TheVariants as choice
 use Rattle.bacgw.specs.declared.fault.Fault.{Fault}
 use Rattle.bacgw.specs.declared.fault.Fault.TheVariants as fault
+use Rattle.bacgw.specs.Configured.{IsConfigured, summary}
 use Rattle.bacgw.specs.Ending.{error_text, status_after}
 use Rattle.bacgw.specs.Replay.{Plays}
 
@@ -16,13 +18,32 @@ pub record AppendsFront (held holds : Option (List ℕ)) (text : List ℕ) : Typ
   pub parts : text ≡ front ++ unwritten
   pub appends : Appends held holds front
 
--- What stands on standard output, which held `held` before: at `replay` what the replay leaves, and at help its text, of which a failed
--- write may leave a front. Words that choose nothing leave it as it was, and their fault is the outcome.
-abbrev pub LeavesOutput : Option (List ℕ) → Option (List ℕ) → Option (List ℕ) → Result Choice Fault → Result (Unit {0}) Fault → Type 0
-LeavesOutput input held holds (Ok choice.Replay) outcome = OnKnown input held holds (λ script before. Plays script before outcome)
-LeavesOutput input held holds (Ok (choice.Help text)) (Ok done) = Appends held holds (string_bytes text)
-LeavesOutput input held holds (Ok (choice.Help text)) (Err f) = (f ≡ fault.Write) × AppendsFront held holds (string_bytes text)
-LeavesOutput input held holds (Err f) outcome = (outcome ≡ Err f) × (holds ≡ held)
+-- What `check` leaves of the configuration that was read: its summary, of which a failed write may leave a front. Where there is none
+-- nothing is written, and the outcome is why.
+abbrev pub LeavesChecked : Option (List ℕ) → Option (List ℕ) → Result Configuration Fault → Result (Unit {0}) Fault → Type 0
+LeavesChecked held holds (Ok c) (Ok done) = Appends held holds (summary c)
+LeavesChecked held holds (Ok c) (Err fault.Write) = AppendsFront held holds (summary c)
+LeavesChecked held holds (Ok c) (Err fault.Memory) = holds ≡ held
+LeavesChecked held holds (Ok c) (Err _) = ⊥
+LeavesChecked held holds (Err f) outcome = (outcome ≡ Err f) × (holds ≡ held)
+
+-- What `replay` leaves under the configuration that was read. Where there is none the script isn't played, and the outcome is why.
+abbrev pub LeavesPlayed : Option (List ℕ) → Option (List ℕ) → Option (List ℕ) → Result Configuration Fault → Result (Unit {0}) Fault → Type 0
+LeavesPlayed input held holds (Ok c) outcome = OnKnown input held holds (λ script before. Plays c script before outcome)
+LeavesPlayed input held holds (Err f) outcome = (outcome ≡ Err f) × (holds ≡ held)
+
+-- What stands on standard output, which held `held` before, where files give what `Reads` says: at `check` and `replay` what they leave
+-- of some configuration that is the one they name, and at help its text, of which a failed write may leave a front. Words that choose
+-- nothing leave it as it was, and their fault is the outcome.
+abbrev pub LeavesOutput : (Reads : List ℕ → Result (List ℕ) Fault → Type 0)
+    → Option (List ℕ) → Option (List ℕ) → Option (List ℕ) → Result Choice Fault → Result (Unit {0}) Fault → Type 0
+LeavesOutput Reads input held holds (Ok (choice.Check file)) outcome =
+    (c : Result Configuration Fault) × IsConfigured Reads (Some (string_bytes file)) c × LeavesChecked held holds c outcome
+LeavesOutput Reads input held holds (Ok (choice.Replay file)) outcome =
+    (c : Result Configuration Fault) × IsConfigured Reads (option_map string_bytes file) c × LeavesPlayed input held holds c outcome
+LeavesOutput Reads input held holds (Ok (choice.Help text)) (Ok done) = Appends held holds (string_bytes text)
+LeavesOutput Reads input held holds (Ok (choice.Help text)) (Err f) = (f ≡ fault.Write) × AppendsFront held holds (string_bytes text)
+LeavesOutput Reads input held holds (Err f) outcome = (outcome ≡ Err f) × (holds ≡ held)
 
 -- One run of the program. `Chooses` is what the words ask for, `Leaves` what stands on standard output at a choice and an outcome,
 -- `buffer` what of it isn't flushed, and `Adds` which line standard error is given.

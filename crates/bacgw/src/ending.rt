@@ -3,9 +3,10 @@
 ghost use Rattle.std.specs.Prelude.{◌≡◌, ◌++◌, ◌∷◌, [], codes, decimal, IsOk, OnOk};
 ghost use Rattle.std.specs.Io.KnownBytes.{Appends};
 ghost use Rattle.std.specs.Process.{exit_status};
-ghost use Rattle.bacgw.specs.Ending.{error_text, status_after, text_of};
+ghost use Rattle.bacgw.specs.Ending.{error_text, name_of, status_after, text_of};
 
-use crate::fault::Fault;
+use crate::fault::{Fault, name_of};
+use gw_policy_text::ConfigFault;
 use gw_script::{OctetSink, WriteFailed, write_whole};
 use itoa::Buffer;
 use std::process::ExitCode;
@@ -26,6 +27,25 @@ fn write_line_number<E: OctetSink>(number: u64, errors: &mut E) -> Result<(), Wr
     write_whole(errors, b"\n")
 }
 
+/// Writes `bacgw: configuration: ` and the name of this fault, and a line feed.
+fn write_configuration_fault<E: OctetSink>(
+    fault: ConfigFault,
+    errors: &mut E,
+) -> Result<(), WriteFailed>
+    ensures ok { OnOk result (Appends (E.held errors.old) (E.held errors.new) (codes "bacgw: configuration: " ++ name_of fault ++ 10 ∷ [])) }
+    ensures sure { E.NeverFails errors.old → IsOk result }
+{
+    match write_whole(errors, b"bacgw: configuration: ") {
+        Ok(()) => {}
+        Err(failed) => return Err(failed),
+    }
+    match write_whole(errors, name_of(fault).as_bytes()) {
+        Ok(()) => {}
+        Err(failed) => return Err(failed),
+    }
+    write_whole(errors, b"\n")
+}
+
 /// Writes the line of a fault.
 fn write_fault<E: OctetSink>(fault: Fault, errors: &mut E) -> Result<(), WriteFailed>
     ensures ok { OnOk result (Appends (E.held errors.old) (E.held errors.new) (text_of fault ++ 10 ∷ [])) }
@@ -33,6 +53,8 @@ fn write_fault<E: OctetSink>(fault: Fault, errors: &mut E) -> Result<(), WriteFa
 {
     match fault {
         Fault::CommandLine => write_whole(errors, b"bacgw: bad command line\n"),
+        Fault::Unreadable => write_whole(errors, b"bacgw: cannot read configuration\n"),
+        Fault::Configuration(fault) => write_configuration_fault(fault, errors),
         Fault::Line(number) => write_line_number(number, errors),
         Fault::Read => write_whole(errors, b"bacgw: read failed\n"),
         Fault::Write => write_whole(errors, b"bacgw: write failed\n"),

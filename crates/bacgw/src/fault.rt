@@ -1,10 +1,11 @@
 //! Why the program ends without success: its line on standard error, and its exit status.
 
 ghost use Rattle.std.specs.Prelude.{◌≡◌, ◌≢◌, Some};
-ghost use Rattle.bacgw.specs.Ending.{fault_of, status_of, text_of};
+ghost use Rattle.bacgw.specs.Ending.{fault_of, fault_of_configuration, name_of, status_of, text_of};
 ghost use Rattle.bacgw.specs.declared.fault.Fault.TheVariants.{CommandLine, Memory};
 
 use gw_core::RunFault;
+use gw_policy_text::ConfigFault;
 use std::alloc::AllocError;
 use std::fmt;
 use std::io::ErrorKind;
@@ -15,6 +16,10 @@ use thiserror::Error;
 pub enum Fault {
     /// The words that the program was called with are none that it takes.
     CommandLine,
+    /// The file of the configuration can't be read.
+    Unreadable,
+    /// What the file of the configuration says is none, and why.
+    Configuration(ConfigFault),
     /// Line `n` of the script, counted from 1, is no event.
     Line(u64),
     /// A read of standard input failed.
@@ -44,8 +49,8 @@ impl Fault {
         ensures { result ≡ status_of self }
     {
         match self {
-            Fault::CommandLine | Fault::Line(_) => 2,
-            Fault::Read | Fault::Write | Fault::Memory | Fault::CountEnd => 1,
+            Fault::CommandLine | Fault::Configuration(_) | Fault::Line(_) => 2,
+            Fault::Unreadable | Fault::Read | Fault::Write | Fault::Memory | Fault::CountEnd => 1,
         }
     }
 }
@@ -56,11 +61,43 @@ impl fmt::Display for Fault {
     fn fmt<W: fmt::Write>(&self, f: &mut fmt::Formatter<W>) -> fmt::Result {
         match self {
             Fault::CommandLine => f.write_str("bacgw: bad command line"),
+            Fault::Unreadable => f.write_str("bacgw: cannot read configuration"),
+            Fault::Configuration(fault) => {
+                f.write_str("bacgw: configuration: ")?;
+                f.write_str(name_of(*fault))
+            }
             Fault::Line(number) => write!(f, "bacgw: line {number}"),
             Fault::Read => f.write_str("bacgw: read failed"),
             Fault::Write => f.write_str("bacgw: write failed"),
             Fault::Memory => f.write_str("bacgw: out of memory"),
             Fault::CountEnd => f.write_str("bacgw: count at its end"),
+        }
+    }
+}
+
+/// The name of a fault of a configuration.
+pub fn name_of(fault: ConfigFault) -> &'static str
+    ensures { result.now ≡ name_of fault }
+{
+    match fault {
+        ConfigFault::NotToml => "NotToml",
+        ConfigFault::UnknownKey => "UnknownKey",
+        ConfigFault::Missing => "Missing",
+        ConfigFault::Kind => "Kind",
+        ConfigFault::Range => "Range",
+        ConfigFault::Duplicate => "Duplicate",
+        ConfigFault::TooMany => "TooMany",
+        ConfigFault::Memory => "Memory",
+    }
+}
+
+impl From<ConfigFault> for Fault {
+    ghost from_gives = { λ config fault. fault ≡ fault_of_configuration config };
+
+    fn from(fault: ConfigFault) -> Fault {
+        match fault {
+            ConfigFault::Memory => Fault::Memory,
+            _ => Fault::Configuration(fault),
         }
     }
 }

@@ -1,18 +1,22 @@
 //! The program `bacgw`: a gateway of BACnet/IP, run from the command line.
 //!
-//! `bacgw replay` reads events from standard input and writes what the gateway gives for each to standard output. A fault is one
-//! line on standard error, and the exit status says of which kind it is.
+//! `bacgw check` says what the configuration in a file has, and `bacgw replay` reads events from
+//! standard input and writes what the gateway gives for each to standard output. A fault is one line
+//! on standard error, and the exit status says of which kind it is.
 #![tactic(auto)]
 
 mod command_line;
+mod configured;
 mod ending;
 mod fault;
+mod files;
 mod program;
 mod script;
 #[cfg(test)]
 mod tests;
 
 use fault::Fault;
+use files::SystemFiles;
 use std::io::BufWriter;
 use std::process::ExitCode;
 use std::rt::Env;
@@ -38,6 +42,7 @@ fn main(rt: HostRuntime) -> ExitCode {
     program::run(
         alloc,
         words(&rt),
+        &SystemFiles { rt: &rt },
         &mut rt.reader(),
         &mut output,
         &mut errors,

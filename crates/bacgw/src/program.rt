@@ -4,15 +4,20 @@ ghost use Rattle.std.specs.Prelude.{◌≡◌, ◌++◌, [], List, ℕ, map, str
 ghost use Rattle.std.specs.Io.Buffered.{writer_buffer, writer_contents};
 ghost use Rattle.std.specs.Io.KnownBytes.{Appends};
 ghost use Rattle.std.specs.Process.{exit_status};
-ghost use Rattle.clap.specs.Words.{fault_of};
-ghost use Rattle.bacgw.specs.CommandLine.{commands, IsAnswer};
-ghost use Rattle.bacgw.specs.Program.{AppendsFront, IsRun, LeavesOutput};
+ghost use Rattle.gw_policy_text.specs.Configuration.{Configuration};
+ghost use Rattle.bacgw.specs.CommandLine.{IsAnswer};
+ghost use Rattle.bacgw.specs.Configured.{IsConfigured};
+ghost use Rattle.bacgw.specs.Program.{AppendsFront, IsRun, LeavesChecked, LeavesOutput, LeavesPlayed};
+ghost use Rattle.bacgw.specs.declared.fault.Fault.{Fault};
 ghost use Rattle.bacgw.specs.declared.fault.Fault.TheVariants as fault;
 
 use crate::command_line::{Choice, choice_of};
+use crate::configured::{configuration, configuration_in, summary};
 use crate::ending::end;
 use crate::fault::Fault;
+use crate::files::ConfigFiles;
 use crate::script::replay;
+use gw_policy_text::Config;
 use gw_script::{OctetSink, OctetSource, write_whole};
 use std::alloc::Global;
 use std::io::{BufWriter, Write};
@@ -42,7 +47,7 @@ fn print<W: Write + Drop>(text: &str, output: &mut BufWriter<W>) -> Result<(), F
 /// What the words ask for, or the fault for which there are none.
 fn choice_from(alloc: Global, words: Result<Vec<String>, Fault>) -> Result<Choice, Fault>
     ensures { MatchResult words
-        (λ w. IsAnswer (fault_of commands (map string_bytes w.items)) result)
+        (λ w. IsAnswer (map string_bytes w.items) result)
         (λ f. result ≡ Err f) }
 {
     match words {
@@ -51,45 +56,90 @@ fn choice_from(alloc: Global, words: Result<Vec<String>, Fault>) -> Result<Choic
     }
 }
 
-/// Does what was chosen.
-fn follow<R: OctetSource, W: Write + Drop>(
+/// Prints what a configuration has.
+fn check<W: Write + Drop>(
     alloc: Global,
-    choice: Result<Choice, Fault>,
+    config: Result<Config, Fault>,
+    output: &mut BufWriter<W>,
+) -> Result<(), Fault>
+    ensures output { LeavesChecked (writer_contents W.contents output.old) (writer_contents W.contents output.new) config result }
+    ensures flush { OnOk result (writer_buffer output.new ≡ []) }
+{
+    let config = match config {
+        Ok(config) => config,
+        Err(fault) => return Err(fault),
+    };
+    let text = summary(alloc, &config)?;
+    print(&text, output)
+}
+
+/// Plays the script under a configuration.
+fn play<R: OctetSource, W: Write + Drop>(
+    alloc: Global,
+    config: Result<Config, Fault>,
     input: &mut R,
     output: &mut BufWriter<W>,
 ) -> Result<(), Fault>
-    ensures output { LeavesOutput (R.left input.old) (writer_contents W.contents output.old)
-        (writer_contents W.contents output.new) choice result }
+    ensures output { LeavesPlayed (R.left input.old) (writer_contents W.contents output.old)
+        (writer_contents W.contents output.new) config result }
+    ensures flush { OnOk result (writer_buffer output.new ≡ []) }
+{
+    match config {
+        Ok(config) => replay(alloc, config, input, output),
+        Err(fault) => Err(fault),
+    }
+}
+
+/// Does what was chosen.
+fn follow<F: ConfigFiles, R: OctetSource, W: Write + Drop>(
+    alloc: Global,
+    choice: Result<Choice, Fault>,
+    files: &F,
+    input: &mut R,
+    output: &mut BufWriter<W>,
+) -> Result<(), Fault>
+    ensures output { LeavesOutput (F.Reads files.now) (R.left input.old)
+        (writer_contents W.contents output.old) (writer_contents W.contents output.new) choice
+        result }
     ensures flush { OnOk result (writer_buffer output.new ≡ []) }
 {
     match choice {
-        Ok(Choice::Replay) => replay(alloc, input, output),
+        Ok(Choice::Check(file)) => {
+            let config = configuration_in(alloc, files, &file);
+            check(alloc, config, output)
+        }
+        Ok(Choice::Replay(file)) => {
+            let config = configuration(alloc, files, &file);
+            play(alloc, config, input, output)
+        }
         Ok(Choice::Help(text)) => print(&text, output),
         Err(fault) => Err(fault),
     }
 }
 
-/// Runs the program on these words, or on the fault for which there are none: the script of `input`
-/// is replayed to `output`, or help is printed there, a fault is one line on `errors`, and the exit
-/// status says of which kind it is. The words begin with the program's name.
-pub fn run<R: OctetSource, W: Write + Drop, E: OctetSink>(
+/// Runs the program on these words, or on the fault for which there are none: the configuration that
+/// they name is read from `files`, what it has is printed to `output`, or the script of `input` is
+/// replayed there, or help is printed; a fault is one line on `errors`, and the exit status says of
+/// which kind it is. The words begin with the program's name.
+pub fn run<F: ConfigFiles, R: OctetSource, W: Write + Drop, E: OctetSink>(
     alloc: Global,
     words: Result<Vec<String>, Fault>,
+    files: &F,
     input: &mut R,
     output: &mut BufWriter<W>,
     errors: &mut E,
 ) -> ExitCode
     ensures run { IsRun
         (λ choice. MatchResult words
-        (λ w. IsAnswer (fault_of commands (map string_bytes w.items)) choice)
+        (λ w. IsAnswer (map string_bytes w.items) choice)
         (λ f. choice ≡ Err f))
-        (LeavesOutput (R.left input.old) (writer_contents W.contents output.old)
-        (writer_contents W.contents output.new))
+        (LeavesOutput (F.Reads files.now) (R.left input.old)
+        (writer_contents W.contents output.old) (writer_contents W.contents output.new))
         (writer_buffer output.new)
         (λ line. E.NeverFails errors.old → Appends (E.held errors.old) (E.held errors.new) line)
         (exit_status result) }
 {
     let choice = choice_from(alloc, words);
-    let outcome = follow(alloc, choice, input, output);
+    let outcome = follow(alloc, choice, files, input, output);
     end(outcome, errors)
 }

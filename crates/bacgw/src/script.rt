@@ -1,4 +1,4 @@
-//! A script of events, played against the built-in configuration.
+//! A script of events, played under a configuration.
 
 ghost use Rattle.std.specs.Prelude.{◌≡◌, [], OnOk};
 ghost use Rattle.std.specs.Io.Buffered.{writer_buffer, writer_contents};
@@ -8,6 +8,7 @@ ghost use Rattle.bacgw.specs.Ending.{first_fault};
 
 use crate::fault::Fault;
 use gw_core::RunFault;
+use gw_policy_text::Config;
 use gw_script::OctetSource;
 use std::alloc::Global;
 use std::io::{BufWriter, Write};
@@ -23,19 +24,18 @@ fn first_fault(run: Result<(), RunFault>, is_flushed: bool) -> Result<(), Fault>
     }
 }
 
-/// Plays the script that `reader` has left against the built-in configuration. What was written is
-/// flushed at every outcome. Faults: those of the run, `Write` also where the flush alone fails, and
-/// `Memory` where the configuration can't be held.
+/// Plays the script that `reader` has left under this configuration. What was written is flushed at
+/// every outcome. Faults: those of the run, and `Write` also where the flush alone fails.
 pub fn replay<R: OctetSource, W: Write + Drop>(
     alloc: Global,
+    config: Config,
     reader: &mut R,
     writer: &mut BufWriter<W>,
 ) -> Result<(), Fault>
     ensures plays { OnKnown (R.left reader.old) (writer_contents W.contents writer.old)
-        (writer_contents W.contents writer.new) (λ script before. Plays script before result) }
+        (writer_contents W.contents writer.new) (λ script before. Plays config script before result) }
     ensures flushed { OnOk result (writer_buffer writer.new ≡ []) }
 {
-    let config = gw_core::setting_s(alloc)?;
     let run = gw_core::replay(alloc, config, reader, writer);
     let is_flushed = writer.flush().is_ok();
     first_fault(run, is_flushed)

@@ -3,8 +3,11 @@
 use crate::command_line::{Choice, choice_of};
 use crate::ending::end;
 use crate::fault::Fault;
+use crate::files::ConfigFiles;
 use crate::program::run;
 use crate::script::replay;
+use gw_core::setting_s;
+use gw_policy_text::{ConfigFault, SETTING};
 use std::alloc::{AllocError, Global};
 use std::io;
 use std::io::{BufWriter, ErrorKind, Read, Write};
@@ -21,24 +24,62 @@ fn call(alloc: Global, words: &[&str]) -> Result<Vec<String>, AllocError> {
     Ok(call)
 }
 
+/// The file that a command of this name is to work on.
+fn file_of<'a>(choice: &'a Choice, name: &str) -> Option<Option<&'a str>> {
+    match choice {
+        Choice::Check(file) if name == "check" => Some(Some(file.as_str())),
+        Choice::Replay(None) if name == "replay" => Some(None),
+        Choice::Replay(Some(file)) if name == "replay" => Some(Some(file.as_str())),
+        _ => None,
+    }
+}
+
 #[test]
-fn takes_replay_alone(rt: HostRuntime) -> Result<(), Fail> {
-    let words = call(rt.alloc(), &["replay"])?;
-    let choice = choice_of(rt.alloc(), words.as_slice());
-    assert!(rt; matches!(&choice, Ok(Choice::Replay)));
+fn takes_commands(rt: HostRuntime) -> Result<(), Fail> {
+    let cases: [(&[&str], &str, Option<&str>); 7] = [
+        (&["replay"], "replay", None),
+        (
+            &["replay", "--config", "site.toml"],
+            "replay",
+            Some("site.toml"),
+        ),
+        (&["replay", "--config=a b"], "replay", Some("a b")),
+        (
+            &["check", "--config", "site.toml"],
+            "check",
+            Some("site.toml"),
+        ),
+        (&["check", "--config=/dev/null"], "check", Some("/dev/null")),
+        (&["check", "--config", "replay"], "check", Some("replay")),
+        (&["check", "--config", "-"], "check", Some("-")),
+    ];
+    for (words, name, file) in cases {
+        let call = call(rt.alloc(), words)?;
+        match choice_of(rt.alloc(), call.as_slice()) {
+            Ok(choice) => { assert!(rt; file_of(&choice, name) == Some(file), "{words:?}") }
+            Err(_) => panic!(rt; "not taken: {words:?}"),
+        }
+    }
     Ok(())
 }
 
 #[test]
 fn refuses_other_words(rt: HostRuntime) -> Result<(), Fail> {
-    let cases: [&[&str]; 12] = [
+    let cases: [&[&str]; 19] = [
         &[],
         &["run"],
+        &["check"],
+        &["check", "site.toml"],
+        &["check", "--config"],
+        &["check", "--config", "a", "--config", "b"],
+        &["check", "--config", "a", "b"],
+        &["check", "-c", "a"],
+        &["replay", "--config", "a", "--config", "a"],
+        &["replay", "--config"],
         &["rep"],
         &["REPLAY"],
         &["replay", "replay"],
         &["replay", "run"],
-        &["replay", "--config", "file"],
         &["--config", "file", "replay"],
         &["replay", "-v"],
         &["replay", ""],
@@ -59,6 +100,7 @@ const HELP: &str = "A gateway of BACnet/IP
 Usage: bacgw <COMMAND>
 
 Commands:
+  check   Says what a configuration has, or its first fault
   replay  Plays the events of standard input and prints what the gateway gives for each
   help    Print this message or the help of the given subcommand(s)
 
@@ -70,10 +112,21 @@ Options:
 const REPLAY_HELP: &str =
     "Plays the events of standard input and prints what the gateway gives for each
 
-Usage: bacgw replay
+Usage: bacgw replay [OPTIONS]
 
 Options:
-  -h, --help  Print help
+      --config <FILE>  The configuration, in TOML; without it the built-in one
+  -h, --help           Print help
+";
+
+/// The text that is printed for help on `check`.
+const CHECK_HELP: &str = "Says what a configuration has, or its first fault
+
+Usage: bacgw check --config <FILE>
+
+Options:
+      --config <FILE>  The configuration, in TOML
+  -h, --help           Print help
 ";
 
 #[test]
@@ -97,12 +150,27 @@ fn helps(rt: HostRuntime) -> Result<(), Fail> {
 
 #[test]
 fn tells_faults(rt: HostRuntime) -> Result<(), Fail> {
-    let cases: [(Result<(), Fault>, &[u8], u8); 8] = [
+    let cases: [(Result<(), Fault>, &[u8], u8); 11] = [
         (Ok(()), b"", 0),
         (
             Err(Fault::of_words(ErrorKind::InvalidData)),
             b"bacgw: bad command line\n",
             2,
+        ),
+        (
+            Err(Fault::Unreadable),
+            b"bacgw: cannot read configuration\n",
+            1,
+        ),
+        (
+            Err(Fault::from(ConfigFault::UnknownKey)),
+            b"bacgw: configuration: UnknownKey\n",
+            2,
+        ),
+        (
+            Err(Fault::from(ConfigFault::Memory)),
+            b"bacgw: out of memory\n",
+            1,
         ),
         (Err(Fault::Line(1)), b"bacgw: line 1\n", 2),
         (
@@ -187,7 +255,7 @@ fn replay_to(
         flushes,
     };
     let mut writer = BufWriter::with_capacity(alloc, capacity, narrow)?;
-    let outcome = replay(alloc, &mut script, &mut writer);
+    let outcome = replay(alloc, setting_s(alloc)?, &mut script, &mut writer);
     let (narrow, _unwritten) = writer.into_parts();
     let Narrow {
         held,
@@ -237,7 +305,7 @@ fn writes_a_front_before_a_write_fault(rt: HostRuntime) -> Result<(), Fail> {
 #[test]
 fn tells_of_a_failed_read(rt: HostRuntime) -> Result<(), Fail> {
     let mut writer = BufWriter::new(rt.alloc(), Vec::new(rt.alloc()))?;
-    let outcome = replay(rt.alloc(), &mut Broken, &mut writer);
+    let outcome = replay(rt.alloc(), setting_s(rt.alloc())?, &mut Broken, &mut writer);
     assert!(rt; outcome == Err(Fault::Read));
     assert!(rt; writer.get_ref().is_empty());
     Ok(())
@@ -251,12 +319,40 @@ struct Run {
     errors: Vec<u8>,
 }
 
-/// Runs the program on these words and this script.
-fn run_on(alloc: Global, words: &[&str], mut script: &[u8]) -> Result<Run, Fail> {
+/// A file in memory, whatever its name: its text, or why it can't be read.
+#[derive(Drop)]
+struct Held<'a> {
+    text: Result<&'a str, Fault>,
+}
+
+impl ConfigFiles for Held<'_> {
+    ghost use Rattle.std.specs.Prelude.{⊤};
+
+    ghost Reads = { λ _ _ _. ⊤ };
+
+    fn read(&self, alloc: Global, _name: &str) -> Result<Vec<u8>, Fault> {
+        Ok(Vec::from_slice(alloc, self.text?.as_bytes())?)
+    }
+}
+
+/// Runs the program on these words, this file and this script.
+fn run_on(
+    alloc: Global,
+    words: &[&str],
+    text: Result<&str, Fault>,
+    mut script: &[u8],
+) -> Result<Run, Fail> {
     let call = call(alloc, words)?;
     let mut output = BufWriter::new(alloc, Vec::new(alloc))?;
     let mut errors = Vec::new(alloc);
-    let code = run(alloc, Ok(call), &mut script, &mut output, &mut errors);
+    let code = run(
+        alloc,
+        Ok(call),
+        &Held { text },
+        &mut script,
+        &mut output,
+        &mut errors,
+    );
     let (output, _unwritten) = output.into_parts();
     Ok(Run {
         code,
@@ -265,20 +361,93 @@ fn run_on(alloc: Global, words: &[&str], mut script: &[u8]) -> Result<Run, Fail>
     })
 }
 
+/// What `check` prints of the built-in text.
+const SUMMARY: &[u8] = b"ok 2 ports 6 objects 3 rules\n";
+
+/// A faulty configuration is told before the script is read, of which the third line is bad.
+#[test]
+fn runs_under_a_configuration(rt: HostRuntime) -> Result<(), Fail> {
+    let cases: [(&[&str], Result<&str, Fault>, &[u8], &[u8], u8); 9] = [
+        (&["check", "--config", "s"], Ok(SETTING), SUMMARY, b"", 0),
+        (
+            &["check", "--config", "s"],
+            Ok("format = 1"),
+            b"",
+            b"bacgw: configuration: Missing\n",
+            2,
+        ),
+        (
+            &["check", "--config", "s"],
+            Ok("="),
+            b"",
+            b"bacgw: configuration: NotToml\n",
+            2,
+        ),
+        (
+            &["check", "--config", "s"],
+            Err(Fault::Unreadable),
+            b"",
+            b"bacgw: cannot read configuration\n",
+            1,
+        ),
+        (
+            &["replay", "--config", "s"],
+            Ok(SETTING),
+            TEXT,
+            b"bacgw: line 3\n",
+            2,
+        ),
+        (
+            &["replay", "--config", "s"],
+            Ok("="),
+            b"",
+            b"bacgw: configuration: NotToml\n",
+            2,
+        ),
+        (
+            &["replay", "--config", "s"],
+            Err(Fault::Unreadable),
+            b"",
+            b"bacgw: cannot read configuration\n",
+            1,
+        ),
+        (
+            &["replay"],
+            Err(Fault::Unreadable),
+            TEXT,
+            b"bacgw: line 3\n",
+            2,
+        ),
+        (
+            &["check", "--config", "s", "t"],
+            Err(Fault::Unreadable),
+            b"",
+            b"bacgw: bad command line\n",
+            2,
+        ),
+    ];
+    for (words, text, output, errors, status) in cases {
+        let run = run_on(rt.alloc(), words, text, SCRIPT)?;
+        assert_eq!(rt; run.output.as_slice(), output, "{words:?}");
+        assert_eq!(rt; run.errors.as_slice(), errors, "{words:?}");
+        assert!(rt; run.code == ExitCode::from(status), "{words:?}");
+    }
+    Ok(())
+}
+
 #[test]
 fn runs_from_words_to_status(rt: HostRuntime) -> Result<(), Fail> {
     let whole = &SCRIPT[..SCRIPT.len() - 5];
-    let cases: [(&[&str], &[u8], &[u8], &[u8], u8); 5] = [
-        (&["replay"], whole, TEXT, b"", 0),
-        (&["replay"], SCRIPT, TEXT, b"bacgw: line 3\n", 2),
-        (&["run"], whole, b"", b"bacgw: bad command line\n", 2),
-        (&["--help"], whole, HELP.as_bytes(), b"", 0),
-        (&["help", "replay"], whole, REPLAY_HELP.as_bytes(), b"", 0),
+    let cases: [(&[&str], &[u8], u8); 4] = [
+        (&["replay"], TEXT, 0),
+        (&["run"], b"", 2),
+        (&["--help"], HELP.as_bytes(), 0),
+        (&["help", "check"], CHECK_HELP.as_bytes(), 0),
     ];
-    for (words, script, output, errors, status) in cases {
-        let run = run_on(rt.alloc(), words, script)?;
+    for (words, output, status) in cases {
+        let run = run_on(rt.alloc(), words, Err(Fault::Unreadable), whole)?;
         assert_eq!(rt; run.output.as_slice(), output, "{words:?}");
-        assert_eq!(rt; run.errors.as_slice(), errors, "{words:?}");
+        assert!(rt; run.errors.is_empty() == (status == 0), "{words:?}");
         assert!(rt; run.code == ExitCode::from(status), "{words:?}");
     }
     Ok(())
@@ -290,7 +459,17 @@ fn runs_without_words(rt: HostRuntime) -> Result<(), Fail> {
     let mut output = BufWriter::new(rt.alloc(), Vec::new(rt.alloc()))?;
     let mut errors = Vec::new(rt.alloc());
     let words = Err(Fault::of_words(ErrorKind::InvalidData));
-    let code = run(rt.alloc(), words, &mut script, &mut output, &mut errors);
+    let held = Held {
+        text: Err(Fault::Unreadable),
+    };
+    let code = run(
+        rt.alloc(),
+        words,
+        &held,
+        &mut script,
+        &mut output,
+        &mut errors,
+    );
     assert!(rt; code == ExitCode::from(2));
     assert!(rt; output.buffer().is_empty() && output.get_ref().is_empty());
     assert_eq!(rt; errors.as_slice(), b"bacgw: bad command line\n".as_slice());
@@ -299,7 +478,11 @@ fn runs_without_words(rt: HostRuntime) -> Result<(), Fail> {
 
 #[test]
 fn ends_where_help_or_a_fault_cannot_be_written(rt: HostRuntime) -> Result<(), Fail> {
-    for words in [&["--help"][..], &["replay"][..]] {
+    for words in [
+        &["--help"][..],
+        &["replay"][..],
+        &["check", "--config", "s"][..],
+    ] {
         let call = call(rt.alloc(), words)?;
         let narrow = Narrow {
             held: Vec::new(rt.alloc()),
@@ -313,7 +496,15 @@ fn ends_where_help_or_a_fault_cannot_be_written(rt: HostRuntime) -> Result<(), F
             flushes: true,
         };
         let mut script: &[u8] = SCRIPT;
-        let code = run(rt.alloc(), Ok(call), &mut script, &mut output, &mut errors);
+        let held = Held { text: Ok(SETTING) };
+        let code = run(
+            rt.alloc(),
+            Ok(call),
+            &held,
+            &mut script,
+            &mut output,
+            &mut errors,
+        );
         assert!(rt; code == ExitCode::from(1));
         assert!(rt; output.get_ref().held.len() == 7);
         assert_eq!(rt; errors.held.as_slice(), b"bac".as_slice());

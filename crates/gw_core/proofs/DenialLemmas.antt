@@ -13,7 +13,8 @@ use Rattle.gw_core.specs.declared.effects.Denial.{Denial}
 use Rattle.gw_script.specs.Event.{Event}
 use Rattle.gw_core.specs.Asks.{apdu_asks, asks, asks_for}
 use Rattle.gw_core.specs.Denials.{denials_at, denials_from, denials_of, denials_for}
-use Rattle.gw_core.specs.Device.{Device, asks_of, device_asks, request_of}
+use Rattle.gw_policy_text.specs.declared.device.Device.{Device}
+use Rattle.gw_core.specs.Device.{asks_of, device_asks, request_of}
 use Rattle.gw_core.specs.Read.{Read}
 use Rattle.gw_core.specs.Receive.{Message, Origin, Received, dropped, managed, stranger, message, origin, receive}
 use Rattle.gw_core.specs.Reply.{apdu_for, context_of}

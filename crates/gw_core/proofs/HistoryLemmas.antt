@@ -9,19 +9,19 @@ use Rattle.gw_core.specs.declared.effects.Effects.{Effects}
 use Rattle.gw_core.specs.declared.event.Counts.{Counts}
 use Rattle.gw_script.specs.declared.event.Event.{Event as LentEvent}
 use Rattle.gw_script.specs.Event.{Event, Datagram, Tick, event_view}
-use Rattle.gw_core.specs.Configuration.{Configuration}
+use Rattle.gw_policy_text.specs.Configuration.{Configuration}
 use Rattle.gw_core.specs.Denials.{denials_at}
 use Rattle.gw_core.specs.Effects.{effects_at, passes_end, ticks_of}
 use Rattle.gw_core.specs.History.{acts_of, state_after, next, IsStateAfter, run_after, run_from, state_from, history_after, StopsAtEnd}
 use Rattle.gw_core.specs.Laws.{StepsExtendHistories, RunsExtendHistories}
 use Rattle.gw_core.specs.Receive.{receive}
-use Rattle.gw_core.specs.State.{State, initial}
+use Rattle.gw_core.specs.State.{State, initial_states}
 
 abbrev counted : Configuration → ℕ → ℕ → State
 counted c ticks denials = record {
   ports = c.ports;
   device = c.device;
-  objects = map initial c.objects;
+  objects = initial_states c.objects;
   rules = c.rules;
   ticks = ticks;
   denials = denials;

@@ -12,7 +12,7 @@ use Rattle.gw_script.specs.Event.{Event, Datagram, Tick}
 use Rattle.gw_core.specs.declared.effects.Denial.{Denial}
 use Rattle.gw_core.specs.declared.event.Counts.{Counts}
 use Rattle.gw_core.specs.Asks.{asks, asks_for}
-use Rattle.gw_core.specs.Configuration.{Configuration}
+use Rattle.gw_policy_text.specs.Configuration.{Configuration}
 use Rattle.gw_core.specs.Denials.{denials_from, denials_of, denials_at, denials_for}
 use Rattle.gw_core.specs.Device.{read_value}
 use Rattle.gw_core.specs.Effects.{effects_at}

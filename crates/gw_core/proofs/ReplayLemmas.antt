@@ -9,7 +9,7 @@ use Rattle.gw_core.specs.declared.event.Counts.{Counts}
 use Rattle.gw_core.specs.declared.effects.Effects.{Effects}
 use Rattle.gw_core.specs.declared.replaying.RunFault.{RunFault}
 use Rattle.gw_core.specs.declared.replaying.RunFault.TheVariants.{Read, Line, Write, Memory, CountEnd}
-use Rattle.gw_core.specs.Configuration.{Configuration}
+use Rattle.gw_policy_text.specs.Configuration.{Configuration}
 use Rattle.gw_core.specs.State.{State}
 use Rattle.gw_core.specs.Effects.{effects_at, passes_end, NeedsNoMemory}
 use Rattle.gw_core.specs.History.{run, run_after, history_after, effects, IsStateAfter, state_after}

@@ -4,7 +4,8 @@ use Rattle.gw_rules.specs.Ask.{Ask}
 use Rattle.gw_rules.specs.declared.rule.Rule.{Rule}
 use Rattle.gw_script.specs.Event.{Event}
 use Rattle.gw_core.specs.declared.device.Context.{Context}
-use Rattle.gw_core.specs.Device.{Device, device_asks}
+use Rattle.gw_policy_text.specs.declared.device.Device.{Device}
+use Rattle.gw_core.specs.Device.{device_asks}
 use Rattle.gw_core.specs.Receive.{Message, Received, dropped, managed, stranger, message, receive}
 use Rattle.gw_core.specs.Reply.{apdu_for, context_of}
 use Rattle.gw_core.specs.State.{State}

@@ -6,6 +6,7 @@ use Rattle.gw_rules.specs.Ask.{Ask, ask_of}
 use Rattle.gw_rules.specs.declared.operation.Operation.TheVariants as operation
 use Rattle.gw_rules.specs.declared.rule.Rule.{Rule}
 use Rattle.gw_rules.specs.RuleList.{allows}
+use Rattle.gw_policy_text.specs.declared.device.Device.{Device}
 use Rattle.gw_tags.specs.declared.tag.Kind.TheVariants.{Opening, Closing}
 use Rattle.gw_tags.specs.Context.{in_context}
 use Rattle.gw_tags.specs.List.{context}
@@ -21,12 +22,6 @@ use Rattle.gw_core.specs.declared.failure.Failure.TheVariants.{AccessDenied, Unk
 use Rattle.gw_core.specs.declared.object.ObjectState.{ObjectState}
 use Rattle.gw_core.specs.Failure.{ErrorCode, error_of}
 use Rattle.gw_core.specs.Read.{Read, read_at}
-
--- the network behind the router that the device is the one station of, and the instance of its Device
--- object
-pub record Device : Type 0 where
-  pub network : ℕ
-  pub instance : ℕ
 
 -- what the device answers: an APDU, and whether it goes to everyone on the requester's network
 pub record Answer : Type 0 where

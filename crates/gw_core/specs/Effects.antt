@@ -8,7 +8,8 @@ use Rattle.gw_script.specs.Event.{Datagram, Tick}
 use Rattle.gw_core.specs.declared.object.ObjectState.{ObjectState}
 use Rattle.gw_core.specs.Asks.{asks}
 use Rattle.gw_core.specs.Denials.{denials_at, denials_for}
-use Rattle.gw_core.specs.Device.{Answer, Device, device_answer}
+use Rattle.gw_policy_text.specs.declared.device.Device.{Device}
+use Rattle.gw_core.specs.Device.{Answer, device_answer}
 use Rattle.gw_core.specs.Receive.{Message, Received, dropped, managed, stranger, message, receive}
 use Rattle.gw_core.specs.Reply.{apdu_for, context_of, reply_sends}
 use Rattle.gw_core.specs.State.{State}

@@ -4,10 +4,10 @@ use Rattle.std.specs.Prelude.{◌≡◌, ℕ, ◌+◌, Bool, true, false, List, 
 use Rattle.gw_core.specs.declared.effects.Effects.{Effects}
 use Rattle.gw_core.specs.declared.event.Counts.{Counts}
 use Rattle.gw_script.specs.Event.{Event}
-use Rattle.gw_core.specs.Configuration.{Configuration}
+use Rattle.gw_policy_text.specs.Configuration.{Configuration}
 use Rattle.gw_core.specs.Denials.{denials_at}
 use Rattle.gw_core.specs.Effects.{effects_at, passes_end, ticks_of}
-use Rattle.gw_core.specs.State.{State, initial}
+use Rattle.gw_core.specs.State.{State, initial_states}
 
 -- ---- after a history
 
@@ -25,7 +25,7 @@ abbrev pub state_of : Configuration → Counts → Acts → State
 state_of c k acts = record {
   ports = c.ports;
   device = c.device;
-  objects = map initial c.objects;
+  objects = initial_states c.objects;
   rules = c.rules;
   ticks = k.ticks + acts.ticks;
   denials = k.denials + acts.denials;

@@ -6,7 +6,7 @@ use Rattle.gw_core.specs.declared.effects.Effects.{Effects}
 use Rattle.gw_core.specs.declared.event.Counts.{Counts}
 use Rattle.gw_script.specs.Event.{Event}
 use Rattle.gw_script.specs.Event.{Datagram, Tick}
-use Rattle.gw_core.specs.Configuration.{Configuration}
+use Rattle.gw_policy_text.specs.Configuration.{Configuration}
 use Rattle.gw_core.specs.History.{state_after, run, history_after, IsStep, IsStateAfter, effects, run_after, run_from, state_from, next}
 use Rattle.gw_rules.specs.Ask.{Ask}
 use Rattle.gw_rules.specs.declared.rule.Rule.{Rule}
@@ -15,7 +15,8 @@ use Rattle.gw_core.specs.declared.device.Context.{Context}
 use Rattle.gw_core.specs.declared.object.ObjectState.{ObjectState}
 use Rattle.gw_core.specs.Asks.{asks}
 use Rattle.gw_core.specs.Denials.{rule_name}
-use Rattle.gw_core.specs.Device.{Device, error_apdu, read_answer, read_ask, read_value}
+use Rattle.gw_policy_text.specs.declared.device.Device.{Device}
+use Rattle.gw_core.specs.Device.{error_apdu, read_answer, read_ask, read_value}
 use Rattle.gw_core.specs.Effects.{effects_at, nothing}
 use Rattle.gw_core.specs.Read.{Read}
 use Rattle.gw_core.specs.State.{State}

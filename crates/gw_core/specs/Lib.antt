@@ -1,5 +1,4 @@
 pub mod Device
-pub mod Configuration
 pub mod State
 pub mod Claim
 pub mod Receive

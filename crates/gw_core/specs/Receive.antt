@@ -9,7 +9,7 @@ use Rattle.gw_bvll.specs.Bvll.{write_bdt, read_bdt, register, read_fdt, delete, 
 use Rattle.gw_bvll.specs.Bvll.{Message as Frame}
 use Rattle.gw_npdu.specs.Npdu.{Fields, Address}
 use Rattle.gw_npdu.specs.Reading.{npdu_at}
-use Rattle.gw_core.specs.declared.config.Port.{Port}
+use Rattle.gw_policy_text.specs.declared.port.Port.{Port}
 use Rattle.gw_script.specs.Event.{Event}
 use Rattle.gw_script.specs.Event.{Datagram, Tick}
 use Rattle.gw_core.specs.Claim.{link_source, here, claimed}

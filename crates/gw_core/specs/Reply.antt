@@ -9,10 +9,11 @@ use Rattle.gw_bvll.specs.Bvll as bvll
 use Rattle.gw_npdu.specs.Npdu.{Fields, Address, Destination, Payload, apdu, message}
 use Rattle.gw_npdu.specs.Numbers.{every_network}
 use Rattle.gw_npdu.specs.Npdu as npdu
-use Rattle.gw_core.specs.declared.config.Port.{Port}
+use Rattle.gw_policy_text.specs.declared.port.Port.{Port}
 use Rattle.gw_core.specs.declared.effects.Sending.{Sending}
 use Rattle.gw_core.specs.declared.device.Context.{Context}
-use Rattle.gw_core.specs.Device.{Device, Answer}
+use Rattle.gw_policy_text.specs.declared.device.Device.{Device}
+use Rattle.gw_core.specs.Device.{Answer}
 use Rattle.gw_core.specs.Receive.{Message}
 
 -- ---- to the device

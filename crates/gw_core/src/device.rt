@@ -12,11 +12,11 @@ ghost use Rattle.gw_core.specs.Read.{read_of};
 ghost use Rattle.gw_core.specs.View.{answer_view, octets_of};
 
 use crate::apdu::Answer;
-use crate::config::DeviceConfig;
 use crate::dropped::Dropped;
 use crate::failure::Failure;
 use crate::object::ObjectState;
 use crate::read::{READ_PROPERTY, Read, read_request};
+use gw_policy_text::Device;
 use gw_rules::{Ask, Authorizer, Judge, Operation};
 use gw_tags::ObjectId;
 use std::alloc::AllocError;
@@ -43,11 +43,14 @@ const ANY_INSTANCE: u32 = 4_194_303;
 /// Present_Value (clause 21).
 const PRESENT_VALUE: u32 = 85;
 
-fn named_object(device: DeviceConfig, object: ObjectId) -> ObjectId
-    ensures { object_view result ≡ named_object device.instance (object_view object) }
+fn named_object(device: &Device, object: ObjectId) -> ObjectId
+    ensures { object_view result ≡ named_object device.now.instance (object_view object) }
 {
     if object.kind == DEVICE && object.instance == ANY_INSTANCE {
-        device.object()
+        ObjectId {
+            kind: DEVICE,
+            instance: device.instance.get(),
+        }
     } else {
         object
     }
@@ -55,8 +58,8 @@ fn named_object(device: DeviceConfig, object: ObjectId) -> ObjectId
 
 /// The request that an APDU is.
 #[tactic(auto, unfolding(crate::specs::Device::request_of))]
-fn request_of(device: DeviceConfig, context: &Context, apdu: &[u8]) -> Result<Read, Dropped>
-    ensures { Gives read_of result (request_of device context.now apdu.now) }
+fn request_of(device: &Device, context: &Context, apdu: &[u8]) -> Result<Read, Dropped>
+    ensures { Gives read_of result (request_of device.now context.now apdu.now) }
 {
     if context.broadcast {
         return Err(Dropped::Silently);
@@ -67,14 +70,14 @@ fn request_of(device: DeviceConfig, context: &Context, apdu: &[u8]) -> Result<Re
 }
 
 /// The ask that a read raises.
-fn read_ask(device: DeviceConfig, context: &Context, read: &Read) -> Ask
-    ensures { result ≡ read_ask device context.now (read_of read.now) }
+fn read_ask(device: &Device, context: &Context, read: &Read) -> Ask
+    ensures { result ≡ read_ask device.now context.now (read_of read.now) }
 {
     Ask {
         port: Some(u64::from(context.port)),
         source_network: Some(u64::from(context.source_network)),
         source_key: context.source_key,
-        destination_network: Some(u64::from(device.network().get())),
+        destination_network: Some(u64::from(device.network.get())),
         service: Some(u64::from(READ_PROPERTY)),
         object_type: Some(u64::from(read.object.kind)),
         instance: Some(u64::from(read.object.instance)),
@@ -129,16 +132,16 @@ fn property_value(objects: &[ObjectState], read: &Read) -> Result<u32, Failure>
 /// What a read gives: the policy is asked before any look-up.
 #[tactic(auto, unfolding(crate::specs::Device::read_value))]
 fn read_value<J: Judge>(
-    device: DeviceConfig,
+    device: &Device,
     objects: &[ObjectState],
     authorizer: &mut Authorizer<'_, J>,
     context: &Context,
     read: &Read,
 ) -> Result<Result<u32, Failure>, AllocError>
     ensures value { (rules : List Rule) → J.StandsFor authorizer.old.judge rules →
-        IfOk result (λ value. octets_of value ≡ read_value device rules objects.now context.now (read_of read.now)) }
+        IfOk result (λ value. octets_of value ≡ read_value device.now rules objects.now context.now (read_of read.now)) }
     ensures denied { (rules : List Rule) → J.StandsFor authorizer.old.judge rules →
-        OnOk result (authorizer.new.denied ≡ authorizer.old.denied ++ denied_of rules (read_ask device context.now (read_of read.now) ∷ [])) }
+        OnOk result (authorizer.new.denied ≡ authorizer.old.denied ++ denied_of rules (read_ask device.now context.now (read_of read.now) ∷ [])) }
 {
     let ask = read_ask(device, context, read);
     if authorizer.authorize(&ask)? {
@@ -150,18 +153,18 @@ fn read_value<J: Judge>(
 
 /// What the device answers to an APDU, if anything.
 pub fn answer<J: Judge>(
-    device: DeviceConfig,
+    device: &Device,
     objects: &[ObjectState],
     authorizer: &mut Authorizer<'_, J>,
     context: &Context,
     apdu: &[u8],
 ) -> Result<Option<Answer>, AllocError>
     ensures answer { (rules : List Rule) → J.StandsFor authorizer.old.judge rules →
-        IfOk result (λ answer. option_map answer_view answer ≡ device_answer device rules objects.now context.now apdu.now) }
+        IfOk result (λ answer. option_map answer_view answer ≡ device_answer device.now rules objects.now context.now apdu.now) }
     ensures denied { (rules : List Rule) → J.StandsFor authorizer.old.judge rules →
-        OnOk result (authorizer.new.denied ≡ authorizer.old.denied ++ denied_of rules (device_asks device rules context.now apdu.now)) }
+        OnOk result (authorizer.new.denied ≡ authorizer.old.denied ++ denied_of rules (device_asks device.now rules context.now apdu.now)) }
     // What asks nothing is not answered, and needs no memory.
-    ensures silent { asks_of device context.now (request_of device context.now apdu.now) ≡ [] → result ≡ Ok None }
+    ensures silent { asks_of device.now context.now (request_of device.now context.now apdu.now) ≡ [] → result ≡ Ok None }
 {
     let Ok(read) = request_of(device, context, apdu) else {
         return Ok(None);
@@ -175,14 +178,9 @@ pub fn answer<J: Judge>(
 }
 
 /// How many of the asks for an APDU the policy denies. It takes no memory.
-pub fn count_denied<J: Judge>(
-    device: DeviceConfig,
-    judge: &J,
-    context: &Context,
-    apdu: &[u8],
-) -> u64
+pub fn count_denied<J: Judge>(device: &Device, judge: &J, context: &Context, apdu: &[u8]) -> u64
     ensures count { (rules : List Rule) → J.StandsFor judge.now rules →
-        result ≡ length (denied_of rules (device_asks device rules context.now apdu.now)) }
+        result ≡ length (denied_of rules (device_asks device.now rules context.now apdu.now)) }
 {
     let Ok(read) = request_of(device, context, apdu) else {
         return 0;

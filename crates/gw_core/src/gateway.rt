@@ -1,22 +1,22 @@
 //! The gateway: its state, and what it answers to one event.
 
-ghost use Rattle.std.specs.Prelude.{◌≡◌, ◌+◌, ◌≤◌, ◌<◌, ◌^◌, ◌↔◌, ◌∷◌, [], false, true, length, map, take};
+ghost use Rattle.std.specs.Prelude.{◌≡◌, ◌+◌, ◌≤◌, ◌<◌, ◌^◌, ◌↔◌, ◌∷◌, [], false, true, length, ◌++◌, take};
 ghost use Rattle.std.specs.Prelude.{IsOk, IsTrue, IfOk, OnOk, OnErr, IsErrOf};
 ghost use Rattle.gw_script.specs.Event.{Datagram, Tick};
-ghost use Rattle.gw_core.specs.State.{initial};
+ghost use Rattle.gw_core.specs.State.{initial_states, initial_value};
 
-use crate::config::{Config, DeviceConfig, Port};
 use crate::denial::denials_of;
 use crate::device;
 use crate::effects::Effects;
 use crate::event::Counts;
 use crate::fault::StepFault;
 use crate::message::Message;
-use crate::object::{BinaryValue, ObjectState};
+use crate::object::ObjectState;
 use crate::receive::{Received, receive_on};
 use crate::reply::{answer_sends, apdu_for, context_of};
 use gw_addr::BipAddr;
-use gw_rules::{Authorizer, RuleList};
+use gw_policy_text::{Config, Object, ObjectValue};
+use gw_rules::Authorizer;
 use std::alloc::{AllocError, Global};
 use std::marker::Model;
 
@@ -29,41 +29,55 @@ const MAX_ASKS: u64 = 1;
 /// A gateway. It takes one event in a call, whole: it answers what the event does, and is then in the next state.
 #[derive(Debug, Drop)]
 pub struct Gateway {
-    ports: Vec<Port>,
-    device: DeviceConfig,
+    config: Config,
     objects: Vec<ObjectState>,
-    rules: RuleList,
     counts: Counts,
 }
 
 impl Model for Gateway {
-    ghost use Rattle.std.specs.Prelude.{◌≤◌, ◌^◌, length};
+    ghost use Rattle.std.specs.Prelude.{◌≤◌, ◌^◌};
     ghost use Rattle.gw_core.specs.State.{State};
 
     ghost Value = { State };
 
     ghost view = { λ g. record {
-      ports = g.ports.items;
-      device = g.device;
+      ports = g.config.ports;
+      device = g.config.device;
       objects = g.objects.items;
-      rules = g.rules;
+      rules = g.config.rules;
       ticks = g.counts.ticks;
       denials = g.counts.denials;
     } };
 
-    ghost invariant = { λ g. (g.counts.ticks ≤ 2 ^ 63) × (g.counts.denials ≤ 2 ^ 63)
-        × (1 ≤ length g.ports.items) × (length g.ports.items ≤ 8) };
+    ghost invariant = { λ g. (g.counts.ticks ≤ 2 ^ 63) × (g.counts.denials ≤ 2 ^ 63) };
 }
 
 /// The objects before anything commands them.
-fn initial_states(alloc: Global, objects: &[BinaryValue]) -> Result<Vec<ObjectState>, AllocError>
-    ensures { IfOk result (λ states. states.items ≡ map initial objects.now) }
+fn initial_states(alloc: Global, objects: &[Object]) -> Result<Vec<ObjectState>, AllocError>
+    ensures { IfOk result (λ states. states.items ≡ initial_states objects.now) }
 {
     let mut states = Vec::with_capacity(alloc, objects.len())?;
     for object in objects {
-        states.push(object.initial())?;
+        put_initial(object, &mut states)?;
     }
     Ok(states)
+}
+
+/// Appends the object before anything commands it, where it is a Binary Value. Others aren't served yet.
+fn put_initial(object: &Object, states: &mut Vec<ObjectState>) -> Result<(), AllocError>
+    ensures { OnOk result (states.new.items ≡ states.old.items ++ initial_value object.now.instance object.now.value) }
+{
+    match &object.value {
+        ObjectValue::BinaryValue { default, .. } => states.push(ObjectState {
+            instance: object.instance.get(),
+            present_value: *default,
+        })?,
+        ObjectValue::MultiStateValue(_)
+        | ObjectValue::CharacterStringValue { .. }
+        | ObjectValue::IntegerValue { .. }
+        | ObjectValue::PositiveIntegerValue { .. } => {}
+    }
+    Ok(())
 }
 
 impl Gateway {
@@ -81,18 +95,10 @@ impl Gateway {
         requires denials { counts.denials ≤ 2 ^ 63 }
         ensures state { IfOk result (λ gateway. IsStateAfter gateway config counts []) }
     {
-        let Config {
-            device,
-            ports,
-            objects,
-            rules,
-        } = config;
-        let objects = initial_states(alloc, &objects)?;
+        let objects = initial_states(alloc, config.objects())?;
         Ok(Gateway {
-            ports,
-            device,
+            config,
             objects,
-            rules,
             counts,
         })
     }
@@ -103,7 +109,7 @@ impl Gateway {
         ensures least { 1 ≤ result }
         ensures most { result ≤ 8 }
     {
-        self.ports.len() as u8
+        self.config.ports().len() as u8
     }
 
     /// What is done about a message, while the gateway stays as it is.
@@ -116,18 +122,19 @@ impl Gateway {
         ensures silent { let received = message (message_view incoming.now) in
             asks_for self.now.device self.now.rules received ≡ [] → IsOk result }
     {
-        let network = self.device.network();
+        let device = self.config.device();
+        let network = device.network;
         let Some(apdu) = apdu_for(network, &incoming.npdu) else {
             return Ok(Effects::none(alloc));
         };
         let context = context_of(network, incoming);
-        let mut authorizer = Authorizer::new(alloc, &self.rules);
-        let answer = device::answer(self.device, &self.objects, &mut authorizer, &context, apdu)?;
+        let mut authorizer = Authorizer::new(alloc, self.config.rules());
+        let answer = device::answer(device, &self.objects, &mut authorizer, &context, apdu)?;
         let sends = answer_sends(alloc, network, incoming, answer)?;
         let number = self.counts.denials + 1;
         let denials = denials_of(
             alloc,
-            &self.rules,
+            self.config.rules(),
             number,
             self.counts.ticks,
             incoming,
@@ -159,11 +166,12 @@ impl Gateway {
         ensures count { let received = message (message_view incoming.now) in
             result ≡ length (denials_for self.now received) }
     {
-        let network = self.device.network();
+        let device = self.config.device();
+        let network = device.network;
         match apdu_for(network, &incoming.npdu) {
             Some(apdu) => {
                 let context = context_of(network, incoming);
-                device::count_denied(self.device, &self.rules, &context, apdu)
+                device::count_denied(device, self.config.rules(), &context, apdu)
             }
             None => 0,
         }
@@ -209,7 +217,13 @@ impl Gateway {
         ensures silent { NeedsNoMemory self.old (Datagram port from octets.now) → IsOk result }
         ensures err { OnErr result (self.new ≡ self.old) }
     {
-        let received = receive_on(&self.ports, self.device.network(), port, from, octets);
+        let received = receive_on(
+            self.config.ports(),
+            self.config.device().network,
+            port,
+            from,
+            octets,
+        );
         if self.passes_end(&received) {
             return Err(StepFault::CountEnd);
         }

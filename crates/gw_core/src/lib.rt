@@ -4,7 +4,6 @@
 #![tactic(auto)]
 
 mod apdu;
-mod config;
 mod denial;
 mod device;
 mod dropped;
@@ -25,13 +24,12 @@ mod setting;
 mod shown;
 mod whole_run;
 
-pub use config::{Config, DeviceConfig, Port};
 pub use effects::{Denial, Denials, Effects, Sending, Sends};
 pub use event::Counts;
 pub use fault::StepFault;
 pub use gateway::Gateway;
+pub use gw_policy_text::{Config, ConfigFault, read_config};
 pub use gw_script::{Event, script_laws};
-pub use object::BinaryValue;
 pub use octets::Octets;
 pub use replaying::{RunFault, replay};
 pub use setting::setting_s;

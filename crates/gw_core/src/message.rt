@@ -8,10 +8,10 @@ ghost use Rattle.gw_npdu.specs.Npdu.{view as npdu_view, address_view};
 ghost use Rattle.gw_core.specs.Claim.{here, there, link_source};
 ghost use Rattle.gw_core.specs.View.{message_view};
 
-use crate::config::Port;
 use gw_addr::{BipAddr, Mac, NetNum, Source};
 use gw_bvll::Bvll;
 use gw_npdu::{AddressRef, Npdu};
+use gw_policy_text::Port;
 
 /// A message of the network layer that is heard.
 #[derive(Clone, Copy, Debug)]

@@ -8,11 +8,11 @@ ghost use Rattle.gw_npdu.specs.Npdu.{view as npdu_view, address_view};
 ghost use Rattle.gw_core.specs.Receive.{claims_direct, comes_in, is_direct, is_strange, manages, npdu_of, payload_of, port_at, receive_datagram, receive_frame, receive_npdu, receive_on};
 ghost use Rattle.gw_core.specs.View.{received_view};
 
-use crate::config::Port;
 use crate::message::Message;
 use gw_addr::{BipAddr, NetNum};
 use gw_bvll::Bvll;
 use gw_npdu::{AddressRef, Npdu};
+use gw_policy_text::Port;
 
 /// The longest datagram that is heard, in octets.
 const MAX_DATAGRAM: usize = gw_bvll::MAX_LEN;

@@ -11,12 +11,12 @@ ghost use Rattle.gw_core.specs.Shown.{effects_text};
 ghost use Rattle.gw_core.specs.Replay.{OnKnown, RunsWhole, RunsToLine, RunsToEnd, RunsToMemory, RunsPart, RunsFront};
 ghost use Rattle.gw_core.specs.LineOutcome.{IsEventFault, IsShorter, OnKnownLine};
 
-use crate::config::Config;
 use crate::event::Counts;
 use crate::fault::StepFault;
 use crate::gateway::Gateway;
 use crate::shown::append_effects;
 use crate::whole_run::take_event;
+use gw_policy_text::Config;
 use gw_script::{
     Event, LineReader, MAX_DATAGRAM, NextLine, OctetSink, OctetSource, SpelledAddr, parse_spelled,
     write_whole,

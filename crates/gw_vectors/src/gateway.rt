@@ -1,10 +1,11 @@
-//! The gateway of the built-in configuration: worked frames, the ends of its counts, and a refused growth.
+//! The gateway of the built-in configuration and of others: worked frames, the ends of its counts, and a refused growth.
 
 ghost use Rattle.std.specs.Prelude.{◌≤◌, ◌^◌};
 
+use crate::policy_text::edited;
 use crate::table::octets_of;
 use gw_addr::BipAddr;
-use gw_core::{Counts, Event, Gateway, StepFault, run, setting_s};
+use gw_core::{Config, Counts, Event, Gateway, StepFault, read_config, run, setting_s};
 use std::alloc::Global;
 use std::test::*;
 
@@ -25,6 +26,10 @@ const EXCHANGES: &str = "\
 810A0016 0124 0064 01 01 FF 0005080C 0C01400002 1955: 810A0011 0108 0064 01 01 50080C 9102 911B by hide
 810A0016 0124 0064 01 01 FF 0005090C 0C01400007 1955: 810A0011 0108 0064 01 01 50090C 9102 911B by hide
 810A0016 0124 0064 01 01 FF 0005090C 0C01400032 1955: 810A0011 0108 0064 01 01 50090C 9101 911F
+810A0016 0124 0064 01 01 FF 0005090C 0C04C00001 1955: 810A0011 0108 0064 01 01 50090C 9101 911F
+810A0016 0124 0064 01 01 FF 0005090C 0C0A000001 1955: 810A0011 0108 0064 01 01 50090C 9101 911F
+810A0016 0124 0064 01 01 FF 0005090C 0C0B400001 1955: 810A0011 0108 0064 01 01 50090C 9101 911F
+810A0016 0124 0064 01 01 FF 0005090C 0C0C000001 1955: 810A0011 0108 0064 01 01 50090C 9101 911F
 810A0016 0124 0064 01 01 FF 0005070C 0C01400001 194D: 810A0011 0108 0064 01 01 50070C 9102 9120
 810A0018 0124 0064 01 01 FF 0005070C 0C01400001 1955 2900: 810A0011 0108 0064 01 01 50070C 9102 9132
 810A001A 012C 0064 01 01 01F4 01 07 FE 0005070C 0C01400001 1955: \
@@ -34,25 +39,68 @@ const EXCHANGES: &str = "\
 810A0017 0124 0064 01 01 FF 0005070C 0C01400001 1955: -
 810A001A 012C 0064 01 01 0002 01 07 FE 0005070C 0C01400001 1955: -";
 
+/// Edits of the built-in text, what stands in it and what in its place, with a read and its answer.
+const EDITED: &str = "\
+default = 0 | default = 1 | 810A0016 0124 0064 01 01 FF 0005070C 0C01400001 1955 | \
+810A0018 0108 0064 01 01 30070C 0C01400001 1955 3E 9101 3F
+[[2, 9]] | [[3, 9]] | 810A0016 0124 0064 01 01 FF 0005080C 0C01400002 1955 | \
+810A0018 0108 0064 01 01 30080C 0C01400002 1955 3E 9100 3F
+network = 100 | network = 65534 | 810A0016 0124 FFFE 01 01 FF 0005070C 0C01400001 1955 | \
+810A0018 0108 FFFE 01 01 30070C 0C01400001 1955 3E 9100 3F
+instance = 1~ | instance = 4194302~ | 810A0016 0124 0064 01 01 FF 0005070C 0C017FFFFE 1955 | \
+810A0018 0108 0064 01 01 30070C 0C017FFFFE 1955 3E 9100 3F";
+
+/// The text without its spaces.
+fn joined(alloc: Global, text: &str) -> Result<String, Fail> {
+    let mut joined = String::new(alloc);
+    for part in text.split(' ') {
+        joined.push_str(part)?;
+    }
+    Ok(joined)
+}
+
+/// What a fresh gateway sends for a datagram from 192.168.1.5 on port 1, `-` where it sends nothing, and the rule that denied, if any.
+fn answer(alloc: Global, config: Config, datagram: &str) -> Result<String, Fail> {
+    let datagram = octets_of(alloc, datagram)?;
+    let mut gateway = Gateway::new(alloc, config, Counts::default())?;
+    let given = gateway.step(alloc, 1, node(5), &datagram)?;
+    let mut answer = String::new(alloc);
+    for sending in given.sends.as_slice() {
+        if sending.port != 1 || sending.to != node(5) {
+            answer.push_str("elsewhere")?;
+        }
+        answer.push_str(&hex::encode_upper(alloc, sending.octets.as_slice())?)?;
+    }
+    if given.sends.is_empty() {
+        answer.push('-')?;
+    }
+    for denial in given.denials.as_slice() {
+        answer.push_str("by")?;
+        answer.push_str(denial.rule.as_str())?;
+    }
+    Ok(answer)
+}
+
 #[test]
 fn exchanges(rt: HostRuntime) -> Result<(), Fail> {
     for line in EXCHANGES.lines() {
         let (datagram, wanted) = line.split_once(": ").ok_or("a line has a colon")?;
-        let datagram = octets_of(rt.alloc(), datagram)?;
-        let (wanted, rule) = wanted.split_once(" by ").unwrap_or((wanted, ""));
-        let mut gateway = Gateway::new(rt.alloc(), setting_s(rt.alloc())?, Counts::default())?;
-        let given = gateway.step(rt.alloc(), 1, node(5), &datagram)?;
-        assert_eq!(rt; given.sends.len(), usize::from(wanted != "-"), "at {line}");
-        for sending in given.sends.as_slice() {
-            assert_eq!(rt; (sending.port, sending.to), (1, node(5)), "at {line}");
-            let octets = octets_of(rt.alloc(), wanted)?;
-            assert_eq!(rt; sending.octets.as_slice(), octets.as_slice(), "at {line}");
-        }
-        assert_eq!(rt; given.denials.len(), usize::from(rule != ""), "at {line}");
-        for denial in given.denials.as_slice() {
-            assert_eq!(rt; (denial.number, denial.tick), (1, 0), "at {line}");
-            assert_eq!(rt; denial.rule.as_str(), rule, "at {line}");
-        }
+        let given = answer(rt.alloc(), setting_s(rt.alloc())?, datagram)?;
+        assert_eq!(rt; given, joined(rt.alloc(), wanted)?);
+    }
+    Ok(())
+}
+
+#[test]
+fn other_configurations(rt: HostRuntime) -> Result<(), Fail> {
+    for line in EDITED.lines() {
+        let (old, rest) = line.split_once(" | ").ok_or("an edit")?;
+        let (new, rest) = rest.split_once(" | ").ok_or("an edit")?;
+        let (datagram, wanted) = rest.split_once(" | ").ok_or("an answer")?;
+        let text = edited(rt.alloc(), old, new)?;
+        let config = read_config(rt.alloc(), text.as_bytes())?;
+        let given = answer(rt.alloc(), config, datagram)?;
+        assert_eq!(rt; given, joined(rt.alloc(), wanted)?);
     }
     Ok(())
 }

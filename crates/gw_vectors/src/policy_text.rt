@@ -28,7 +28,7 @@ fn put(text: &mut String, part: &str) -> Result<(), Fail> {
 }
 
 /// The built-in text with `new` in the place of `old`, where `~` stands for a line feed.
-fn edited(alloc: Global, old: &str, new: &str) -> Result<String, Fail> {
+pub(crate) fn edited(alloc: Global, old: &str, new: &str) -> Result<String, Fail> {
     let mut place = String::new(alloc);
     put(&mut place, old)?;
     let (front, rest) = SETTING.split_once(place.as_str()).ok_or("the text has it")?;
@@ -203,7 +203,6 @@ fn limits(rt: HostRuntime) -> Result<(), Fail> {
     Ok(())
 }
 
-/// The parts of the built-in configuration.
 /// What the built-in configuration has.
 const PARTS: &str = "\
 1 2 300/2 \

@@ -16,7 +16,7 @@ pub returns-then-passes_end-clause-count_end :
 returns-then-passes_end-clause-count_end c =
     let w = c.args.self.now in
     let event = Datagram c.args.port c.args.from c.args.octets.now in
-    let received : received_view c.receive_on-received.result ≡ receive w event = receive_datagram w c.args.port c.args.from c.args.octets.now _ (rw (← c.self.view_is) (rw (← c.deref.ensures.value, ← c.network.ensures) c.receive_on-received.ensures)) in
+    let received : received_view c.receive_on-received.result ≡ receive w event = receive_datagram w c.args.port c.args.from c.args.octets.now _ (rw (← c.self.view_is) (rw (← c.ports.ensures.ports, ← c.device.ensures.device) c.receive_on-received.ensures)) in
     let counted = denials_received w event (received_view c.receive_on-received.result) received in
     let past : 2 ^ 63 < w.denials + length (denials_for w (received_view c.receive_on-received.result)) = c.passes_end.ensures.0 c.if-passes_end.true in
     let ends : passes_end w event ≡ true = passes_end-denials w event _ counted past in
@@ -26,7 +26,7 @@ pub returns-then-passes_end-clause-silent : goal.returns-then-passes_end-clause-
 returns-then-passes_end-clause-silent c = λ none.
     let w = c.args.self.now in
     let event = Datagram c.args.port c.args.from c.args.octets.now in
-    let received : received_view c.receive_on-received.result ≡ receive w event = receive_datagram w c.args.port c.args.from c.args.octets.now _ (rw (← c.self.view_is) (rw (← c.deref.ensures.value, ← c.network.ensures) c.receive_on-received.ensures)) in
+    let received : received_view c.receive_on-received.result ≡ receive w event = receive_datagram w c.args.port c.args.from c.args.octets.now _ (rw (← c.self.view_is) (rw (← c.ports.ensures.ports, ← c.device.ensures.device) c.receive_on-received.ensures)) in
     let counted = denials_received w event (received_view c.receive_on-received.result) received in
     let past : 2 ^ 63 < w.denials + length (denials_for w (received_view c.receive_on-received.result)) = c.passes_end.ensures.0 c.if-passes_end.true in
     let few : length (denials_for w (received_view c.receive_on-received.result)) ≡ 0 = counted ∙ ap (λ (d : List Denial). length d) (no_denials w event none.0) in
@@ -37,7 +37,7 @@ pub returns-in_default-clause-count_end : goal.returns-in_default-clause-count_e
 returns-in_default-clause-count_end c =
     let w = c.args.self.now in
     let event = Datagram c.args.port c.args.from c.args.octets.now in
-    let received : received_view c.receive_on-received.result ≡ receive w event = receive_datagram w c.args.port c.args.from c.args.octets.now _ (rw (← c.self.view_is) (rw (← c.deref.ensures.value, ← c.network.ensures) c.receive_on-received.ensures)) in
+    let received : received_view c.receive_on-received.result ≡ receive w event = receive_datagram w c.args.port c.args.from c.args.octets.now _ (rw (← c.self.view_is) (rw (← c.ports.ensures.ports, ← c.device.ensures.device) c.receive_on-received.ensures)) in
     let counted = denials_received w event (received_view c.receive_on-received.result) received in
     let room : w.denials + length (denials_for w (received_view c.receive_on-received.result)) ≤ 2 ^ 63 = not_past c.passes_end.result (2 ^ 63) _ c.if-passes_end.false c.passes_end.ensures.1 in
     let ticks : w.ticks + 0 ≤ 2 ^ 63 = rw (← c.self.view_is) (omega (arith, c.self.invariant)) in
@@ -48,7 +48,7 @@ pub returns-in_default-clause-silent : goal.returns-in_default-clause-silent
 returns-in_default-clause-silent c = λ none.
     let w = c.args.self.now in
     let event = Datagram c.args.port c.args.from c.args.octets.now in
-    let received : received_view c.receive_on-received.result ≡ receive w event = receive_datagram w c.args.port c.args.from c.args.octets.now _ (rw (← c.self.view_is) (rw (← c.deref.ensures.value, ← c.network.ensures) c.receive_on-received.ensures)) in
+    let received : received_view c.receive_on-received.result ≡ receive w event = receive_datagram w c.args.port c.args.from c.args.octets.now _ (rw (← c.self.view_is) (rw (← c.ports.ensures.ports, ← c.device.ensures.device) c.receive_on-received.ensures)) in
     let counted = denials_received w event (received_view c.receive_on-received.result) received in
     c.in_default.ensures.silent (sym (asks_received w event _ received) ∙ none.0)
 
@@ -56,7 +56,7 @@ pub returns-clause-step : goal.returns-clause-step
 returns-clause-step c =
     let w = c.args.self.now in
     let event = Datagram c.args.port c.args.from c.args.octets.now in
-    let received : received_view c.receive_on-received.result ≡ receive w event = receive_datagram w c.args.port c.args.from c.args.octets.now _ (rw (← c.self.view_is) (rw (← c.deref.ensures.value, ← c.network.ensures) c.receive_on-received.ensures)) in
+    let received : received_view c.receive_on-received.result ≡ receive w event = receive_datagram w c.args.port c.args.from c.args.octets.now _ (rw (← c.self.view_is) (rw (← c.ports.ensures.ports, ← c.device.ensures.device) c.receive_on-received.ensures)) in
     let counted = denials_received w event (received_view c.receive_on-received.result) received in
     let room : w.denials + length (denials_for w (received_view c.receive_on-received.result)) ≤ 2 ^ 63 = not_past c.passes_end.result (2 ^ 63) _ c.if-passes_end.false c.passes_end.ensures.1 in
     let ticks : w.ticks + 0 ≤ 2 ^ 63 = rw (← c.self.view_is) (omega (arith, c.self.invariant)) in
@@ -73,7 +73,7 @@ pub returns-clause-count_end : goal.returns-clause-count_end
 returns-clause-count_end c =
     let w = c.args.self.now in
     let event = Datagram c.args.port c.args.from c.args.octets.now in
-    let received : received_view c.receive_on-received.result ≡ receive w event = receive_datagram w c.args.port c.args.from c.args.octets.now _ (rw (← c.self.view_is) (rw (← c.deref.ensures.value, ← c.network.ensures) c.receive_on-received.ensures)) in
+    let received : received_view c.receive_on-received.result ≡ receive w event = receive_datagram w c.args.port c.args.from c.args.octets.now _ (rw (← c.self.view_is) (rw (← c.ports.ensures.ports, ← c.device.ensures.device) c.receive_on-received.ensures)) in
     let counted = denials_received w event (received_view c.receive_on-received.result) received in
     let room : w.denials + length (denials_for w (received_view c.receive_on-received.result)) ≤ 2 ^ 63 = not_past c.passes_end.result (2 ^ 63) _ c.if-passes_end.false c.passes_end.ensures.1 in
     let ticks : w.ticks + 0 ≤ 2 ^ 63 = rw (← c.self.view_is) (omega (arith, c.self.invariant)) in
