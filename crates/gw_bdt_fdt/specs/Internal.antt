@@ -8,6 +8,7 @@ use Rattle.std.specs.declared.cmp.Ordering.{Ordering}
 use Rattle.gw_addr.specs.declared.bip.BipAddr.{BipAddr}
 use Rattle.gw_addr.specs.declared.entry.BdtEntry.{BdtEntry}
 use Rattle.gw_bdt_fdt.specs.declared.bdt.Peers.{Peers}
+use Rattle.gw_bdt_fdt.specs.declared.fdt.Addresses.{Addresses}
 use Rattle.gw_bdt_fdt.specs.declared.leases.Lease.{Lease}
 use Rattle.gw_bdt_fdt.specs.declared.fdt.TheConstants.{MAX_REGISTRATIONS}
 use Rattle.gw_bdt_fdt.specs.Registrations.{same, Registration, Registrations}
@@ -37,6 +38,10 @@ pub record AreKept (ticks : ℕ) (leases : LeaseList) : Type 0 where
 -- the entries that peers still give
 abbrev pub peers_left : Peers → List BdtEntry
 peers_left p = p.before.now ++ p.behind.now
+
+-- the addresses that an iterator still gives
+abbrev pub addresses_left : Addresses → List BipAddr
+addresses_left a = a.keys
 
 -- ---- the ordered set of ends
 

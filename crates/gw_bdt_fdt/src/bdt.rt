@@ -1,5 +1,5 @@
 //! The broadcast distribution table.
-ghost use Rattle.std.specs.Prelude.{◌≡◌, ◌↔◌, ◌<◌, ◌+◌, ◌&&◌, [], length, not};
+ghost use Rattle.std.specs.Prelude.{◌≡◌, ◌↔◌, ◌<◌, ◌+◌, ◌&&◌, ◌||◌, [], length, not};
 ghost use Rattle.std.specs.Prelude.{position, find, take, drop, option_copied};
 ghost use Rattle.std.specs.Prelude.{IsTrue, IsFalse, IfOk, IfSome, IsOk, IsErrOf};
 ghost use Rattle.std.specs.List.{list_any};
@@ -61,6 +61,25 @@ impl Bdt {
             Ok(()) => Ok(Bdt { entries: kept }),
             Err(_) => Err(BdtFault::Memory),
         }
+    }
+
+    /// The table of these entries, in their order, which it takes over: it wants no memory. The
+    /// faults are judged as by [`Bdt::from_entries`], and the entries are dropped then.
+    pub fn from_vec(entries: Vec<BdtEntry>) -> Result<Self, BdtFault>
+        ensures ok { IfOk result (λ table. table ≡ entries.items) }
+        ensures accepted { IsOk result ↔
+            IsFalse (are_too_many entries.items || has_twice entries.items) }
+        ensures full { IsErrOf result BdtFault.Full ↔ IsTrue (are_too_many entries.items) }
+        ensures duplicate { IsErrOf result BdtFault.Duplicate ↔
+            IsTrue (not (are_too_many entries.items) && has_twice entries.items) }
+    {
+        if entries.len() > MAX_ENTRIES {
+            return Err(BdtFault::Full);
+        }
+        if repeats_address(&entries) {
+            return Err(BdtFault::Duplicate);
+        }
+        Ok(Bdt { entries })
     }
 
     /// The entries in their order.

@@ -3,7 +3,8 @@ ghost use Rattle.std.specs.Prelude.{◌≡◌, ◌<◌, ◌≤◌, ◌↔◌, �
 ghost use Rattle.std.specs.Prelude.{IsTrue, IsFalse, IfOk, OnOk, OnErr, IsErrOf};
 ghost use Rattle.std.specs.List.{IsDistinct};
 ghost use Rattle.std.specs.Map.{keys_of};
-ghost use Rattle.gw_bdt_fdt.specs.Internal.{AreKept, table_at};
+ghost use Rattle.std.specs.Iterator.{YieldsFirstRef, item_count};
+ghost use Rattle.gw_bdt_fdt.specs.Internal.{AreKept, addresses_left, table_at};
 ghost use Rattle.gw_bdt_fdt.specs.Registrations.{contains, has_room, no_registration, same, shown};
 ghost use Rattle.gw_bdt_fdt.specs.Registrations.{with_registration, with_tick, without};
 ghost use Rattle.gw_bdt_fdt.specs.History.{Delete, History, IsStateAfter, Register, Tick};
@@ -11,6 +12,7 @@ ghost use Rattle.gw_bdt_fdt.specs.History.{Delete, History, IsStateAfter, Regist
 use crate::fault::{DeleteFault, RegisterFault};
 use crate::leases::{Lease, Leases};
 use gw_addr::{BipAddr, FdtEntry};
+use indexmap::map::Keys;
 use std::alloc::{AllocError, Global};
 use std::marker::Model;
 
@@ -141,6 +143,15 @@ impl Fdt {
         self.leases.len()
     }
 
+    /// The addresses of the foreign devices, in their order.
+    pub fn addresses(&self) -> Addresses<'_>
+        ensures { addresses_left result ≡ keys_of self.now.rows }
+    {
+        Addresses {
+            keys: self.leases.by_address().keys(),
+        }
+    }
+
     /// The foreign devices in their order, each with its time to live and the seconds that remain,
     /// the grace among them, shown as at most 65535. The only fault is want of memory for the list.
     pub fn rows(&self, alloc: Global) -> Result<Vec<FdtEntry>, AllocError>
@@ -155,5 +166,25 @@ impl Fdt {
             })?;
         }
         Ok(rows)
+    }
+}
+
+/// The addresses of the foreign devices of a table.
+#[derive(Clone, Debug, Drop)]
+pub struct Addresses<'a> {
+    keys: Keys<'a, BipAddr, Lease>,
+}
+
+impl<'a> Iterator for Addresses<'a> {
+    ghost use Rattle.gw_bdt_fdt.specs.Internal.{addresses_left};
+
+    type Item = &'a BipAddr;
+
+    ghost next_gives = { YieldsFirstRef addresses_left };
+
+    ghost remaining = { item_count addresses_left };
+
+    fn next(&mut self) -> Option<&'a BipAddr> {
+        self.keys.next()
     }
 }

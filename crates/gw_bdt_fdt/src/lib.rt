@@ -10,4 +10,4 @@ mod leases;
 
 pub use bdt::{Bdt, MAX_ENTRIES, Peers};
 pub use fault::{BdtFault, DeleteFault, RegisterFault};
-pub use fdt::{Fdt, GRACE, MAX_REGISTRATIONS, MAX_REMAINING};
+pub use fdt::{Addresses, Fdt, GRACE, MAX_REGISTRATIONS, MAX_REMAINING};

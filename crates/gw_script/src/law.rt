@@ -10,7 +10,11 @@ ghost use Rattle.gw_addr.specs.Text.{Lacks};
 /// line feed are the lines of the text that they make, and a last line may lack its line feed.
 pub fn script_laws()
     ensures event { (ports : ℕ) (line : List ℕ) (e f : Event) → IsLine ports line e → IsLine ports line f → e ≡ f }
-    ensures events { (ports : ℕ) (lines : List (List ℕ)) (events others : List Event) → AreLines ports lines events → AreLines ports lines others → events ≡ others }
-    ensures ended { (lines : List (List ℕ)) → AllByRecursion (Lacks 10) lines → lines_of (flat_map (λ line. line ++ 10 ∷ []) lines) ≡ lines }
-    ensures last { (lines : List (List ℕ)) (last : List ℕ) → AllByRecursion (Lacks 10) lines → Lacks 10 last → 1 ≤ length last → lines_of (flat_map (λ line. line ++ 10 ∷ []) lines ++ last) ≡ lines ++ last ∷ [] }
+    ensures events { (ports : ℕ) (lines : List (List ℕ)) (events others : List Event) →
+        AreLines ports lines events → AreLines ports lines others → events ≡ others }
+    ensures ended { (lines : List (List ℕ)) → AllByRecursion (Lacks 10) lines →
+        lines_of (flat_map (λ line. line ++ 10 ∷ []) lines) ≡ lines }
+    ensures last { (lines : List (List ℕ)) (last : List ℕ) → AllByRecursion (Lacks 10) lines →
+        Lacks 10 last → 1 ≤ length last →
+        lines_of (flat_map (λ line. line ++ 10 ∷ []) lines ++ last) ≡ lines ++ last ∷ [] }
 {}

@@ -68,7 +68,8 @@ fn parse_datagram<'a, 'b>(
     ensures on { IfSome result (λ x. IsOnPort ports (event_view x.0)) }
     ensures found { IfSome result (λ x. Writes ports line.now (event_view x.0)) }
     ensures spelled { IfSome result (λ x. option_map (λ s. s.address) x.1 ≡ sender_of (event_view x.0)) }
-    ensures only { IsNone result → (port : ℕ) (from : BipAddr) (octets : List ℕ) → ¬ (WritesDatagram ports line.now port from octets) }
+    ensures only { IsNone result → (port : ℕ) (from : BipAddr) (octets : List ℕ) →
+        ¬ (WritesDatagram ports line.now port from octets) }
 {
     let [digit, b' ', rest @ ..] = line else {
         return None;

@@ -68,6 +68,15 @@ references_at (suc left) current octets = reference_at current octets >>= λ r.
     ]
     else Err Inconsistent
 
+-- one reference, of which so many may still come, and what comes behind it
+abbrev pub judged : ℕ → Reference × List ℕ → Result (Reference × Next) BodyFault
+judged zero r = Err TooMany
+judged (suc left) r =
+    if is_consistent r.0 then Ok (r.0, next_at r.0.object r.1) else Err Inconsistent
+
+abbrev pub step_at : ℕ → Option Object → List ℕ → Result (Reference × Next) BodyFault
+step_at left current octets = reference_at current octets >>= λ r. judged left r
+
 -- these, and those that are read behind them
 abbrev pub behind_these : List Reference → Result (List Reference) BodyFault
     → Result (List Reference) BodyFault

@@ -15,6 +15,7 @@ mod read;
 mod reply;
 mod request;
 mod segmentation;
+mod walk;
 mod who_has;
 mod who_is;
 mod write;
@@ -25,6 +26,7 @@ pub use i_am::{decode_i_am, encode_i_am};
 pub use i_have::{decode_i_have, encode_i_have};
 pub use multi::{decode_multi, encode_multi};
 pub use multi_req::{MultiReq, Reference};
+pub use next::Next;
 pub use read::{decode_read, encode_read};
 pub use reply::{
     write_error_item, write_object_head, write_object_tail, write_read_answer_head,
@@ -32,6 +34,7 @@ pub use reply::{
 };
 pub use request::{ReadReq, WriteReq};
 pub use segmentation::Segmentation;
+pub use walk::read_reference;
 pub use who_has::{decode_who_has, encode_who_has};
 pub use who_is::{decode_who_is, encode_who_is};
 pub use write::{decode_write, encode_write};

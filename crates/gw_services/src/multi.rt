@@ -72,7 +72,10 @@ fn first(octets: &[u8]) -> Result<(Reference, &[u8]), BodyFault>
 }
 
 /// A reference: of the object whose list is open, or where none is, the first of a new list.
-fn reference(current: Option<ObjectId>, octets: &[u8]) -> Result<(Reference, &[u8]), BodyFault>
+pub(crate) fn reference(
+    current: Option<ObjectId>,
+    octets: &[u8],
+) -> Result<(Reference, &[u8]), BodyFault>
     ensures { Gives (λ x. (reference_view x.0, x.1.now)) result
         (reference_at (option_map object_view current) octets.now) }
 {
@@ -90,14 +93,14 @@ pub(crate) fn is_set(property: u32) -> bool
 }
 
 /// Whether the reference names no element of a set.
-fn is_consistent(reference: &Reference) -> bool
+pub(crate) fn is_consistent(reference: &Reference) -> bool
     ensures { result ≡ is_consistent (reference_view reference.now) }
 {
     !(is_set(reference.property) && reference.index.is_some())
 }
 
 /// What comes behind a reference.
-fn next<'a>(object: ObjectId, octets: &'a [u8]) -> Next<'a>
+pub(crate) fn next<'a>(object: ObjectId, octets: &'a [u8]) -> Next<'a>
     ensures { next_view result ≡ next_at (object_view object) octets.now }
 {
     match read_closing(1, octets) {
@@ -184,6 +187,10 @@ pub fn decode_multi(alloc: Global, octets: &[u8]) -> Result<MultiReq, BodyFault>
     // What is wrong is told, or memory was refused.
     ensures told { (fault : BodyFault) → HasMultiFault fault octets.now
         → (result ≡ Err fault) ⊎ (result ≡ Err BodyFault.Memory) }
+    // The answer as a function of the octets, unless memory was refused.
+    ensures exact { IfOk result (λ m. multi_at octets.now ≡ Ok (multi_view m)) }
+    ensures exact_fault { (fault : BodyFault) → result ≡ Err fault → fault ≢ BodyFault.Memory
+        → multi_at octets.now ≡ Err fault }
 {
     read(alloc, octets)
 }

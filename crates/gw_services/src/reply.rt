@@ -122,7 +122,8 @@ fn put_value_item_head(
 ) -> Result<(), AllocError>
     ensures ok { OnOk result (out.new.items ≡ out.old.items ++ value_item_head property index) }
     ensures front { Keeps out.old.items out.new.items }
-    ensures room { vec_len out.old + length (value_item_head property index) ≤ vec_capacity out.old → IsOk result }
+    ensures room { let head = value_item_head property index in
+        vec_len out.old + length head ≤ vec_capacity out.old → IsOk result }
     ensures capacity { vec_capacity out.old ≤ vec_capacity out.new }
 {
     put_item_name(out, property, index)?;
@@ -141,7 +142,8 @@ pub fn write_value_item_head(
 ) -> Result<(), AllocError>
     ensures ok { OnOk result (out.new.items ≡ out.old.items ++ value_item_head property index) }
     ensures err { OnErr result (out.new.items ≡ out.old.items) }
-    ensures room { vec_len out.old + length (value_item_head property index) ≤ vec_capacity out.old → IsOk result }
+    ensures room { let head = value_item_head property index in
+        vec_len out.old + length head ≤ vec_capacity out.old → IsOk result }
     ensures capacity { vec_capacity out.old ≤ vec_capacity out.new }
 {
     let len = out.len();
