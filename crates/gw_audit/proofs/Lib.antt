@@ -1,0 +1,3 @@
+pub mod Pieces
+pub mod Fields
+pub mod Shown

@@ -1,0 +1,89 @@
+-- A line is the pieces in which it is written.
+use Rattle.std.proofs.Common.{◌≡◌, ℕ, List, [], ◌∷◌, ◌++◌, Option, Some, None, ◌↔◌, refl, sym, ap, ◌∙◌, append_assoc}
+use Rattle.std.specs.Prelude.{codes}
+use Rattle.std.specs.Fmt.{decimal}
+use Rattle.std.specs.List.{flat_map}
+use Rattle.gw_addr.specs.declared.station.Source.{Source}
+use Rattle.gw_addr.specs.Station.{two_digits}
+use Rattle.gw_rules.specs.declared.operation.Operation.{Operation}
+use Rattle.gw_rules.specs.Ask.{Ask}
+use Rattle.gw_rules.specs.Operation.{operation_number}
+use Rattle.gw_rules.proofs.Operations.{number_found}
+use Rattle.gw_audit.specs.declared.denial.Denial.{Denial}
+use Rattle.gw_audit.specs.Line.{field_text, line_text, operation_of, operation_text}
+use Rattle.gw_audit.specs.internal.Parts.{counts_text, object_text, request_text, rule_text, source_text}
+
+-- two that are there in the same cases are the same
+same_option : {A : Type 0} (x y : Option A) → ((a : A) → x ≡ Some a → y ≡ Some a) → ((a : A) → y ≡ Some a → x ≡ Some a) → x ≡ y
+same_option None None there here = refl
+same_option None (Some b) there here = here b refl
+same_option (Some a) y there here = sym (there a refl)
+
+-- what is found by a number is the operation of that number
+pub operation_found : (found : Option Operation) (number : ℕ) → ((o : Operation) → (found ≡ Some o) ↔ (number ≡ operation_number o)) → found ≡ operation_of number
+operation_found found number by =
+    same_option found (operation_of number)
+    (λ o e. (number_found (operation_of number) number refl o).1 ((by o).0 e))
+    (λ o e. (by o).1 ((number_found (operation_of number) number refl o).0 e))
+
+-- ---- pieces behind one another
+
+-- pieces appended one by one
+append_all : List ℕ → List (List ℕ) → List ℕ
+append_all front [] = front
+append_all front (piece ∷ pieces) = append_all (front ++ piece) pieces
+
+-- what stands in front of them can as well be put there at the end
+all_behind : (front first : List ℕ) (pieces : List (List ℕ)) → append_all (front ++ first) pieces ≡ front ++ append_all first pieces
+unfolding append_all
+all_behind front first [] = refl
+all_behind front first (piece ∷ pieces) =
+    ap (λ (t : List ℕ). append_all t pieces) (append_assoc front first piece) ∙ all_behind front (first ++ piece) pieces
+
+source_behind : (front : List ℕ) (source : Source) → front ++ decimal source.net ++ codes ":" ++ flat_map two_digits source.mac ≡ front ++ source_text source
+unfolding append_all source_text
+source_behind front source = all_behind front (decimal source.net) (codes ":" ∷ flat_map two_digits source.mac ∷ [])
+
+request_behind : (front : List ℕ) (ask : Ask) → front ++ codes " " ++ operation_text ask.operation ++ codes " dst=" ++ field_text ask.destination_network ++ codes " svc=" ++ field_text ask.service ≡ front ++ request_text ask
+unfolding append_all request_text
+request_behind front ask =
+    all_behind front (codes " ") (operation_text ask.operation ∷ codes " dst=" ∷ field_text ask.destination_network ∷ codes " svc=" ∷ field_text ask.service ∷ [])
+
+object_behind : (front : List ℕ) (ask : Ask) → front ++ codes " obj=" ++ field_text ask.object_type ++ codes "," ++ field_text ask.instance ++ codes " prop=" ++ field_text ask.property ++ codes " prio=" ++ field_text ask.priority ≡ front ++ object_text ask
+unfolding append_all object_text
+object_behind front ask =
+    all_behind front (codes " obj=") (field_text ask.object_type ∷ codes "," ∷ field_text ask.instance ∷ codes " prop=" ∷ field_text ask.property ∷ codes " prio=" ∷ field_text ask.priority ∷ [])
+
+-- the line, up to a piece
+with_source : Denial → List ℕ
+with_source d = counts_text d ++ decimal d.source.net ++ codes ":" ++ flat_map two_digits d.source.mac
+
+with_request : Denial → List ℕ → List ℕ
+with_request d front =
+    front ++ codes " " ++ operation_text d.ask.operation ++ codes " dst=" ++ field_text d.ask.destination_network ++ codes " svc=" ++ field_text d.ask.service
+
+with_object : Denial → List ℕ → List ℕ
+with_object d front =
+    front ++ codes " obj=" ++ field_text d.ask.object_type ++ codes "," ++ field_text d.ask.instance ++ codes " prop=" ++ field_text d.ask.property ++ codes " prio=" ++ field_text d.ask.priority
+
+with_rule : Denial → List ℕ → List ℕ
+with_rule d front = front ++ codes " rule=" ++ d.rule ++ 10 ∷ []
+
+rule_behind : (front name : List ℕ) → front ++ codes " rule=" ++ name ++ 10 ∷ [] ≡ front ++ rule_text name
+unfolding append_all rule_text
+rule_behind front name = all_behind front (codes " rule=") (name ∷ (10 ∷ []) ∷ [])
+
+line_by_pieces : (d : Denial) → line_text d ≡ with_rule d (with_object d (with_request d (with_source d)))
+unfolding line_text counts_text with_source with_request with_object with_rule
+line_by_pieces d = refl
+
+pub line_pieces : (d : Denial) → line_text d ≡ counts_text d ++ source_text d.source ++ request_text d.ask ++ object_text d.ask ++ rule_text d.rule
+unfolding with_source with_request with_object with_rule
+line_pieces d =
+    let sourced : with_source d ≡ counts_text d ++ source_text d.source = source_behind (counts_text d) d.source in
+    let asked : with_request d (with_source d) ≡ counts_text d ++ source_text d.source ++ request_text d.ask =
+    ap (with_request d) sourced ∙ request_behind (counts_text d ++ source_text d.source) d.ask in
+    let whole : with_object d (with_request d (with_source d)) ≡ counts_text d ++ source_text d.source ++ request_text d.ask ++ object_text d.ask =
+    ap (with_object d) asked ∙ object_behind (counts_text d ++ source_text d.source ++ request_text d.ask) d.ask in
+    line_by_pieces d ∙ ap (with_rule d) whole
+    ∙ rule_behind (counts_text d ++ source_text d.source ++ request_text d.ask ++ object_text d.ask) d.rule

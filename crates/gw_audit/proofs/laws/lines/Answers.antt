@@ -1,0 +1,8 @@
+use Rattle.gw_audit.proofs.Shown.{ends_once, names_one_denial}
+use Rattle.gw_audit.proofs.laws.lines.Goals as goal
+
+pub returns-clause-one : goal.returns-clause-one
+returns-clause-one c = names_one_denial
+
+pub returns-clause-ended : goal.returns-clause-ended
+returns-clause-ended c = ends_once

@@ -1,0 +1,3 @@
+pub mod Line
+pub mod Laws
+pub mod internal

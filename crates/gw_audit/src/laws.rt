@@ -1,0 +1,63 @@
+//! Laws of the lines. The functions change nothing and answer nothing: their contracts are the laws.
+
+ghost use Rattle.std.specs.Prelude.{◌<◌, ◌^◌, IfSome};
+ghost use Rattle.gw_addr.specs.Reading.{AreOctets};
+ghost use Rattle.gw_audit.specs.Laws.{EndsOnce, IsDenial, NamesOneDenial};
+
+use crate::denial::Denial;
+
+/// A line names one denial, so a log can be searched: two denials with one line are the same in each
+/// field that it shows. And a line ends where its line feed stands, which it has once where the name
+/// of the rule has none.
+pub fn lines()
+    ensures one { NamesOneDenial }
+    ensures ended { EndsOnce }
+{}
+
+/// The numbers of each denial fit their types, so those laws hold of every one.
+pub fn fits(denial: &Denial)
+    ensures { IsDenial denial.now }
+{
+    let ask = &denial.ask;
+    number(denial.number);
+    number(denial.tick);
+    port(denial.port);
+    let _network = denial.source.net.get();
+    octets(denial.source.mac.as_slice());
+    field(ask.operation);
+    field(ask.port);
+    field(ask.source_network);
+    field(ask.source_key);
+    field(ask.destination_network);
+    field(ask.service);
+    field(ask.object_type);
+    field(ask.instance);
+    field(ask.property);
+    field(ask.priority);
+}
+
+/// A number fits 64 bits.
+fn number(number: u64)
+    ensures { number < 2 ^ 64 }
+{}
+
+/// A port's number fits 8 bits.
+fn port(port: u8)
+    ensures { port < 2 ^ 8 }
+{}
+
+/// Octets lent are octets.
+fn octets(octets: &[u8])
+    ensures { AreOctets octets.now }
+{
+    let _len = octets.len();
+}
+
+/// A field that is there fits 64 bits.
+fn field(value: Option<u64>)
+    ensures { IfSome value (λ n. n < 2 ^ 64) }
+{
+    if let Some(value) = value {
+        number(value);
+    }
+}
