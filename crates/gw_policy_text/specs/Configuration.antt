@@ -91,7 +91,19 @@ device_parts table = do
   revision ← number_at 0 255 (codes "revision") table
   database ← number_at 0 4294967295 (codes "database") table
   description ← optional_text [] (codes "description") table
-  Ok (record { network = network; instance = instance; name = name; vendor = vendor; vendor_name = vendor_name; model = model; firmware = firmware; software = software; revision = revision; database = database; description = description })
+  Ok (record {
+    network = network;
+    instance = instance;
+    name = name;
+    vendor = vendor;
+    vendor_name = vendor_name;
+    model = model;
+    firmware = firmware;
+    software = software;
+    revision = revision;
+    database = database;
+    description = description;
+  })
 
 unfoldable pub device_of : Members → Read Device
 device_of table = unless (fault_of device_fields table) (device_parts table)
@@ -104,7 +116,7 @@ peer_parts table = do
   mask ← mask_at (codes "mask") table
   Ok (record { address = address; mask = mask.octets })
 
-unfoldable pub peer_of : Members → Read BdtEntry
+abbrev pub peer_of : Members → Read BdtEntry
 peer_of table = unless (fault_of peer_fields table) (peer_parts table)
 
 abbrev pub peer_in : Data → Read BdtEntry
@@ -119,7 +131,7 @@ port_parts table = do
   peers ← each peer_in entries
   Ok (record { network = network; address = address; broadcast = broadcast; peers = peers })
 
-unfoldable pub port_of : Members → Read Port
+abbrev pub port_of : Members → Read Port
 port_of table = unless (fault_of port_fields table) (port_parts table)
 
 abbrev pub port_in : Data → Read Port
@@ -134,7 +146,7 @@ route_parts ports table = do
   next ← address_at (codes "next") table
   Ok (record { network = network; port = port; next = next })
 
-unfoldable pub route_of : ℕ → Members → Read Route
+abbrev pub route_of : ℕ → Members → Read Route
 route_of ports table = unless (fault_of (route_fields ports) table) (route_parts ports table)
 
 abbrev pub route_in : ℕ → Data → Read Route
@@ -246,7 +258,18 @@ fields_of table = do
   instance ← ranges_at (Number 0 4194303) (codes "instance") table
   property ← ranges_at (Number 0 4194303) (codes "property") table
   priority ← ranges_at (Number 1 16) (codes "priority") table
-  Ok (record { operation = operation; port = port; source_network = source_network; source_key = source_key; destination_network = destination_network; service = service; object_type = object_type; instance = instance; property = property; priority = priority })
+  Ok (record {
+    operation = operation;
+    port = port;
+    source_network = source_network;
+    source_key = source_key;
+    destination_network = destination_network;
+    service = service;
+    object_type = object_type;
+    instance = instance;
+    property = property;
+    priority = priority;
+  })
 
 abbrev pub rule_parts : Members → Read Rule
 rule_parts table = do

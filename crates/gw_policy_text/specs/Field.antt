@@ -99,7 +99,8 @@ list_fault_by kinds ranges least most count =
 -- the same where each value has its own fault or none
 abbrev pub list_fault : (Data → Option ConfigFault) → ℕ → ℕ → List Data → Option ConfigFault
 list_fault fault least most values =
-    list_fault_by (list_any (λ value. is_kind (fault value)) values) (list_any (λ value. is_range (fault value)) values) least most (length values)
+    list_fault_by (list_any (λ value. is_kind (fault value)) values)
+    (list_any (λ value. is_range (fault value)) values) least most (length values)
 
 abbrev pub listed_fault : (Data → Option ConfigFault) → ℕ → ℕ → Read (List Data) → Option ConfigFault
 listed_fault fault least most (Ok values) = list_fault fault least most values

@@ -1,6 +1,7 @@
 pub mod Configuration
 pub mod Document
 pub mod Duplicates
+pub mod Explanation
 pub mod Field
 pub mod Reading
 pub mod States

@@ -30,11 +30,13 @@ octet_written separator text =
 -- the address that is written `a.b.c.d:port`
 unfoldable pub address_written : List ℕ → Option BipAddr
 address_written text =
-    option_and_then (λ a. option_and_then (λ b. option_and_then (λ c. option_and_then (λ d. option_map (λ udp. record { ip = a.0 ∷ b.0 ∷ c.0 ∷ d.0 ∷ []; udp = udp })
+    option_and_then (λ a. option_and_then (λ b. option_and_then (λ c. option_and_then (λ d.
+    option_map (λ udp. record { ip = a.0 ∷ b.0 ∷ c.0 ∷ d.0 ∷ []; udp = udp })
     (number_written 65536 d.1)) (octet_written 58 c.1)) (octet_written 46 b.1)) (octet_written 46 a.1)) (octet_written 46 text)
 
 -- the mask that is written `a.b.c.d`
 unfoldable pub mask_written : List ℕ → Option Mask
 mask_written text =
-    option_and_then (λ a. option_and_then (λ b. option_and_then (λ c. option_map (λ d. record { octets = a.0 ∷ b.0 ∷ c.0 ∷ d ∷ [] })
+    option_and_then (λ a. option_and_then (λ b. option_and_then (λ c.
+    option_map (λ d. record { octets = a.0 ∷ b.0 ∷ c.0 ∷ d ∷ [] })
     (number_written 256 c.1)) (octet_written 46 b.1)) (octet_written 46 a.1)) (octet_written 46 text)

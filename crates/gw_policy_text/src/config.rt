@@ -92,4 +92,11 @@ impl Config {
     {
         self.parts.rules()
     }
+
+    /// The policy, where the rest isn't wanted any more.
+    pub fn into_rules(self) -> RuleList
+        ensures { result ≡ self.rules }
+    {
+        self.parts.into_rules()
+    }
 }

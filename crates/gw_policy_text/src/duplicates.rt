@@ -21,7 +21,13 @@ pub(crate) fn has_duplicates(
     objects: &[Object],
     rules: &[Rule],
 ) -> Result<bool, AllocError>
-    ensures { IfOk result (λ b. b ≡ has_duplicates (record { device = device.now; ports = ports.now; routes = routes.now; objects = objects.now; rules = rules.now })) }
+    ensures { let parts : Configuration = record {
+      device = device.now;
+      ports = ports.now;
+      routes = routes.now;
+      objects = objects.now;
+      rules = rules.now;
+    } in IfOk result (λ b. b ≡ has_duplicates parts) }
 {
     Ok(
         networks_repeat(alloc, device, ports, routes)?
@@ -39,7 +45,9 @@ fn networks_repeat(
     ports: &[Port],
     routes: &[Route],
 ) -> Result<bool, AllocError>
-    ensures { IfOk result (λ b. b ≡ has_twice nat_eq (map (λ port. port.network) ports.now ++ device.now.network ∷ map (λ route. route.network) routes.now)) }
+    ensures { let ports = map (λ port. port.network) ports.now in
+        let routes = map (λ route. route.network) routes.now in
+        IfOk result (λ b. b ≡ has_twice nat_eq (ports ++ device.now.network ∷ routes)) }
 {
     let mut all = Vec::new(alloc);
     put_port_networks(&mut all, ports)?;

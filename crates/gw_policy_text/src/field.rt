@@ -54,7 +54,18 @@ impl Field {
         }
     }
 
-    fn fault(&self, table: &Table) -> Option<ConfigFault>
+    /// The key.
+    pub(crate) fn key(&self) -> &'static str {
+        self.key
+    }
+
+    /// What its value may be.
+    pub(crate) fn shape(&self) -> Shape {
+        self.shape
+    }
+
+    /// The fault of the field in a table.
+    pub(crate) fn fault(&self, table: &Table) -> Option<ConfigFault>
         ensures { result ≡ field_fault (table_view table.now) self.now }
     {
         match member(table, self.key) {
@@ -66,7 +77,7 @@ impl Field {
 }
 
 /// The fault of a single value.
-fn scalar_fault(scalar: Scalar, value: &Value) -> Option<ConfigFault>
+pub(crate) fn scalar_fault(scalar: Scalar, value: &Value) -> Option<ConfigFault>
     ensures { result ≡ scalar_fault scalar (view value.now) }
 {
     match scalar {
@@ -167,7 +178,7 @@ fn value_fault(shape: Shape, value: &Value) -> Option<ConfigFault>
     }
 }
 
-fn is_key(fields: &[Field], key: &str) -> bool
+pub(crate) fn is_key(fields: &[Field], key: &str) -> bool
     ensures { result ≡ is_key fields.now key.now }
 {
     fields.iter().any(|field| field.key == key)

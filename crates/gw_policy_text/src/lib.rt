@@ -3,9 +3,12 @@
 
 mod config;
 mod device;
+mod diagnosis;
 mod duplicates;
+mod explanation;
 mod fault;
 mod field;
+mod finding;
 mod instance;
 mod object;
 mod objects;
@@ -14,6 +17,7 @@ mod port;
 mod range;
 mod read;
 mod reading;
+mod repetition;
 mod route;
 mod rules;
 mod setting;
@@ -21,9 +25,13 @@ mod shape;
 mod tables;
 mod text;
 mod value;
+mod visit;
+mod words;
 
 pub use config::Config;
 pub use device::Device;
+pub use diagnosis::explain;
+pub use explanation::Explanation;
 pub use fault::ConfigFault;
 pub use instance::Instance;
 pub use object::{MultiState, Object, ObjectKind, ObjectValue};

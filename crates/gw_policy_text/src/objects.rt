@@ -49,7 +49,7 @@ fn object_of_table(alloc: Global, table: &Table) -> Result<Object, ConfigFault>
     object_of_kind(alloc, kind_at(table)?, table)
 }
 
-fn kind_at(table: &Table) -> Result<ObjectKind, ConfigFault>
+pub(crate) fn kind_at(table: &Table) -> Result<ObjectKind, ConfigFault>
     ensures { plain.Gives (λ k. k) result (kind_at (codes "type") (table_view table.now)) }
 {
     value::kind(at("type", table)?)
@@ -79,7 +79,7 @@ fn object_fault(kind: ObjectKind, table: &Table) -> Option<ConfigFault>
 }
 
 /// How many states there are.
-fn count_at(table: &Table) -> usize
+pub(crate) fn count_at(table: &Table) -> usize
     ensures { result ≡ count_at (codes "states") (table_view table.now) }
 {
     match any_list("states", table) {

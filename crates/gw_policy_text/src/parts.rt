@@ -39,7 +39,8 @@ impl Model for Parts {
 
     ghost view = { λ c. record { device = c.device; ports = c.ports; routes = c.routes; objects = c.objects; rules = c.rules } };
 
-    ghost invariant = { λ c. (1 ≤ length c.ports) × ((length c.ports ≤ 8) × ((length c.routes ≤ 512) × ((length c.objects ≤ 256) × IsTrue (list_all (is_by (length c.ports)) c.routes)))) };
+    ghost invariant = { λ c. (1 ≤ length c.ports) × ((length c.ports ≤ 8) × ((length c.routes ≤ 512)
+        × ((length c.objects ≤ 256) × IsTrue (list_all (is_by (length c.ports)) c.routes)))) };
 }
 
 impl Parts {
@@ -76,6 +77,12 @@ impl Parts {
         ensures { result.now ≡ self.now.rules }
     {
         &self.rules
+    }
+
+    pub(crate) fn into_rules(self) -> RuleList
+        ensures { result ≡ self.rules }
+    {
+        self.rules
     }
 
     /// The parts that the tables say, in their order.

@@ -67,7 +67,6 @@ impl Port {
         Port::of_table(alloc, table(value)?)
     }
 
-    #[tactic(auto, unfolding(crate::specs::Configuration::port_of))]
     fn of_table(alloc: Global, table: &Table) -> Result<Self, ConfigFault>
         ensures { Gives (λ p. p) result (port_of (table_view table.now)) }
     {
@@ -129,7 +128,6 @@ fn peer(value: &Value) -> Result<BdtEntry, ConfigFault>
     peer_of_table(table(value)?)
 }
 
-#[tactic(auto, unfolding(crate::specs::Configuration::peer_of))]
 fn peer_of_table(table: &Table) -> Result<BdtEntry, ConfigFault>
     ensures { Gives (λ p. p) result (peer_of (table_view table.now)) }
 {

@@ -35,7 +35,6 @@ impl Route {
         Route::of_table(ports, table(value)?)
     }
 
-    #[tactic(auto, unfolding(crate::specs::Configuration::route_of))]
     fn of_table(ports: u8, table: &Table) -> Result<Self, ConfigFault>
         ensures exists { IfOk result (λ r. IsTrue (is_by ports r)) }
         ensures route { Gives (λ r. r) result (route_of ports (table_view table.now)) }
