@@ -1,0 +1,4 @@
+pub mod Rows
+pub mod Halving
+pub mod Fields
+pub mod Ends

@@ -1,0 +1,10 @@
+use Rattle.std.proofs.Common.{◌≡◌, ◌+◌, ◌-◌, ◌^◌, ◌≤◌}
+use Rattle.gw_rule_index.proofs.Halving.{Nears}
+use Rattle.gw_rule_index.proofs.search.place_of.Given as goal
+
+abbrev pub invariant-loop-step : goal.invariant-loop-step
+invariant-loop-step l = record {
+  nears : Nears l.bounds l.value l.low l.high (2 ^ (13 - l._step));
+  comparisons : l.counted.comparisons ≤ l.fn.counted.comparisons + l._step;
+  ands : l.counted.ands ≡ l.fn.counted.ands;
+}

@@ -1,0 +1,83 @@
+//! What a gateway judges by: its rules, and their index where that pays.
+ghost use Rattle.std.specs.Prelude.{◌≡◌, IfOk, IfSome};
+ghost use Rattle.gw_rule_index.specs.internal.Index.{IsBuiltFrom};
+
+use crate::RuleIndex;
+use gw_rules::{Ask, Decision, Judge, RuleList};
+use std::alloc::{AllocError, Global};
+use std::marker::Model;
+
+/// From how many rules on the index is asked: with fewer the list answers as soon.
+pub const LEAST_INDEXED: usize = 32;
+
+/// The rules of a gateway, and their index where they are many. It answers as the list of the rules,
+/// which contracts see.
+#[derive(Drop)]
+pub struct Policy {
+    rules: RuleList,
+    index: Option<RuleIndex>,
+}
+
+impl Model for Policy {
+    ghost use Rattle.std.specs.Prelude.{IfSome, List};
+    ghost use Rattle.gw_rules.specs.declared.rule.Rule.{Rule};
+    ghost use Rattle.gw_rule_index.specs.internal.Index.{IsBuiltFrom};
+
+    ghost Value = { List Rule };
+
+    ghost view = { λ policy. policy.rules };
+
+    ghost invariant = { λ policy. IfSome policy.index (λ index. IsBuiltFrom index policy.rules) };
+}
+
+impl Policy {
+    /// The policy of these rules. The only fault is want of memory for an index.
+    pub fn new(alloc: Global, rules: RuleList) -> Result<Self, AllocError>
+        ensures { IfOk result (λ policy. policy ≡ rules) }
+    {
+        let index = index_of(alloc, &rules)?;
+        Ok(Policy { rules, index })
+    }
+
+    /// The rules in order, by whose numbers the policy answers.
+    pub fn rules(&self) -> &RuleList
+        ensures { result.now ≡ self.now }
+    {
+        &self.rules
+    }
+}
+
+/// The index of rules, where they are so many that it pays.
+fn index_of(alloc: Global, rules: &RuleList) -> Result<Option<RuleIndex>, AllocError>
+    ensures { IfOk result (λ index. IfSome index (λ index. IsBuiltFrom index rules.now)) }
+{
+    if rules.rules().len() < LEAST_INDEXED {
+        return Ok(None);
+    }
+    Ok(Some(RuleIndex::build(alloc, rules)?))
+}
+
+impl Judge for Policy {
+    ghost StandsFor = { λ policy rules. policy ≡ rules };
+
+    fn first(&self, ask: &Ask) -> Option<u16> {
+        match &self.index {
+            Some(index) => RuleIndex::first(index, ask),
+            None => RuleList::first(&self.rules, ask),
+        }
+    }
+
+    fn allows(&self, ask: &Ask) -> bool {
+        match &self.index {
+            Some(index) => index.allows(ask),
+            None => RuleList::allows(&self.rules, ask),
+        }
+    }
+
+    fn decide(&self, ask: &Ask) -> Decision {
+        match &self.index {
+            Some(index) => index.decide(ask),
+            None => RuleList::decide(&self.rules, ask),
+        }
+    }
+}

@@ -1,0 +1,193 @@
+//! The index of a whole rule list, as a judge.
+ghost use Rattle.std.specs.Prelude.{◌≡◌, ◌*◌, ◌≤◌, List, IfOk, IfSome, false, length, map, true};
+ghost use Rattle.std.specs.Option.{option_map_or};
+ghost use Rattle.gw_rules.specs.Rule.{matches};
+ghost use Rattle.gw_rules.specs.Fields.{value_of};
+ghost use Rattle.gw_rules.specs.RuleList.{KeepsCounts, allows, allows_at, decide, first};
+ghost use Rattle.gw_rules.specs.declared.field.FieldName.{FieldName};
+ghost use Rattle.gw_rules.specs.declared.rule.Rule.{Rule};
+ghost use Rattle.gw_rule_index.specs.declared.counted.TheConstants.{COMPARISONS_A_FIELD, MAX_ANDS, MAX_COMPARISONS};
+ghost use Rattle.gw_rule_index.specs.Comparisons.{most_comparisons_in, most_comparisons_of};
+ghost use Rattle.gw_rule_index.specs.internal.Field.{IsIndexOf};
+ghost use Rattle.gw_rule_index.specs.internal.Index.{IsBuiltFrom};
+ghost use Rattle.gw_rule_index.specs.internal.Row.{Marks, admits_all};
+
+use crate::Counted;
+use crate::field_index::FieldIndex;
+use crate::row::Row;
+use gw_rules::{Ask, Decision, FieldName, Fields, Judge, Rule, RuleList};
+use std::alloc::{AllocError, Global};
+
+/// The rules of a list, compiled: for each field the elementary ranges of its values, and for each
+/// of these the rules that admit it, a bit a rule. It answers as the list does that it was built
+/// from, and doesn't keep that list.
+///
+/// An ask costs at most 13 comparisons for each field that it has and at most ten ANDs of 512 bits.
+#[derive(Drop)]
+pub struct RuleIndex {
+    fields: Fields<FieldIndex>,
+    every: Row,
+    verdicts: Vec<bool>,
+}
+
+impl RuleIndex {
+    /// The index of these rules. `AllocError` where there is no memory for it: up to 3 MiB for 512
+    /// rules with four ranges in each field.
+    pub fn build(alloc: Global, rules: &RuleList) -> Result<Self, AllocError>
+        ensures { IfOk result (λ index. IsBuiltFrom index rules.now) }
+    {
+        let rules = rules.rules();
+        Ok(RuleIndex {
+            fields: index_fields(alloc, rules)?,
+            every: Row::every(rules),
+            verdicts: verdicts_of(alloc, rules)?,
+        })
+    }
+
+    /// The number of the first rule that matches the ask, counted from 1, or none.
+    pub fn first(&self, ask: &Ask) -> Option<u16>
+        ensures first { (rules : List Rule) → IsBuiltFrom self.now rules →
+            result ≡ first rules ask.now }
+        ensures number { IfSome result (λ number. 1 ≤ number) }
+    {
+        self.first_counted(ask).rule
+    }
+
+    /// The same, and how much work it took: comparisons of a value of the ask with a bound, and
+    /// ANDs of rows of 512 bits.
+    pub fn first_counted(&self, ask: &Ask) -> Counted
+        ensures first { (rules : List Rule) → IsBuiltFrom self.now rules →
+            result.rule ≡ first rules ask.now }
+        ensures number { IfSome result.rule (λ number. 1 ≤ number) }
+        ensures each_field { result.comparisons ≤ most_comparisons_of ask.now }
+        ensures comparisons { result.comparisons ≤ MAX_COMPARISONS }
+        ensures ands { result.ands ≤ MAX_ANDS }
+    {
+        let mut counted = Counted::start();
+        let row = self.matching(ask, &mut counted);
+        Counted {
+            rule: row.first(),
+            ..counted
+        }
+    }
+
+    /// The row of the rules that match the ask.
+    fn matching(&self, ask: &Ask, counted: &mut Counted) -> Row
+        requires comparisons { counted.old.comparisons ≡ 0 }
+        requires ands { counted.old.ands ≡ 0 }
+        ensures row { (rules : List Rule) → IsBuiltFrom self.now rules →
+            Marks result.words (λ rule. matches rule ask.now) rules }
+        ensures each_field { counted.new.comparisons ≤ most_comparisons_of ask.now }
+        ensures comparisons { counted.new.comparisons ≤ MAX_COMPARISONS }
+        ensures ands { counted.new.ands ≤ MAX_ANDS }
+    {
+        let mut row = self.every;
+        self.keep_fields(ask, &FieldName::ALL, &mut row, counted);
+        row
+    }
+
+    /// Keeps the rules that admit what the ask has in each of these fields.
+    fn keep_fields(&self, ask: &Ask, fields: &[FieldName], row: &mut Row, counted: &mut Counted)
+        requires fields { length fields.now ≤ MAX_ANDS }
+        requires comparisons { counted.old.comparisons ≡ 0 }
+        requires ands { counted.old.ands ≡ 0 }
+        ensures row { (rules : List Rule) → IsBuiltFrom self.now rules →
+            Marks row.old.words (λ _. true) rules →
+            Marks row.new.words (admits_all ask.now fields.now) rules }
+        ensures each_field { counted.new.comparisons ≤ most_comparisons_in ask.now fields.now }
+        ensures comparisons { counted.new.comparisons ≤ COMPARISONS_A_FIELD * length fields.now }
+        ensures ands { counted.new.ands ≤ length fields.now }
+    {
+        for field in fields {
+            let index = self.fields.get(*field);
+            let value = *ask.get(*field);
+            index.keep(value, row, counted);
+        }
+    }
+
+    /// Whether there is a first rule, and it says allow.
+    fn allows_first(&self, first: Option<u16>) -> bool
+        requires { IfSome first (λ number. 1 ≤ number) }
+        ensures { (rules : List Rule) → IsBuiltFrom self.now rules →
+            result ≡ option_map_or (allows_at rules) first false }
+    {
+        match first {
+            Some(number) => self.allows_rule(number),
+            None => false,
+        }
+    }
+
+    /// Whether the rule of a number says allow.
+    fn allows_rule(&self, number: u16) -> bool
+        requires { 1 ≤ number }
+        ensures { (rules : List Rule) → IsBuiltFrom self.now rules →
+            result ≡ allows_at rules number }
+    {
+        match self.verdicts.get(usize::from(number) - 1) {
+            Some(verdict) => *verdict,
+            None => false,
+        }
+    }
+}
+
+impl Judge for RuleIndex {
+    ghost StandsFor = { λ index rules. IsBuiltFrom index rules };
+
+    fn first(&self, ask: &Ask) -> Option<u16> {
+        RuleIndex::first(self, ask)
+    }
+
+    fn allows(&self, ask: &Ask) -> bool {
+        self.allows_first(RuleIndex::first(self, ask))
+    }
+
+    fn decide(&self, ask: &Ask) -> Decision {
+        let by = RuleIndex::first(self, ask);
+        if self.allows_first(by) {
+            Decision::Allow
+        } else {
+            Decision::Deny { by }
+        }
+    }
+}
+
+/// The index of each field.
+fn index_fields(alloc: Global, rules: &[Rule]) -> Result<Fields<FieldIndex>, AllocError>
+    requires { KeepsCounts rules.now }
+    ensures { IfOk result (λ fields. (field : FieldName) →
+        IsIndexOf rules.now field (value_of field fields)) }
+{
+    let operation = FieldIndex::build(alloc, rules, FieldName::Operation)?;
+    let port = FieldIndex::build(alloc, rules, FieldName::Port)?;
+    let source_network = FieldIndex::build(alloc, rules, FieldName::SourceNetwork)?;
+    let source_key = FieldIndex::build(alloc, rules, FieldName::SourceKey)?;
+    let destination_network = FieldIndex::build(alloc, rules, FieldName::DestinationNetwork)?;
+    let service = FieldIndex::build(alloc, rules, FieldName::Service)?;
+    let object_type = FieldIndex::build(alloc, rules, FieldName::ObjectType)?;
+    let instance = FieldIndex::build(alloc, rules, FieldName::Instance)?;
+    let property = FieldIndex::build(alloc, rules, FieldName::Property)?;
+    let priority = FieldIndex::build(alloc, rules, FieldName::Priority)?;
+    Ok(Fields {
+        operation,
+        port,
+        source_network,
+        source_key,
+        destination_network,
+        service,
+        object_type,
+        instance,
+        property,
+        priority,
+    })
+}
+
+/// Whether each rule says allow, in order.
+fn verdicts_of(alloc: Global, rules: &[Rule]) -> Result<Vec<bool>, AllocError>
+    ensures { IfOk result (λ verdicts. verdicts.items ≡ map (λ rule. rule.allow) rules.now) }
+{
+    let mut verdicts = Vec::with_capacity(alloc, rules.len())?;
+    for rule in rules {
+        verdicts.push(rule.allow)?;
+    }
+    Ok(verdicts)
+}
