@@ -1,3 +1,4 @@
 pub mod Elements
 pub mod Deciding
 pub mod Histories
+pub mod Places

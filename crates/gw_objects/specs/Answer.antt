@@ -3,8 +3,10 @@ use Rattle.std.specs.Prelude.{◌≡◌, ◌++◌, ℕ, ◌+◌, ◌≤◌, List
 use Rattle.gw_objects.specs.declared.fault.ReadFault.{ReadFault}
 use Rattle.gw_objects.specs.declared.fault.ReadFault.TheVariants.{Memory}
 
--- Ok with those octets appended, or the fault that is due; want of memory only in the place of octets
-abbrev pub Answers : {X : Type 0} → Result X ReadFault → Result (List ℕ) ReadFault → List ℕ → List ℕ → Type 0
+-- Ok with those octets appended, or the fault that is due; want of memory only in the place of
+-- octets
+abbrev pub Answers : {X : Type 0} →
+    Result X ReadFault → Result (List ℕ) ReadFault → List ℕ → List ℕ → Type 0
 Answers (Ok done) (Ok octets) old new = new ≡ old ++ octets
 Answers (Ok done) (Err fault) old new = ⊥
 Answers (Err fault) (Ok octets) old new = fault ≡ Memory

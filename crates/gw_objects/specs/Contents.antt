@@ -22,6 +22,7 @@ abbrev pub octets_of : Contents → Option ℕ → Result (List ℕ) ReadFault
 octets_of (one value) None = Ok (value_encoding value)
 octets_of (one value) (Some index) = Err NotArray
 octets_of (array values) None = Ok (flat_map value_encoding values)
-octets_of (array values) (Some index) = ok_or (option_map value_encoding (element values index)) BadIndex
+octets_of (array values) (Some index) =
+    ok_or (option_map value_encoding (element values index)) BadIndex
 octets_of empty_list None = Ok []
 octets_of empty_list (Some index) = Err NotArray

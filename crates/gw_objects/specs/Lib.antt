@@ -1,4 +1,5 @@
 pub mod Property
+pub mod Identifier
 pub mod Objects
 pub mod Contents
 pub mod Answer

@@ -1,9 +1,8 @@
 -- The objects of a device: what is configured of them, which never changes, and for each value
 -- object its slots and its default, which writes change.
-use Rattle.std.specs.Prelude.{ℕ, ◌==◌, ◌&&◌, nat_eq, Bool, if◌then◌else◌, List, ◌∷◌, map, find, position, slice_get, Option, Some}
-use Rattle.std.specs.Cmp.Lexicographic.{pointwise}
+pub use Rattle.gw_objects.specs.Identifier.{type_of, id, device_id, object_id_of, same, is_name}
+use Rattle.std.specs.Prelude.{ℕ, if◌then◌else◌, List, ◌∷◌, map, find, position, slice_get, Option, Some}
 use Rattle.std.specs.Option.{option_and_then, option_map}
-use Rattle.gw_policy_text.specs.declared.device.Device.{Device}
 use Rattle.gw_policy_text.specs.declared.object.Object.{Object as PolicyObject}
 use Rattle.gw_policy_text.specs.declared.object.ObjectValue.{ObjectValue}
 use Rattle.gw_policy_text.specs.declared.object.ObjectValue.TheVariants as policy
@@ -18,7 +17,6 @@ use Rattle.gw_objects.specs.declared.property.ObjectType.{ObjectType}
 use Rattle.gw_objects.specs.declared.property.ObjectType.TheVariants as types
 use Rattle.gw_objects.specs.declared.value.PropertyValue.{PropertyValue}
 use Rattle.gw_objects.specs.declared.value.PropertyValue.TheVariants.{Binary, State, Text, Integer, PositiveInteger}
-use Rattle.gw_objects.specs.Property.{type_number}
 
 -- the slots and the default of a value object
 abbrev pub Slots : Type 0
@@ -28,29 +26,6 @@ Slots = Commandable PropertyValue
 pub record Database : Type 0 where
   pub configured : Configured
   pub states : List Slots
-
--- the type of a value object
-abbrev pub type_of : Details → ObjectType
-type_of (BinaryValue active inactive) = types.BinaryValue
-type_of (MultiStateValue states) = types.MultiStateValue
-type_of CharacterStringValue = types.CharacterStringValue
-type_of (IntegerValue units) = types.IntegerValue
-type_of (PositiveIntegerValue units) = types.PositiveIntegerValue
-
--- an object identifier by type and instance
-abbrev pub id : ObjectType → ℕ → Object
-id kind instance = record { kind = type_number kind; instance = instance }
-
--- the identifiers of the device and of a value object
-abbrev pub device_id : Device → Object
-device_id device = id types.Device device.instance
-
-abbrev pub object_id_of : ConfiguredObject → Object
-object_id_of object = id (type_of object.details) object.instance
-
--- two identifiers are one
-abbrev pub same : Object → Object → Bool
-same a b = (a.kind == b.kind) && (a.instance == b.instance)
 
 -- the identifiers of all objects: the device, then the others in their order
 abbrev pub ids : Configured → List Object
@@ -99,18 +74,26 @@ database_of c = record {
 
 -- ---- finding
 
+-- the type of the value object at a place
+abbrev pub type_in : Configured → ℕ → Option ObjectType
+type_in c place = option_map (λ object. type_of object.details) (slice_get c.objects place)
+
 -- the type of the object of an identifier
 abbrev pub type_at : Configured → Object → Option ObjectType
 type_at c wanted =
     if same wanted (device_id c.device) then Some types.Device
-    else option_and_then (λ place. option_map (λ object. type_of object.details) (slice_get c.objects place)) (place_of c wanted)
-
--- a name is these octets
-abbrev pub is_name : List ℕ → List ℕ → Bool
-is_name wanted name = pointwise nat_eq wanted name
+    else option_and_then (type_in c) (place_of c wanted)
 
 -- the identifier of the object of a name
 abbrev pub named : Configured → List ℕ → Option Object
 named c wanted =
     if is_name wanted c.device.name then Some (device_id c.device)
     else option_map object_id_of (find (λ object. is_name wanted object.name) c.objects)
+
+-- the name of the object of an identifier
+abbrev pub name_at : Configured → Object → Option (List ℕ)
+name_at c wanted =
+    if same wanted (device_id c.device) then Some c.device.name
+    else option_and_then
+    (λ place. option_map (λ object. object.name) (slice_get c.objects place))
+    (place_of c wanted)

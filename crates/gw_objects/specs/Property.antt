@@ -94,4 +94,5 @@ properties kind Optional = optional kind
 
 -- a property is known to a type exactly where one of its two lists has it
 abbrev pub property_of : ObjectType → ℕ → Option Property
-property_of kind number = find (λ property. property_number property == number) (properties kind All)
+property_of kind number =
+    find (λ property. property_number property == number) (properties kind All)

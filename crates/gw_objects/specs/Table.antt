@@ -131,7 +131,8 @@ object_at d wanted = do
 
 abbrev pub object_contents : Database → Object → ℕ → Result Contents ReadFault
 object_contents d wanted number =
-    object_at d wanted >>= λ found. known_line (type_of found.0.details) (object_line found.0 found.1) number
+    object_at d wanted
+    >>= λ found. known_line (type_of found.0.details) (object_line found.0 found.1) number
 
 -- what a property of an object holds, or the first fault
 abbrev pub contents_of : Database → Object → ℕ → Result Contents ReadFault

@@ -58,7 +58,8 @@ property_fault property index priority =
 -- the property of a type that a write names, where it can be written so
 abbrev pub property_for : ObjectType → ℕ → Option ℕ → ℕ → Result Property WriteFault
 property_for kind number index priority =
-    ok_or (property_of kind number) UnknownProperty >>= λ property. property_fault property index priority
+    ok_or (property_of kind number) UnknownProperty
+    >>= λ property. property_fault property index priority
 
 -- one value fills the octets, and nothing is behind it
 abbrev pub filled : Value → List ℕ → Result Value WriteFault
@@ -79,12 +80,17 @@ text_in charset octets =
     else if nat_lt 255 (length octets) then Err NoSpace
     else Ok (Text octets)
 
+-- a number that is written to a Binary Value is 0 or 1, and to a Multi-state Value one of so many
+abbrev pub binary_value : ℕ → Result PropertyValue WriteFault
+binary_value n = if nat_lt n 2 then Ok (Binary (n == 1)) else Err OutOfRange
+
+abbrev pub state_value : ℕ → ℕ → Result PropertyValue WriteFault
+state_value count n = if nat_le 1 n && nat_le n count then Ok (State n) else Err OutOfRange
+
 -- the value that an object takes, by its type
 abbrev pub value_for : Details → Value → Result PropertyValue WriteFault
-value_for (BinaryValue active inactive) (enumerated n) =
-    if nat_lt n 2 then Ok (Binary (n == 1)) else Err OutOfRange
-value_for (MultiStateValue states) (unsigned n) =
-    if nat_le 1 n && nat_le n (length states) then Ok (State n) else Err OutOfRange
+value_for (BinaryValue active inactive) (enumerated n) = binary_value n
+value_for (MultiStateValue states) (unsigned n) = state_value (length states) n
 value_for CharacterStringValue (character_string charset octets) = text_in charset octets
 value_for (IntegerValue units) (signed z) = Ok (Integer z)
 value_for (PositiveIntegerValue units) (unsigned n) = Ok (PositiveInteger n)
@@ -97,11 +103,13 @@ present_act details priority value = value_for details value >>= λ v. Ok (Comma
 
 abbrev pub act_for : Details → Property → ℕ → Value → Result (Act PropertyValue) WriteFault
 act_for details the.PresentValue priority value = present_act details priority value
-act_for details the.RelinquishDefault priority value = value_for details value >>= λ v. Ok (SetDefault v)
+act_for details the.RelinquishDefault priority value =
+    value_for details value >>= λ v. Ok (SetDefault v)
 act_for details _ priority value = Err NotWritable
 
 -- a write to a value object
-abbrev pub act_of : ConfiguredObject → ℕ → Option ℕ → ℕ → List ℕ → Result (Act PropertyValue) WriteFault
+abbrev pub act_of :
+    ConfiguredObject → ℕ → Option ℕ → ℕ → List ℕ → Result (Act PropertyValue) WriteFault
 act_of object number index priority octets = do
   property ← property_for (type_of object.details) number index priority
   value ← whole (value_at octets)
@@ -113,7 +121,8 @@ object_write place object number index priority octets =
 
 -- the Device object has no property that can be written
 abbrev pub device_write : ℕ → Result Write WriteFault
-device_write number = ok_or (property_of types.Device number) UnknownProperty >>= λ property. Err NotWritable
+device_write number =
+    ok_or (property_of types.Device number) UnknownProperty >>= λ property. Err NotWritable
 
 -- what a write does, or the first fault
 unfoldable pub write_of : Configured → Object → ℕ → Option ℕ → ℕ → List ℕ → Result Write WriteFault

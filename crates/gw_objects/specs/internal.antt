@@ -1,3 +1,4 @@
 pub mod Part
 pub mod View
 pub mod Act
+pub mod Index

@@ -1,18 +1,21 @@
 //! What is configured of objects, and never changes.
 
-ghost use Rattle.std.specs.Prelude.{◌≡◌, ◌≤◌, length};
-ghost use Rattle.gw_objects.specs.Objects.{device_id, object_id_of, type_of};
+ghost use Rattle.std.specs.Prelude.{◌≡◌, ◌<◌, ◌≤◌, length, position, IfOk, IfSome};
+ghost use Rattle.gw_objects.specs.Objects.{device_id, is_name, object_id_of, same, type_of};
 ghost use Rattle.gw_tags.specs.Object.{object_view};
 
 use crate::ObjectType;
+use crate::index::{places_by_id, places_by_name};
 use gw_addr::Sequence;
 use gw_policy_text::{Device, Instance, Text};
 use gw_tags::ObjectId;
+use indexmap::IndexMap;
+use std::alloc::{AllocError, Global};
 use std::marker::Model;
 
 /// What is configured of a device: the Device object, and the value objects in the order of the
 /// configuration.
-#[derive(Debug, Drop)]
+#[derive(Drop)]
 pub struct Configured {
     /// What the Device object says.
     pub device: Device,
@@ -20,31 +23,44 @@ pub struct Configured {
     pub objects: ValueObjects,
 }
 
-/// The value objects of a device in the order of the configuration, at most 256. Contracts see the
-/// list of them.
-#[derive(Debug, Drop)]
+/// The value objects of a device in the order of the configuration, at most 256, with the place of
+/// each by its identifier and by its name. Contracts see the list of them.
+#[derive(Drop)]
 pub struct ValueObjects {
     objects: Sequence<ConfiguredObject>,
+    by_id: IndexMap<ObjectId, usize>,
+    by_name: IndexMap<Vec<u8>, usize>,
 }
 
 impl Model for ValueObjects {
     ghost use Rattle.std.specs.Prelude.{◌≤◌, List, length};
     ghost use Rattle.gw_objects.specs.declared.configured.ConfiguredObject.{ConfiguredObject};
+    ghost use Rattle.gw_objects.specs.internal.Index.{FindsIds, FindsNames};
 
     ghost Value = { List ConfiguredObject };
 
     ghost view = { λ o. o.objects };
 
-    ghost invariant = { λ o. length o.objects ≤ 256 };
+    ghost invariant = { λ o. (length o.objects ≤ 256)
+        × (FindsIds o.by_id.entries o.objects × FindsNames o.by_name.entries o.objects) };
 }
 
 impl ValueObjects {
-    /// These objects, at most 256.
-    pub(crate) fn new(objects: Sequence<ConfiguredObject>) -> Self
+    /// These objects, at most 256. The only fault is want of memory for their places.
+    pub(crate) fn new(
+        alloc: Global,
+        objects: Sequence<ConfiguredObject>,
+    ) -> Result<Self, AllocError>
         requires { length objects ≤ 256 }
-        ensures { result ≡ objects }
+        ensures { IfOk result (λ made. made ≡ objects) }
     {
-        ValueObjects { objects }
+        let by_id = places_by_id(alloc, objects.as_slice())?;
+        let by_name = places_by_name(alloc, objects.as_slice())?;
+        Ok(ValueObjects {
+            objects,
+            by_id,
+            by_name,
+        })
     }
 
     /// The objects in their order, at most 256.
@@ -54,10 +70,27 @@ impl ValueObjects {
     {
         self.objects.as_slice()
     }
+
+    /// The place of the object of an identifier.
+    pub(crate) fn place_of(&self, id: ObjectId) -> Option<usize>
+        ensures place { result ≡
+            position (λ object. same (object_view id) (object_id_of object)) self.now }
+        ensures within { IfSome result (λ place. place < length self.now) }
+    {
+        self.by_id.get(&id).copied()
+    }
+
+    /// The place of the object whose name has these octets.
+    pub(crate) fn place_named(&self, name: &[u8]) -> Option<usize>
+        ensures place { result ≡ position (λ object. is_name name.now object.name) self.now }
+        ensures within { IfSome result (λ place. place < length self.now) }
+    {
+        self.by_name.get(name).copied()
+    }
 }
 
 /// A value object as it is configured, but for its default.
-#[derive(Debug, Drop)]
+#[derive(Drop)]
 pub struct ConfiguredObject {
     /// Its instance.
     pub instance: Instance,
@@ -70,7 +103,7 @@ pub struct ConfiguredObject {
 }
 
 /// The type of a value object, with what only that type has.
-#[derive(Debug, Drop)]
+#[derive(Drop)]
 pub enum Details {
     /// Binary Value, with its Active_Text and Inactive_Text.
     BinaryValue { active: Text, inactive: Text },
@@ -85,7 +118,7 @@ pub enum Details {
 }
 
 /// The texts of the states of a Multi-state Value, at most 64. Contracts see the list of them.
-#[derive(Debug, Drop)]
+#[derive(Drop)]
 pub struct States {
     texts: Sequence<Text>,
 }

@@ -121,7 +121,8 @@ pub(crate) fn states(
     alloc: Global,
     objects: &[Object],
 ) -> Result<Vec<PriorityArray<PropertyValue>>, AllocError>
-    ensures { IfOk result (λ states. states.items ≡ map (λ object. no_command (default_of object.value)) objects.now) }
+    ensures { IfOk result (λ states.
+        states.items ≡ map (λ object. no_command (default_of object.value)) objects.now) }
 {
     let mut states = Vec::with_capacity(alloc, objects.len())?;
     for one in objects {

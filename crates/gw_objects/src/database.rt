@@ -1,11 +1,14 @@
 //! The objects of a device, with their values.
-ghost use Rattle.std.specs.Prelude.{◌≡◌, ◌≢◌, ◌<◌, ◌≤◌, List, [], ◌∷◌, length, slice_get, vec_len, find, Err, option_copied, option_map, IfOk, IfSome, OnErr};
+ghost use Rattle.std.specs.Prelude.{◌≡◌, ◌≢◌, ◌<◌, ◌≤◌, List, [], ◌∷◌, length, slice_get};
+ghost use Rattle.std.specs.Prelude.{vec_len, find, Err, option_copied, option_map, IfOk};
+ghost use Rattle.std.specs.Prelude.{IfSome, OnErr};
 ghost use Rattle.std.specs.Option.{ok_or};
 ghost use Rattle.std.specs.Vec.{vec_capacity};
 ghost use Rattle.gw_addr.specs.Reading.{Gives};
 ghost use Rattle.gw_priority.specs.Commandable.{IsPriority};
 ghost use Rattle.gw_tags.specs.Object.{object_view};
-ghost use Rattle.gw_objects.specs.Objects.{database_of, defaults_of, is_name, named, place_of, same, type_at};
+ghost use Rattle.gw_objects.specs.Objects.{database_of, defaults_of, is_name, name_at, named};
+ghost use Rattle.gw_objects.specs.Objects.{place_of, same, type_at};
 ghost use Rattle.gw_objects.specs.Table.{contents_of, object_at, read_of};
 ghost use Rattle.gw_objects.specs.Contents.{octets_of};
 ghost use Rattle.gw_objects.specs.Property.{property_of};
@@ -13,7 +16,7 @@ ghost use Rattle.gw_objects.specs.History.{IsStateAfter, acted, put_at, with_wri
 ghost use Rattle.gw_objects.specs.Write.{CanAct, Decides, Write, write_of};
 ghost use Rattle.gw_objects.specs.internal.Act.{act_view};
 ghost use Rattle.gw_objects.specs.Answer.{Answers, HasRoom};
-ghost use Rattle.gw_objects.specs.internal.View.{contents_view};
+ghost use Rattle.gw_objects.specs.internal.View.{contents_view, database_with};
 
 use crate::contents::Contents;
 use crate::property::property_of;
@@ -24,7 +27,7 @@ use crate::{
     Configured, ConfiguredObject, ObjectType, Property, PropertyValue, ReadFault, ValueObjects,
     WriteFault, copying,
 };
-use gw_policy_text::Config;
+use gw_policy_text::{Config, Text};
 use gw_priority::PriorityArray;
 use gw_tags::ObjectId;
 use std::alloc::{AllocError, Global};
@@ -32,7 +35,7 @@ use std::marker::Model;
 
 /// The objects of a device: what is configured of them, and the slots and the default of each value
 /// object. Contracts see the two apart.
-#[derive(Debug, Drop)]
+#[derive(Drop)]
 pub struct ObjectDb {
     configured: Configured,
     states: Vec<PriorityArray<PropertyValue>>,
@@ -58,7 +61,7 @@ impl ObjectDb {
     {
         let configured = Configured {
             device: copying::device(alloc, config.device())?,
-            objects: ValueObjects::new(copying::objects(alloc, config.objects())?),
+            objects: ValueObjects::new(alloc, copying::objects(alloc, config.objects())?)?,
         };
         let states = copying::states(alloc, config.objects())?;
         Ok(ObjectDb { configured, states })
@@ -78,8 +81,22 @@ impl ObjectDb {
         find_name(&self.configured, name)
     }
 
-    /// Appends the octets of a property of an object, or of one element of an array, counted from 1;
-    /// index 0 is how many elements there are (clause 15.5).
+    /// The name of the object, or `None` where there is no such object.
+    pub fn name(&self, id: ObjectId) -> Option<&Text>
+        ensures { option_copied result ≡ name_at self.now.configured (object_view id) }
+    {
+        name(&self.configured, id)
+    }
+
+    /// What is configured of the objects.
+    pub fn configured(&self) -> &Configured
+        ensures { result.now ≡ self.now.configured }
+    {
+        &self.configured
+    }
+
+    /// Appends the octets of a property of an object, or of one element of an array, counted from
+    /// 1; index 0 is how many elements there are (clause 15.5).
     ///
     /// # Errors
     ///
@@ -93,23 +110,26 @@ impl ObjectDb {
         index: Option<u32>,
         out: &mut Vec<u8>,
     ) -> Result<(), ReadFault>
-        ensures answer { Answers result (read_of self.now (object_view id) property index) out.old.items out.new.items }
+        ensures answer { Answers result (read_of self.now (object_view id) property index)
+            out.old.items out.new.items }
         ensures err { OnErr result (out.new.items ≡ out.old.items) }
-        ensures room { HasRoom (read_of self.now (object_view id) property index) (vec_len out.old) (vec_capacity out.old) → result ≢ Err ReadFault.Memory }
+        ensures room { HasRoom (read_of self.now (object_view id) property index)
+            (vec_len out.old) (vec_capacity out.old)
+            → result ≢ Err ReadFault.Memory }
         ensures capacity { vec_capacity out.old ≤ vec_capacity out.new }
     {
         read(&self.configured, &self.states, id, property, index, out)
     }
 
-    /// What a write of a property does, or its first fault; nothing changes. The octets are those of
-    /// the value. The caller sees to it that the priority is 1 to 16; a write that names none has 16.
-    /// Whether there is a fault depends on what is configured and on the write alone.
+    /// What a write of a property does, or its first fault; nothing changes. The octets are those
+    /// of the value. The caller sees to it that the priority is 1 to 16; a write that names none
+    /// has 16. Whether there is a fault depends on what is configured and on the write alone.
     ///
     /// # Errors
     ///
     /// 1 `UnknownObject`, 2 `UnknownProperty`, 3 `NotWritable`, 4 `NotArray`, 5 `Reserved`, 6
-    /// `WrongKind`, 7 `CharacterSet`, 8 `OutOfRange`, 9 `NoSpace` and 10 `Memory`, as [`WriteFault`]
-    /// says. `Memory` comes only where no other fault is due.
+    /// `WrongKind`, 7 `CharacterSet`, 8 `OutOfRange`, 9 `NoSpace` and 10 `Memory`, as
+    /// [`WriteFault`] says. `Memory` comes only where no other fault is due.
     pub fn check(
         &self,
         alloc: Global,
@@ -120,7 +140,8 @@ impl ObjectDb {
         value: &[u8],
     ) -> Result<Put, WriteFault>
         requires { IsPriority priority }
-        ensures write { Decides (λ put. put) result (write_of self.now.configured (object_view id) property index priority value.now) }
+        ensures write { Decides (λ put. put) result
+            (write_of self.now.configured (object_view id) property index priority value.now) }
         ensures place { IfOk result (λ put. put.place < length self.now.configured.objects) }
     {
         check(
@@ -151,7 +172,9 @@ impl ObjectDb {
 fn change(states: &mut Vec<PriorityArray<PropertyValue>>, place: usize, act: Act)
     requires there { place < vec_len states.old }
     requires can { CanAct (act_view act) }
-    ensures { states.new.items ≡ put_at place (option_map (acted (act_view act)) (slice_get states.old.items place)) states.old.items }
+    ensures { states.new.items ≡
+        put_at place (option_map (acted (act_view act)) (slice_get states.old.items place))
+        states.old.items }
 {
     make(&mut states[place], act);
 }
@@ -172,8 +195,8 @@ fn make(slots: &mut PriorityArray<PropertyValue>, act: Act)
     }
 }
 
-/// Appends the octets of a property, or of one element of it. After an `Err` the buffer holds what it
-/// held.
+/// Appends the octets of a property, or of one element of it. After an `Err` the buffer holds what
+/// it held.
 #[tactic(auto, unfolding(crate::specs::Table::read_of))]
 fn read(
     configured: &Configured,
@@ -184,9 +207,14 @@ fn read(
     out: &mut Vec<u8>,
 ) -> Result<(), ReadFault>
     requires { length states.now ≡ length configured.now.objects }
-    ensures answer { Answers result (read_of (record { configured = configured.now; states = states.now }) (object_view id) property index) out.old.items out.new.items }
+    ensures answer { Answers result
+        (read_of (database_with configured.now states.now) (object_view id) property index)
+        out.old.items out.new.items }
     ensures err { OnErr result (out.new.items ≡ out.old.items) }
-    ensures room { HasRoom (read_of (record { configured = configured.now; states = states.now }) (object_view id) property index) (vec_len out.old) (vec_capacity out.old) → result ≢ Err ReadFault.Memory }
+    ensures room { HasRoom
+        (read_of (database_with configured.now states.now) (object_view id) property index)
+        (vec_len out.old) (vec_capacity out.old)
+        → result ≢ Err ReadFault.Memory }
     ensures capacity { vec_capacity out.old ≤ vec_capacity out.new }
 {
     match contents(configured, states, id, property) {
@@ -195,11 +223,15 @@ fn read(
     }
 }
 
-/// Appends what a property holds, or one element of it. After an `Err` the buffer holds what it held.
+/// Appends what a property holds, or one element of it. After an `Err` the buffer holds what it
+/// held.
 fn append(out: &mut Vec<u8>, contents: &Contents<'_>, index: Option<u32>) -> Result<(), ReadFault>
-    ensures answer { Answers result (octets_of (contents_view contents.now) index) out.old.items out.new.items }
+    ensures answer { Answers result (octets_of (contents_view contents.now) index)
+        out.old.items out.new.items }
     ensures err { OnErr result (out.new.items ≡ out.old.items) }
-    ensures room { HasRoom (octets_of (contents_view contents.now) index) (vec_len out.old) (vec_capacity out.old) → result ≢ Err ReadFault.Memory }
+    ensures room { HasRoom (octets_of (contents_view contents.now) index)
+        (vec_len out.old) (vec_capacity out.old)
+        → result ≢ Err ReadFault.Memory }
     ensures capacity { vec_capacity out.old ≤ vec_capacity out.new }
 {
     let len = out.len();
@@ -222,11 +254,7 @@ pub(crate) fn place_of(configured: &Configured, id: ObjectId) -> Option<usize>
     ensures place { result ≡ place_of configured.now (object_view id) }
     ensures within { IfSome result (λ place. place < length configured.now.objects) }
 {
-    configured
-        .objects
-        .as_slice()
-        .iter()
-        .position(|object| same(id, object.id()))
+    configured.objects.place_of(id)
 }
 
 fn find(configured: &Configured, id: ObjectId) -> Option<ObjectType>
@@ -241,27 +269,28 @@ fn find(configured: &Configured, id: ObjectId) -> Option<ObjectType>
     }
 }
 
+fn name(configured: &Configured, id: ObjectId) -> Option<&Text>
+    ensures { option_copied result ≡ name_at configured.now (object_view id) }
+{
+    if same(id, configured.device_id()) {
+        return Some(&configured.device.name);
+    }
+    match place_of(configured, id) {
+        Some(place) => Some(&configured.objects.as_slice()[place].name),
+        None => None,
+    }
+}
+
 fn find_name(configured: &Configured, name: &[u8]) -> Option<ObjectId>
     ensures { option_map (λ id. object_view id) result ≡ named configured.now name.now }
 {
     if name == configured.device.name.as_str().as_bytes() {
         return Some(configured.device_id());
     }
-    match value_object_named(configured.objects.as_slice(), name) {
-        Some(object) => Some(object.id()),
+    match configured.objects.place_named(name) {
+        Some(place) => Some(configured.objects.as_slice()[place].id()),
         None => None,
     }
-}
-
-fn value_object_named<'a>(
-    objects: &'a [ConfiguredObject],
-    name: &[u8],
-) -> Option<&'a ConfiguredObject>
-    ensures { option_copied result ≡ find (λ object. is_name name.now object.name) objects.now }
-{
-    objects
-        .iter()
-        .find(|object| name == object.name.as_str().as_bytes())
 }
 
 /// A value object with its slots.
@@ -271,7 +300,8 @@ fn object<'a>(
     id: ObjectId,
 ) -> Result<(&'a ConfiguredObject, &'a PriorityArray<PropertyValue>), ReadFault>
     requires { length states.now ≡ length configured.now.objects }
-    ensures { Gives (λ x. (x.0.now, x.1.now)) result (object_at (record { configured = configured.now; states = states.now }) (object_view id)) }
+    ensures { Gives (λ x. (x.0.now, x.1.now)) result
+        (object_at (database_with configured.now states.now) (object_view id)) }
 {
     match place_of(configured, id) {
         Some(place) => Ok((&configured.objects.as_slice()[place], &states[place])),
@@ -297,7 +327,8 @@ fn contents<'a>(
     property: u32,
 ) -> Result<Contents<'a>, ReadFault>
     requires { length states.now ≡ length configured.now.objects }
-    ensures { Gives (λ x. contents_view x) result (contents_of (record { configured = configured.now; states = states.now }) (object_view id) property) }
+    ensures { Gives (λ x. contents_view x) result
+        (contents_of (database_with configured.now states.now) (object_view id) property) }
 {
     if same(id, configured.device_id()) {
         let property = known(ObjectType::Device, property)?;

@@ -30,7 +30,8 @@ pub enum WriteFault {
     /// 2: the object has no such property.
     #[error("unknown property")]
     UnknownProperty,
-    /// 3: the property can't be written: only Present_Value and Relinquish_Default can (our own rule).
+    /// 3: the property can't be written: only Present_Value and Relinquish_Default can (our own
+    /// rule).
     #[error("property can't be written")]
     NotWritable,
     /// 4: an index was given, and the property is no array.

@@ -7,6 +7,7 @@ mod contents;
 mod copying;
 mod database;
 mod fault;
+mod index;
 mod property;
 mod table;
 mod value;

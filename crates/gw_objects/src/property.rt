@@ -4,7 +4,7 @@ ghost use Rattle.gw_objects.specs.Property.{properties, property_number, propert
 ghost use Rattle.gw_objects.specs.internal.Part.{part};
 
 /// The types of objects that a device of this gateway has, each with its number (clause 21).
-#[derive(Clone, Copy, Debug, PartialEq, Eq)]
+#[derive(Clone, Copy, PartialEq, Eq)]
 pub enum ObjectType {
     /// Binary Value (clause 12.8).
     BinaryValue = 5,
@@ -31,7 +31,7 @@ impl ObjectType {
 }
 
 /// The properties that objects of these types have, each with its number (clause 21).
-#[derive(Clone, Copy, Debug, PartialEq, Eq)]
+#[derive(Clone, Copy)]
 pub enum Property {
     /// Active_Text.
     ActiveText = 4,
@@ -109,7 +109,7 @@ impl Property {
 }
 
 /// A set of the properties of a type (clause 15.7.3.1.2).
-#[derive(Clone, Copy, Debug, PartialEq, Eq)]
+#[derive(Clone, Copy)]
 pub enum PropertySet {
     /// ALL: the required ones, then the optional ones.
     All,

@@ -3,7 +3,7 @@
 use gw_policy_text::Text;
 
 /// A value of Present_Value and Relinquish_Default, by the type of its object.
-#[derive(Debug, Drop)]
+#[derive(Drop)]
 pub enum PropertyValue {
     /// Of a Binary Value: whether it is active (clause 12.8).
     Binary(bool),

@@ -1,11 +1,14 @@
 //! Writes of Present_Value and Relinquish_Default (clauses 15.9 and 19.2).
-ghost use Rattle.std.specs.Prelude.{◌≡◌, ◌≢◌, ◌<◌, ◌==◌, ◌&&◌, nat_le, nat_lt, if◌then◌else◌, length, Ok, Err, IfOk, IfSome, IsFalse};
+ghost use Rattle.std.specs.Prelude.{◌≡◌, ◌≢◌, ◌<◌, length, Err, IfOk, IfSome, IsFalse};
 ghost use Rattle.gw_addr.specs.Reading.{Gives};
 ghost use Rattle.gw_priority.specs.Commandable.{IsPriority};
 ghost use Rattle.gw_tags.specs.Object.{object_view};
 ghost use Rattle.gw_tags.specs.Reading.{value_at};
 ghost use Rattle.gw_tags.specs.Value.{value_view};
-ghost use Rattle.gw_objects.specs.Write.{CanAct, Decides, act_for, act_of, device_write, is_reserved, is_writable, object_write, present_act, property_for, text_in, value_for, whole, write_of};
+ghost use Rattle.gw_objects.specs.Write.{CanAct, Decides, act_for, act_of, binary_value};
+ghost use Rattle.gw_objects.specs.Write.{device_write, is_reserved, is_writable, object_write};
+ghost use Rattle.gw_objects.specs.Write.{present_act, property_for, state_value, text_in};
+ghost use Rattle.gw_objects.specs.Write.{value_for, whole, write_of};
 ghost use Rattle.gw_objects.specs.internal.Act.{act_view};
 
 use crate::database::{place_of, same};
@@ -24,7 +27,7 @@ const MAX_TEXT: usize = 255;
 
 /// A write that [`check`](crate::ObjectDb::check) found without a fault, for
 /// [`put`](crate::ObjectDb::put). Contracts see the place of its object and what it does there.
-#[derive(Debug, Drop)]
+#[derive(Drop)]
 pub struct Put {
     place: usize,
     act: Act,
@@ -42,7 +45,7 @@ impl Model for Put {
 }
 
 /// What a write does.
-#[derive(Debug, Drop)]
+#[derive(Drop)]
 pub(crate) enum Act {
     /// Puts a value into the slot of a priority.
     Command(u8, PropertyValue),
@@ -75,7 +78,8 @@ pub(crate) fn check(
     value: &[u8],
 ) -> Result<Put, WriteFault>
     requires { IsPriority priority }
-    ensures write { Decides (λ put. put) result (write_of configured.now (object_view id) property index priority value.now) }
+    ensures write { Decides (λ put. put) result
+        (write_of configured.now (object_view id) property index priority value.now) }
     ensures place { IfOk result (λ put. put.place < length configured.now.objects) }
 {
     if same(id, configured.device_id()) {
@@ -99,7 +103,8 @@ fn object_write(
     value: &[u8],
 ) -> Result<Put, WriteFault>
     requires { IsPriority priority }
-    ensures write { Decides (λ put. put) result (object_write place object.now property index priority value.now) }
+    ensures write { Decides (λ put. put) result
+        (object_write place object.now property index priority value.now) }
     ensures place { IfOk result (λ put. put.place ≡ place) }
 {
     match object_act(alloc, object, property, index, priority, value) {
@@ -128,7 +133,8 @@ fn object_act(
     value: &[u8],
 ) -> Result<Act, WriteFault>
     requires { IsPriority priority }
-    ensures act { Decides (λ act. act_view act) result (act_of object.now property index priority value.now) }
+    ensures act { Decides (λ act. act_view act) result
+        (act_of object.now property index priority value.now) }
     ensures can { IfOk result (λ act. CanAct (act_view act)) }
 {
     let property = match property_for(object.details.object_type(), property, index, priority) {
@@ -206,7 +212,8 @@ fn act_for(
 ) -> Result<Act, WriteFault>
     requires priority { IsPriority priority }
     requires reserved { IsFalse (is_reserved property priority) }
-    ensures act { Decides (λ act. act_view act) result (act_for details.now property priority (value_view value.now)) }
+    ensures act { Decides (λ act. act_view act) result
+        (act_for details.now property priority (value_view value.now)) }
     ensures can { IfOk result (λ act. CanAct (act_view act)) }
 {
     match property {
@@ -228,7 +235,8 @@ fn present_act(
 ) -> Result<Act, WriteFault>
     requires priority { IsPriority priority }
     requires reserved { priority ≢ RESERVED }
-    ensures act { Decides (λ act. act_view act) result (present_act details.now priority (value_view value.now)) }
+    ensures act { Decides (λ act. act_view act) result
+        (present_act details.now priority (value_view value.now)) }
     ensures can { IfOk result (λ act. CanAct (act_view act)) }
 {
     if let AppValue::Null = value {
@@ -265,7 +273,7 @@ fn value_for(
 }
 
 fn binary(number: u32) -> Result<PropertyValue, WriteFault>
-    ensures { result ≡ (if nat_lt number 2 then Ok (PropertyValue.Binary (number == 1)) else Err WriteFault.OutOfRange) }
+    ensures { result ≡ binary_value number }
 {
     if number < 2 {
         Ok(PropertyValue::Binary(number == 1))
@@ -275,7 +283,7 @@ fn binary(number: u32) -> Result<PropertyValue, WriteFault>
 }
 
 fn state(count: u32, number: u32) -> Result<PropertyValue, WriteFault>
-    ensures { result ≡ (if nat_le 1 number && nat_le number count then Ok (PropertyValue.State number) else Err WriteFault.OutOfRange) }
+    ensures { result ≡ state_value count number }
 {
     if 1 <= number && number <= count {
         Ok(PropertyValue::State(number))

@@ -1,5 +1,6 @@
 //! Writing what a property holds.
-ghost use Rattle.std.specs.Prelude.{◌≡◌, ◌≢◌, ◌↔◌, ◌++◌, ◌+◌, ◌<◌, ◌≤◌, Some, Err, length, vec_len, slice_get, option_map, IsOk, OnOk, OnErr};
+ghost use Rattle.std.specs.Prelude.{◌≡◌, ◌≢◌, ◌↔◌, ◌++◌, ◌+◌, ◌<◌, ◌≤◌, Some, Err, length};
+ghost use Rattle.std.specs.Prelude.{vec_len, slice_get, option_map, IsOk, OnOk, OnErr};
 ghost use Rattle.std.specs.List.{flat_map};
 ghost use Rattle.std.specs.Vec.{vec_capacity};
 ghost use Rattle.gw_addr.specs.Reading.{Keeps};
@@ -28,9 +29,11 @@ const STATUS: [u8; 1] = [0x00];
 
 /// Appends a text.
 fn write_text(out: &mut Vec<u8>, text: &Text) -> Result<(), AllocError>
-    ensures ok { OnOk result (out.new.items ≡ out.old.items ++ value_encoding (table.text text.now)) }
+    ensures ok { OnOk result
+        (out.new.items ≡ out.old.items ++ value_encoding (table.text text.now)) }
     ensures err { OnErr result (out.new.items ≡ out.old.items) }
-    ensures room { vec_len out.old + length (value_encoding (table.text text.now)) ≤ vec_capacity out.old → IsOk result }
+    ensures room { vec_len out.old + length (value_encoding (table.text text.now))
+        ≤ vec_capacity out.old → IsOk result }
     ensures capacity { vec_capacity out.old ≤ vec_capacity out.new }
 {
     let octets = text.as_str().as_bytes();
@@ -59,9 +62,11 @@ fn bit_string(flags: Flags) -> BitString<'static>
 
 /// Appends a value. After an `Err` the buffer holds what it held.
 fn write_item(out: &mut Vec<u8>, item: Item<'_>) -> Result<(), AllocError>
-    ensures ok { OnOk result (out.new.items ≡ out.old.items ++ value_encoding (item_view item.entry)) }
+    ensures ok { OnOk result
+        (out.new.items ≡ out.old.items ++ value_encoding (item_view item.entry)) }
     ensures err { OnErr result (out.new.items ≡ out.old.items) }
-    ensures room { vec_len out.old + length (value_encoding (item_view item.entry)) ≤ vec_capacity out.old → IsOk result }
+    ensures room { vec_len out.old + length (value_encoding (item_view item.entry))
+        ≤ vec_capacity out.old → IsOk result }
     ensures capacity { vec_capacity out.old ≤ vec_capacity out.new }
 {
     match item {
@@ -105,7 +110,8 @@ fn element<'a>(array: &Array<'a>, place: usize) -> Item<'a>
 /// An object of Object_List.
 fn listed<'a>(device: ObjectId, objects: &'a ValueObjects, place: usize) -> Item<'a>
     requires { place < length (array_view (Array.Objects device objects)) }
-    ensures { slice_get (array_view (Array.Objects device objects.entry)) place ≡ Some (item_view result) }
+    ensures { slice_get (array_view (Array.Objects device objects.entry)) place
+        ≡ Some (item_view result) }
 {
     if place == 0 {
         Item::Object(device)
@@ -135,9 +141,12 @@ fn state_text<'a>(texts: &'a States, place: usize) -> Item<'a>
 
 /// Appends the elements one after the other. After an `Err` a front of them may stand there.
 fn write_array(out: &mut Vec<u8>, array: &Array<'_>) -> Result<(), AllocError>
-    ensures ok { OnOk result (out.new.items ≡ out.old.items ++ flat_map value_encoding (array_view array.now)) }
+    ensures ok { OnOk result
+        (out.new.items ≡ out.old.items ++ flat_map value_encoding (array_view array.now)) }
     ensures front { Keeps out.old.items out.new.items }
-    ensures room { vec_len out.old + length (flat_map value_encoding (array_view array.now)) ≤ vec_capacity out.old → IsOk result }
+    ensures room { vec_len out.old + length (flat_map value_encoding (array_view array.now))
+        ≤ vec_capacity out.old
+        → IsOk result }
     ensures capacity { vec_capacity out.old ≤ vec_capacity out.new }
 {
     for place in 0..array.len() {
@@ -156,9 +165,12 @@ pub(crate) fn write_contents(
     contents: &Contents<'_>,
     index: Option<u32>,
 ) -> Result<(), ReadFault>
-    ensures answer { Answers result (octets_of (contents_view contents.now) index) out.old.items out.new.items }
+    ensures answer { Answers result (octets_of (contents_view contents.now) index)
+        out.old.items out.new.items }
     ensures front { Keeps out.old.items out.new.items }
-    ensures room { HasRoom (octets_of (contents_view contents.now) index) (vec_len out.old) (vec_capacity out.old) → result ≢ Err ReadFault.Memory }
+    ensures room { HasRoom (octets_of (contents_view contents.now) index)
+        (vec_len out.old) (vec_capacity out.old)
+        → result ≢ Err ReadFault.Memory }
     ensures capacity { vec_capacity out.old ≤ vec_capacity out.new }
 {
     match (contents, index) {
@@ -184,9 +196,13 @@ fn or_memory(written: Result<(), AllocError>) -> Result<(), ReadFault>
 
 /// Appends the element of that index, counted from 1; index 0 is how many there are.
 fn write_element(out: &mut Vec<u8>, array: &Array<'_>, index: u32) -> Result<(), ReadFault>
-    ensures answer { Answers result (octets_of (contents.array (array_view array.now)) (Some index)) out.old.items out.new.items }
+    ensures answer { Answers result
+        (octets_of (contents.array (array_view array.now)) (Some index))
+        out.old.items out.new.items }
     ensures front { Keeps out.old.items out.new.items }
-    ensures room { HasRoom (octets_of (contents.array (array_view array.now)) (Some index)) (vec_len out.old) (vec_capacity out.old) → result ≢ Err ReadFault.Memory }
+    ensures room { HasRoom (octets_of (contents.array (array_view array.now)) (Some index))
+        (vec_len out.old) (vec_capacity out.old)
+        → result ≢ Err ReadFault.Memory }
     ensures capacity { vec_capacity out.old ≤ vec_capacity out.new }
 {
     match indexed(array, index) {
@@ -198,7 +214,8 @@ fn write_element(out: &mut Vec<u8>, array: &Array<'_>, index: u32) -> Result<(),
 /// The element of that index, counted from 1, or how many there are at index 0; `None` where the
 /// index is above that.
 fn indexed<'a>(array: &Array<'a>, index: u32) -> Option<Item<'a>>
-    ensures { option_map (λ item. item_view item) result ≡ contents.element (array_view array.now) index }
+    ensures { option_map (λ item. item_view item) result
+        ≡ contents.element (array_view array.now) index }
 {
     if index == 0 {
         return Some(Item::Unsigned(array.len() as u32));

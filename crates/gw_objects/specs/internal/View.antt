@@ -11,7 +11,8 @@ use Rattle.gw_objects.specs.declared.contents.Array.TheVariants as arrays
 use Rattle.gw_objects.specs.declared.contents.Contents.{Contents as CodeContents}
 use Rattle.gw_objects.specs.declared.contents.Contents.TheVariants as code
 use Rattle.gw_objects.specs.Contents.{Contents, one, array, empty_list}
-use Rattle.gw_objects.specs.Objects.{object_id_of}
+use Rattle.gw_objects.specs.declared.configured.Configured.{Configured}
+use Rattle.gw_objects.specs.Objects.{Database, Slots, object_id_of}
 use Rattle.gw_objects.specs.Table.{text, slot_value, bits, services, object_types}
 
 abbrev pub flags_view : Flags → Value
@@ -30,7 +31,8 @@ item_view (items.Bits set) = flags_view set
 item_view (items.Object id) = object_id (object_view id)
 
 abbrev pub array_view : Array → List Value
-array_view (arrays.Objects device objects) = map object_id (object_view device ∷ map object_id_of objects.now)
+array_view (arrays.Objects device objects) =
+    map object_id (object_view device ∷ map object_id_of objects.now)
 array_view (arrays.Slots property) = map slot_value property.now.slots
 array_view (arrays.Texts texts) = map text texts.now
 
@@ -38,3 +40,7 @@ abbrev pub contents_view : CodeContents → Contents
 contents_view (code.One item) = one (item_view item)
 contents_view (code.Array elements) = array (array_view elements)
 contents_view code.EmptyList = empty_list
+
+-- what is configured, and the slots and the default of each value object
+abbrev pub database_with : Configured → List Slots → Database
+database_with configured states = record { configured = configured; states = states }

@@ -1,0 +1,4 @@
+pub mod Found
+pub mod Unread
+pub mod Speaks
+pub mod Counting

@@ -1,0 +1,12 @@
+pub mod Services
+pub mod Errors
+pub mod Response
+pub mod Asks
+pub mod Read
+pub mod Write
+pub mod Multi
+pub mod WhoIs
+pub mod WhoHas
+pub mod Device
+pub mod Laws
+pub mod Count

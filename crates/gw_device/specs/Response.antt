@@ -1,0 +1,76 @@
+-- What the device does about an APDU: what it asks of the policy, what it answers, what it changes.
+use Rattle.std.specs.Prelude.{◌≡◌, ◌<◌, ℕ, IfSome, Bool, true, false, ◌&&◌, nat_le, if◌then◌else◌, List, [], length, Option, Some, None}
+use Rattle.std.specs.Option.{option_map}
+use Rattle.gw_apdu.specs.declared.header.ConfirmedRequest.{ConfirmedRequest}
+use Rattle.gw_apdu.specs.Apdu.{max_apdu_len}
+use Rattle.gw_apdu.specs.Answers.{abort}
+use Rattle.gw_apdu.specs.Reasons.{segmentation_not_supported}
+use Rattle.gw_objects.specs.Objects.{Database}
+use Rattle.gw_objects.specs.Write.{Write}
+use Rattle.gw_rules.specs.declared.rule.Rule.{Rule}
+use Rattle.gw_rules.specs.Ask.{Ask}
+use Rattle.gw_rules.specs.Authorizer.{denied_of}
+use Rattle.gw_device.specs.declared.context.Context.{Context}
+use Rattle.gw_device.specs.declared.reply.Answer.{Answer as RustAnswer}
+use Rattle.gw_device.specs.declared.reply.Reply.{Reply}
+
+-- an APDU, and whether it goes to everyone on the requester's network
+pub record Answer : Type 0 where
+  pub apdu : List ℕ
+  pub broadcast : Bool
+
+-- an answer of the code
+abbrev pub answer_view : RustAnswer → Answer
+answer_view a = record { apdu = a.apdu.items; broadcast = a.broadcast }
+
+-- the asks in their order, the answer if there is one, and the write that is made if there is one
+pub record Response : Type 0 where
+  pub asks : List Ask
+  pub answer : Option Answer
+  pub change : Option Write
+
+-- A reply of the code has this answer, the asks that the rules deny, in order, and this change.
+pub record IsReply (rules : List Rule) (due : Response) (reply : Reply) : Type 0 where
+  pub answer : option_map answer_view reply.answer ≡ due.answer
+  pub refusals : reply.refusals ≡ denied_of rules due.asks
+  pub change : reply.change ≡ due.change
+
+-- a change, if there is one, is of one of the value objects
+abbrev pub HasPlace : Database → Option Write → Type 0
+HasPlace d change = IfSome change (λ write. write.place < length d.configured.objects)
+
+-- nothing is asked, answered or changed
+abbrev pub silence : Response
+silence = record { asks = []; answer = None; change = None }
+
+-- these asks, and perhaps an answer; nothing is changed
+abbrev pub unchanged : List Ask → Option Answer → Response
+unchanged asks answer = record { asks = asks; answer = answer; change = None }
+
+-- an answer to the client alone
+abbrev pub to_client : List ℕ → Option Answer
+to_client apdu = Some (record { apdu = apdu; broadcast = false })
+
+-- an answer to everyone on its network
+abbrev pub to_everyone : List ℕ → Option Answer
+to_everyone apdu = Some (record { apdu = apdu; broadcast = true })
+
+-- an answer to everyone, where there is something to tell
+abbrev pub told : Option (List ℕ) → Option Answer
+told None = None
+told (Some apdu) = to_everyone apdu
+
+-- a request that is turned down before anything is asked
+abbrev pub turned_down : List ℕ → Response
+turned_down apdu = unchanged [] (to_client apdu)
+
+-- the octets of a ComplexACK fit the client, and what carries them
+abbrev pub fits : ConfirmedRequest → Context → List ℕ → Bool
+fits request context ack =
+    nat_le (length ack) (max_apdu_len request.max_apdu) && nat_le (length ack) context.room
+
+-- A ComplexACK that is too long would have to be segmented: an Abort stands in its place
+-- (clause 5.4.5.3).
+abbrev pub fitted : ConfirmedRequest → Context → List ℕ → List ℕ
+fitted request context ack =
+    if fits request context ack then ack else abort request.invoke segmentation_not_supported

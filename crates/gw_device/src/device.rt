@@ -1,0 +1,193 @@
+//! The device, and what it answers.
+
+ghost use Rattle.std.specs.Prelude.{◌≡◌, ◌<◌, ◌∷◌, [], List, None, length, IfOk, IsOk};
+ghost use Rattle.std.specs.Option.{option_map};
+ghost use Rattle.gw_objects.specs.declared.value.PropertyValue.{PropertyValue};
+ghost use Rattle.gw_objects.specs.History.{IsStateAfter, with_write};
+ghost use Rattle.gw_objects.specs.Objects.{database_of, defaults_of};
+ghost use Rattle.gw_objects.specs.Write.{Write};
+ghost use Rattle.gw_rules.specs.declared.rule.Rule.{Rule};
+ghost use Rattle.gw_rules.specs.Authorizer.{denied_of};
+ghost use Rattle.gw_services.specs.Read.{read_view};
+ghost use Rattle.gw_services.specs.WhoHas.{who_has_view};
+ghost use Rattle.gw_services.specs.WhoIs.{who_is_view};
+ghost use Rattle.gw_services.specs.Write.{write_view};
+ghost use Rattle.gw_device.specs.Device.{device_answer, device_asks, device_change, device_response};
+ghost use Rattle.gw_device.specs.Read.{read_response};
+ghost use Rattle.gw_device.specs.Response.{HasPlace, IsReply, answer_view};
+ghost use Rattle.gw_device.specs.WhoHas.{who_has_response};
+ghost use Rattle.gw_device.specs.WhoIs.{who_is_response};
+ghost use Rattle.gw_device.specs.Write.{write_response};
+
+use crate::{Change, Context, Reply, count, dispatch, read, who_has, who_is, write};
+use gw_apdu::ConfirmedRequest;
+use gw_objects::{Configured, ObjectDb};
+use gw_policy_text::Config;
+use gw_rules::Judge;
+use gw_services::{ReadReq, WhoHas, WhoIs, WriteReq};
+use std::alloc::{AllocError, Global};
+use std::marker::Model;
+
+/// The gateway's own device: its Device object and its value objects. Contracts see what is
+/// configured of them, and the slots and the default of each value object.
+#[derive(Drop)]
+pub struct Device {
+    objects: ObjectDb,
+}
+
+impl Model for Device {
+    ghost use Rattle.gw_objects.specs.Objects.{Database};
+
+    ghost Value = { Database };
+
+    ghost view = { λ d. d.objects };
+}
+
+impl Device {
+    /// The device of a configuration, each value object with its default and no command. The only
+    /// fault is want of memory.
+    pub fn new(alloc: Global, config: &Config) -> Result<Self, AllocError>
+        ensures objects { IfOk result (λ device. device ≡ database_of config.now) }
+        ensures stands { IfOk result (λ device.
+            IsStateAfter (defaults_of config.now) [] device.states) }
+    {
+        Ok(Device {
+            objects: ObjectDb::from_config(alloc, config)?,
+        })
+    }
+
+    /// What is configured of the device and its objects.
+    pub fn configured(&self) -> &Configured
+        ensures { result.now ≡ self.now.configured }
+    {
+        self.objects.configured()
+    }
+
+    /// What the device gives to an APDU: the answer if there is one, what the policy denied, and
+    /// the change that is granted, if there is one. Nothing is changed.
+    ///
+    /// # Errors
+    ///
+    /// 1 Memory.
+    pub fn answer<J: Judge>(
+        &self,
+        alloc: Global,
+        judge: &J,
+        context: &Context,
+        apdu: &[u8],
+    ) -> Result<Reply, AllocError>
+        ensures answer { (rules : List Rule) → J.StandsFor judge.now rules → IfOk result (λ reply.
+            option_map answer_view reply.answer
+            ≡ device_answer rules self.now context.now apdu.now) }
+        ensures refusals { (rules : List Rule) → J.StandsFor judge.now rules → IfOk result (λ reply.
+            reply.refusals ≡ denied_of rules (device_asks rules self.now context.now apdu.now)) }
+        ensures change { (rules : List Rule) → J.StandsFor judge.now rules → IfOk result (λ reply.
+            reply.change ≡ device_change rules self.now context.now apdu.now) }
+        ensures place { IfOk result (λ reply. HasPlace self.now reply.change) }
+        // What is neither asked about nor answered needs no memory.
+        ensures silent { (rules : List Rule) →
+            device_asks rules self.now context.now apdu.now ≡ [] →
+            device_answer rules self.now context.now apdu.now ≡ None → IsOk result }
+    {
+        dispatch::answer(alloc, &self.objects, judge, context, apdu)
+    }
+
+    /// How many of the asks for an APDU the policy denies. It takes no memory.
+    pub fn count_denied<J: Judge>(&self, judge: &J, context: &Context, apdu: &[u8]) -> u64
+        ensures count { (rules : List Rule) → J.StandsFor judge.now rules →
+            result ≡ length (denied_of rules (device_asks rules self.now context.now apdu.now)) }
+    {
+        count::count_denied(&self.objects, judge, context, apdu)
+    }
+
+    /// What the device gives to a ReadProperty (clause 15.5), whose header says which client it is
+    /// and what that takes.
+    ///
+    /// # Errors
+    ///
+    /// 1 Memory.
+    pub fn read<J: Judge>(
+        &self,
+        alloc: Global,
+        judge: &J,
+        context: &Context,
+        header: &ConfirmedRequest,
+        request: &ReadReq,
+    ) -> Result<Reply, AllocError>
+        ensures reply { (rules : List Rule) → J.StandsFor judge.now rules →
+            let read = read_view request.now in
+            IfOk result (IsReply rules (read_response rules self.now context.now header.now read)) }
+    {
+        read::read(alloc, &self.objects, judge, context, header, request)
+    }
+
+    /// What the device gives to a WriteProperty (clause 15.9) with this invoke id.
+    ///
+    /// # Errors
+    ///
+    /// 1 Memory.
+    pub fn write<J: Judge>(
+        &self,
+        alloc: Global,
+        judge: &J,
+        context: &Context,
+        invoke: u8,
+        request: &WriteReq<'_>,
+    ) -> Result<Reply, AllocError>
+        ensures reply { (rules : List Rule) → J.StandsFor judge.now rules →
+            let write = write_view request.now in
+            IfOk result (IsReply rules (write_response rules self.now context.now invoke write)) }
+        ensures place { IfOk result (λ reply. HasPlace self.now reply.change) }
+    {
+        write::write(alloc, &self.objects, judge, context, invoke, request)
+    }
+
+    /// What the device gives to a Who-Is (clause 16.10).
+    ///
+    /// # Errors
+    ///
+    /// 1 Memory.
+    pub fn who_is<J: Judge>(
+        &self,
+        alloc: Global,
+        judge: &J,
+        context: &Context,
+        request: &WhoIs,
+    ) -> Result<Reply, AllocError>
+        ensures reply { (rules : List Rule) → J.StandsFor judge.now rules →
+            let request = who_is_view request.now in
+            IfOk result (IsReply rules (who_is_response rules self.now context.now request)) }
+    {
+        who_is::who_is(alloc, &self.objects, judge, context, request)
+    }
+
+    /// What the device gives to a Who-Has (clause 16.9).
+    ///
+    /// # Errors
+    ///
+    /// 1 Memory.
+    pub fn who_has<J: Judge>(
+        &self,
+        alloc: Global,
+        judge: &J,
+        context: &Context,
+        request: &WhoHas<'_>,
+    ) -> Result<Reply, AllocError>
+        ensures reply { (rules : List Rule) → J.StandsFor judge.now rules →
+            let request = who_has_view request.now in
+            IfOk result (IsReply rules (who_has_response rules self.now context.now request)) }
+    {
+        who_has::who_has(alloc, &self.objects, judge, context, request)
+    }
+
+    /// Makes a change that this device granted (clause 19.2). It takes no memory.
+    pub fn commit(&mut self, change: Change)
+        requires { change.place < length self.old.configured.objects }
+        ensures change { self.new ≡ with_write change self.old }
+        ensures stands { (starts : List PropertyValue) (history : List Write) →
+            IsStateAfter starts history self.old.states →
+            IsStateAfter starts (change ∷ history) self.new.states }
+    {
+        self.objects.put(change.into_put());
+    }
+}

@@ -1,0 +1,23 @@
+//! The gateway's own device: what it answers to an APDU, under a policy that is asked before any
+//! look-up (ISO 16484-5, clauses 12, 15, 16 and 20).
+#![tactic(auto)]
+
+mod ask;
+mod context;
+mod count;
+mod device;
+mod dispatch;
+mod error;
+pub mod laws;
+mod multi;
+mod read;
+mod reply;
+mod services;
+mod short;
+mod who_has;
+mod who_is;
+mod write;
+
+pub use context::Context;
+pub use device::Device;
+pub use reply::{Answer, Change, Reply};

@@ -1,0 +1,352 @@
+//! ReadPropertyMultiple (clause 15.7): the answer is written while it is judged, each error in its
+//! place.
+
+ghost use Rattle.std.specs.Prelude.{◌≡◌, ◌++◌, List, ℕ, map, None, IfOk, OnOk};
+ghost use Rattle.gw_rules.specs.declared.rule.Rule.{Rule};
+ghost use Rattle.gw_rules.specs.Authorizer.{denied_of};
+ghost use Rattle.gw_objects.specs.Objects.{type_at};
+ghost use Rattle.gw_objects.specs.Table.{read_of};
+ghost use Rattle.gw_services.specs.Multi.{head_part, list_ends, multi_view, reference_view, tail_part};
+ghost use Rattle.gw_tags.specs.Object.{object_view};
+ghost use Rattle.gw_device.specs.Multi.{item, members_part, multi_ask, multi_part, multi_response, named_part, properties_part, property_part, reference_part, set_part};
+ghost use Rattle.gw_device.specs.Read.{or_error, read_value};
+ghost use Rattle.gw_device.specs.Response.{IsReply};
+ghost use Rattle.gw_device.specs.Services.{set_of};
+
+use crate::ask::{named_object, property_ask};
+use crate::error::{READ_DENIED, UNKNOWN_OBJECT, read_error};
+use crate::services::{READ_PROPERTY_MULTIPLE, set_of};
+use crate::short::{fit, most_octets};
+use crate::{Answer, Context, Reply};
+use gw_apdu::{ConfirmedRequest, write_complex};
+use gw_objects::{ObjectDb, Property, PropertySet, properties};
+use gw_rules::{Ask, Authorizer, Judge, Operation, Service};
+use gw_services::{
+    MultiReq, Reference, write_error_item, write_object_head, write_object_tail,
+    write_value_item_head, write_value_item_tail,
+};
+use gw_tags::ObjectId;
+use std::alloc::{AllocError, Global};
+
+/// The ask for a property.
+pub(crate) fn multi_ask(
+    objects: &ObjectDb,
+    context: &Context,
+    object: ObjectId,
+    property: u32,
+) -> Ask
+    ensures { result ≡ multi_ask objects.now context.now (object_view object) property }
+{
+    property_ask(
+        Operation::Read,
+        Service::Confirmed(READ_PROPERTY_MULTIPLE),
+        objects.configured(),
+        context,
+        object,
+        property,
+    )
+}
+
+/// Appends the item of a property that is allowed: its value, or the error in its place.
+fn put_item(
+    objects: &ObjectDb,
+    object: ObjectId,
+    property: u32,
+    index: Option<u32>,
+    out: &mut Vec<u8>,
+) -> Result<(), AllocError>
+    ensures { let found = read_of objects.now (object_view object) property index in
+        OnOk result (out.new.items ≡ out.old.items ++ item property index (or_error found)) }
+{
+    let len = out.len();
+    write_value_item_head(out, property, index)?;
+    match objects.read(object, property, index, out) {
+        Ok(()) => write_value_item_tail(out),
+        Err(fault) => {
+            let why = read_error(fault)?;
+            out.truncate(len);
+            write_error_item(out, property, index, why)
+        }
+    }
+}
+
+/// Asks for a property, and appends its item.
+fn put_property<J: Judge>(
+    objects: &ObjectDb,
+    authorizer: &mut Authorizer<'_, J>,
+    context: &Context,
+    object: ObjectId,
+    property: u32,
+    index: Option<u32>,
+    out: &mut Vec<u8>,
+) -> Result<(), AllocError>
+    ensures octets { (rules : List Rule) → J.StandsFor authorizer.old.judge rules →
+        let object = object_view object in
+        let part = property_part rules objects.now context.now object property index in
+        OnOk result (out.new.items ≡ out.old.items ++ part.octets) }
+    ensures denied { (rules : List Rule) → J.StandsFor authorizer.old.judge rules →
+        let object = object_view object in
+        let part = property_part rules objects.now context.now object property index in
+        OnOk result (authorizer.new.denied
+        ≡ authorizer.old.denied ++ denied_of rules part.asks) }
+    ensures judge { authorizer.new.judge ≡ authorizer.old.judge }
+{
+    let ask = multi_ask(objects, context, object, property);
+    if authorizer.authorize(&ask)? {
+        put_item(objects, object, property, index, out)
+    } else {
+        write_error_item(out, property, index, READ_DENIED)
+    }
+}
+
+/// Asks for properties in their order, and appends their items.
+fn put_properties<J: Judge>(
+    objects: &ObjectDb,
+    authorizer: &mut Authorizer<'_, J>,
+    context: &Context,
+    object: ObjectId,
+    properties: &[Property],
+    out: &mut Vec<u8>,
+) -> Result<(), AllocError>
+    ensures octets { (rules : List Rule) → J.StandsFor authorizer.old.judge rules →
+        let object = object_view object in
+        let part = properties_part rules objects.now context.now object properties.now in
+        OnOk result (out.new.items ≡ out.old.items ++ part.octets) }
+    ensures denied { (rules : List Rule) → J.StandsFor authorizer.old.judge rules →
+        let object = object_view object in
+        let part = properties_part rules objects.now context.now object properties.now in
+        OnOk result (authorizer.new.denied
+        ≡ authorizer.old.denied ++ denied_of rules part.asks) }
+    ensures judge { authorizer.new.judge ≡ authorizer.old.judge }
+{
+    let Some((first, others)) = properties.split_first() else {
+        return Ok(());
+    };
+    put_property(
+        objects,
+        authorizer,
+        context,
+        object,
+        first.number(),
+        None,
+        out,
+    )?;
+    put_properties(objects, authorizer, context, object, others, out)
+}
+
+/// Appends the items of a set that is allowed.
+fn put_members<J: Judge>(
+    objects: &ObjectDb,
+    authorizer: &mut Authorizer<'_, J>,
+    context: &Context,
+    object: ObjectId,
+    property: u32,
+    set: PropertySet,
+    out: &mut Vec<u8>,
+) -> Result<(), AllocError>
+    ensures octets { (rules : List Rule) → J.StandsFor authorizer.old.judge rules →
+        let object = object_view object in
+        let kind = type_at objects.now.configured object in
+        let part = members_part rules objects.now context.now object property set kind in
+        OnOk result (out.new.items ≡ out.old.items ++ part.octets) }
+    ensures denied { (rules : List Rule) → J.StandsFor authorizer.old.judge rules →
+        let object = object_view object in
+        let kind = type_at objects.now.configured object in
+        let part = members_part rules objects.now context.now object property set kind in
+        OnOk result (authorizer.new.denied
+        ≡ authorizer.old.denied ++ denied_of rules part.asks) }
+    ensures judge { authorizer.new.judge ≡ authorizer.old.judge }
+{
+    match objects.find(object) {
+        Some(kind) => put_properties(
+            objects,
+            authorizer,
+            context,
+            object,
+            properties(kind, set),
+            out,
+        ),
+        None => write_error_item(out, property, None, UNKNOWN_OBJECT),
+    }
+}
+
+/// Asks for a set of properties, and appends its items.
+fn put_set<J: Judge>(
+    objects: &ObjectDb,
+    authorizer: &mut Authorizer<'_, J>,
+    context: &Context,
+    object: ObjectId,
+    property: u32,
+    set: PropertySet,
+    out: &mut Vec<u8>,
+) -> Result<(), AllocError>
+    ensures octets { (rules : List Rule) → J.StandsFor authorizer.old.judge rules →
+        let object = object_view object in
+        let part = set_part rules objects.now context.now object property set in
+        OnOk result (out.new.items ≡ out.old.items ++ part.octets) }
+    ensures denied { (rules : List Rule) → J.StandsFor authorizer.old.judge rules →
+        let object = object_view object in
+        let part = set_part rules objects.now context.now object property set in
+        OnOk result (authorizer.new.denied
+        ≡ authorizer.old.denied ++ denied_of rules part.asks) }
+    ensures judge { authorizer.new.judge ≡ authorizer.old.judge }
+{
+    let ask = multi_ask(objects, context, object, property);
+    if authorizer.authorize(&ask)? {
+        put_members(objects, authorizer, context, object, property, set, out)
+    } else {
+        write_error_item(out, property, None, READ_DENIED)
+    }
+}
+
+/// Appends the items of a property or a set of them.
+fn put_named<J: Judge>(
+    objects: &ObjectDb,
+    authorizer: &mut Authorizer<'_, J>,
+    context: &Context,
+    object: ObjectId,
+    property: u32,
+    index: Option<u32>,
+    out: &mut Vec<u8>,
+) -> Result<(), AllocError>
+    ensures octets { (rules : List Rule) → J.StandsFor authorizer.old.judge rules →
+        let object = object_view object in
+        let set = set_of property in
+        let part = named_part rules objects.now context.now object property index set in
+        OnOk result (out.new.items ≡ out.old.items ++ part.octets) }
+    ensures denied { (rules : List Rule) → J.StandsFor authorizer.old.judge rules →
+        let object = object_view object in
+        let set = set_of property in
+        let part = named_part rules objects.now context.now object property index set in
+        OnOk result (authorizer.new.denied
+        ≡ authorizer.old.denied ++ denied_of rules part.asks) }
+    ensures judge { authorizer.new.judge ≡ authorizer.old.judge }
+{
+    match set_of(property) {
+        Some(set) => put_set(objects, authorizer, context, object, property, set, out),
+        None => put_property(objects, authorizer, context, object, property, index, out),
+    }
+}
+
+/// Appends the head of an object's list, where it begins.
+fn put_head(out: &mut Vec<u8>, begins: bool, object: ObjectId) -> Result<(), AllocError>
+    ensures { OnOk result (out.new.items ≡ out.old.items ++ head_part begins (object_view object)) }
+{
+    if begins {
+        write_object_head(out, object)?;
+    }
+    Ok(())
+}
+
+/// Appends the tail of an object's list, where it ends.
+fn put_tail(out: &mut Vec<u8>, ends: bool) -> Result<(), AllocError>
+    ensures { OnOk result (out.new.items ≡ out.old.items ++ tail_part ends) }
+{
+    if ends {
+        write_object_tail(out)?;
+    }
+    Ok(())
+}
+
+/// Appends what a reference asks for; the list of its object ends with it, or goes on.
+fn put_reference<J: Judge>(
+    objects: &ObjectDb,
+    authorizer: &mut Authorizer<'_, J>,
+    context: &Context,
+    reference: &Reference,
+    ends: bool,
+    out: &mut Vec<u8>,
+) -> Result<(), AllocError>
+    ensures octets { (rules : List Rule) → J.StandsFor authorizer.old.judge rules →
+        let part = reference_part rules objects.now context.now (reference_view reference.now)
+        ends in
+        OnOk result (out.new.items ≡ out.old.items ++ part.octets) }
+    ensures denied { (rules : List Rule) → J.StandsFor authorizer.old.judge rules →
+        let part = reference_part rules objects.now context.now (reference_view reference.now)
+        ends in
+        OnOk result (authorizer.new.denied
+        ≡ authorizer.old.denied ++ denied_of rules part.asks) }
+    ensures judge { authorizer.new.judge ≡ authorizer.old.judge }
+{
+    let object = named_object(objects.configured(), reference.object);
+    put_head(out, reference.begins, object)?;
+    put_named(
+        objects,
+        authorizer,
+        context,
+        object,
+        reference.property,
+        reference.index,
+        out,
+    )?;
+    put_tail(out, ends)
+}
+
+/// Whether an object's list ends before these.
+fn list_ends(references: &[Reference]) -> bool
+    ensures { result ≡ list_ends (map reference_view references.now) }
+{
+    match references {
+        [] => true,
+        [first, ..] => first.begins,
+    }
+}
+
+/// Appends what references ask for, in their order.
+fn put_references<J: Judge>(
+    objects: &ObjectDb,
+    authorizer: &mut Authorizer<'_, J>,
+    context: &Context,
+    references: &[Reference],
+    out: &mut Vec<u8>,
+) -> Result<(), AllocError>
+    ensures octets { (rules : List Rule) → J.StandsFor authorizer.old.judge rules →
+        let part = multi_part rules objects.now context.now (map reference_view references.now) in
+        OnOk result (out.new.items ≡ out.old.items ++ part.octets) }
+    ensures denied { (rules : List Rule) → J.StandsFor authorizer.old.judge rules →
+        let part = multi_part rules objects.now context.now (map reference_view references.now) in
+        OnOk result (authorizer.new.denied
+        ≡ authorizer.old.denied ++ denied_of rules part.asks) }
+    ensures judge { authorizer.new.judge ≡ authorizer.old.judge }
+{
+    let Some((first, others)) = references.split_first() else {
+        return Ok(());
+    };
+    put_reference(objects, authorizer, context, first, list_ends(others), out)?;
+    put_references(objects, authorizer, context, others, out)
+}
+
+/// What the device gives to a ReadPropertyMultiple.
+pub(crate) fn read_multiple<J: Judge>(
+    alloc: Global,
+    objects: &ObjectDb,
+    judge: &J,
+    context: &Context,
+    header: &ConfirmedRequest,
+    request: &MultiReq,
+) -> Result<Reply, AllocError>
+    ensures reply { (rules : List Rule) → J.StandsFor judge.now rules →
+        let references = multi_view request.now in IfOk result
+        (IsReply rules (multi_response rules objects.now context.now header.now references)) }
+    ensures place { IfOk result (λ reply. reply.change ≡ None) }
+{
+    let mut authorizer = Authorizer::new(alloc, judge);
+    let mut apdu = Vec::with_capacity(alloc, most_octets(header, context))?;
+    write_complex(&mut apdu, header.invoke, READ_PROPERTY_MULTIPLE)?;
+    put_references(
+        objects,
+        &mut authorizer,
+        context,
+        request.references.as_slice(),
+        &mut apdu,
+    )?;
+    fit(&mut apdu, header, context)?;
+    Ok(Reply {
+        answer: Some(Answer {
+            apdu,
+            broadcast: false,
+        }),
+        refusals: authorizer.into_refusals(),
+        change: None,
+    })
+}

@@ -1,0 +1,128 @@
+//! ReadProperty (clause 15.5).
+
+ghost use Rattle.std.specs.Prelude.{None, ◌≡◌, ◌++◌, ◌∷◌, [], List, IfOk, OnOk};
+ghost use Rattle.gw_rules.specs.declared.rule.Rule.{Rule};
+ghost use Rattle.gw_rules.specs.Authorizer.{denied_of};
+ghost use Rattle.gw_services.specs.Read.{read_view};
+ghost use Rattle.gw_objects.specs.Table.{read_of};
+ghost use Rattle.gw_tags.specs.Object.{object_view};
+ghost use Rattle.gw_device.specs.Read.{named_read, or_error, plain_read_response, read_ack, read_answer, read_ask, read_response, read_value};
+ghost use Rattle.gw_device.specs.Response.{IsReply};
+
+use crate::ask::{named_object, property_ask};
+use crate::error::{READ_DENIED, read_error};
+use crate::services::READ_PROPERTY;
+use crate::short::{error, fit, most_octets};
+use crate::{Answer, Context, Reply};
+use gw_apdu::{ConfirmedRequest, write_complex, write_error};
+use gw_objects::ObjectDb;
+use gw_rules::{Ask, Authorizer, Judge, Operation, Service};
+use gw_services::{ReadReq, write_read_answer_head, write_read_answer_tail};
+use std::alloc::{AllocError, Global};
+
+/// The ask that a request raises.
+pub(crate) fn read_ask(objects: &ObjectDb, context: &Context, request: &ReadReq) -> Ask
+    ensures { result ≡ read_ask objects.now context.now (read_view request.now) }
+{
+    property_ask(
+        Operation::Read,
+        Service::Confirmed(READ_PROPERTY),
+        objects.configured(),
+        context,
+        request.object,
+        request.property,
+    )
+}
+
+/// The request by the device's real instance.
+pub(crate) fn named_read(objects: &ObjectDb, request: &ReadReq) -> ReadReq
+    ensures { read_view result ≡ named_read objects.now (read_view request.now) }
+{
+    ReadReq {
+        object: named_object(objects.configured(), request.object),
+        property: request.property,
+        index: request.index,
+    }
+}
+
+/// The answer to a read that is allowed.
+fn value_apdu(
+    alloc: Global,
+    objects: &ObjectDb,
+    context: &Context,
+    header: &ConfirmedRequest,
+    request: &ReadReq,
+) -> Result<Vec<u8>, AllocError>
+    ensures { let read = read_view request.now in IfOk result (λ apdu. apdu.items
+        ≡ read_answer header.now context.now read
+        (or_error (read_of objects.now read.object read.property read.index))) }
+{
+    let mut apdu = Vec::with_capacity(alloc, most_octets(header, context))?;
+    write_complex(&mut apdu, header.invoke, READ_PROPERTY)?;
+    write_read_answer_head(&mut apdu, request)?;
+    match objects.read(request.object, request.property, request.index, &mut apdu) {
+        Ok(()) => {
+            write_read_answer_tail(&mut apdu)?;
+            fit(&mut apdu, header, context)?;
+        }
+        Err(fault) => {
+            let why = read_error(fault)?;
+            apdu.clear();
+            write_error(&mut apdu, header.invoke, READ_PROPERTY, why)?;
+        }
+    }
+    Ok(apdu)
+}
+
+/// The answer to a read: the policy is asked before any look-up.
+fn read_apdu<J: Judge>(
+    alloc: Global,
+    objects: &ObjectDb,
+    authorizer: &mut Authorizer<'_, J>,
+    context: &Context,
+    header: &ConfirmedRequest,
+    request: &ReadReq,
+) -> Result<Vec<u8>, AllocError>
+    ensures apdu { (rules : List Rule) → J.StandsFor authorizer.old.judge rules →
+        let read = read_view request.now in
+        let ask = read_ask objects.now context.now read in
+        let value = read_value rules objects.now ask read.object read.property read.index in
+        IfOk result (λ apdu. apdu.items ≡ read_answer header.now context.now read value) }
+    ensures denied { (rules : List Rule) → J.StandsFor authorizer.old.judge rules →
+        let ask = read_ask objects.now context.now (read_view request.now) in
+        OnOk result (authorizer.new.denied ≡ authorizer.old.denied ++ denied_of rules (ask ∷ [])) }
+{
+    let ask = read_ask(objects, context, request);
+    if authorizer.authorize(&ask)? {
+        value_apdu(alloc, objects, context, header, request)
+    } else {
+        error(alloc, header.invoke, READ_PROPERTY, READ_DENIED)
+    }
+}
+
+/// What the device gives to a ReadProperty.
+pub(crate) fn read<J: Judge>(
+    alloc: Global,
+    objects: &ObjectDb,
+    judge: &J,
+    context: &Context,
+    header: &ConfirmedRequest,
+    request: &ReadReq,
+) -> Result<Reply, AllocError>
+    ensures reply { (rules : List Rule) → J.StandsFor judge.now rules →
+        let read = read_view request.now in IfOk result
+        (IsReply rules (read_response rules objects.now context.now header.now read)) }
+    ensures place { IfOk result (λ reply. reply.change ≡ None) }
+{
+    let mut authorizer = Authorizer::new(alloc, judge);
+    let request = named_read(objects, request);
+    let apdu = read_apdu(alloc, objects, &mut authorizer, context, header, &request)?;
+    Ok(Reply {
+        answer: Some(Answer {
+            apdu,
+            broadcast: false,
+        }),
+        refusals: authorizer.into_refusals(),
+        change: None,
+    })
+}
