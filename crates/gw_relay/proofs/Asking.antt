@@ -1,0 +1,196 @@
+-- One ask, and what follows from its answer.
+use Rattle.std.proofs.Common.{◌≡◌, ◌∙◌, sym, ap, refl, ℕ, Bool, true, false, ◌&&◌, not, List, [], ◌∷◌, map, length, nat_le, Option, Some, None}
+use Rattle.std.specs.Prelude.{if◌then◌else◌}
+use Rattle.std.specs.List.{list_all}
+use Rattle.gw_addr.specs.declared.bip.BipAddr.{BipAddr}
+use Rattle.gw_bvll.specs.Bvll.{encoding}
+use Rattle.gw_bvll.specs.Bvll.{Message as Frame}
+use Rattle.gw_bvll.specs.Bvll as bvll
+use Rattle.gw_npdu.specs.Npdu.{Fields}
+use Rattle.gw_rules.specs.Ask.{Ask}
+use Rattle.gw_rules.specs.RuleList.{allows}
+use Rattle.gw_rules.specs.declared.operation.Operation.{Operation}
+use Rattle.gw_rules.specs.declared.rule.Rule.{Rule}
+use Rattle.gw_relay.specs.Asks.{link_ask, link_asks, management_of}
+use Rattle.gw_relay.specs.Cast.{cast_ask, cast_asks, cast_sends, is_broadcast, is_heard, is_strange, passed_on, targets}
+use Rattle.gw_relay.specs.Link.{answer_to, change_of, is_granted, link_answer, link_change, link_grants, refused, told}
+use Rattle.gw_relay.specs.Sends.{max_message, sendings, sent}
+use Rattle.gw_relay.specs.internal.Serving.{judged, served, served_change}
+use Rattle.gw_relay.specs.declared.port.Link.{Link}
+use Rattle.gw_relay.specs.declared.change.Change.{Change}
+
+and-true : (b : Bool) → (b && true) ≡ b
+and-true true = refl
+and-true false = refl
+
+-- a list of one ask is allowed where that is
+allowed_one : (rules : List Rule) (ask : Ask) → list_all (allows rules) (ask ∷ []) ≡ allows rules ask
+allowed_one rules ask = and-true (allows rules ask)
+
+-- ---- tables
+
+-- the asks of a frame that manages a table are one
+pub link_asked : (link : Link) (from : BipAddr) (frame : Frame) (op : Operation) → management_of frame ≡ Some op
+    → link_asks link.port from frame ≡ link_ask link.port from frame op ∷ []
+link_asked link from frame op managed = rw managed refl
+
+grants_so : (rules : List Rule) (link : Link) (from : BipAddr) (frame : Frame) (op : Operation) (b : Bool) → management_of frame ≡ Some op
+    → b ≡ allows rules (link_ask link.port from frame op) → link_grants rules link from frame ≡ (b && is_granted link from frame)
+grants_so rules link from frame op b managed judges =
+    ap (λ (asks : List Ask). list_all (allows rules) asks && is_granted link from frame) (link_asked link from frame op managed)
+    ∙ ap (λ (a : Bool). a && is_granted link from frame) (allowed_one rules (link_ask link.port from frame op) ∙ sym judges)
+
+pub link_served : (rules : List Rule) (link : Link) (from : BipAddr) (frame : Frame) (op : Operation) (b : Bool)
+    → management_of frame ≡ Some op
+    → b ≡ allows rules (link_ask link.port from frame op) → link_answer rules link from frame ≡ served link from frame b
+unfolding link_answer
+link_served rules link from frame op b managed judges =
+    ap (λ (g : Bool). map (answer_to link.port from) (if g then told link frame else refused frame))
+    (grants_so rules link from frame op b managed judges)
+
+pub link_changed : (rules : List Rule) (link : Link) (from : BipAddr) (frame : Frame) (op : Operation) (b : Bool)
+    → management_of frame ≡ Some op
+    → b ≡ allows rules (link_ask link.port from frame op) → link_change rules link from frame ≡ served_change link from frame b
+unfolding link_change
+link_changed rules link from frame op b managed judges =
+    let none : Option Change = None in
+    ap (λ (g : Bool). if g then change_of link.port from frame else none) (grants_so rules link from frame op b managed judges)
+
+-- a frame that manages no table has no answer, no ask and no change
+pub unmanaged_answer : (rules : List Rule) (link : Link) (from : BipAddr) (frame : Frame) → management_of frame ≡ None
+    → link_answer rules link from frame ≡ []
+unfolding link_answer
+unmanaged_answer rules link from (bvll.result_code code) e = refl
+unmanaged_answer rules link from (bvll.write_bdt entries) e = cc
+unmanaged_answer rules link from bvll.read_bdt e = cc
+unmanaged_answer rules link from (bvll.read_bdt_ack entries) e = refl
+unmanaged_answer rules link from (bvll.forwarded originator npdu) e = refl
+unmanaged_answer rules link from (bvll.register time_to_live) e = cc
+unmanaged_answer rules link from bvll.read_fdt e = cc
+unmanaged_answer rules link from (bvll.read_fdt_ack entries) e = refl
+unmanaged_answer rules link from (bvll.delete address) e = cc
+unmanaged_answer rules link from (bvll.distribute npdu) e = refl
+unmanaged_answer rules link from (bvll.original_unicast npdu) e = refl
+unmanaged_answer rules link from (bvll.original_broadcast npdu) e = refl
+
+pub unmanaged_change : (rules : List Rule) (link : Link) (from : BipAddr) (frame : Frame) → management_of frame ≡ None
+    → link_change rules link from frame ≡ None
+unfolding link_change
+unmanaged_change rules link from (bvll.result_code code) e = refl
+unmanaged_change rules link from (bvll.write_bdt entries) e = cc
+unmanaged_change rules link from bvll.read_bdt e = cc
+unmanaged_change rules link from (bvll.read_bdt_ack entries) e = refl
+unmanaged_change rules link from (bvll.forwarded originator npdu) e = refl
+unmanaged_change rules link from (bvll.register time_to_live) e = cc
+unmanaged_change rules link from bvll.read_fdt e = cc
+unmanaged_change rules link from (bvll.read_fdt_ack entries) e = refl
+unmanaged_change rules link from (bvll.delete address) e = cc
+unmanaged_change rules link from (bvll.distribute npdu) e = refl
+unmanaged_change rules link from (bvll.original_unicast npdu) e = refl
+unmanaged_change rules link from (bvll.original_broadcast npdu) e = refl
+
+-- a frame that asks nothing changes nothing
+unasked_by : (rules : List Rule) (link : Link) (from : BipAddr) (frame : Frame) (op : Option Operation) → management_of frame ≡ op
+    → link_asks link.port from frame ≡ [] → link_change rules link from frame ≡ None
+unasked_by rules link from frame None is none = unmanaged_change rules link from frame is
+unasked_by rules link from frame (Some op) is none =
+    let one : link_ask link.port from frame op ∷ [] ≡ [] = sym (link_asked link from frame op is) ∙ none in
+    absurd cc
+
+pub unasked_change : (rules : List Rule) (link : Link) (from : BipAddr) (frame : Frame) → link_asks link.port from frame ≡ []
+    → link_change rules link from frame ≡ None
+unasked_change rules link from frame none = unasked_by rules link from frame (management_of frame) refl none
+
+pub unmanaged_asks : (link : Link) (from : BipAddr) (frame : Frame) → management_of frame ≡ None → link_asks link.port from frame ≡ []
+unmanaged_asks link from frame e = rw e refl
+
+-- ---- broadcasts
+
+-- a message to nobody isn't sent
+none_if : (b : Bool) (port : ℕ) (octets : List ℕ) → (if b then sendings port [] octets else []) ≡ []
+none_if true port octets = refl
+none_if false port octets = refl
+
+pub sent_nowhere : (port : ℕ) (message : Frame) → sent port [] message ≡ []
+sent_nowhere port message = none_if (nat_le (length (encoding message)) max_message) port (encoding message)
+
+-- a broadcast that is heard, and no stranger's, asks once
+pub cast_asked : (link : Link) (from : BipAddr) (frame : Frame) (npdu : Fields) → is_heard link from frame ≡ true
+    → is_strange link from frame ≡ false
+    → is_broadcast frame ≡ true → cast_asks link from frame npdu ≡ cast_ask link from frame npdu ∷ []
+unfolding cast_asks
+cast_asked link from frame npdu h s b = rw (h, s, b) refl
+
+-- a frame that is not heard, or a stranger's, asks nothing
+pub unheard_asks : (link : Link) (from : BipAddr) (frame : Frame) (npdu : Fields) → is_heard link from frame ≡ false
+    → cast_asks link from frame npdu ≡ []
+unfolding cast_asks
+unheard_asks link from frame npdu h = rw h refl
+
+pub strange_asks : (link : Link) (from : BipAddr) (frame : Frame) (npdu : Fields) → is_heard link from frame ≡ true
+    → is_strange link from frame ≡ true → cast_asks link from frame npdu ≡ []
+unfolding cast_asks
+strange_asks link from frame npdu h s = rw (h, s) refl
+
+pub quiet_asks : (link : Link) (from : BipAddr) (frame : Frame) (npdu : Fields) → is_heard link from frame ≡ true
+    → is_strange link from frame ≡ false
+    → is_broadcast frame ≡ false → cast_asks link from frame npdu ≡ []
+unfolding cast_asks
+quiet_asks link from frame npdu h s b = rw (h, s, b) refl
+
+-- the sends of each
+pub unheard_sends : (rules : List Rule) (link : Link) (from : BipAddr) (frame : Frame) (npdu : Fields) → is_heard link from frame ≡ false
+    → cast_sends rules link from frame npdu ≡ []
+unfolding cast_sends
+unheard_sends rules link from frame npdu h = rw h refl
+
+pub strange_sends : (rules : List Rule) (link : Link) (from : BipAddr) (frame : Frame) (npdu : Fields) → is_heard link from frame ≡ true
+    → is_strange link from frame ≡ true
+    → cast_sends rules link from frame npdu ≡ map (answer_to link.port from) (refused frame)
+unfolding cast_sends
+strange_sends rules link from frame npdu h s = rw (h, s) refl
+
+by_answer : (b : Bool) (link : Link) (from : BipAddr) (frame : Frame)
+    → (if not b then map (answer_to link.port from) (refused frame) else sent link.port.number (targets link from frame)
+    (passed_on from frame)) ≡ judged link from frame b
+by_answer true link from frame = refl
+by_answer false link from frame = refl
+
+pub cast_judged : (rules : List Rule) (link : Link) (from : BipAddr) (frame : Frame) (npdu : Fields) (b : Bool)
+    → is_heard link from frame ≡ true → is_strange link from frame ≡ false
+    → is_broadcast frame ≡ true → b ≡ allows rules (cast_ask link from frame npdu)
+    → cast_sends rules link from frame npdu ≡ judged link from frame b
+unfolding cast_sends
+cast_judged rules link from frame npdu b h s broadcast judges =
+    rw (h, s, cast_asked link from frame npdu h s broadcast, allowed_one rules (cast_ask link from frame npdu), ← judges)
+    (by_answer b link from frame)
+
+-- a frame that is no broadcast goes to nobody
+no_targets : (link : Link) (from : BipAddr) (frame : Frame) → is_broadcast frame ≡ false → targets link from frame ≡ []
+no_targets link from (bvll.result_code code) e = refl
+no_targets link from (bvll.write_bdt entries) e = refl
+no_targets link from bvll.read_bdt e = refl
+no_targets link from (bvll.read_bdt_ack entries) e = refl
+no_targets link from (bvll.forwarded originator npdu) e = cc
+no_targets link from (bvll.register time_to_live) e = refl
+no_targets link from bvll.read_fdt e = refl
+no_targets link from (bvll.read_fdt_ack entries) e = refl
+no_targets link from (bvll.delete address) e = refl
+no_targets link from (bvll.distribute npdu) e = cc
+no_targets link from (bvll.original_unicast npdu) e = refl
+no_targets link from (bvll.original_broadcast npdu) e = cc
+
+pub quiet_sends : (rules : List Rule) (link : Link) (from : BipAddr) (frame : Frame) (npdu : Fields) → is_heard link from frame ≡ true
+    → is_strange link from frame ≡ false
+    → is_broadcast frame ≡ false → cast_sends rules link from frame npdu ≡ []
+unfolding cast_sends
+quiet_sends rules link from frame npdu h s b =
+    rw (h, s, quiet_asks link from frame npdu h s b, no_targets link from frame b) (sent_nowhere link.port.number (passed_on from frame))
+
+-- so it isn't silent
+pub cast_loud : (link : Link) (from : BipAddr) (frame : Frame) (npdu : Fields) → is_heard link from frame ≡ true
+    → is_strange link from frame ≡ false
+    → is_broadcast frame ≡ true → cast_asks link from frame npdu ≡ [] → ⊥
+cast_loud link from frame npdu h s b none =
+    let both : cast_ask link from frame npdu ∷ [] ≡ [] = sym (cast_asked link from frame npdu h s b) ∙ none in
+    cc

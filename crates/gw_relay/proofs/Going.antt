@@ -1,0 +1,63 @@
+-- What is sent, asked and learned, where it is nothing or where it is one thing.
+use Rattle.std.proofs.Common.{◌≡◌, ◌∙◌, sym, ap, subst, refl, ℕ, List, [], ◌∷◌, map, Result}
+use Rattle.std.specs.Prelude.{Some, OnOk}
+use Rattle.std.specs.declared.alloc.AllocError.{AllocError}
+use Rattle.gw_addr.specs.declared.bip.BipAddr.{BipAddr}
+use Rattle.gw_npdu.specs.Npdu.{Destination, Fields}
+use Rattle.gw_routes.specs.History.{IsStateAfter, history_with, networks_learned}
+use Rattle.gw_routes.specs.History.{History as Learned}
+use Rattle.gw_routes.specs.History.{learned_after as learned_after_all}
+use Rattle.gw_routes.specs.Table.{Routed, Table, route_by, table_of}
+use Rattle.gw_routes.specs.declared.route.Way.{Way}
+use Rattle.gw_routes.specs.declared.route.Way.TheVariants.{Everywhere}
+use Rattle.gw_rules.specs.Ask.{Ask}
+use Rattle.gw_relay.specs.History.{learned_after}
+use Rattle.gw_relay.specs.Route.{copy, others, route_ask, steps_by}
+use Rattle.gw_relay.specs.Steps.{asks_of}
+use Rattle.gw_relay.specs.declared.change.Change.{Change}
+use Rattle.gw_relay.specs.declared.change.Change.TheVariants.{Learnings}
+use Rattle.gw_relay.specs.declared.port.Link.{Link}
+use Rattle.gw_relay.specs.internal.Counts.{copy_asks}
+
+-- each copy of a global broadcast is asked for
+pub each_copy_asks : (here : Link) (from : BipAddr) (npdu : Fields) (d : Destination) (links : List Link)
+    → asks_of (map (copy here from npdu d) links) ≡ [] → links ≡ []
+each_copy_asks here from npdu d [] none = refl
+each_copy_asks here from npdu d (link ∷ links) none = absurd cc
+
+-- what is asked for the copies
+pub copies_asked : (here : Link) (from : BipAddr) (npdu : Fields) (d : Destination) (links : List Link)
+    → asks_of (map (copy here from npdu d) links) ≡ map (λ link. route_ask here from npdu (Some link.port.network)) links
+copies_asked here from npdu d [] = refl
+copies_asked here from npdu d (link ∷ links) =
+    ap (λ (asks : List Ask). route_ask here from npdu (Some link.port.network) ∷ asks) (copies_asked here from npdu d links)
+
+pub everywhere_asks : (links : List Link) (here : Link) (from : BipAddr) (npdu : Fields) (d : Destination) (to : Way) → to ≡ Everywhere
+    → asks_of (steps_by links here from npdu d to) ≡ copy_asks here from npdu links
+everywhere_asks links here from npdu d to is =
+    ap (λ (w : Way). asks_of (steps_by links here from npdu d w)) is ∙ copies_asked here from npdu d (others here.port.number links)
+
+pub everywhere_silent : (links : List Link) (here : Link) (from : BipAddr) (npdu : Fields) (d : Destination) (to : Way) → to ≡ Everywhere
+    → asks_of (steps_by links here from npdu d to) ≡ [] → others here.port.number links ≡ []
+everywhere_silent links here from npdu d to is none =
+    each_copy_asks here from npdu d (others here.port.number links)
+    (sym (ap (λ (w : Way). asks_of (steps_by links here from npdu d w)) is) ∙ none)
+
+-- networks that are learned are more of the learnings
+pub learnings_made : (result : Result (Unit {0}) AllocError) (old new : Table) (change : Change) (port : ℕ) (next : BipAddr)
+    (networks nets : List ℕ)
+    → change ≡ Learnings port next networks → nets ≡ networks
+    → OnOk result ((direct : List ℕ) (configured : Routed) (h : Learned) → IsStateAfter old direct configured h
+    → IsStateAfter new direct configured (history_with old nets (route_by port next) h))
+    → OnOk result ((direct : List ℕ) (configured : Routed) (h : Learned) → IsStateAfter old direct configured h
+    → IsStateAfter new direct configured (learned_after change old h))
+learnings_made result old new change port next networks nets is same made =
+    subst (λ (x : Change). OnOk result ((direct : List ℕ) (configured : Routed) (h : Learned) → IsStateAfter old direct configured h
+    → IsStateAfter new direct configured (learned_after x old h))) (sym is)
+    (subst (λ (n : List ℕ). OnOk result ((direct : List ℕ) (configured : Routed) (h : Learned) → IsStateAfter old direct configured h
+    → IsStateAfter new direct configured (history_with old n (route_by port next) h))) same made)
+
+-- no network is learned before any event
+pub none_learned : (direct : List ℕ) (configured : Routed) → IsStateAfter (table_of direct configured []) direct configured []
+unfolding learned_after_all networks_learned
+none_learned direct configured = refl

@@ -1,0 +1,104 @@
+-- Histories of the ports' tables.
+use Rattle.std.proofs.Common.{◌≡◌, ◌∙◌, ap, ap₂, refl, ℕ, zero, suc, ◌+◌, ◌-◌, Bool, true, false, List, [], ◌∷◌, map}
+use Rattle.std.specs.Prelude.{◌==◌, if◌then◌else◌}
+use Rattle.gw_addr.specs.declared.bip.BipAddr.{BipAddr}
+use Rattle.gw_addr.specs.declared.entry.BdtEntry.{BdtEntry}
+use Rattle.gw_bdt_fdt.specs.History.{Act, Register, Delete, order_after, table_after, ticks_in}
+use Rattle.gw_bdt_fdt.specs.Registrations.{Registrations, contains, has_room, no_registration, with_registration, without}
+use Rattle.gw_bdt_fdt.proofs.Order.{table_deleted, table_later, table_registered}
+use Rattle.gw_relay.specs.History.{Acts, acts_after, acts_later, all_after, link_after, with_act}
+use Rattle.gw_relay.specs.Initial.{link_of}
+use Rattle.gw_relay.specs.Laws.{ChangesExtendHistories, ConfiguredLinksStand, TicksExtendHistories}
+use Rattle.gw_relay.specs.State.{changed_at, changed_of, deleted, link_later, links_after, registered}
+use Rattle.gw_relay.specs.declared.change.Change.{Change}
+use Rattle.gw_relay.specs.declared.change.Change.TheVariants.{Entries, Registration, Deletion, Learnings}
+use Rattle.gw_relay.specs.declared.port.Link.{Link}
+use Rattle.gw_relay.specs.declared.port.Port.{Port}
+
+-- a change of a link is one of its acts
+Agree : (Link → Link) → (Acts → Acts) → Type 0
+Agree f g = (port : Port) (acts : Acts) → f (link_after port acts) ≡ link_after port (g acts)
+
+at_agree : (f : Link → Link) (g : Acts → Acts) → Agree f g → (i : ℕ) (ports : List Port) (acts : List Acts)
+    → changed_at i f (all_after ports acts) ≡ all_after ports (changed_at i g acts)
+unfolding Agree
+at_agree f g agree i [] acts = refl
+at_agree f g agree i (port ∷ ports) [] = refl
+at_agree f g agree zero (port ∷ ports) (first ∷ acts) = ap (λ (link : Link). link ∷ all_after ports acts) (agree port first)
+at_agree f g agree (suc i) (port ∷ ports) (first ∷ acts) = ap (λ (links : List Link). link_after port first ∷ links)
+    (at_agree f g agree i ports acts)
+
+either_agree : (b : Bool) (ports : List Port) (acts more : List Acts) (links : List Link) → links ≡ all_after ports more
+    → (if b then all_after ports acts else links) ≡ all_after ports (if b then acts else more)
+either_agree true ports acts more links e = refl
+either_agree false ports acts more links e = e
+
+of_agree : (f : Link → Link) (g : Acts → Acts) → Agree f g → (number : ℕ) (ports : List Port) (acts : List Acts)
+    → changed_of number f (all_after ports acts) ≡ all_after ports (changed_of number g acts)
+of_agree f g agree number ports acts =
+    either_agree (number == 0) ports acts (changed_at (number - 1) g acts) (changed_at (number - 1) f (all_after ports acts))
+    (at_agree f g agree (number - 1) ports acts)
+
+-- a granted act
+either_act : (b : Bool) (port : Port) (acts : Acts) (act : Act) (t : Registrations) → t ≡ table_after (act ∷ acts.history)
+    → ◌≡◌ {A = Link} (record { port = port; bdt = acts.entries; fdt = if b then t else table_after acts.history })
+    (link_after port (with_act b act acts))
+either_act true port acts act t e = ap (λ (fdt : Registrations). record { port = port; bdt = acts.entries; fdt = fdt }) e
+either_act false port acts act t e = refl
+
+registered_agree : (address : BipAddr) (time_to_live : ℕ)
+    → Agree (λ link. record link { fdt = registered address time_to_live link.fdt })
+    (λ acts. with_act (has_room (table_after acts.history) address) (Register address time_to_live) acts)
+unfolding Agree
+registered_agree address time_to_live port acts =
+    either_act (has_room (table_after acts.history) address) port acts (Register address time_to_live)
+    (with_registration (table_after acts.history) address time_to_live) (table_registered acts.history address time_to_live)
+
+deleted_agree : (address : BipAddr)
+    → Agree (λ link. record link { fdt = deleted address link.fdt })
+    (λ acts. with_act (contains (table_after acts.history) address) (Delete address) acts)
+unfolding Agree
+deleted_agree address port acts =
+    either_act (contains (table_after acts.history) address) port acts (Delete address)
+    (without (table_after acts.history) address) (table_deleted acts.history address)
+
+entries_agree : (bdt : List BdtEntry) → Agree (λ link. record link { bdt = bdt }) (λ acts. record acts { entries = bdt })
+unfolding Agree
+entries_agree bdt port acts = refl
+
+change_extends : (change : Change) (ports : List Port) (acts : List Acts)
+    → links_after change (all_after ports acts) ≡ all_after ports (acts_after change acts)
+change_extends (Entries port bdt) ports acts = of_agree (λ link. record link { bdt = bdt }) (λ a. record a { entries = bdt })
+    (entries_agree bdt) port ports acts
+change_extends (Registration port address time_to_live) ports acts =
+    of_agree (λ link. record link { fdt = registered address time_to_live link.fdt })
+    (λ a. with_act (has_room (table_after a.history) address) (Register address time_to_live) a)
+    (registered_agree address time_to_live) port ports acts
+change_extends (Deletion port address) ports acts =
+    of_agree (λ link. record link { fdt = deleted address link.fdt })
+    (λ a. with_act (contains (table_after a.history) address) (Delete address) a) (deleted_agree address) port ports acts
+change_extends (Learnings port next networks) ports acts = refl
+
+pub changes_extend : ChangesExtendHistories
+changes_extend change links ports acts stand = ap (links_after change) stand ∙ change_extends change ports acts
+
+tick_extends : (ports : List Port) (acts : List Acts) → map link_later (all_after ports acts) ≡ all_after ports (map acts_later acts)
+tick_extends [] acts = refl
+tick_extends (port ∷ ports) [] = refl
+tick_extends (port ∷ ports) (first ∷ acts) =
+    ap₂ (λ (fdt : Registrations) (links : List Link). record { port = port; bdt = first.entries; fdt = fdt } ∷ links)
+    (table_later first.history) (tick_extends ports acts)
+
+pub ticks_extend : TicksExtendHistories
+ticks_extend links ports acts stand = ap (map link_later) stand ∙ tick_extends ports acts
+
+-- nobody is registered after no acts
+none_registered : no_registration ≡ table_after []
+unfolding table_after ticks_in order_after
+none_registered = refl
+
+pub configured_stand : ConfiguredLinksStand
+configured_stand number [] = refl
+configured_stand number (p ∷ ports) =
+    ap₂ (λ (fdt : Registrations) (links : List Link). record { port = (link_of number p).port; bdt = p.peers; fdt = fdt } ∷ links)
+    none_registered (configured_stand (number + 1) ports)

@@ -1,0 +1,11 @@
+pub mod Asking
+pub mod Places
+pub mod Lengths
+pub mod Configured
+pub mod Ticks
+pub mod Spreading
+pub mod Histories
+pub mod Left
+pub mod Peers
+pub mod Learning
+pub mod Going

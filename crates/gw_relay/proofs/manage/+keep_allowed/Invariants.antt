@@ -1,0 +1,5 @@
+use Rattle.std.proofs.Common.{length}
+use Rattle.gw_relay.proofs.manage.+keep_allowed.Given as goal
+
+abbrev pub decreases-keep_allowed : goal.decreases-keep_allowed
+decreases-keep_allowed g l = length l.octets.now

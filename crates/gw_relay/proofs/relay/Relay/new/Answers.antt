@@ -1,0 +1,21 @@
+use Rattle.std.proofs.Common.{◌∙◌, ap, map}
+use Rattle.gw_relay.specs.Initial.{direct_of, links_from, routed_of}
+use Rattle.gw_relay.proofs.Histories.{configured_stand}
+use Rattle.gw_relay.proofs.Going.{none_learned}
+use Rattle.gw_relay.proofs.Peers.{all_peers_once}
+use Rattle.gw_relay.proofs.Ticks.{initial_alike}
+use Rattle.gw_relay.proofs.relay.Relay.new.Goals as goal
+
+pub invariant_of-result : goal.invariant_of-result
+invariant_of-result c = rw c.in_ok-links.ensures (initial_alike 1 c.ports.result.now)
+
+pub returns-clause-stands : goal.returns-clause-stands
+returns-clause-stands c =
+    c.in_ok-links.ensures ∙ ap (links_from 1) c.ports.ensures.ports ∙ configured_stand 1 c.args.config.now.ports
+
+pub links_of-requires-clause-once : goal.links_of-requires-clause-once
+links_of-requires-clause-once c = rw c.ports.ensures.ports (all_peers_once c.args.config.now c.device-device.ensures.once)
+
+pub returns-clause-learnings : goal.returns-clause-learnings
+returns-clause-learnings c =
+    c.in_ok-routes.ensures ∙ none_learned (direct_of c.args.config.now) (map routed_of c.args.config.now.routes)

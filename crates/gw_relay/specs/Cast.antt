@@ -1,0 +1,131 @@
+-- Broadcasts, and whom they are distributed to (Annex J.4, J.5).
+use Rattle.std.specs.Prelude.{ℕ, Bool, true, false, not, ◌&&◌, ◌||◌, if◌then◌else◌, List, [], ◌∷◌, ◌++◌, length, filter, map, nat_eq, nat_le, slice_index}
+use Rattle.std.specs.Cmp.Lexicographic.{pointwise}
+use Rattle.std.specs.Int.{w8, bit_not}
+use Rattle.std.specs.Int.RustNames.{bit_or}
+use Rattle.std.specs.List.{list_all, list_any}
+use Rattle.std.specs.Map.{keys_of}
+use Rattle.gw_addr.specs.declared.bip.BipAddr.{BipAddr}
+use Rattle.gw_addr.specs.declared.entry.BdtEntry.{BdtEntry}
+use Rattle.gw_bdt_fdt.specs.Peers.{all_ones, is_of, own_mask, peers}
+use Rattle.gw_bdt_fdt.specs.Registrations.{contains, same}
+use Rattle.gw_bvll.specs.Bvll.{forwarded, distribute, original_broadcast}
+use Rattle.gw_bvll.specs.Bvll.{Message as Frame}
+use Rattle.gw_npdu.specs.Npdu.{Fields}
+use Rattle.gw_npdu.specs.Numbers.{max_len}
+use Rattle.gw_rules.specs.Ask.{Ask}
+use Rattle.gw_rules.specs.RuleList.{allows}
+use Rattle.gw_rules.specs.declared.operation.Operation.TheVariants.{Cast}
+use Rattle.gw_rules.specs.declared.rule.Rule.{Rule}
+use Rattle.gw_relay.specs.Asks.{bound_for, message_ask}
+use Rattle.gw_relay.specs.Claim.{claimed, link_source}
+use Rattle.gw_relay.specs.Link.{answer_to, refused}
+use Rattle.gw_relay.specs.Sends.{Sending, sent}
+use Rattle.gw_relay.specs.declared.port.Link.{Link}
+
+-- ---- whom a port's broadcasts go to
+
+-- an octet of an address, with the bits set that the mask leaves zero
+abbrev pub directed_octet : BdtEntry → ℕ → ℕ
+directed_octet entry place =
+    bit_or (slice_index entry.address.ip place) (bit_not w8 (slice_index entry.mask place))
+
+-- Where a broadcast goes for an entry of a table: to its address with every bit set that its mask
+-- leaves zero. So all ones reach the broadcast manager itself, and a subnet mask its subnet.
+abbrev pub directed : BdtEntry → BipAddr
+directed entry = record {
+  ip = directed_octet entry 0 ∷ directed_octet entry 1
+      ∷ directed_octet entry 2 ∷ directed_octet entry 3 ∷ [];
+  udp = entry.address.udp;
+}
+
+-- the peers, in the order of the table
+abbrev pub managers : Link → List BipAddr
+managers link = map directed (peers link.port.address link.bdt)
+
+-- the registered foreign devices, in their order
+abbrev pub devices : Link → List BipAddr
+devices link = keys_of link.fdt.rows
+
+-- the foreign devices but one
+abbrev pub devices_but : BipAddr → Link → List BipAddr
+devices_but address link = filter (λ device. not (same address device)) (devices link)
+
+-- The subnet itself, for a broadcast that a peer sent to the port alone. Where the own mask is
+-- another than all ones, the peer's directed broadcast has reached the subnet already.
+abbrev pub subnet : Link → List BipAddr
+subnet link =
+    if pointwise nat_eq (own_mask link.port.address link.bdt) all_ones
+    then link.port.broadcast ∷ [] else []
+
+-- ---- a broadcast that is distributed
+
+-- whom it goes to: nobody is left out but the sender of a Distribute-Broadcast-To-Network
+abbrev pub targets : Link → BipAddr → Frame → List BipAddr
+targets link from (original_broadcast npdu) = managers link ++ devices link
+targets link from (distribute npdu) = link.port.broadcast ∷ managers link ++ devices_but from link
+targets link from (forwarded originator npdu) = subnet link ++ devices link
+targets link from other = []
+
+-- what it goes on as: a Forwarded-NPDU that names its sender as the originator, or as it came
+abbrev pub passed_on : BipAddr → Frame → Frame
+passed_on from (original_broadcast npdu) = forwarded from npdu
+passed_on from (distribute npdu) = forwarded from npdu
+passed_on from other = other
+
+-- ---- whether it is distributed
+
+-- A Forwarded-NPDU is heard from a peer alone, and not where the port itself is its originator
+-- (ours). Any other frame is heard.
+abbrev pub is_heard : Link → BipAddr → Frame → Bool
+is_heard link from (forwarded originator npdu) =
+    not (same originator link.port.address)
+    && list_any (is_of from) (peers link.port.address link.bdt)
+is_heard link from other = true
+
+-- Distribute-Broadcast-To-Network is for registered foreign devices (Annex J.5).
+abbrev pub is_strange : Link → BipAddr → Frame → Bool
+is_strange link from (distribute npdu) = not (contains link.fdt from)
+is_strange link from other = false
+
+-- whether a frame goes on to the network layer
+abbrev pub goes_on : Link → BipAddr → Frame → Bool
+goes_on link from frame = is_heard link from frame && not (is_strange link from frame)
+
+-- the frames that are broadcasts
+abbrev pub is_broadcast : Frame → Bool
+is_broadcast (forwarded originator npdu) = true
+is_broadcast (distribute npdu) = true
+is_broadcast (original_broadcast npdu) = true
+is_broadcast other = false
+
+-- the ask of a broadcast
+abbrev pub cast_ask : Link → BipAddr → Frame → Fields → Ask
+cast_ask link from frame npdu =
+    let source = claimed link.port.network (link_source from frame) npdu in
+    message_ask Cast link.port.number source (bound_for npdu) npdu.payload
+
+unfoldable pub cast_asks : Link → BipAddr → Frame → Fields → List Ask
+cast_asks link from frame npdu =
+    if goes_on link from frame && is_broadcast frame then cast_ask link from frame npdu ∷ [] else []
+
+-- The sends of a broadcast: one message to all its targets where the policy allows it. A
+-- Distribute-Broadcast-To-Network of a stranger, or that is denied, is refused by its code.
+unfoldable pub cast_sends : List Rule → Link → BipAddr → Frame → Fields → List Sending
+cast_sends rules link from frame npdu =
+    if not (is_heard link from frame) then []
+    else if is_strange link from frame
+    || not (list_all (allows rules) (cast_asks link from frame npdu))
+    then map (answer_to link.port from) (refused frame)
+    else sent link.port.number (targets link from frame) (passed_on from frame)
+
+-- ---- a broadcast by the gateway
+
+-- The sends of a broadcast by the gateway on a port: on its subnet, and as a Forwarded-NPDU of its
+-- own to all peers and foreign devices. An NPDU of over 1497 octets isn't sent (ours).
+unfoldable pub spread : Link → List ℕ → List Sending
+spread link npdu =
+    if nat_le (length npdu) max_len
+    then sent link.port.number (link.port.broadcast ∷ []) (original_broadcast npdu)
+    ++ sent link.port.number (managers link ++ devices link) (forwarded link.port.address npdu)
+    else []

@@ -1,0 +1,13 @@
+pub mod Sends
+pub mod State
+pub mod Initial
+pub mod History
+pub mod Claim
+pub mod Asks
+pub mod Link
+pub mod Cast
+pub mod Steps
+pub mod Route
+pub mod Manage
+pub mod Laws
+pub mod internal

@@ -1,0 +1,67 @@
+-- The frames that read or change a table of their port, and the answer to each (Annex J.2.1 to
+-- J.2.9, J.4, J.5).
+use Rattle.std.specs.Prelude.{Bool, true, not, ◌&&◌, ◌||◌, if◌then◌else◌, List, [], ◌∷◌, map, Option, Some, None}
+use Rattle.std.specs.List.{list_all}
+use Rattle.std.specs.Option.{option_map_or}
+use Rattle.gw_addr.specs.declared.bip.BipAddr.{BipAddr}
+use Rattle.gw_bdt_fdt.specs.Peers.{are_too_many, has_twice}
+use Rattle.gw_bdt_fdt.specs.Registrations.{contains, has_room, shown}
+use Rattle.gw_bvll.specs.Bvll.{encoding, function_of, refusal, success}
+use Rattle.gw_bvll.specs.Bvll.{write_bdt, read_bdt, read_bdt_ack, register, read_fdt, read_fdt_ack, delete, result_code}
+use Rattle.gw_bvll.specs.Bvll.{Message as Frame}
+use Rattle.gw_rules.specs.RuleList.{allows}
+use Rattle.gw_rules.specs.declared.rule.Rule.{Rule}
+use Rattle.gw_relay.specs.Asks.{link_asks}
+use Rattle.gw_relay.specs.Sends.{Sending, sending}
+use Rattle.gw_relay.specs.declared.change.Change.{Change}
+use Rattle.gw_relay.specs.declared.change.Change.TheVariants.{Entries, Registration, Deletion}
+use Rattle.gw_relay.specs.declared.port.Link.{Link}
+use Rattle.gw_relay.specs.declared.port.Port.{Port}
+
+-- what a frame asks for can be had: a table of at most 64 entries with no address twice, room for a
+-- registration, a registration to delete
+abbrev pub is_granted : Link → BipAddr → Frame → Bool
+is_granted link from (write_bdt entries) = not (are_too_many entries || has_twice entries)
+is_granted link from (register time_to_live) = has_room link.fdt from
+is_granted link from (delete address) = contains link.fdt address
+is_granted link from other = true
+
+-- the answer where it is had: the table that is read, in its order, or success
+abbrev pub told : Link → Frame → List Frame
+told link (write_bdt entries) = result_code success ∷ []
+told link read_bdt = read_bdt_ack link.bdt ∷ []
+told link (register time_to_live) = result_code success ∷ []
+told link read_fdt = read_fdt_ack (map shown link.fdt.rows) ∷ []
+told link (delete address) = result_code success ∷ []
+told link other = []
+
+-- the answer where it isn't: the negative code of the function (Annex J.2.1), if it has one
+abbrev pub refused : Frame → List Frame
+refused frame = option_map_or (λ code. result_code code ∷ []) (refusal (function_of frame)) []
+
+-- what changes where it is had
+abbrev pub change_of : Port → BipAddr → Frame → Option Change
+change_of port from (write_bdt entries) = Some (Entries port.number entries)
+change_of port from (register time_to_live) = Some (Registration port.number from time_to_live)
+change_of port from (delete address) = Some (Deletion port.number address)
+change_of port from other = None
+
+-- it is had where the policy allows it and it can be had
+abbrev pub link_grants : List Rule → Link → BipAddr → Frame → Bool
+link_grants rules link from frame =
+    list_all (allows rules) (link_asks link.port from frame) && is_granted link from frame
+
+-- an answer, which goes to the sender
+abbrev pub answer_to : Port → BipAddr → Frame → Sending
+answer_to port from answer = sending port.number (encoding answer) from
+
+-- the answer to a frame that reads or changes a table
+unfoldable pub link_answer : List Rule → Link → BipAddr → Frame → List Sending
+link_answer rules link from frame =
+    map (answer_to link.port from)
+    (if link_grants rules link from frame then told link frame else refused frame)
+
+-- what it changes
+unfoldable pub link_change : List Rule → Link → BipAddr → Frame → Option Change
+link_change rules link from frame =
+    if link_grants rules link from frame then change_of link.port from frame else None

@@ -1,0 +1,98 @@
+-- What a relay keeps between two events: each port with its two tables, the routes, and the ticks.
+use Rattle.std.specs.Prelude.{ℕ, zero, suc, ◌+◌, ◌-◌, ◌==◌, Bool, true, false, if◌then◌else◌, List, [], ◌∷◌, map, slice_get, Option, Some, None}
+use Rattle.std.specs.Option.{option_map_or}
+use Rattle.gw_addr.specs.declared.bip.BipAddr.{BipAddr}
+use Rattle.gw_bdt_fdt.specs.Registrations.{Registrations, contains, has_room, with_registration, with_tick, without}
+use Rattle.gw_routes.specs.Table.{Table, route_by, with_each}
+use Rattle.gw_relay.specs.declared.change.Change.{Change}
+use Rattle.gw_relay.specs.declared.change.Change.TheVariants.{Entries, Registration, Deletion, Learnings}
+use Rattle.gw_relay.specs.declared.port.Link.{Link}
+
+pub record Relay : Type 0 where
+  pub links : List Link
+  pub routes : Table
+  pub ticks : ℕ
+
+-- the link of the port of a number, counted from 1
+abbrev pub link_at : List Link → ℕ → Option Link
+link_at links number = if number == 0 then None else slice_get links (number - 1)
+
+-- what the link of a port gives, and what there is where there is no such port
+abbrev pub at_port : {A : Type 0} → A → (Link → A) → List Link → ℕ → A
+at_port none given links number = option_map_or given (link_at links number) none
+
+-- ---- as it changes
+
+-- an address registers: where there is no room for it nothing changes
+abbrev pub registered : BipAddr → ℕ → Registrations → Registrations
+registered address time_to_live t =
+    if has_room t address then with_registration t address time_to_live else t
+
+-- an address is deleted: where it isn't registered nothing changes
+abbrev pub deleted : BipAddr → Registrations → Registrations
+deleted address t = if contains t address then without t address else t
+
+-- a list with the item at a place changed, if it is there
+abbrev pub changed_at : {A : Type 0} → ℕ → (A → A) → List A → List A
+changed_at place change [] = []
+changed_at zero change (x ∷ xs) = change x ∷ xs
+changed_at (suc place) change (x ∷ xs) = x ∷ changed_at place change xs
+
+-- a list with the item of a number changed, counted from 1
+abbrev pub changed_of : {A : Type 0} → ℕ → (A → A) → List A → List A
+changed_of number change xs = if number == 0 then xs else changed_at (number - 1) change xs
+
+-- the links once a change is made
+abbrev pub links_after : Change → List Link → List Link
+links_after (Entries port bdt) = changed_of port (λ link. record link { bdt = bdt })
+links_after (Registration port address time_to_live) =
+    changed_of port (λ link. record link { fdt = registered address time_to_live link.fdt })
+links_after (Deletion port address) =
+    changed_of port (λ link. record link { fdt = deleted address link.fdt })
+links_after (Learnings port next networks) = λ links. links
+
+-- the routes once a change is made: each network is learned by the port and the next router, one
+-- after the other, unless it is fixed or the table is full
+abbrev pub routes_after : Change → Table → Table
+routes_after (Entries port bdt) routes = routes
+routes_after (Registration port address time_to_live) routes = routes
+routes_after (Deletion port address) routes = routes
+routes_after (Learnings port next networks) routes = with_each routes networks (route_by port next)
+
+-- a registration and routes may want room
+abbrev pub wants_room : Change → Bool
+wants_room (Entries port bdt) = false
+wants_room (Registration port address time_to_live) = true
+wants_room (Deletion port address) = false
+wants_room (Learnings port next networks) = true
+
+-- a relay once a change is made
+abbrev pub after : Change → Relay → Relay
+after change relay = record relay {
+  links = links_after change relay.links;
+  routes = routes_after change relay.routes;
+}
+
+-- a link one tick later
+abbrev pub link_later : Link → Link
+link_later link = record link { fdt = with_tick link.fdt }
+
+-- a relay one tick later
+abbrev pub later : Relay → Relay
+later relay = record relay { links = map link_later relay.links; ticks = relay.ticks + 1 }
+
+-- what happens to a relay: a change is made, or a second passes
+pub data Move : Type 0 where
+  Commit : Change → Move
+  Tick : Move
+
+-- a relay once a move is made, if there is one
+abbrev pub moved : Option Move → Relay → Relay
+moved None relay = relay
+moved (Some (Commit change)) relay = after change relay
+moved (Some Tick) relay = later relay
+
+-- a relay once these moves were made, of which the first is the newest
+unfoldable pub moved_by : List Move → Relay → Relay
+moved_by [] relay = relay
+moved_by (move ∷ moves) relay = moved (Some move) (moved_by moves relay)

@@ -1,0 +1,8 @@
+-- What only private parts and proofs cite.
+pub mod Targets
+pub mod Octets
+pub mod Grants
+pub mod Ticks
+pub mod Serving
+pub mod Passing
+pub mod Counts

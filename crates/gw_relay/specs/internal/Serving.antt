@@ -1,0 +1,26 @@
+-- What is sent and changed once the policy was asked.
+use Rattle.std.specs.Prelude.{Bool, ◌&&◌, if◌then◌else◌, List, map, Option, None}
+use Rattle.gw_addr.specs.declared.bip.BipAddr.{BipAddr}
+use Rattle.gw_bvll.specs.Bvll.{Message as Frame}
+use Rattle.gw_relay.specs.Cast.{passed_on, targets}
+use Rattle.gw_relay.specs.Link.{answer_to, change_of, is_granted, refused, told}
+use Rattle.gw_relay.specs.Sends.{Sending, sent}
+use Rattle.gw_relay.specs.declared.change.Change.{Change}
+use Rattle.gw_relay.specs.declared.port.Link.{Link}
+
+-- the answer to a frame that manages a table
+abbrev pub served : Link → BipAddr → Frame → Bool → List Sending
+served link from frame allowed =
+    map (answer_to link.port from)
+    (if allowed && is_granted link from frame then told link frame else refused frame)
+
+-- what it changes
+abbrev pub served_change : Link → BipAddr → Frame → Bool → Option Change
+served_change link from frame allowed =
+    if allowed && is_granted link from frame then change_of link.port from frame else None
+
+-- the sends of a broadcast
+abbrev pub judged : Link → BipAddr → Frame → Bool → List Sending
+judged link from frame allowed =
+    if allowed then sent link.port.number (targets link from frame) (passed_on from frame)
+    else map (answer_to link.port from) (refused frame)

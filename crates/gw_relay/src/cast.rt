@@ -1,0 +1,382 @@
+//! Broadcasts, and whom they are distributed to (Annex J.4, J.5).
+
+ghost use Rattle.std.specs.Prelude.{◌≡◌, ◌++◌, ◌∷◌, [], false, List, map, IfOk, IsOk, OnOk, None};
+ghost use Rattle.std.specs.List.{list_any};
+ghost use Rattle.gw_bdt_fdt.specs.Peers.{is_of, peers};
+ghost use Rattle.gw_bvll.specs.Bvll.{forwarded, original_broadcast};
+ghost use Rattle.gw_bvll.specs.Bvll.{view as frame_view};
+ghost use Rattle.gw_npdu.specs.Npdu.{view as npdu_view};
+ghost use Rattle.gw_rules.specs.Authorizer.{denied_of};
+ghost use Rattle.gw_rules.specs.declared.rule.Rule.{Rule};
+ghost use Rattle.gw_relay.specs.Cast.{cast_asks, cast_sends, devices, devices_but, directed, goes_on, is_broadcast, is_heard, is_strange, managers, passed_on, spread, subnet, targets};
+ghost use Rattle.gw_relay.specs.Link.{answer_to, refused};
+ghost use Rattle.gw_relay.specs.Sends.{sent};
+ghost use Rattle.gw_relay.specs.internal.Serving.{judged};
+
+use crate::ask::cast_ask;
+use crate::octets::message_octets;
+use crate::port::Link;
+use crate::relayed::Relayed;
+use crate::sends::{Batch, Sends};
+use gw_addr::{BdtEntry, BipAddr};
+use gw_bvll::Bvll;
+use gw_npdu::Npdu;
+use gw_rules::{Authorizer, Judge};
+use std::alloc::{AllocError, Global};
+
+/// How many octets of a Forwarded-NPDU stand before its NPDU (Annex J.2.5).
+const FORWARDED_HEADER_LEN: usize = 10;
+/// The mask by which a broadcast goes to a broadcast manager itself (Annex J.4).
+const ALL_ONES: [u8; 4] = [255, 255, 255, 255];
+
+/// Where a broadcast goes for an entry of a table: to its address with every bit set that its mask
+/// leaves zero (Annex J.4).
+fn directed(entry: &BdtEntry) -> BipAddr
+    ensures { result ≡ directed entry.now }
+{
+    let [a, b, c, d] = entry.address.ip;
+    let [mask0, mask1, mask2, mask3] = entry.mask;
+    BipAddr {
+        ip: [a | !mask0, b | !mask1, c | !mask2, d | !mask3],
+        udp: entry.address.udp,
+    }
+}
+
+/// Whether a frame is a broadcast.
+pub(crate) fn is_broadcast(frame: &Bvll<'_>) -> bool
+    ensures { result ≡ is_broadcast (frame_view frame.now) }
+{
+    matches!(
+        frame,
+        Bvll::Forwarded { .. } | Bvll::Distribute(_) | Bvll::OriginalBroadcast(_)
+    )
+}
+
+/// What a broadcast goes on as.
+fn passed_on<'a>(from: BipAddr, frame: &Bvll<'a>) -> Bvll<'a>
+    ensures { frame_view result ≡ passed_on from (frame_view frame.now) }
+{
+    match frame {
+        Bvll::OriginalBroadcast(npdu) | Bvll::Distribute(npdu) => Bvll::Forwarded {
+            originator: from,
+            npdu,
+        },
+        _ => *frame,
+    }
+}
+
+/// How many octets a broadcast has when it goes on.
+fn forwarded_len(frame: &Bvll<'_>) -> usize {
+    match frame {
+        Bvll::OriginalBroadcast(npdu) | Bvll::Distribute(npdu) | Bvll::Forwarded { npdu, .. } => {
+            FORWARDED_HEADER_LEN + npdu.len()
+        }
+        _ => 0,
+    }
+}
+
+impl Link {
+    /// Whether a frame is heard: a Forwarded-NPDU is from a peer alone, and not where the port
+    /// itself is its originator (Annex J.4).
+    pub fn is_heard(&self, from: BipAddr, frame: &Bvll<'_>) -> bool
+        ensures { result ≡ is_heard self.now from (frame_view frame.now) }
+    {
+        match frame {
+            Bvll::Forwarded { originator, .. } => {
+                *originator != self.port.address && self.is_peer(from)
+            }
+            _ => true,
+        }
+    }
+
+    /// Whether an address is that of a peer.
+    fn is_peer(&self, address: BipAddr) -> bool
+        ensures { let own = self.now.port.address in
+            result ≡ list_any (is_of address) (peers own self.now.bdt) }
+    {
+        for entry in self.bdt.peers(self.port.address) {
+            if address == entry.address {
+                return true;
+            }
+        }
+        false
+    }
+
+    /// Whether a frame is a Distribute-Broadcast-To-Network of someone who isn't registered (Annex
+    /// J.5).
+    pub fn is_strange(&self, from: BipAddr, frame: &Bvll<'_>) -> bool
+        ensures { result ≡ is_strange self.now from (frame_view frame.now) }
+    {
+        match frame {
+            Bvll::Distribute(_) => !self.fdt.contains(from),
+            _ => false,
+        }
+    }
+
+    /// Whether a frame goes on to the network layer.
+    pub fn goes_on(&self, from: BipAddr, frame: &Bvll<'_>) -> bool
+        ensures { result ≡ goes_on self.now from (frame_view frame.now) }
+    {
+        self.is_heard(from, frame) && !self.is_strange(from, frame)
+    }
+
+    /// Distributes a broadcast, whose message this is, where the policy allows it.
+    pub fn cast<J: Judge>(
+        &self,
+        alloc: Global,
+        judge: &J,
+        from: BipAddr,
+        frame: &Bvll<'_>,
+        npdu: &Npdu<'_>,
+    ) -> Result<Relayed, AllocError>
+        ensures sends { (rules : List Rule) → J.StandsFor judge.now rules →
+            let frame = frame_view frame.now in
+            let sends = cast_sends rules self.now from frame (npdu_view npdu.now) in
+            IfOk result (λ given. given.sends ≡ sends) }
+        ensures refusals { (rules : List Rule) → J.StandsFor judge.now rules →
+            let asks = cast_asks self.now from (frame_view frame.now) (npdu_view npdu.now) in
+            IfOk result (λ given. given.refusals ≡ denied_of rules asks) }
+        ensures change { IfOk result (λ given. given.change ≡ None) }
+        ensures goes_on { IfOk result (λ given.
+            given.goes_on ≡ goes_on self.now from (frame_view frame.now)) }
+        // What asks nothing and tells no stranger wants no memory.
+        ensures silent { cast_asks self.now from (frame_view frame.now) (npdu_view npdu.now) ≡ [] →
+            is_strange self.now from (frame_view frame.now) ≡ false → IsOk result }
+    {
+        if !self.is_heard(from, frame) {
+            return Ok(Relayed::nothing(alloc));
+        }
+        if self.is_strange(from, frame) {
+            return self.refuse_stranger(alloc, from, frame);
+        }
+        if !is_broadcast(frame) {
+            return Ok(Relayed {
+                goes_on: true,
+                ..Relayed::nothing(alloc)
+            });
+        }
+        let mut authorizer = Authorizer::new(alloc, judge);
+        let ask = cast_ask(self, from, frame, npdu);
+        let is_allowed = authorizer.authorize(&ask)?;
+        let sends = self.judged_sends(alloc, from, frame, is_allowed)?;
+        Ok(Relayed {
+            sends,
+            refusals: authorizer.into_refusals(),
+            change: None,
+            goes_on: true,
+        })
+    }
+
+    /// A stranger is told so, and nothing is asked.
+    fn refuse_stranger(
+        &self,
+        alloc: Global,
+        from: BipAddr,
+        frame: &Bvll<'_>,
+    ) -> Result<Relayed, AllocError>
+        ensures sends { IfOk result (λ given. given.sends ≡
+            map (answer_to self.now.port from) (refused (frame_view frame.now))) }
+        ensures refusals { IfOk result (λ given. given.refusals ≡ []) }
+        ensures change { IfOk result (λ given. given.change ≡ None) }
+        ensures goes_on { IfOk result (λ given. given.goes_on ≡ false) }
+    {
+        Ok(Relayed {
+            sends: self.refuse(alloc, from, frame)?,
+            ..Relayed::nothing(alloc)
+        })
+    }
+
+    /// The sends of a broadcast that was judged.
+    fn judged_sends(
+        &self,
+        alloc: Global,
+        from: BipAddr,
+        frame: &Bvll<'_>,
+        is_allowed: bool,
+    ) -> Result<Sends, AllocError>
+        ensures { IfOk result (λ sends.
+            sends ≡ judged self.now from (frame_view frame.now) is_allowed) }
+    {
+        if is_allowed {
+            self.distribute(alloc, from, frame)
+        } else {
+            self.refuse(alloc, from, frame)
+        }
+    }
+
+    /// The sends of a broadcast that is allowed: one message to all its targets.
+    fn distribute(
+        &self,
+        alloc: Global,
+        from: BipAddr,
+        frame: &Bvll<'_>,
+    ) -> Result<Sends, AllocError>
+        ensures { let message = passed_on from (frame_view frame.now) in
+            let targets = targets self.now from (frame_view frame.now) in
+            IfOk result (λ sends. sends ≡ sent self.now.port.number targets message) }
+    {
+        let mut targets = Vec::with_capacity(alloc, self.most_targets(frame))?;
+        self.put_targets(from, frame, &mut targets)?;
+        let message = passed_on(from, frame);
+        let mut sends = Sends::new(alloc);
+        let len = forwarded_len(frame);
+        put_message(alloc, self.port.number, targets, &message, len, &mut sends)?;
+        Ok(sends)
+    }
+
+    /// How many addresses a broadcast goes to at most.
+    fn most_targets(&self, frame: &Bvll<'_>) -> usize {
+        let others = self.bdt.entries().len() + self.fdt.count();
+        match frame {
+            Bvll::OriginalBroadcast(_) => others,
+            Bvll::Distribute(_) => 1 + others,
+            Bvll::Forwarded { .. } => 1 + self.fdt.count(),
+            _ => 0,
+        }
+    }
+
+    /// Appends whom a broadcast goes to.
+    fn put_targets(
+        &self,
+        from: BipAddr,
+        frame: &Bvll<'_>,
+        out: &mut Vec<BipAddr>,
+    ) -> Result<(), AllocError>
+        ensures { let targets = targets self.now from (frame_view frame.now) in
+            OnOk result (out.new.items ≡ out.old.items ++ targets) }
+    {
+        match frame {
+            Bvll::OriginalBroadcast(_) => self.put_all(out),
+            Bvll::Distribute(_) => {
+                out.push(self.port.broadcast)?;
+                self.put_managers(out)?;
+                self.put_devices_but(from, out)
+            }
+            Bvll::Forwarded { .. } => {
+                self.put_subnet(out)?;
+                self.put_devices(out)
+            }
+            _ => Ok(()),
+        }
+    }
+
+    /// Appends all peers and foreign devices.
+    fn put_all(&self, out: &mut Vec<BipAddr>) -> Result<(), AllocError>
+        ensures { let all = managers self.now ++ devices self.now in
+            OnOk result (out.new.items ≡ out.old.items ++ all) }
+    {
+        self.put_managers(out)?;
+        self.put_devices(out)
+    }
+
+    /// Appends where a broadcast goes for each peer.
+    fn put_managers(&self, out: &mut Vec<BipAddr>) -> Result<(), AllocError>
+        ensures { OnOk result (out.new.items ≡ out.old.items ++ managers self.now) }
+    {
+        for peer in self.bdt.peers(self.port.address) {
+            out.push(directed(peer))?;
+        }
+        Ok(())
+    }
+
+    /// Appends the foreign devices.
+    fn put_devices(&self, out: &mut Vec<BipAddr>) -> Result<(), AllocError>
+        ensures { OnOk result (out.new.items ≡ out.old.items ++ devices self.now) }
+    {
+        for device in self.fdt.addresses() {
+            out.push(*device)?;
+        }
+        Ok(())
+    }
+
+    /// Appends the foreign devices but one.
+    fn put_devices_but(&self, address: BipAddr, out: &mut Vec<BipAddr>) -> Result<(), AllocError>
+        ensures { OnOk result (out.new.items ≡ out.old.items ++ devices_but address self.now) }
+    {
+        for device in self.fdt.addresses() {
+            if address != *device {
+                out.push(*device)?;
+            }
+        }
+        Ok(())
+    }
+
+    /// Appends the subnet's broadcast address, where a peer's message reached the port alone.
+    fn put_subnet(&self, out: &mut Vec<BipAddr>) -> Result<(), AllocError>
+        ensures { OnOk result (out.new.items ≡ out.old.items ++ subnet self.now) }
+    {
+        if self.bdt.own_mask(self.port.address) == ALL_ONES {
+            out.push(self.port.broadcast)?;
+        }
+        Ok(())
+    }
+
+    /// The sends of a broadcast by the gateway on the port: to its subnet, to all peers and to all
+    /// foreign devices (Annex J.4, J.5). An NPDU of over 1497 octets isn't sent. The only fault is
+    /// want of memory.
+    pub fn spread(&self, alloc: Global, npdu: &[u8]) -> Result<Sends, AllocError>
+        ensures { IfOk result (λ sends. sends ≡ spread self.now npdu.now) }
+    {
+        let mut sends = Sends::new(alloc);
+        if npdu.len() > gw_npdu::MAX_LEN {
+            return Ok(sends);
+        }
+        self.put_on_subnet(alloc, npdu, &mut sends)?;
+        self.put_elsewhere(alloc, npdu, &mut sends)?;
+        Ok(sends)
+    }
+
+    /// Adds the broadcast of an NPDU on the subnet.
+    fn put_on_subnet(&self, alloc: Global, npdu: &[u8], sends: &mut Sends) -> Result<(), AllocError>
+        ensures { let subnet = self.now.port.broadcast ∷ [] in
+            let sent = sent self.now.port.number subnet (original_broadcast npdu.now) in
+            OnOk result (sends.new ≡ sends.old ++ sent) }
+    {
+        let message = Bvll::OriginalBroadcast(npdu);
+        match message_octets(alloc, &message, FORWARDED_HEADER_LEN + npdu.len())? {
+            Some(octets) => {
+                sends.push(Batch::to_one(self.port.number, self.port.broadcast, octets))
+            }
+            None => Ok(()),
+        }
+    }
+
+    /// Adds the port's own Forwarded-NPDU to all peers and foreign devices.
+    fn put_elsewhere(&self, alloc: Global, npdu: &[u8], sends: &mut Sends) -> Result<(), AllocError>
+        ensures { let all = managers self.now ++ devices self.now in
+            let message = forwarded self.now.port.address npdu.now in
+            OnOk result (sends.new ≡ sends.old ++ sent self.now.port.number all message) }
+    {
+        let others = self.bdt.entries().len() + self.fdt.count();
+        let mut targets = Vec::with_capacity(alloc, others)?;
+        self.put_all(&mut targets)?;
+        let message = Bvll::Forwarded {
+            originator: self.port.address,
+            npdu,
+        };
+        let len = FORWARDED_HEADER_LEN + npdu.len();
+        put_message(alloc, self.port.number, targets, &message, len, sends)
+    }
+}
+
+/// Adds a message, of about so many octets, to each of the addresses. One that is too long isn't
+/// sent. Where there is no address it takes no memory.
+fn put_message(
+    alloc: Global,
+    port: u8,
+    targets: Vec<BipAddr>,
+    message: &Bvll<'_>,
+    len: usize,
+    sends: &mut Sends,
+) -> Result<(), AllocError>
+    ensures { let more = sent port targets.items (frame_view message.now) in
+        OnOk result (sends.new ≡ sends.old ++ more) }
+{
+    if targets.is_empty() {
+        return Ok(());
+    }
+    match message_octets(alloc, message, len)? {
+        Some(octets) => sends.push(Batch::to_each(port, targets, octets)),
+        None => Ok(()),
+    }
+}

@@ -1,0 +1,97 @@
+//! A relay as it is configured.
+
+ghost use Rattle.std.specs.Prelude.{◌≡◌, ◌++◌, ◌∷◌, ◌≤◌, [], length, map, IsFalse, IfOk, OnOk};
+ghost use Rattle.std.specs.List.{AllByRecursion};
+ghost use Rattle.gw_bdt_fdt.specs.Peers.{has_twice};
+ghost use Rattle.gw_routes.specs.Table.{table_of};
+ghost use Rattle.gw_relay.specs.Initial.{direct_of, link_of, links_from, routed_of};
+
+use crate::port::{Link, Port};
+use gw_addr::NetNum;
+use gw_bdt_fdt::{Bdt, Fdt};
+use gw_policy_text::{Config, Port as ConfiguredPort, Route as ConfiguredRoute};
+use gw_routes::{Route, Routes};
+use std::alloc::{AllocError, Global};
+
+/// The ports with the peers that they start with, where nobody is registered.
+pub(crate) fn links_of(alloc: Global, ports: &[ConfiguredPort]) -> Result<Vec<Link>, AllocError>
+    requires few { length ports.now ≤ 8 }
+    requires once { AllByRecursion (λ p. IsFalse (has_twice p.peers)) ports.now }
+    ensures { IfOk result (λ links. links.items ≡ links_from 1 ports.now) }
+{
+    let mut links = Vec::with_capacity(alloc, ports.len())?;
+    for (place, port) in ports.iter().enumerate() {
+        links.push(link_of(alloc, place as u8 + 1, port)?)?;
+    }
+    Ok(links)
+}
+
+/// A port of this number with the peers that it starts with, which are at most 64 and have no
+/// address twice.
+fn link_of(alloc: Global, number: u8, port: &ConfiguredPort) -> Result<Link, AllocError>
+    requires { IsFalse (has_twice port.now.peers) }
+    ensures { IfOk result (λ link. link ≡ link_of number port.now) }
+{
+    let peers = Vec::from_slice(alloc, port.peers.as_slice())?;
+    let bdt = Bdt::from_vec(peers).unwrap();
+    Ok(Link {
+        port: Port {
+            number,
+            network: port.network,
+            address: port.address,
+            broadcast: port.broadcast,
+        },
+        bdt,
+        fdt: Fdt::new(alloc),
+    })
+}
+
+/// The direct networks and the configured routes.
+pub(crate) fn routes_of(alloc: Global, config: &Config) -> Result<Routes, AllocError>
+    ensures { IfOk result (λ routes.
+        routes ≡ table_of (direct_of config.now) (map routed_of config.now.routes) []) }
+{
+    let direct = direct_of(alloc, config.ports(), config.device().network)?;
+    let configured = routed_of(alloc, config.routes())?;
+    let routes = Routes::new(alloc, direct, configured)?;
+    Ok(routes)
+}
+
+/// The networks that the gateway reaches itself: the ports', then the device's.
+fn direct_of(
+    alloc: Global,
+    ports: &[ConfiguredPort],
+    device: NetNum,
+) -> Result<Vec<NetNum>, AllocError>
+    ensures { IfOk result (λ nets. nets.items ≡ map (λ p. p.network) ports.now ++ device ∷ []) }
+{
+    let mut nets = Vec::with_capacity(alloc, ports.len() + 1)?;
+    put_networks(ports, &mut nets)?;
+    nets.push(device)?;
+    Ok(nets)
+}
+
+/// Appends the networks of the ports.
+fn put_networks(ports: &[ConfiguredPort], nets: &mut Vec<NetNum>) -> Result<(), AllocError>
+    ensures { OnOk result (nets.new.items ≡ nets.old.items ++ map (λ p. p.network) ports.now) }
+{
+    for port in ports {
+        nets.push(port.network)?;
+    }
+    Ok(())
+}
+
+/// The configured routes, by their networks.
+fn routed_of(alloc: Global, routes: &[ConfiguredRoute]) -> Result<Vec<(NetNum, Route)>, AllocError>
+    ensures { IfOk result (λ routed. routed.items ≡ map routed_of routes.now) }
+{
+    let mut routed = Vec::with_capacity(alloc, routes.len())?;
+    for route in routes {
+        let way = Route {
+            port: route.port,
+            next: route.next,
+        };
+        routed.push((route.network, way))?;
+    }
+    Ok(routed)
+}

@@ -1,0 +1,21 @@
+//! What the words of the relay mean, proved of every change, every history and every table, for a
+//! reader of the definitions that contracts here and in the crates above cite. The functions do
+//! nothing.
+ghost use Rattle.gw_relay.specs.Laws.{AllOnesReachTheManager, ChangesExtendHistories, ConfiguredLinksStand, OwnEntryIsLeftOut, SenderIsLeftOut, TicksExtendHistories};
+
+/// The ports' tables are those of the last granted entries, and of the granted registrations and
+/// deletions and the ticks: so they begin, and each change and each tick extends that.
+pub fn histories()
+    ensures initial { ConfiguredLinksStand }
+    ensures changes { ChangesExtendHistories }
+    ensures ticks { TicksExtendHistories }
+{}
+
+/// Who is left out of a distribution: the own entry of a table always, and the sender of a
+/// Distribute-Broadcast-To-Network among the foreign devices. A mask of all ones sends to the
+/// broadcast manager itself.
+pub fn distribution()
+    ensures sender { SenderIsLeftOut }
+    ensures own { OwnEntryIsLeftOut }
+    ensures all_ones { AllOnesReachTheManager }
+{}

@@ -1,0 +1,30 @@
+//! What the gateway passes on: broadcast management on each of its ports, and the distribution of
+//! broadcasts (Annex J.4, J.5).
+//!
+//! A [`Relay`] answers what a frame gives: the sends in order, the asks that the policy denies, and
+//! at most one [`Change`]. It changes nothing then; [`Relay::commit`] makes the change whole.
+#![tactic(auto)]
+
+mod ask;
+mod cast;
+mod change;
+mod count;
+mod initial;
+pub mod laws;
+mod link;
+mod links;
+mod manage;
+mod npdu;
+mod octets;
+mod port;
+mod relay;
+mod relayed;
+mod route;
+mod sends;
+
+pub use ask::link_source;
+pub use change::Change;
+pub use port::{Link, Port};
+pub use relay::Relay;
+pub use relayed::Relayed;
+pub use sends::{Batch, Sends};

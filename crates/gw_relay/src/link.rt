@@ -1,0 +1,225 @@
+//! The frames that read or change a table of their port (Annex J.2, J.4, J.5).
+
+ghost use Rattle.std.specs.Prelude.{◌≡◌, ◌||◌, ◌∷◌, [], List, not, map, IfOk, IsOk, if◌then◌else◌, Some, None, false};
+ghost use Rattle.gw_addr.specs.Entry.{bdt_entry};
+ghost use Rattle.gw_bdt_fdt.specs.Peers.{are_too_many, has_twice};
+ghost use Rattle.gw_bdt_fdt.specs.Registrations.{contains, has_room};
+ghost use Rattle.gw_bvll.specs.Bvll.{encoding, result_code, view};
+ghost use Rattle.gw_bvll.specs.Entries.{lent};
+ghost use Rattle.gw_rules.specs.Authorizer.{denied_of};
+ghost use Rattle.gw_rules.specs.declared.rule.Rule.{Rule};
+ghost use Rattle.gw_relay.specs.Asks.{link_asks};
+ghost use Rattle.gw_relay.specs.Link.{answer_to, change_of, is_granted, link_answer, link_change, refused, told};
+ghost use Rattle.gw_relay.specs.Sends.{sending};
+ghost use Rattle.gw_relay.specs.internal.Grants.{granted_change};
+ghost use Rattle.gw_relay.specs.internal.Serving.{served, served_change};
+
+use crate::ask::{link_ask, management_of};
+use crate::change::Change;
+use crate::octets::{bdt_ack, fdt_ack};
+use crate::port::Link;
+use crate::relayed::Relayed;
+use crate::sends::{Batch, Sends};
+use gw_addr::{BdtEntry, BipAddr};
+use gw_bdt_fdt::{Bdt, MAX_REGISTRATIONS};
+use gw_bvll::{BdtEntries, Bvll, ResultCode};
+use gw_rules::{Authorizer, Judge};
+use std::alloc::{AllocError, Global};
+
+/// How many octets a BVLC-Result has (Annex J.2.1).
+const RESULT_LEN: usize = 6;
+
+/// Whether a frame is granted what it asks for.
+enum Grant {
+    /// It is, and this changes.
+    Granted(Option<Change>),
+    /// It isn't.
+    Refused,
+}
+
+impl Link {
+    /// Answers a frame that reads or changes a table of the port. The answer goes to the sender; a
+    /// frame of another kind gets none, and asks nothing. The only fault is want of memory.
+    pub fn manage<J: Judge>(
+        &self,
+        alloc: Global,
+        judge: &J,
+        from: BipAddr,
+        frame: &Bvll<'_>,
+    ) -> Result<Relayed, AllocError>
+        ensures sends { (rules : List Rule) → J.StandsFor judge.now rules →
+            IfOk result (λ given. given.sends ≡ link_answer rules self.now from (view frame.now)) }
+        ensures refusals { (rules : List Rule) → J.StandsFor judge.now rules →
+            let asks = link_asks self.now.port from (view frame.now) in
+            IfOk result (λ given. given.refusals ≡ denied_of rules asks) }
+        ensures change { (rules : List Rule) → J.StandsFor judge.now rules →
+            IfOk result (λ given. given.change ≡ link_change rules self.now from (view frame.now)) }
+        ensures goes_on { IfOk result (λ given. given.goes_on ≡ false) }
+        ensures silent { link_asks self.now.port from (view frame.now) ≡ [] → IsOk result }
+    {
+        let Some(operation) = management_of(frame) else {
+            return Ok(Relayed::nothing(alloc));
+        };
+        let mut authorizer = Authorizer::new(alloc, judge);
+        let ask = link_ask(&self.port, from, frame, operation);
+        let is_allowed = authorizer.authorize(&ask)?;
+        let (sends, change) = self.serve(alloc, from, frame, is_allowed)?;
+        Ok(Relayed {
+            sends,
+            refusals: authorizer.into_refusals(),
+            change,
+            goes_on: false,
+        })
+    }
+
+    /// The answer to a frame that was judged, and what it changes.
+    fn serve(
+        &self,
+        alloc: Global,
+        from: BipAddr,
+        frame: &Bvll<'_>,
+        is_allowed: bool,
+    ) -> Result<(Sends, Option<Change>), AllocError>
+        ensures sends { IfOk result (λ given.
+            given.0 ≡ served self.now from (view frame.now) is_allowed) }
+        ensures change { IfOk result (λ given.
+            given.1 ≡ served_change self.now from (view frame.now) is_allowed) }
+    {
+        if !is_allowed {
+            return Ok((self.refuse(alloc, from, frame)?, None));
+        }
+        match self.grant(alloc, from, frame)? {
+            Grant::Granted(change) => Ok((self.tell(alloc, from, frame)?, change)),
+            Grant::Refused => Ok((self.refuse(alloc, from, frame)?, None)),
+        }
+    }
+
+    /// Whether a frame that is allowed can have what it asks for.
+    fn grant(&self, alloc: Global, from: BipAddr, frame: &Bvll<'_>) -> Result<Grant, AllocError>
+        ensures { let frame = view frame.now in
+            let had = Some (change_of self.now.port from frame) in
+            IfOk result (λ grant. granted_change grant ≡
+            (if is_granted self.now from frame then had else None)) }
+    {
+        match frame {
+            Bvll::WriteBdt(entries) => self.grant_entries(alloc, entries),
+            Bvll::Register { time_to_live } => Ok(self.grant_registration(from, *time_to_live)),
+            Bvll::Delete(address) => Ok(self.grant_deletion(*address)),
+            _ => Ok(Grant::Granted(None)),
+        }
+    }
+
+    /// Whether entries can be a table.
+    fn grant_entries(&self, alloc: Global, entries: &BdtEntries<'_>) -> Result<Grant, AllocError>
+        ensures { let entries = lent bdt_entry entries.now in
+            let had = Some (Some (Change.Entries self.now.port.number entries)) in
+            IfOk result (λ grant. granted_change grant ≡
+            (if not (are_too_many entries || has_twice entries) then had else None)) }
+    {
+        match Bdt::from_vec(copied(alloc, entries)?) {
+            Ok(bdt) => Ok(Grant::Granted(Some(Change::Entries {
+                port: self.port.number,
+                bdt,
+            }))),
+            Err(_) => Ok(Grant::Refused),
+        }
+    }
+
+    /// Whether there is room for a foreign device.
+    fn grant_registration(&self, address: BipAddr, time_to_live: u16) -> Grant
+        ensures { let change = Change.Registration self.now.port.number address time_to_live in
+            let had = Some (Some change) in
+            granted_change result ≡ (if has_room self.now.fdt address then had else None) }
+    {
+        if !self.has_room(address) {
+            return Grant::Refused;
+        }
+        Grant::Granted(Some(Change::Registration {
+            port: self.port.number,
+            address,
+            time_to_live,
+        }))
+    }
+
+    /// Whether an address is registered, or fewer than 128 others are.
+    fn has_room(&self, address: BipAddr) -> bool
+        ensures { result ≡ has_room self.now.fdt address }
+    {
+        self.fdt.contains(address) || self.fdt.count() < MAX_REGISTRATIONS
+    }
+
+    /// Whether there is a registration to delete.
+    fn grant_deletion(&self, address: BipAddr) -> Grant
+        ensures { let had = Some (Some (Change.Deletion self.now.port.number address)) in
+            granted_change result ≡ (if contains self.now.fdt address then had else None) }
+    {
+        if !self.fdt.contains(address) {
+            return Grant::Refused;
+        }
+        Grant::Granted(Some(Change::Deletion {
+            port: self.port.number,
+            address,
+        }))
+    }
+
+    /// The answer to a frame that has what it asked for.
+    fn tell(&self, alloc: Global, from: BipAddr, frame: &Bvll<'_>) -> Result<Sends, AllocError>
+        ensures { IfOk result (λ sends.
+            sends ≡ map (answer_to self.now.port from) (told self.now (view frame.now))) }
+    {
+        match frame {
+            Bvll::ReadBdt => self.answer(alloc, from, bdt_ack(alloc, &self.bdt)?),
+            Bvll::ReadFdt => self.answer(alloc, from, fdt_ack(alloc, &self.fdt)?),
+            Bvll::WriteBdt(_) | Bvll::Register { .. } | Bvll::Delete(_) => {
+                self.answer(alloc, from, result_octets(alloc, ResultCode::SUCCESS)?)
+            }
+            _ => Ok(Sends::new(alloc)),
+        }
+    }
+
+    /// An answer of these octets.
+    fn answer(&self, alloc: Global, from: BipAddr, octets: Vec<u8>) -> Result<Sends, AllocError>
+        ensures { IfOk result (λ sends.
+            sends ≡ sending self.now.port.number octets.items from ∷ []) }
+    {
+        Sends::of(alloc, Batch::to_one(self.port.number, from, octets))
+    }
+
+    /// The answer to a frame that doesn't have what it asked for: the code of its function.
+    pub(crate) fn refuse(
+        &self,
+        alloc: Global,
+        from: BipAddr,
+        frame: &Bvll<'_>,
+    ) -> Result<Sends, AllocError>
+        ensures { IfOk result (λ sends.
+            sends ≡ map (answer_to self.now.port from) (refused (view frame.now))) }
+    {
+        let Some(code) = ResultCode::refusal(frame.function()) else {
+            return Ok(Sends::new(alloc));
+        };
+        self.answer(alloc, from, result_octets(alloc, code)?)
+    }
+}
+
+/// The octets of a BVLC-Result (Annex J.2.1).
+fn result_octets(alloc: Global, code: ResultCode) -> Result<Vec<u8>, AllocError>
+    ensures { IfOk result (λ octets. octets.items ≡ encoding (result_code code.0)) }
+{
+    let mut octets = Vec::with_capacity(alloc, RESULT_LEN)?;
+    match gw_bvll::encode(&Bvll::Result(code), &mut octets) {
+        Ok(()) => Ok(octets),
+        Err(_) => Err(AllocError),
+    }
+}
+
+/// The entries that a frame lends.
+fn copied(alloc: Global, entries: &BdtEntries<'_>) -> Result<Vec<BdtEntry>, AllocError>
+    ensures { IfOk result (λ copy. copy.items ≡ lent bdt_entry entries.now) }
+{
+    let mut copy = Vec::with_capacity(alloc, entries.len())?;
+    for entry in entries.iter() {
+        copy.push(entry)?;
+    }
+    Ok(copy)
+}

@@ -1,0 +1,123 @@
+//! What changes in the tables of the ports, and in the routes.
+
+ghost use Rattle.std.specs.Prelude.{◌≡◌, ◌<◌, ◌^◌, ℕ, List, false, map, IsOk, OnOk, OnErr};
+ghost use Rattle.std.specs.List.{AllByRecursion};
+ghost use Rattle.gw_routes.specs.History.{IsStateAfter};
+ghost use Rattle.gw_routes.specs.History.{History as Learned};
+ghost use Rattle.gw_routes.specs.Table.{Routed};
+ghost use Rattle.gw_relay.specs.History.{learned_after};
+ghost use Rattle.gw_relay.specs.State.{deleted, link_later, links_after, registered, routes_after, wants_room};
+
+use crate::change::Change;
+use crate::port::Link;
+use gw_addr::BipAddr;
+use gw_bdt_fdt::{Bdt, Fdt, RegisterFault};
+use gw_routes::Routes;
+use std::alloc::AllocError;
+
+/// Makes a change whole. The only fault is want of memory for a registration or for
+/// routes; then nothing changed.
+pub(crate) fn make(
+    links: &mut [Link],
+    routes: &mut Routes,
+    change: Change,
+) -> Result<(), AllocError>
+    ensures ok { OnOk result (links.new ≡ links_after change links.old) }
+    ensures learned { OnOk result (routes.new ≡ routes_after change routes.old) }
+    ensures learnings { OnOk result ((direct : List ℕ) (configured : Routed) (h : Learned) →
+        IsStateAfter routes.old direct configured h →
+        IsStateAfter routes.new direct configured (learned_after change routes.old h)) }
+    ensures err { OnErr result (links.new ≡ links.old) }
+    ensures unlearned { OnErr result (routes.new ≡ routes.old) }
+    ensures no_growth { wants_room change ≡ false → IsOk result }
+{
+    match change {
+        Change::Entries { port, bdt } => {
+            replace(links, port, bdt);
+            Ok(())
+        }
+        Change::Registration {
+            port,
+            address,
+            time_to_live,
+        } => register(links, port, address, time_to_live),
+        Change::Deletion { port, address } => {
+            delete(links, port, address);
+            Ok(())
+        }
+        Change::Learnings {
+            port,
+            next,
+            networks,
+        } => routes.learn_all(networks.as_slice(), port, next),
+    }
+}
+
+/// A table takes the place of a port's.
+fn replace(links: &mut [Link], port: u8, bdt: Bdt)
+    ensures { links.new ≡ links_after (Change.Entries port bdt) links.old }
+{
+    if port == 0 || usize::from(port) > links.len() {
+        return;
+    }
+    let link = &mut links[usize::from(port) - 1];
+    link.bdt = bdt;
+}
+
+/// A foreign device registers, where there is room for it.
+fn register(
+    links: &mut [Link],
+    port: u8,
+    address: BipAddr,
+    time_to_live: u16,
+) -> Result<(), AllocError>
+    ensures ok { OnOk result
+        (links.new ≡ links_after (Change.Registration port address time_to_live) links.old) }
+    ensures err { OnErr result (links.new ≡ links.old) }
+{
+    if port == 0 || usize::from(port) > links.len() {
+        return Ok(());
+    }
+    let link = &mut links[usize::from(port) - 1];
+    registered(&mut link.fdt, address, time_to_live)?;
+    Ok(())
+}
+
+/// A foreign device registers with a table, where there is room for it.
+fn registered(fdt: &mut Fdt, address: BipAddr, time_to_live: u16) -> Result<(), AllocError>
+    ensures ok { OnOk result (fdt.new ≡ registered address time_to_live fdt.old) }
+    ensures err { OnErr result (fdt.new ≡ fdt.old) }
+{
+    match fdt.register(address, time_to_live) {
+        Ok(()) | Err(RegisterFault::Full) => Ok(()),
+        Err(RegisterFault::Memory) => Err(AllocError),
+    }
+}
+
+/// A registration is deleted, where it is there.
+fn delete(links: &mut [Link], port: u8, address: BipAddr)
+    ensures { links.new ≡ links_after (Change.Deletion port address) links.old }
+{
+    if port == 0 || usize::from(port) > links.len() {
+        return;
+    }
+    let link = &mut links[usize::from(port) - 1];
+    deleted(&mut link.fdt, address);
+}
+
+/// A registration of a table is deleted, where it is there.
+fn deleted(fdt: &mut Fdt, address: BipAddr)
+    ensures { fdt.new ≡ deleted address fdt.old }
+{
+    let _is_deleted = fdt.delete(address).is_ok();
+}
+
+/// One second passes on each port.
+pub(crate) fn tick_each(links: &mut [Link])
+    requires { AllByRecursion (λ link. link.fdt.ticks < 2 ^ 63) links.old }
+    ensures { links.new ≡ map link_later links.old }
+{
+    for link in links.iter_mut() {
+        link.fdt.tick();
+    }
+}

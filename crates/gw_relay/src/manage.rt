@@ -1,0 +1,496 @@
+//! Network layer messages that a router answers or learns from (clauses 6.4.1, 6.4.2, 6.4.19,
+//! 6.4.20).
+
+ghost use Rattle.std.specs.Prelude.{◌≡◌, ◌++◌, [], List, map, nat_le, true, false, None, IfOk, IsOk, OnOk};
+ghost use Rattle.std.specs.Option.{option_map};
+ghost use Rattle.gw_npdu.specs.Npdu.{view as npdu_view, payload_octets};
+ghost use Rattle.gw_rules.specs.Authorizer.{denied_of};
+ghost use Rattle.gw_rules.specs.declared.rule.Rule.{Rule};
+ghost use Rattle.gw_relay.specs.Manage.{answer_steps, are_networks, is_for_all, is_learned, is_number_question, is_question, i_am_router, learn_ask, learned, manage_asks, manage_change, manage_sends, message_ask_of, network_number_is, network_octets, networks_in, number_step, question_of, question_of_all, question_steps, told};
+ghost use Rattle.gw_relay.specs.Route.{made};
+ghost use Rattle.gw_relay.specs.Steps.{allowed_sends, asks_of, broadcast, npdu_octets, sends_of};
+ghost use Rattle.gw_npdu.specs.Kind.{kind_number};
+
+use crate::ask::message_ask;
+use crate::change::Change;
+use crate::npdu::{is_kind, octets_made, put_broadcast};
+use crate::port::Link;
+use crate::relayed::Relayed;
+use crate::route::{put_on_others, who_is_router_octets};
+use crate::sends::Sends;
+use gw_addr::{BipAddr, NetNum, Sequence, put_number};
+use gw_npdu::{AddressRef, Destination, MessageKind, NetMessage, Npdu, Payload, Priority};
+use gw_routes::{Routes, Way};
+use gw_rules::{Ask, Authorizer, Judge, Operation};
+use std::alloc::{AllocError, Global};
+
+/// The number of a network is configured, not learned (clause 6.4.20).
+const CONFIGURED: u8 = 1;
+
+/// Whether the octets are numbers of networks, from 1 to 65534, and nothing else.
+fn are_networks(octets: &[u8]) -> bool
+    ensures { result ≡ are_networks octets.now }
+{
+    match octets {
+        [] => true,
+        [_] => false,
+        [high, low, rest @ ..] => {
+            NetNum::new(u16::from_be_bytes([*high, *low])).is_some() && are_networks(rest)
+        }
+    }
+}
+
+/// Whether a message has no DNET, or is for every network.
+fn is_for_all(npdu: &Npdu<'_>) -> bool
+    ensures { result ≡ is_for_all (npdu_view npdu.now) }
+{
+    match &npdu.destination {
+        Some(destination) => destination.network == Destination::EVERY_NETWORK,
+        None => true,
+    }
+}
+
+/// Whether a message asks for routers.
+pub(crate) fn is_question(npdu: &Npdu<'_>) -> bool
+    ensures { result ≡ is_question (npdu_view npdu.now) }
+{
+    is_kind(&npdu.payload, MessageKind::WhoIsRouterToNetwork) && is_for_all(npdu)
+}
+
+/// Whether a router on the port's own network names the networks that it reaches.
+pub(crate) fn is_learned(npdu: &Npdu<'_>) -> bool
+    ensures { result ≡ is_learned (npdu_view npdu.now) }
+{
+    let octets = npdu.payload.octets();
+    is_kind(&npdu.payload, MessageKind::IAmRouterToNetwork)
+        && is_for_all(npdu)
+        && npdu.source.is_none()
+        && !octets.is_empty()
+        && are_networks(octets)
+}
+
+/// Whether a message asks for the number of the port's network.
+pub(crate) fn is_number_question(npdu: &Npdu<'_>) -> bool
+    ensures { result ≡ is_number_question (npdu_view npdu.now) }
+{
+    is_kind(&npdu.payload, MessageKind::WhatIsNetworkNumber)
+        && npdu.destination.is_none()
+        && npdu.source.is_none()
+        && npdu.payload.octets().is_empty()
+}
+
+/// The ask of a network layer message, of a network where it names one.
+pub(crate) fn ask_of(
+    operation: Operation,
+    here: &Link,
+    from: BipAddr,
+    npdu: &Npdu<'_>,
+    network: Option<NetNum>,
+) -> Ask
+    ensures { result ≡ message_ask_of operation here.now from (npdu_view npdu.now) network }
+{
+    let destination = match network {
+        Some(network) => Some(u64::from(network.get())),
+        None => None,
+    };
+    message_ask(operation, &here.port, from, destination, npdu)
+}
+
+/// Appends networks, each two octets.
+fn put_networks(networks: &[NetNum], out: &mut Vec<u8>) -> Result<(), AllocError>
+    ensures { OnOk result (out.new.items ≡ out.old.items ++ network_octets networks.now) }
+{
+    let Some((network, rest)) = networks.split_first() else {
+        return Ok(());
+    };
+    put_number(out, network.get())?;
+    put_networks(rest, out)
+}
+
+/// The octets of a message of a type that the gateway makes; none where they would be over 1497.
+fn message_made(
+    alloc: Global,
+    kind: MessageKind,
+    octets: &[u8],
+) -> Result<Option<Vec<u8>>, AllocError>
+    requires { nat_le 128 (kind_number kind) ≡ false }
+    ensures { IfOk result (λ message. option_map (λ v. v.items) message
+        ≡ npdu_octets (made None None kind octets.now)) }
+{
+    let message = Npdu {
+        destination: None,
+        source: None,
+        reply_expected: false,
+        priority: Priority::Normal,
+        payload: Payload::Message(NetMessage {
+            kind: kind.number(),
+            vendor: None,
+            octets,
+        }),
+    };
+    octets_made(alloc, &message)
+}
+
+/// Broadcasts an I-Am-Router-To-Network for these networks (clause 6.4.2).
+fn put_i_am_router(
+    alloc: Global,
+    here: &Link,
+    networks: &[NetNum],
+    sends: &mut Sends,
+) -> Result<(), AllocError>
+    ensures { let sent = broadcast (i_am_router networks.now) here.now in
+        OnOk result (sends.new ≡ sends.old ++ sent) }
+{
+    let mut octets = Vec::new(alloc);
+    put_networks(networks, &mut octets)?;
+    let made = message_made(alloc, MessageKind::IAmRouterToNetwork, octets.as_slice())?;
+    put_broadcast(alloc, here, &made, sends)
+}
+
+/// Broadcasts a Network-Number-Is (clause 6.4.20).
+fn put_number_is(alloc: Global, here: &Link, sends: &mut Sends) -> Result<(), AllocError>
+    ensures { let sent = broadcast (network_number_is here.now.port.network) here.now in
+        OnOk result (sends.new ≡ sends.old ++ sent) }
+{
+    let [high, low] = here.port.network.get().to_be_bytes();
+    let made = message_made(
+        alloc,
+        MessageKind::NetworkNumberIs,
+        &[high, low, CONFIGURED],
+    )?;
+    put_broadcast(alloc, here, &made, sends)
+}
+
+/// Passes a question for a network on to the other ports' routers, with who asked.
+fn put_question_on(
+    alloc: Global,
+    links: &[Link],
+    here: &Link,
+    from: BipAddr,
+    npdu: &Npdu<'_>,
+    network: NetNum,
+    sends: &mut Sends,
+) -> Result<(), AllocError>
+    ensures { let sent = told links.now here.now from (npdu_view npdu.now) network Way.Unknown in
+        OnOk result (sends.new ≡ sends.old ++ sent) }
+{
+    let node = from.to_octets();
+    let asker = npdu.source.unwrap_or(AddressRef {
+        network: here.port.network.get(),
+        mac: &node,
+    });
+    let asked = who_is_router_octets(alloc, &Some(asker), network.get())?;
+    put_on_others(alloc, here.port.number, &asked, links, sends)
+}
+
+/// Answers a question for a network, by its way.
+fn put_told(
+    alloc: Global,
+    links: &[Link],
+    here: &Link,
+    from: BipAddr,
+    npdu: &Npdu<'_>,
+    network: NetNum,
+    way: &Way,
+    sends: &mut Sends,
+) -> Result<(), AllocError>
+    ensures { let sent = told links.now here.now from (npdu_view npdu.now) network way.now in
+        OnOk result (sends.new ≡ sends.old ++ sent) }
+{
+    match way {
+        Way::Port(other) if *other == usize::from(here.port.number) => Ok(()),
+        Way::Router(route) if route.port == here.port.number => Ok(()),
+        Way::Port(_) | Way::Device | Way::Router(_) => {
+            put_i_am_router(alloc, here, &[network], sends)
+        }
+        Way::Unknown => put_question_on(alloc, links, here, from, npdu, network, sends),
+        Way::Everywhere => Ok(()),
+    }
+}
+
+/// Asks, and answers a question for a network.
+fn put_answer<J: Judge>(
+    alloc: Global,
+    authorizer: &mut Authorizer<'_, J>,
+    links: &[Link],
+    routes: &Routes,
+    here: &Link,
+    from: BipAddr,
+    npdu: &Npdu<'_>,
+    network: NetNum,
+    sends: &mut Sends,
+) -> Result<(), AllocError>
+    ensures sends { (rules : List Rule) → J.StandsFor authorizer.old.judge rules →
+        let step = question_of links.now routes.now here.now from (npdu_view npdu.now) network in
+        OnOk result (sends.new ≡ sends.old ++ allowed_sends rules step) }
+    ensures denied { (rules : List Rule) → J.StandsFor authorizer.old.judge rules →
+        let step = question_of links.now routes.now here.now from (npdu_view npdu.now) network in
+        OnOk result (authorizer.new.denied ≡ authorizer.old.denied ++ denied_of rules step.asks) }
+    ensures judge { authorizer.new.judge ≡ authorizer.old.judge }
+{
+    let ask = ask_of(Operation::Network, here, from, npdu, Some(network));
+    if !authorizer.authorize(&ask)? {
+        return Ok(());
+    }
+    let way = routes.find(network.get());
+    put_told(alloc, links, here, from, npdu, network, &way, sends)
+}
+
+/// Asks, and answers a question for all networks.
+fn put_answer_to_all<J: Judge>(
+    alloc: Global,
+    authorizer: &mut Authorizer<'_, J>,
+    routes: &Routes,
+    here: &Link,
+    from: BipAddr,
+    npdu: &Npdu<'_>,
+    sends: &mut Sends,
+) -> Result<(), AllocError>
+    ensures sends { (rules : List Rule) → J.StandsFor authorizer.old.judge rules →
+        let step = question_of_all routes.now here.now from (npdu_view npdu.now) in
+        OnOk result (sends.new ≡ sends.old ++ allowed_sends rules step) }
+    ensures denied { (rules : List Rule) → J.StandsFor authorizer.old.judge rules →
+        let step = question_of_all routes.now here.now from (npdu_view npdu.now) in
+        OnOk result (authorizer.new.denied ≡ authorizer.old.denied ++ denied_of rules step.asks) }
+    ensures judge { authorizer.new.judge ≡ authorizer.old.judge }
+{
+    let ask = ask_of(Operation::Network, here, from, npdu, None);
+    if !authorizer.authorize(&ask)? {
+        return Ok(());
+    }
+    let networks = routes.reachable_from(alloc, here.port.number)?;
+    put_i_am_router(alloc, here, networks.as_slice(), sends)
+}
+
+/// Asks, and answers a Who-Is-Router-To-Network by its octets.
+fn put_answers<J: Judge>(
+    alloc: Global,
+    authorizer: &mut Authorizer<'_, J>,
+    links: &[Link],
+    routes: &Routes,
+    here: &Link,
+    from: BipAddr,
+    npdu: &Npdu<'_>,
+    octets: &[u8],
+    sends: &mut Sends,
+) -> Result<(), AllocError>
+    ensures sends { (rules : List Rule) → J.StandsFor authorizer.old.judge rules →
+        let npdu = npdu_view npdu.now in
+        let steps = question_steps links.now routes.now here.now from npdu octets.now in
+        OnOk result (sends.new ≡ sends.old ++ sends_of rules steps) }
+    ensures denied { (rules : List Rule) → J.StandsFor authorizer.old.judge rules →
+        let npdu = npdu_view npdu.now in
+        let steps = question_steps links.now routes.now here.now from npdu octets.now in
+        OnOk result (authorizer.new.denied
+        ≡ authorizer.old.denied ++ denied_of rules (asks_of steps)) }
+    ensures judge { authorizer.new.judge ≡ authorizer.old.judge }
+    ensures silent { let npdu = npdu_view npdu.now in
+        let steps = question_steps links.now routes.now here.now from npdu octets.now in
+        asks_of steps ≡ [] → IsOk result }
+{
+    match octets {
+        [] => put_answer_to_all(alloc, authorizer, routes, here, from, npdu, sends),
+        [_] => Ok(()),
+        [high, low] => match NetNum::new(u16::from_be_bytes([*high, *low])) {
+            Some(network) => put_answer(
+                alloc, authorizer, links, routes, here, from, npdu, network, sends,
+            ),
+            None => Ok(()),
+        },
+        [_, _, _, ..] => Ok(()),
+    }
+}
+
+/// Asks, and answers a What-Is-Network-Number (clause 6.4.19).
+fn put_number_answer<J: Judge>(
+    alloc: Global,
+    authorizer: &mut Authorizer<'_, J>,
+    here: &Link,
+    from: BipAddr,
+    npdu: &Npdu<'_>,
+    sends: &mut Sends,
+) -> Result<(), AllocError>
+    ensures sends { (rules : List Rule) → J.StandsFor authorizer.old.judge rules →
+        let step = number_step here.now from (npdu_view npdu.now) in
+        OnOk result (sends.new ≡ sends.old ++ allowed_sends rules step) }
+    ensures denied { (rules : List Rule) → J.StandsFor authorizer.old.judge rules →
+        let step = number_step here.now from (npdu_view npdu.now) in
+        OnOk result (authorizer.new.denied ≡ authorizer.old.denied ++ denied_of rules step.asks) }
+    ensures judge { authorizer.new.judge ≡ authorizer.old.judge }
+{
+    let ask = ask_of(Operation::Network, here, from, npdu, None);
+    if authorizer.authorize(&ask)? {
+        put_number_is(alloc, here, sends)
+    } else {
+        Ok(())
+    }
+}
+
+/// Asks for each network that a router names, and keeps those that may be learned.
+fn keep_allowed<J: Judge>(
+    authorizer: &mut Authorizer<'_, J>,
+    here: &Link,
+    from: BipAddr,
+    npdu: &Npdu<'_>,
+    octets: &[u8],
+    networks: &mut Sequence<NetNum>,
+) -> Result<(), AllocError>
+    requires { are_networks octets.now ≡ true }
+    ensures networks { (rules : List Rule) → J.StandsFor authorizer.old.judge rules →
+        let kept = learned rules here.now from (npdu_view npdu.now) (networks_in octets.now) in
+        OnOk result (networks.new ≡ networks.old ++ kept) }
+    ensures denied { (rules : List Rule) → J.StandsFor authorizer.old.judge rules →
+        let asks = map (learn_ask here.now from (npdu_view npdu.now)) (networks_in octets.now) in
+        OnOk result (authorizer.new.denied ≡ authorizer.old.denied ++ denied_of rules asks) }
+    ensures judge { authorizer.new.judge ≡ authorizer.old.judge }
+{
+    let [high, low, rest @ ..] = octets else {
+        return Ok(());
+    };
+    let network = NetNum::new(u16::from_be_bytes([*high, *low])).unwrap();
+    let ask = ask_of(Operation::Learn, here, from, npdu, Some(network));
+    if authorizer.authorize(&ask)? {
+        networks.push(network)?;
+    }
+    keep_allowed(authorizer, here, from, npdu, rest, networks)
+}
+
+/// Asks for each network that a router names, and tells which may be learned.
+fn learn<J: Judge>(
+    alloc: Global,
+    judge: &J,
+    here: &Link,
+    from: BipAddr,
+    npdu: &Npdu<'_>,
+) -> Result<Relayed, AllocError>
+    requires { is_learned (npdu_view npdu.now) ≡ true }
+    ensures sends { IfOk result (λ given. given.sends ≡ []) }
+    ensures refusals { (rules : List Rule) → J.StandsFor judge.now rules →
+        let npdu = npdu_view npdu.now in
+        let asks = map (learn_ask here.now from npdu) (networks_in (payload_octets npdu.payload)) in
+        IfOk result (λ given. given.refusals ≡ denied_of rules asks) }
+    ensures change { (rules : List Rule) → J.StandsFor judge.now rules →
+        let change = manage_change rules here.now from (npdu_view npdu.now) in
+        IfOk result (λ given. given.change ≡ change) }
+    ensures goes_on { IfOk result (λ given. given.goes_on ≡ false) }
+{
+    let mut authorizer = Authorizer::new(alloc, judge);
+    let mut networks = Sequence::new(alloc);
+    let octets = npdu.payload.octets();
+    keep_allowed(&mut authorizer, here, from, npdu, octets, &mut networks)?;
+    Ok(Relayed {
+        sends: Sends::new(alloc),
+        refusals: authorizer.into_refusals(),
+        change: Some(Change::Learnings {
+            port: here.port.number,
+            next: from,
+            networks,
+        }),
+        goes_on: false,
+    })
+}
+
+/// Asks, and answers a question by its type.
+fn put_by_type<J: Judge>(
+    alloc: Global,
+    authorizer: &mut Authorizer<'_, J>,
+    links: &[Link],
+    routes: &Routes,
+    here: &Link,
+    from: BipAddr,
+    npdu: &Npdu<'_>,
+    sends: &mut Sends,
+) -> Result<(), AllocError>
+    ensures sends { (rules : List Rule) → J.StandsFor authorizer.old.judge rules →
+        let steps = answer_steps links.now routes.now here.now from (npdu_view npdu.now) in
+        OnOk result (sends.new ≡ sends.old ++ sends_of rules steps) }
+    ensures denied { (rules : List Rule) → J.StandsFor authorizer.old.judge rules →
+        let steps = answer_steps links.now routes.now here.now from (npdu_view npdu.now) in
+        OnOk result (authorizer.new.denied
+        ≡ authorizer.old.denied ++ denied_of rules (asks_of steps)) }
+    ensures judge { authorizer.new.judge ≡ authorizer.old.judge }
+    ensures silent { let npdu = npdu_view npdu.now in
+        let steps = answer_steps links.now routes.now here.now from npdu in
+        asks_of steps ≡ [] → IsOk result }
+{
+    if is_question(npdu) {
+        let octets = npdu.payload.octets();
+        return put_answers(
+            alloc, authorizer, links, routes, here, from, npdu, octets, sends,
+        );
+    }
+    if is_number_question(npdu) {
+        return put_number_answer(alloc, authorizer, here, from, npdu, sends);
+    }
+    Ok(())
+}
+
+/// Answers a question of the network layer.
+fn answer<J: Judge>(
+    alloc: Global,
+    judge: &J,
+    links: &[Link],
+    routes: &Routes,
+    here: &Link,
+    from: BipAddr,
+    npdu: &Npdu<'_>,
+) -> Result<Relayed, AllocError>
+    ensures sends { (rules : List Rule) → J.StandsFor judge.now rules →
+        let steps = answer_steps links.now routes.now here.now from (npdu_view npdu.now) in
+        IfOk result (λ given. given.sends ≡ sends_of rules steps) }
+    ensures refusals { (rules : List Rule) → J.StandsFor judge.now rules →
+        let steps = answer_steps links.now routes.now here.now from (npdu_view npdu.now) in
+        IfOk result (λ given. given.refusals ≡ denied_of rules (asks_of steps)) }
+    ensures change { IfOk result (λ given. given.change ≡ None) }
+    ensures goes_on { IfOk result (λ given. given.goes_on ≡ false) }
+    ensures silent { let npdu = npdu_view npdu.now in
+        asks_of (answer_steps links.now routes.now here.now from npdu) ≡ [] → IsOk result }
+{
+    let mut authorizer = Authorizer::new(alloc, judge);
+    let mut sends = Sends::new(alloc);
+    put_by_type(
+        alloc,
+        &mut authorizer,
+        links,
+        routes,
+        here,
+        from,
+        npdu,
+        &mut sends,
+    )?;
+    Ok(Relayed {
+        sends,
+        refusals: authorizer.into_refusals(),
+        change: None,
+        goes_on: false,
+    })
+}
+
+/// Answers a network layer message that came on a port from this link source, or learns from it.
+pub(crate) fn managed<J: Judge>(
+    alloc: Global,
+    judge: &J,
+    links: &[Link],
+    routes: &Routes,
+    here: &Link,
+    from: BipAddr,
+    npdu: &Npdu<'_>,
+) -> Result<Relayed, AllocError>
+    ensures sends { (rules : List Rule) → J.StandsFor judge.now rules →
+        let sends = manage_sends rules links.now routes.now here.now from (npdu_view npdu.now) in
+        IfOk result (λ given. given.sends ≡ sends) }
+    ensures refusals { (rules : List Rule) → J.StandsFor judge.now rules →
+        let asks = manage_asks links.now routes.now here.now from (npdu_view npdu.now) in
+        IfOk result (λ given. given.refusals ≡ denied_of rules asks) }
+    ensures change { (rules : List Rule) → J.StandsFor judge.now rules →
+        let change = manage_change rules here.now from (npdu_view npdu.now) in
+        IfOk result (λ given. given.change ≡ change) }
+    ensures goes_on { IfOk result (λ given. given.goes_on ≡ false) }
+    ensures silent { let npdu = npdu_view npdu.now in
+        manage_asks links.now routes.now here.now from npdu ≡ [] → IsOk result }
+{
+    if is_learned(npdu) {
+        return learn(alloc, judge, here, from, npdu);
+    }
+    answer(alloc, judge, links, routes, here, from, npdu)
+}

@@ -1,0 +1,94 @@
+//! The octets of the messages that are sent, each in a buffer of its own.
+
+ghost use Rattle.std.specs.Prelude.{◌≡◌, ◌≤◌, ◌<◌, ◌^◌, ◌++◌, [], length, map, take, drop, IfOk, OnOk};
+ghost use Rattle.std.specs.Int.{w16, to_be_bytes};
+ghost use Rattle.std.specs.Option.{option_map};
+ghost use Rattle.gw_addr.specs.Entry.{bdt_entry, fdt_entry};
+ghost use Rattle.gw_bdt_fdt.specs.Registrations.{shown};
+ghost use Rattle.gw_bvll.specs.Bvll.{encoding, read_bdt_ack, read_fdt_ack, view};
+ghost use Rattle.gw_bvll.specs.Entries.{lent};
+ghost use Rattle.gw_relay.specs.internal.Octets.{within};
+
+use gw_bdt_fdt::{Bdt, Fdt};
+use gw_bvll::{BdtEntries, Bvll, EncodeFault, FdtEntries};
+use std::alloc::{AllocError, Global};
+
+/// How many octets of a message stand before its body (Annex J.2).
+const HEADER_LEN: usize = 4;
+/// How many octets the entry of a table has (Annex J.2.2, J.2.8).
+const ENTRY_LEN: usize = 10;
+
+/// The octets of a message, of which there are about so many. None where they would be over 1507.
+pub(crate) fn message_octets(
+    alloc: Global,
+    message: &Bvll<'_>,
+    len: usize,
+) -> Result<Option<Vec<u8>>, AllocError>
+    ensures { IfOk result (λ made. option_map (λ v. v.items) made ≡ within (view message.now)) }
+{
+    let mut octets = Vec::with_capacity(alloc, len)?;
+    match gw_bvll::encode(message, &mut octets) {
+        Ok(()) => Ok(Some(octets)),
+        Err(EncodeFault::TooLong) => Ok(None),
+        Err(EncodeFault::Memory) => Err(AllocError),
+    }
+}
+
+/// Appends a message without entries.
+fn put_empty(message: &Bvll<'_>, octets: &mut Vec<u8>) -> Result<(), AllocError>
+    ensures { OnOk result (octets.new.items ≡ octets.old.items ++ encoding (view message.now)) }
+{
+    match gw_bvll::encode(message, octets) {
+        Ok(()) => Ok(()),
+        Err(_) => Err(AllocError),
+    }
+}
+
+/// Writes the length of a message into its header (Annex J.2).
+fn put_length(message: &mut [u8])
+    requires least { HEADER_LEN ≤ length message.old }
+    requires most { length message.old < 2 ^ 16 }
+    ensures { let len = to_be_bytes w16 (length message.old) in
+        message.new ≡ take 2 message.old ++ (len ++ drop 4 message.old) }
+{
+    let len = (message.len() as u16).to_be_bytes();
+    message[2..4].copy_from_slice(&len);
+}
+
+/// No entry of a broadcast distribution table.
+fn no_bdt_entries<'a>() -> BdtEntries<'a>
+    ensures { lent bdt_entry result ≡ [] }
+{
+    BdtEntries::from_octets(&[]).unwrap()
+}
+
+/// No entry of a foreign device table.
+fn no_fdt_entries<'a>() -> FdtEntries<'a>
+    ensures { lent fdt_entry result ≡ [] }
+{
+    FdtEntries::from_octets(&[]).unwrap()
+}
+
+/// The octets of a Read-BDT-Ack with the entries of a table (Annex J.2.4).
+pub(crate) fn bdt_ack(alloc: Global, bdt: &Bdt) -> Result<Vec<u8>, AllocError>
+    ensures { IfOk result (λ octets. octets.items ≡ encoding (read_bdt_ack bdt.now)) }
+{
+    let entries = bdt.entries();
+    let mut octets = Vec::with_capacity(alloc, HEADER_LEN + ENTRY_LEN * entries.len())?;
+    put_empty(&Bvll::ReadBdtAck(no_bdt_entries()), &mut octets)?;
+    gw_bvll::put_entries(&mut octets, entries)?;
+    put_length(octets.as_mut_slice());
+    Ok(octets)
+}
+
+/// The octets of a Read-FDT-Ack with the rows of a table (Annex J.2.8).
+pub(crate) fn fdt_ack(alloc: Global, fdt: &Fdt) -> Result<Vec<u8>, AllocError>
+    ensures { IfOk result (λ octets.
+        octets.items ≡ encoding (read_fdt_ack (map shown fdt.now.rows))) }
+{
+    let mut octets = Vec::with_capacity(alloc, HEADER_LEN + ENTRY_LEN * fdt.count())?;
+    put_empty(&Bvll::ReadFdtAck(no_fdt_entries()), &mut octets)?;
+    gw_bvll::put_entries(&mut octets, &fdt.rows(alloc)?)?;
+    put_length(octets.as_mut_slice());
+    Ok(octets)
+}

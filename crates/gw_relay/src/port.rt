@@ -1,0 +1,28 @@
+//! A port, and the two tables of its broadcast manager.
+
+use gw_addr::{BipAddr, NetNum};
+use gw_bdt_fdt::{Bdt, Fdt};
+
+/// A port of the gateway: the BACnet/IP network that it is on (Annex J.1).
+#[derive(Clone, Copy)]
+pub struct Port {
+    /// Its number, from 1.
+    pub number: u8,
+    /// The number of the network.
+    pub network: NetNum,
+    /// The gateway's own address on it.
+    pub address: BipAddr,
+    /// Where a broadcast on its subnet goes.
+    pub broadcast: BipAddr,
+}
+
+/// A port with the tables of its broadcast manager (Annex J.4, J.5).
+#[derive(Drop)]
+pub struct Link {
+    /// The port.
+    pub port: Port,
+    /// The broadcast distribution table.
+    pub bdt: Bdt,
+    /// The foreign device table.
+    pub fdt: Fdt,
+}

@@ -1,0 +1,76 @@
+//! What a relay answers.
+
+ghost use Rattle.std.specs.Prelude.{◌≡◌, ◌++◌, [], None, false, IfOk, IsOk, OnOk};
+ghost use Rattle.std.specs.Option.{option_or};
+
+use crate::change::Change;
+use crate::sends::Sends;
+use gw_rules::Refusals;
+use std::alloc::{AllocError, Global};
+
+/// What a relay answers to a frame: it changed nothing yet.
+#[derive(Drop)]
+pub struct Relayed {
+    /// The datagrams to send, in order.
+    pub sends: Sends,
+    /// The asks that the policy denied, in order.
+    pub refusals: Refusals,
+    /// What is to be committed.
+    pub change: Option<Change>,
+    /// Whether the frame goes on to the network layer: to routing, network messages and the device.
+    pub goes_on: bool,
+}
+
+impl Relayed {
+    /// Nothing is asked, sent or changed, and the frame ends here. It takes no memory.
+    pub fn nothing(alloc: Global) -> Self
+        ensures sends { result.sends ≡ [] }
+        ensures refusals { result.refusals ≡ [] }
+        ensures change { result.change ≡ None }
+        ensures goes_on { result.goes_on ≡ false }
+    {
+        Relayed {
+            sends: Sends::new(alloc),
+            refusals: Refusals::new(alloc),
+            change: None,
+            goes_on: false,
+        }
+    }
+
+    /// This, and behind it what a later step answers. What is to be committed is this one's, and
+    /// where there is none, the later one's. Where the later one sends nothing and had nothing
+    /// denied it takes no memory.
+    pub fn and(self, later: Relayed) -> Result<Self, AllocError>
+        ensures sends { IfOk result (λ given. given.sends ≡ self.sends ++ later.sends) }
+        ensures refusals { IfOk result (λ given. given.refusals ≡ self.refusals ++ later.refusals) }
+        ensures change { IfOk result (λ given. given.change ≡ option_or self.change later.change) }
+        ensures goes_on { IfOk result (λ given. given.goes_on ≡ self.goes_on) }
+        ensures silent { later.sends ≡ [] → later.refusals ≡ [] → IsOk result }
+    {
+        let mut sends = self.sends;
+        let mut refusals = self.refusals;
+        sends.append(later.sends)?;
+        put_refusals(&mut refusals, later.refusals)?;
+        Ok(Relayed {
+            sends,
+            refusals,
+            change: self.change.or(later.change),
+            goes_on: self.goes_on,
+        })
+    }
+}
+
+/// Adds refusals behind others. Where there are none to add it takes no memory.
+fn put_refusals(refusals: &mut Refusals, later: Refusals) -> Result<(), AllocError>
+    ensures ok { OnOk result (refusals.new ≡ refusals.old ++ later) }
+    ensures silent { later ≡ [] → IsOk result }
+{
+    if refusals.is_empty() {
+        *refusals = later;
+        return Ok(());
+    }
+    for refusal in later.as_slice() {
+        refusals.push(*refusal)?;
+    }
+    Ok(())
+}

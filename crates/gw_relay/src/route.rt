@@ -1,0 +1,518 @@
+//! Routing (clauses 6.2.2, 6.4.4, 6.5): where a message goes by the way of its destination.
+
+ghost use Rattle.std.specs.Prelude.{◌≡◌, ◌++◌, [], List, map, false, IfOk, IsOk, OnOk, None};
+ghost use Rattle.std.specs.List.{flat_map};
+ghost use Rattle.std.specs.Option.{option_map};
+ghost use Rattle.gw_npdu.specs.Npdu.{view as npdu_view, address_view, destination_view, payload_view};
+ghost use Rattle.gw_rules.specs.Authorizer.{denied_of};
+ghost use Rattle.gw_rules.specs.declared.rule.Rule.{Rule};
+ghost use Rattle.gw_relay.specs.Route.{copy, delivered, has_hops, hop, is_local, last_hop, leaves, on_way, others, reject, route_ask, route_asks, route_sends, sent_on, sought, steps_by, who_is_router};
+ghost use Rattle.gw_relay.specs.Steps.{allowed_sends, asks_of, npdu_octets, sends_of, unicast};
+ghost use Rattle.gw_relay.specs.State.{link_at};
+ghost use Rattle.gw_relay.specs.internal.Passing.{broadcast_of};
+
+use crate::ask::{bound_for, message_ask};
+use crate::npdu::{is_kind, octets_made, octets_onward, put_broadcast, put_unicast};
+use crate::port::{Link, Port};
+use crate::relayed::Relayed;
+use crate::sends::Sends;
+use gw_addr::BipAddr;
+use gw_npdu::{AddressRef, Destination, MessageKind, NetMessage, Npdu, Onward, Payload, Priority};
+use gw_routes::{Route, Routes, Way};
+use gw_rules::{Ask, Authorizer, Judge, Operation};
+use std::alloc::{AllocError, Global};
+
+/// The hop count that a message begins with (clause 6.2.3).
+const MAX_HOPS: u8 = 255;
+/// Reason 1 of a Reject-Message-To-Network: no way to the network is known (clause 6.4.4).
+const UNREACHABLE: u8 = 1;
+
+/// Whether a way leads on: not back by the port of this number, nor to the device.
+pub(crate) fn leaves(number: u8, way: &Way) -> bool
+    ensures { result ≡ leaves number way.now }
+{
+    match way {
+        Way::Port(other) => *other != usize::from(number),
+        Way::Router(route) => route.port != number,
+        Way::Unknown => true,
+        Way::Device | Way::Everywhere => false,
+    }
+}
+
+/// Whether a hop count has one to take and one to go on with (clause 6.2.3).
+fn has_hops(destination: &Destination<'_>) -> bool
+    ensures { result ≡ has_hops (destination_view destination.now) }
+{
+    destination.hops > 1
+}
+
+/// Whether a message is for one network, and isn't routed (clauses 6.4.19, 6.4.20).
+pub(crate) fn is_local(payload: &Payload<'_>) -> bool
+    ensures { result ≡ is_local (payload_view payload.now) }
+{
+    is_kind(payload, MessageKind::WhatIsNetworkNumber)
+        || is_kind(payload, MessageKind::NetworkNumberIs)
+}
+
+/// The ask of a message that goes to a network.
+pub(crate) fn route_ask(here: &Link, from: BipAddr, npdu: &Npdu<'_>, network: Option<u64>) -> Ask
+    ensures { result ≡ route_ask here.now from (npdu_view npdu.now) network }
+{
+    message_ask(Operation::Route, &here.port, from, network, npdu)
+}
+
+/// The octets of a message for its next hop, whose destination stays or goes; the node that it came
+/// from is added where it names no source. None where they would be over 1497.
+fn octets_from(
+    alloc: Global,
+    port: &Port,
+    from: BipAddr,
+    npdu: &Npdu<'_>,
+    keeps_destination: bool,
+) -> Result<Option<Vec<u8>>, AllocError>
+    ensures { let next = hop keeps_destination port.now from (npdu_view npdu.now) in
+        IfOk result (λ made. option_map (λ v. v.items) made ≡ npdu_octets next) }
+{
+    let node = from.to_octets();
+    let source = AddressRef {
+        network: port.network.get(),
+        mac: &node,
+    };
+    let how = Onward {
+        keeps_destination,
+        source,
+    };
+    octets_onward(alloc, npdu, &how)
+}
+
+/// Adds a message on the destination's own network.
+fn put_delivered(
+    alloc: Global,
+    here: &Link,
+    from: BipAddr,
+    npdu: &Npdu<'_>,
+    mac: &[u8],
+    link: &Link,
+    sends: &mut Sends,
+) -> Result<(), AllocError>
+    ensures { let npdu = last_hop here.now.port from (npdu_view npdu.now) in
+        OnOk result (sends.new ≡ sends.old ++ delivered mac.now npdu link.now) }
+{
+    if mac.is_empty() {
+        let octets = octets_from(alloc, &here.port, from, npdu, false)?;
+        return put_broadcast(alloc, link, &octets, sends);
+    }
+    match gw_addr::bip_from_slice(mac) {
+        Ok(to) => {
+            let octets = octets_from(alloc, &here.port, from, npdu, false)?;
+            put_unicast(alloc, link.port.number, to, &octets, sends)
+        }
+        Err(_) => Ok(()),
+    }
+}
+
+/// Adds a message to the next router.
+fn put_routed(
+    alloc: Global,
+    here: &Link,
+    from: BipAddr,
+    npdu: &Npdu<'_>,
+    destination: &Destination<'_>,
+    route: &Route,
+    sends: &mut Sends,
+) -> Result<(), AllocError>
+    ensures { let way = Way.Router route.now in
+        let d = destination_view destination.now in
+        OnOk result (sends.new ≡ sends.old ++ sent_on [] here.now from (npdu_view npdu.now) d way) }
+{
+    if !has_hops(destination) {
+        return Ok(());
+    }
+    let octets = octets_from(alloc, &here.port, from, npdu, true)?;
+    put_unicast(alloc, route.port, route.next, &octets, sends)
+}
+
+/// Adds a copy of a global broadcast for another port.
+fn put_copied(
+    alloc: Global,
+    here: &Link,
+    from: BipAddr,
+    npdu: &Npdu<'_>,
+    destination: &Destination<'_>,
+    link: &Link,
+    sends: &mut Sends,
+) -> Result<(), AllocError>
+    ensures { let d = destination_view destination.now in
+        OnOk result (sends.new ≡ sends.old
+        ++ (copy here.now from (npdu_view npdu.now) d link.now).sends) }
+{
+    if !has_hops(destination) {
+        return Ok(());
+    }
+    let octets = octets_from(alloc, &here.port, from, npdu, true)?;
+    put_broadcast(alloc, link, &octets, sends)
+}
+
+/// Adds the Reject-Message-To-Network for a message (clause 6.4.4).
+fn put_reject(
+    alloc: Global,
+    here: &Link,
+    from: BipAddr,
+    npdu: &Npdu<'_>,
+    network: u16,
+    sends: &mut Sends,
+) -> Result<(), AllocError>
+    ensures { let reject = reject network (npdu_view npdu.now) in
+        OnOk result (sends.new ≡ sends.old ++ unicast here.now.port.number from reject) }
+{
+    let [high, low] = network.to_be_bytes();
+    let octets = [UNREACHABLE, high, low];
+    let destination = match &npdu.source {
+        Some(source) => Some(Destination {
+            network: source.network,
+            mac: source.mac,
+            hops: MAX_HOPS,
+        }),
+        None => None,
+    };
+    let rejected = Npdu {
+        destination,
+        source: None,
+        reply_expected: false,
+        priority: Priority::Normal,
+        payload: Payload::Message(NetMessage {
+            kind: MessageKind::RejectMessageToNetwork.number(),
+            vendor: None,
+            octets: &octets,
+        }),
+    };
+    let made = octets_made(alloc, &rejected)?;
+    put_unicast(alloc, here.port.number, from, &made, sends)
+}
+
+/// The octets of a Who-Is-Router-To-Network for a network (clause 6.4.1), from this source.
+pub(crate) fn who_is_router_octets(
+    alloc: Global,
+    source: &Option<AddressRef<'_>>,
+    network: u16,
+) -> Result<Option<Vec<u8>>, AllocError>
+    ensures { let source = option_map address_view source.now in
+        IfOk result (λ made. option_map (λ v. v.items) made
+        ≡ npdu_octets (who_is_router source network)) }
+{
+    let octets = network.to_be_bytes();
+    let asked = Npdu {
+        destination: None,
+        source: *source,
+        reply_expected: false,
+        priority: Priority::Normal,
+        payload: Payload::Message(NetMessage {
+            kind: MessageKind::WhoIsRouterToNetwork.number(),
+            vendor: None,
+            octets: &octets,
+        }),
+    };
+    octets_made(alloc, &asked)
+}
+
+/// Adds a broadcast by the gateway on each port but that of this number.
+pub(crate) fn put_on_others(
+    alloc: Global,
+    number: u8,
+    npdu: &Option<Vec<u8>>,
+    links: &[Link],
+    sends: &mut Sends,
+) -> Result<(), AllocError>
+    ensures { let octets = option_map (λ v. v.items) npdu.now in
+        let sent = flat_map (broadcast_of octets) (others number links.now) in
+        OnOk result (sends.new ≡ sends.old ++ sent) }
+{
+    let Some((link, rest)) = links.split_first() else {
+        return Ok(());
+    };
+    if link.port.number == number {
+        return put_on_others(alloc, number, npdu, rest, sends);
+    }
+    put_broadcast(alloc, link, npdu, sends)?;
+    put_on_others(alloc, number, npdu, rest, sends)
+}
+
+/// Tells the sender that no way is known, and asks the other ports' routers for one.
+fn put_sought(
+    alloc: Global,
+    links: &[Link],
+    here: &Link,
+    from: BipAddr,
+    npdu: &Npdu<'_>,
+    network: u16,
+    sends: &mut Sends,
+) -> Result<(), AllocError>
+    ensures { let sent = sought links.now here.now from (npdu_view npdu.now) network in
+        OnOk result (sends.new ≡ sends.old ++ sent) }
+{
+    if is_kind(&npdu.payload, MessageKind::RejectMessageToNetwork) {
+        return Ok(());
+    }
+    put_reject(alloc, here, from, npdu, network, sends)?;
+    let asked = who_is_router_octets(alloc, &None, network)?;
+    put_on_others(alloc, here.port.number, &asked, links, sends)
+}
+
+/// Adds what is sent by a way that is one.
+fn put_sent_on(
+    alloc: Global,
+    links: &[Link],
+    here: &Link,
+    from: BipAddr,
+    npdu: &Npdu<'_>,
+    destination: &Destination<'_>,
+    way: &Way,
+    sends: &mut Sends,
+) -> Result<(), AllocError>
+    ensures { let d = destination_view destination.now in
+        let sent = sent_on links.now here.now from (npdu_view npdu.now) d way.now in
+        OnOk result (sends.new ≡ sends.old ++ sent) }
+{
+    match way {
+        Way::Port(number) => match link_of(links, *number) {
+            Some(link) => put_delivered(alloc, here, from, npdu, destination.mac, link, sends),
+            None => Ok(()),
+        },
+        Way::Router(route) => put_routed(alloc, here, from, npdu, destination, route, sends),
+        Way::Unknown => put_sought(alloc, links, here, from, npdu, destination.network, sends),
+        Way::Device | Way::Everywhere => Ok(()),
+    }
+}
+
+/// The link of the port of this number, from 1, or none.
+fn link_of(links: &[Link], number: usize) -> Option<&Link>
+    ensures { option_map (λ link. link.now) result ≡ link_at links.now number }
+{
+    if number == 0 {
+        return None;
+    }
+    links.get(number - 1)
+}
+
+/// Asks for each other port, and adds the copies of a global broadcast.
+fn put_copies<J: Judge>(
+    alloc: Global,
+    authorizer: &mut Authorizer<'_, J>,
+    here: &Link,
+    from: BipAddr,
+    npdu: &Npdu<'_>,
+    destination: &Destination<'_>,
+    links: &[Link],
+    sends: &mut Sends,
+) -> Result<(), AllocError>
+    ensures sends { (rules : List Rule) → J.StandsFor authorizer.old.judge rules →
+        let copy = copy here.now from (npdu_view npdu.now) (destination_view destination.now) in
+        let sent = sends_of rules (map copy (others here.now.port.number links.now)) in
+        OnOk result (sends.new ≡ sends.old ++ sent) }
+    ensures denied { (rules : List Rule) → J.StandsFor authorizer.old.judge rules →
+        let copy = copy here.now from (npdu_view npdu.now) (destination_view destination.now) in
+        let asks = asks_of (map copy (others here.now.port.number links.now)) in
+        OnOk result (authorizer.new.denied ≡ authorizer.old.denied ++ denied_of rules asks) }
+    ensures judge { authorizer.new.judge ≡ authorizer.old.judge }
+    ensures silent { others here.now.port.number links.now ≡ [] → IsOk result }
+{
+    let Some((link, rest)) = links.split_first() else {
+        return Ok(());
+    };
+    if link.port.number == here.port.number {
+        return put_copies(
+            alloc,
+            authorizer,
+            here,
+            from,
+            npdu,
+            destination,
+            rest,
+            sends,
+        );
+    }
+    put_copy(
+        alloc,
+        authorizer,
+        here,
+        from,
+        npdu,
+        destination,
+        link,
+        sends,
+    )?;
+    put_copies(
+        alloc,
+        authorizer,
+        here,
+        from,
+        npdu,
+        destination,
+        rest,
+        sends,
+    )
+}
+
+/// Asks for another port, and adds the copy of a global broadcast where it is allowed.
+fn put_copy<J: Judge>(
+    alloc: Global,
+    authorizer: &mut Authorizer<'_, J>,
+    here: &Link,
+    from: BipAddr,
+    npdu: &Npdu<'_>,
+    destination: &Destination<'_>,
+    link: &Link,
+    sends: &mut Sends,
+) -> Result<(), AllocError>
+    ensures sends { (rules : List Rule) → J.StandsFor authorizer.old.judge rules →
+        let d = destination_view destination.now in
+        let copy = copy here.now from (npdu_view npdu.now) d link.now in
+        OnOk result (sends.new ≡ sends.old ++ allowed_sends rules copy) }
+    ensures denied { (rules : List Rule) → J.StandsFor authorizer.old.judge rules →
+        let d = destination_view destination.now in
+        let copy = copy here.now from (npdu_view npdu.now) d link.now in
+        OnOk result (authorizer.new.denied ≡ authorizer.old.denied ++ denied_of rules copy.asks) }
+    ensures judge { authorizer.new.judge ≡ authorizer.old.judge }
+{
+    let network = Some(u64::from(link.port.network.get()));
+    let ask = route_ask(here, from, npdu, network);
+    if authorizer.authorize(&ask)? {
+        put_copied(alloc, here, from, npdu, destination, link, sends)
+    } else {
+        Ok(())
+    }
+}
+
+/// Asks once, and adds what is sent where it is allowed.
+fn put_allowed<J: Judge>(
+    alloc: Global,
+    authorizer: &mut Authorizer<'_, J>,
+    links: &[Link],
+    here: &Link,
+    from: BipAddr,
+    npdu: &Npdu<'_>,
+    destination: &Destination<'_>,
+    way: &Way,
+    sends: &mut Sends,
+) -> Result<(), AllocError>
+    ensures sends { (rules : List Rule) → J.StandsFor authorizer.old.judge rules →
+        let d = destination_view destination.now in
+        let step = on_way links.now here.now from (npdu_view npdu.now) d way.now in
+        OnOk result (sends.new ≡ sends.old ++ allowed_sends rules step) }
+    ensures denied { (rules : List Rule) → J.StandsFor authorizer.old.judge rules →
+        let d = destination_view destination.now in
+        let step = on_way links.now here.now from (npdu_view npdu.now) d way.now in
+        OnOk result (authorizer.new.denied ≡ authorizer.old.denied ++ denied_of rules step.asks) }
+    ensures judge { authorizer.new.judge ≡ authorizer.old.judge }
+{
+    let ask = route_ask(here, from, npdu, bound_for(npdu));
+    if authorizer.authorize(&ask)? {
+        put_sent_on(alloc, links, here, from, npdu, destination, way, sends)
+    } else {
+        Ok(())
+    }
+}
+
+/// Asks and adds by the way of the destination.
+#[tactic(auto, using(crate::proofs::Going::everywhere_silent))]
+fn put_by_way<J: Judge>(
+    alloc: Global,
+    authorizer: &mut Authorizer<'_, J>,
+    links: &[Link],
+    here: &Link,
+    from: BipAddr,
+    npdu: &Npdu<'_>,
+    destination: &Destination<'_>,
+    way: &Way,
+    sends: &mut Sends,
+) -> Result<(), AllocError>
+    ensures sends { (rules : List Rule) → J.StandsFor authorizer.old.judge rules →
+        let d = destination_view destination.now in
+        let steps = steps_by links.now here.now from (npdu_view npdu.now) d way.now in
+        OnOk result (sends.new ≡ sends.old ++ sends_of rules steps) }
+    ensures denied { (rules : List Rule) → J.StandsFor authorizer.old.judge rules →
+        let d = destination_view destination.now in
+        let steps = steps_by links.now here.now from (npdu_view npdu.now) d way.now in
+        OnOk result (authorizer.new.denied
+        ≡ authorizer.old.denied ++ denied_of rules (asks_of steps)) }
+    ensures judge { authorizer.new.judge ≡ authorizer.old.judge }
+    ensures silent { let d = destination_view destination.now in
+        let steps = steps_by links.now here.now from (npdu_view npdu.now) d way.now in
+        asks_of steps ≡ [] → IsOk result }
+{
+    if *way == Way::Everywhere {
+        return put_copies(
+            alloc,
+            authorizer,
+            here,
+            from,
+            npdu,
+            destination,
+            links,
+            sends,
+        );
+    }
+    if !leaves(here.port.number, way) {
+        return Ok(());
+    }
+    put_allowed(
+        alloc,
+        authorizer,
+        links,
+        here,
+        from,
+        npdu,
+        destination,
+        way,
+        sends,
+    )
+}
+
+/// Routes a message that came on a port from this link source.
+pub(crate) fn route<J: Judge>(
+    alloc: Global,
+    judge: &J,
+    links: &[Link],
+    routes: &Routes,
+    here: &Link,
+    from: BipAddr,
+    npdu: &Npdu<'_>,
+) -> Result<Relayed, AllocError>
+    ensures sends { (rules : List Rule) → J.StandsFor judge.now rules →
+        let sends = route_sends rules links.now routes.now here.now from (npdu_view npdu.now) in
+        IfOk result (λ given. given.sends ≡ sends) }
+    ensures refusals { (rules : List Rule) → J.StandsFor judge.now rules →
+        let asks = route_asks links.now routes.now here.now from (npdu_view npdu.now) in
+        IfOk result (λ given. given.refusals ≡ denied_of rules asks) }
+    ensures change { IfOk result (λ given. given.change ≡ None) }
+    ensures goes_on { IfOk result (λ given. given.goes_on ≡ false) }
+    ensures silent { let npdu = npdu_view npdu.now in
+        route_asks links.now routes.now here.now from npdu ≡ [] → IsOk result }
+{
+    let Some(destination) = &npdu.destination else {
+        return Ok(Relayed::nothing(alloc));
+    };
+    if is_local(&npdu.payload) {
+        return Ok(Relayed::nothing(alloc));
+    }
+    let way = routes.find(destination.network);
+    let mut authorizer = Authorizer::new(alloc, judge);
+    let mut sends = Sends::new(alloc);
+    put_by_way(
+        alloc,
+        &mut authorizer,
+        links,
+        here,
+        from,
+        npdu,
+        destination,
+        &way,
+        &mut sends,
+    )?;
+    Ok(Relayed {
+        sends,
+        refusals: authorizer.into_refusals(),
+        change: None,
+        goes_on: false,
+    })
+}

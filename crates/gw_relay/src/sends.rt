@@ -1,0 +1,196 @@
+//! Datagrams to send. A message stands once, whomever it goes to: a broadcast to many addresses
+//! takes the octets of one.
+
+ghost use Rattle.std.specs.Prelude.{◌≡◌, ◌==◌, ◌+◌, ◌^◌, ◌<◌, ◌++◌, ◌∷◌, [], length, IfOk, IsOk, OnOk, OnErr};
+ghost use Rattle.std.specs.List.{flat_map};
+ghost use Rattle.gw_relay.specs.Sends.{sendings, sendings_of};
+
+use gw_addr::BipAddr;
+use std::alloc::{AllocError, Global};
+use std::marker::Model;
+
+/// Whom a message goes to. One address takes no memory.
+#[derive(Debug, Drop)]
+enum Targets {
+    One([BipAddr; 1]),
+    Many(Vec<BipAddr>),
+}
+
+/// One message, and whom it is sent to in order.
+#[derive(Debug, Drop)]
+pub struct Batch {
+    port: u8,
+    targets: Targets,
+    octets: Vec<u8>,
+}
+
+impl Model for Batch {
+    ghost use Rattle.gw_relay.specs.Sends.{Batch};
+
+    ghost Value = { Batch };
+
+    ghost use Rattle.gw_relay.specs.internal.Targets.{addresses_of};
+
+    ghost view = { λ b. record {
+      port = b.port;
+      targets = addresses_of b.targets;
+      octets = b.octets.items;
+    } };
+}
+
+impl Batch {
+    /// A message to one address, on the port of this number, from 1.
+    pub fn to_one(port: u8, target: BipAddr, octets: Vec<u8>) -> Self
+        ensures port { result.port ≡ port }
+        ensures targets { result.targets ≡ target ∷ [] }
+        ensures octets { result.octets ≡ octets.items }
+    {
+        Batch {
+            port,
+            targets: Targets::One([target]),
+            octets,
+        }
+    }
+
+    /// A message to each of the addresses, on the port of this number, from 1.
+    pub fn to_each(port: u8, targets: Vec<BipAddr>, octets: Vec<u8>) -> Self
+        ensures port { result.port ≡ port }
+        ensures targets { result.targets ≡ targets.items }
+        ensures octets { result.octets ≡ octets.items }
+    {
+        Batch {
+            port,
+            targets: Targets::Many(targets),
+            octets,
+        }
+    }
+
+    /// The number of the port to send it on, from 1.
+    pub fn port(&self) -> u8
+        ensures { result ≡ self.now.port }
+    {
+        self.port
+    }
+
+    /// Whom to send it to, in order.
+    pub fn targets(&self) -> &[BipAddr]
+        ensures { result.now ≡ self.now.targets }
+    {
+        match &self.targets {
+            Targets::One(target) => target,
+            Targets::Many(targets) => targets.as_slice(),
+        }
+    }
+
+    /// What it holds.
+    pub fn octets(&self) -> &[u8]
+        ensures { result.now ≡ self.now.octets }
+    {
+        self.octets.as_slice()
+    }
+}
+
+/// Datagrams to send, in order, at most 2^64 - 1. Contracts see the list of them, each with its
+/// port, address and octets.
+#[derive(Debug, Drop)]
+pub struct Sends {
+    batches: Vec<Batch>,
+    count: u64,
+}
+
+impl Model for Sends {
+    ghost use Rattle.std.specs.Prelude.{◌≡◌, ◌<◌, ◌^◌, List, length};
+    ghost use Rattle.std.specs.List.{flat_map};
+    ghost use Rattle.gw_relay.specs.Sends.{Sending, sendings_of};
+
+    ghost Value = { List Sending };
+
+    ghost view = { λ s. flat_map sendings_of s.batches.items };
+
+    ghost invariant = { λ s. (s.count ≡ length (flat_map sendings_of s.batches.items)) × (s.count < 2 ^ 64) };
+}
+
+impl Sends {
+    /// No datagram. It takes no memory.
+    pub fn new(alloc: Global) -> Self
+        ensures { result ≡ [] }
+    {
+        Sends {
+            batches: Vec::new(alloc),
+            count: 0,
+        }
+    }
+
+    /// The datagrams of one message. An `Err` where there is no memory for the list.
+    pub fn of(alloc: Global, batch: Batch) -> Result<Self, AllocError>
+        ensures { IfOk result (λ sends. sends ≡ sendings_of batch) }
+    {
+        let mut sends = Sends {
+            batches: Vec::with_capacity(alloc, 1)?,
+            count: 0,
+        };
+        sends.push(batch)?;
+        Ok(sends)
+    }
+
+    /// How many datagrams there are.
+    pub fn len(&self) -> u64
+        ensures { result ≡ length self.now }
+    {
+        self.count
+    }
+
+    /// Adds the datagrams of a message behind the others; one that goes to nobody is let go. An
+    /// `Err` where there is no memory for the list, or where there would be more than 2^64 - 1
+    /// datagrams, which no memory holds: they are as before.
+    pub fn push(&mut self, batch: Batch) -> Result<(), AllocError>
+        ensures ok { OnOk result (self.new ≡ self.old ++ sendings_of batch) }
+        ensures err { OnErr result (self.new ≡ self.old) }
+    {
+        if batch.targets().is_empty() {
+            return Ok(());
+        }
+        let count = sum(self.len(), batch.targets().len() as u64)?;
+        self.batches.push(batch)?;
+        self.count = count;
+        Ok(())
+    }
+
+    /// Adds others behind them. An `Err` where there is no memory for the list, or where there would
+    /// be more than 2^64 - 1 datagrams, which no memory holds: they are as before. Where there are no
+    /// others, or were none before, it takes no memory.
+    pub fn append(&mut self, others: Sends) -> Result<(), AllocError>
+        ensures ok { OnOk result (self.new ≡ self.old ++ others) }
+        ensures err { OnErr result (self.new ≡ self.old) }
+        ensures silent { others ≡ [] → IsOk result }
+    {
+        if others.len() == 0 {
+            return Ok(());
+        }
+        if self.len() == 0 {
+            *self = others;
+            return Ok(());
+        }
+        let count = sum(self.len(), others.len())?;
+        let mut others = others.batches;
+        self.batches.append(&mut others)?;
+        self.count = count;
+        Ok(())
+    }
+
+    /// The messages in order, each with the addresses that it goes to.
+    pub fn batches(&self) -> &[Batch]
+        ensures all { flat_map sendings_of result.now ≡ self.now }
+        ensures few { length self.now < 2 ^ 64 }
+    {
+        self.batches.as_slice()
+    }
+}
+
+/// How many datagrams two lists have together. An `Err` where that passes 2^64 - 1.
+fn sum(count: u64, more: u64) -> Result<u64, AllocError>
+    ensures ok { IfOk result (λ all. all ≡ count + more) }
+    ensures fits { count + more < 2 ^ 64 → IsOk result }
+{
+    count.checked_add(more).ok_or(AllocError)
+}
