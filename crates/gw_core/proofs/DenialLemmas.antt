@@ -1,64 +1,42 @@
 -- How many denials there are, and how the record of refusals goes on.
-use Rattle.std.proofs.Common.{◌≡◌, ℕ, suc, ◌+◌, ◌≤◌, ◌<◌, Bool, true, false, List, [], ◌∷◌, ◌++◌, length, get_or, drop, Option, Some, None, Result, Ok, Err, refl, sym, ap, ◌∙◌, arith, append_assoc, add_assoc}
-use Rattle.std.specs.Prelude.{filter, map, not}
+use Rattle.std.proofs.Common.{◌≡◌, ℕ, suc, ◌+◌, ◌<◌, Bool, true, false, List, [], ◌∷◌, ◌++◌, length, get_or, drop, Option, Some, None, refl, sym, ap, ◌∙◌, arith, append_assoc}
 use Rattle.std.proofs.Math.Seq.{drop-cons}
-use Rattle.gw_rules.specs.Ask.{Ask}
-use Rattle.gw_rules.specs.Authorizer.{denied_of, refusal}
-use Rattle.gw_rules.specs.RuleList.{allows}
+use Rattle.gw_rules.specs.Authorizer.{denied_of}
 use Rattle.gw_rules.specs.declared.refusal.Refusal.{Refusal}
 use Rattle.gw_rules.specs.declared.rule.Rule.{Rule}
-use Rattle.gw_core.specs.declared.device.Context.{Context}
-use Rattle.gw_core.specs.declared.dropped.Dropped.{Dropped}
-use Rattle.gw_core.specs.declared.effects.Denial.{Denial}
+use Rattle.gw_objects.specs.Objects.{Database}
+use Rattle.gw_device.specs.declared.context.Context.{Context}
+use Rattle.gw_device.specs.Device.{device_answer, device_asks, device_change}
+use Rattle.gw_audit.specs.declared.denial.Denial.{Denial}
 use Rattle.gw_script.specs.Event.{Event}
-use Rattle.gw_core.specs.Asks.{apdu_asks, asks, asks_for}
+use Rattle.gw_core.specs.Asks.{apdu_asks, asks, asks_for, message_asks}
+use Rattle.gw_core.specs.Effects.{apdu_answer, apdu_change}
 use Rattle.gw_core.specs.Denials.{denials_at, denials_from, denials_of, denials_for}
-use Rattle.gw_policy_text.specs.declared.device.Device.{Device}
-use Rattle.gw_core.specs.Device.{asks_of, device_asks, request_of}
-use Rattle.gw_core.specs.Read.{Read}
-use Rattle.gw_core.specs.Receive.{Message, Origin, Received, dropped, managed, stranger, message, origin, receive}
+use Rattle.gw_core.specs.Receive.{Message, Origin, Received, dropped, managed, stranger, message, message_origin, node_origin, origin, receive}
 use Rattle.gw_core.specs.Reply.{apdu_for, context_of}
-use Rattle.gw_core.specs.State.{State}
+use Rattle.gw_core.specs.State.{State, device_network}
+use Rattle.gw_core.specs.View.{judged, message_view, origin_of, received_view}
+use Rattle.gw_core.specs.declared.receive.Received.{Received as LentReceived}
+use Rattle.gw_core.specs.declared.receive.Received.TheVariants as lent
+use Rattle.gw_relay.specs.Cast.{is_heard, is_strange}
+use Rattle.gw_relay.specs.State.{Relay}
 
 -- a denial for each refusal
-pub length_denials : (rules : List Rule) (number tick : ℕ) (from : Origin) (refusals : List Refusal) → length (denials_from rules number tick from refusals) ≡ length refusals
+pub length_denials : (rules : List Rule) (number tick : ℕ) (from : Origin) (refusals : List Refusal)
+    → length (denials_from rules number tick from refusals) ≡ length refusals
 length_denials rules number tick from [] = refl
 length_denials rules number tick from (r ∷ rs) = ap suc (length_denials rules (number + 1) tick from rs)
 
--- the refusals that one test of an ask leaves
-one_left : (rules : List Rule) (ask : Ask) (b : Bool) → not (allows rules ask) ≡ b → length (denied_of rules (ask ∷ [])) ≤ 1
-one_left rules ask true e = rw e (omega arith)
-one_left rules ask false e = rw e (omega arith)
-
-few_denied : (rules : List Rule) (asks : List Ask) → length asks ≤ 1 → length (denied_of rules asks) ≤ 1
-few_denied rules [] few = omega arith
-few_denied rules (ask ∷ []) few = one_left rules ask (not (allows rules ask)) refl
-few_denied rules (ask ∷ other ∷ asks) few = absurd (omega arith)
-
-few_asks_of : (device : Device) (context : Context) (request : Result Read Dropped) → length (asks_of device context request) ≤ 1
-few_asks_of device context (Ok read) = omega arith
-few_asks_of device context (Err d) = omega arith
-
-few_apdu_asks : (device : Device) (rules : List Rule) (context : Context) (octets : Option (List ℕ)) → length (apdu_asks device rules context octets) ≤ 1
-few_apdu_asks device rules context None = omega arith
-few_apdu_asks device rules context (Some octets) = few_asks_of device context (request_of device context octets)
-
--- an event raises one ask at most, so it has one denial at most
-pub few_denials : (w : State) (received : Received) → length (denials_for w received) ≤ 1
-few_denials w dropped = omega arith
-few_denials w (managed number port from frame) = omega arith
-few_denials w (stranger number port from) = omega arith
-few_denials w (message m) =
-    let asks = apdu_asks w.device w.rules (context_of w.device.network m) (apdu_for w.device.network m.npdu) in
-    omega (arith, length_denials w.rules (w.denials + 1) w.ticks (record { port = m.number; source = m.claim }) (denied_of w.rules asks), few_denied w.rules asks (few_apdu_asks w.device w.rules (context_of w.device.network m) (apdu_for w.device.network m.npdu)))
-
 -- one refusal more of the list
-pub denials_more : (rules : List Rule) (number tick : ℕ) (from : Origin) (refusals : List Refusal) (i : ℕ) (r : Refusal) (denial : Denial) (so_far whole : List Denial) → i < length refusals → r ≡ get_or refusals i r
-    → denial ∷ denials_from rules (number + i + 1) tick from (drop (suc i) refusals) ≡ denials_from rules (number + i) tick from (r ∷ drop (suc i) refusals)
+pub denials_more : (rules : List Rule) (number tick : ℕ) (from : Origin) (refusals : List Refusal) (i : ℕ) (r : Refusal) (denial : Denial)
+    (so_far whole : List Denial) → i < length refusals → r ≡ get_or refusals i r
+    → denial ∷ denials_from rules (number + i + 1) tick from (drop (suc i) refusals) ≡ denials_from rules (number + i) tick from
+    (r ∷ drop (suc i) refusals)
     → so_far ++ denials_from rules (number + i) tick from (drop i refusals) ≡ whole
     → (so_far ++ denial ∷ []) ++ denials_from rules (number + (i + 1)) tick from (drop (i + 1) refusals) ≡ whole
 denials_more rules number tick from refusals i r denial so_far whole lt is one told =
-    let rest : drop i refusals ≡ r ∷ drop (suc i) refusals = drop-cons refusals i r lt ∙ ap (λ (x : Refusal). x ∷ drop (suc i) refusals) (sym is) in
+    let rest : drop i refusals ≡ r ∷ drop (suc i) refusals = drop-cons refusals i r lt
+    ∙ ap (λ (x : Refusal). x ∷ drop (suc i) refusals) (sym is) in
     let later : number + (i + 1) ≡ number + i + 1 = omega arith in
     let place : i + 1 ≡ suc i = omega arith in
     append_assoc so_far (denial ∷ []) (denials_from rules (number + (i + 1)) tick from (drop (i + 1) refusals))
@@ -67,22 +45,108 @@ denials_more rules number tick from refusals i r denial so_far whole lt is one t
     ∙ ap (λ (l : List Denial). so_far ++ l) (one ∙ ap (denials_from rules (number + i) tick from) (sym rest))
     ∙ told
 
--- what asks nothing has no denials
-pub no_asks_of : (rules : List Rule) (number tick : ℕ) (from : Option Origin) (asks : List Ask) → asks ≡ [] → denials_of rules number tick from asks ≡ []
-no_asks_of rules number tick None asks none = refl
-no_asks_of rules number tick (Some from) asks none = ap (λ (a : List Ask). denials_from rules number tick from (denied_of rules a)) none
+-- what is asked for the APDU that a message has for the device
+pub asks_put : (rules : List Rule) (d : Database) (m : Message) (network : ℕ) (context : Context) (octets : List ℕ)
+    → network ≡ device_network d → Some octets ≡ apdu_for network m.npdu → context ≡ context_of network m
+    → message_asks rules d m ≡ device_asks rules d context octets
+asks_put rules d m network context octets its apdu told =
+    ap (λ (n : ℕ). apdu_asks rules d (context_of n m) (apdu_for n m.npdu)) (sym its)
+    ∙ ap (apdu_asks rules d (context_of network m)) (sym apdu)
+    ∙ ap (λ (x : Context). device_asks rules d x octets) (sym told)
+
+-- its answer and its write
+pub answer_put : (rules : List Rule) (d : Database) (m : Message) (network : ℕ) (context : Context) (octets : List ℕ)
+    → network ≡ device_network d → Some octets ≡ apdu_for network m.npdu → context ≡ context_of network m
+    → apdu_answer rules d (context_of (device_network d) m) (apdu_for (device_network d) m.npdu) ≡ device_answer rules d context octets
+answer_put rules d m network context octets its apdu told =
+    ap (λ (n : ℕ). apdu_answer rules d (context_of n m) (apdu_for n m.npdu)) (sym its)
+    ∙ ap (apdu_answer rules d (context_of network m)) (sym apdu)
+    ∙ ap (λ (x : Context). device_answer rules d x octets) (sym told)
+
+pub change_put : (rules : List Rule) (d : Database) (m : Message) (network : ℕ) (context : Context) (octets : List ℕ)
+    → network ≡ device_network d → Some octets ≡ apdu_for network m.npdu → context ≡ context_of network m
+    → apdu_change rules d (context_of (device_network d) m) (apdu_for (device_network d) m.npdu) ≡ device_change rules d context octets
+change_put rules d m network context octets its apdu told =
+    ap (λ (n : ℕ). apdu_change rules d (context_of n m) (apdu_for n m.npdu)) (sym its)
+    ∙ ap (apdu_change rules d (context_of network m)) (sym apdu)
+    ∙ ap (λ (x : Context). device_change rules d x octets) (sym told)
+
+pub no_asks_put : (rules : List Rule) (d : Database) (m : Message) (network : ℕ) → network ≡ device_network d
+    → None ≡ apdu_for network m.npdu → message_asks rules d m ≡ []
+no_asks_put rules d m network its apdu =
+    ap (λ (n : ℕ). apdu_asks rules d (context_of n m) (apdu_for n m.npdu)) (sym its)
+    ∙ ap (apdu_asks rules d (context_of network m)) (sym apdu)
+
+-- what has no refusals has no denials
+pub none_of : (rules : List Rule) (number tick : ℕ) (from : Option Origin) (refusals : List Refusal) → refusals ≡ []
+    → denials_of rules number tick from refusals ≡ []
+none_of rules number tick None refusals none = refl
+none_of rules number tick (Some from) refusals none = ap (denials_from rules number tick from) none
+
+-- a denial for each ask of what is received that is denied
+pub counted_for : (w : State) (received : Received)
+    → length (denials_for w received) ≡ length (denied_of w.rules (asks_for w.rules w.relay w.device received))
+counted_for w dropped = refl
+counted_for w (managed on from frame) = length_denials w.rules (w.denials + 1) w.ticks (node_origin on from)
+    (denied_of w.rules (asks_for w.rules w.relay w.device (managed on from frame)))
+counted_for w (stranger m) = refl
+counted_for w (message m) = length_denials w.rules (w.denials + 1) w.ticks (message_origin m)
+    (denied_of w.rules (asks_for w.rules w.relay w.device (message m)))
+
+-- the record of what the code takes unjudged is that of what it is received as
+judged_denials : (rules : List Rule) (number tick : ℕ) (relay : Relay) (d : Database) (m : Message) (refusals : List Refusal)
+    (heard strange : Bool)
+    → heard ≡ is_heard m.here m.from m.frame → strange ≡ is_strange m.here m.from m.frame
+    → refusals ≡ denied_of rules (asks_for rules relay d (judged m))
+    → denials_of rules number tick (Some (message_origin m)) refusals ≡ denials_of rules number tick (origin (judged m)) refusals
+judged_denials rules number tick relay d m refusals false strange h s are =
+    let out : judged m ≡ dropped = rw (← h) refl in
+    let none : refusals ≡ [] = are ∙ ap (λ (r : Received). denied_of rules (asks_for rules relay d r)) out in
+    none_of rules number tick (Some (message_origin m)) refusals none ∙ sym (none_of rules number tick (origin (judged m)) refusals none)
+judged_denials rules number tick relay d m refusals true true h s are =
+    let out : judged m ≡ stranger m = rw (← h, ← s) refl in
+    let none : refusals ≡ [] = are ∙ ap (λ (r : Received). denied_of rules (asks_for rules relay d r)) out in
+    none_of rules number tick (Some (message_origin m)) refusals none ∙ sym (none_of rules number tick (origin (judged m)) refusals none)
+judged_denials rules number tick relay d m refusals true false h s are =
+    let out : judged m ≡ message m = rw (← h, ← s) refl in
+    ap (λ (r : Received). denials_of rules number tick (origin r) refusals) (sym out)
+
+pub lent_denials : (rules : List Rule) (number tick : ℕ) (relay : Relay) (d : Database) (received : LentReceived) (refusals : List Refusal)
+    → refusals ≡ denied_of rules (asks_for rules relay d (received_view received))
+    → denials_of rules number tick (origin_of received) refusals ≡ denials_of rules number tick (origin (received_view received)) refusals
+lent_denials rules number tick relay d lent.Dropped refusals are = refl
+lent_denials rules number tick relay d (lent.Managed on from frame) refusals are = refl
+lent_denials rules number tick relay d (lent.Message m) refusals are =
+    let view = message_view m in
+    judged_denials rules number tick relay d view refusals (is_heard view.here view.from view.frame)
+    (is_strange view.here view.from view.frame) refl refl are
 
 -- what is asked of what is received is what the event asks
-pub asks_received : (w : State) (e : Event) (received : Received) → received ≡ receive w e → asks w e ≡ asks_for w.device w.rules received
+pub asks_received : (w : State) (e : Event) (received : Received) → received ≡ receive w e
+    → asks w e ≡ asks_for w.rules w.relay w.device received
 unfolding asks
-asks_received w e received is = ap (asks_for w.device w.rules) (sym is)
+asks_received w e received is = ap (asks_for w.rules w.relay w.device) (sym is)
 
 -- an event that asks nothing is denied nothing
 pub no_denials : (w : State) (e : Event) → asks w e ≡ [] → denials_at w e ≡ []
 unfolding asks denials_at
-no_denials w e none = no_asks_of w.rules (w.denials + 1) w.ticks (origin (receive w e)) (asks_for w.device w.rules (receive w e)) none
+no_denials w e none =
+    none_of w.rules (w.denials + 1) w.ticks (origin (receive w e)) (denied_of w.rules (asks_for w.rules w.relay w.device (receive w e)))
+    (ap (denied_of w.rules) none)
 
 -- the denials of what is received are those of the event
-pub denials_received : (w : State) (e : Event) (received : Received) → received ≡ receive w e → length (denials_for w received) ≡ length (denials_at w e)
+pub denials_received : (w : State) (e : Event) (received : Received) → received ≡ receive w e
+    → length (denials_for w received) ≡ length (denials_at w e)
 unfolding denials_at
 denials_received w e received is = ap (λ (r : Received). length (denials_for w r)) is
+
+-- the record of what the code was refused is that of the denials
+pub recorded : (w : State) (received : LentReceived) (rules : List Rule) (slice refusals : List Refusal) (denials : List Denial)
+    → rules ≡ w.rules → slice ≡ refusals → refusals ≡ denied_of w.rules (asks_for w.rules w.relay w.device (received_view received))
+    → denials ≡ denials_of rules (w.denials + 1) w.ticks (origin_of received) slice → denials ≡ denials_for w (received_view received)
+recorded w received rules slice refusals denials same lent are is =
+    let number = w.denials + 1 in
+    is ∙ ap (λ (r : List Rule). denials_of r number w.ticks (origin_of received) slice) same
+    ∙ ap (denials_of w.rules number w.ticks (origin_of received)) lent
+    ∙ lent_denials w.rules number w.ticks w.relay w.device received refusals are
+    ∙ ap (denials_of w.rules number w.ticks (origin (received_view received))) are

@@ -1,18 +1,22 @@
 -- What an event does to the counts, and what a tick does.
-use Rattle.std.proofs.Common.{◌≡◌, ℕ, ◌+◌, ◌^◌, ◌<◌, ◌≤◌, Bool, true, false, nat_lt, ◌||◌, arith, length, List, [], refl, ap, ◌∙◌, inl, inr}
+use Rattle.std.proofs.Common.{◌≡◌, ℕ, ◌+◌, ◌^◌, ◌<◌, ◌≤◌, Bool, true, false, nat_lt, ◌||◌, arith, length, List, [], Option, true≢false, refl, sym, ap, ◌∙◌, inl, inr}
 use Rattle.std.specs.Prelude.{IsTrue}
+use Rattle.std.specs.Option.{option_map}
 use Rattle.std.proofs.lemmas.Bool.{cases_lt}
 use Rattle.std.proofs.lemmas.Bool.Decides.{nat_tests}
 use Rattle.gw_addr.specs.declared.bip.BipAddr.{BipAddr}
 use Rattle.gw_core.specs.declared.effects.Effects.{Effects}
-use Rattle.gw_core.specs.declared.effects.Sending.{Sending}
-use Rattle.gw_core.specs.declared.effects.Denial.{Denial}
+use Rattle.gw_relay.specs.Sends.{Sending}
+use Rattle.gw_relay.specs.State.{Commit}
+use Rattle.gw_relay.specs.declared.change.Change.{Change}
+use Rattle.gw_relay.specs.declared.port.Link.{Link}
+use Rattle.gw_audit.specs.declared.denial.Denial.{Denial}
 use Rattle.gw_script.specs.Event.{Event}
 use Rattle.gw_script.specs.Event.{Datagram, Tick}
 use Rattle.gw_core.specs.Denials.{denials_at}
-use Rattle.gw_core.specs.Effects.{effects_at, effects_for, nothing, passes_end, ticks_of}
+use Rattle.gw_core.specs.Effects.{change_at, change_for, effects_at, effects_for, move_at, move_for, nothing, passes_end, relay_change_for, sends, sends_for, ticks_of}
 use Rattle.gw_core.specs.Receive.{Received, receive, receive_on}
-use Rattle.gw_core.specs.State.{State}
+use Rattle.gw_core.specs.State.{State, device_network}
 
 -- a tick does nothing
 pub effects_at-tick : (w : State) → effects_at w Tick ≡ nothing
@@ -36,14 +40,18 @@ effects_with sends denials = record { sends = sends; denials = denials }
 
 -- effects with neither sends nor denials are nothing
 pub nothing_is : (x : Effects) → x.sends ≡ [] → x.denials ≡ [] → x ≡ nothing
-nothing_is x no_sends no_denials = ap (λ (s : List Sending). effects_with s x.denials) no_sends ∙ ap (λ (d : List Denial). effects_with [] d) no_denials
+nothing_is x no_sends no_denials = ap (λ (s : List Sending). effects_with s x.denials) no_sends
+    ∙ ap (λ (d : List Denial). effects_with [] d) no_denials
 
 -- effects are their parts
-pub effects_are : (sends other_sends : List Sending) (denials other_denials : List Denial) → sends ≡ other_sends → denials ≡ other_denials → effects_with sends denials ≡ effects_with other_sends other_denials
-effects_are sends other_sends denials other_denials same_sends same_denials = ap (λ (s : List Sending). effects_with s denials) same_sends ∙ ap (λ (d : List Denial). effects_with other_sends d) same_denials
+pub effects_are : (sends other_sends : List Sending) (denials other_denials : List Denial) → sends ≡ other_sends → denials ≡ other_denials
+    → effects_with sends denials ≡ effects_with other_sends other_denials
+effects_are sends other_sends denials other_denials same_sends same_denials = ap (λ (s : List Sending). effects_with s denials) same_sends
+    ∙ ap (λ (d : List Denial). effects_with other_sends d) same_denials
 
 -- a count that an event leaves within its end
-pub passes_end-within : (w : State) (e : Event) (n : ℕ) → n ≡ length (denials_at w e) → w.ticks + ticks_of e ≤ 2 ^ 63 → w.denials + n ≤ 2 ^ 63 → passes_end w e ≡ false
+pub passes_end-within : (w : State) (e : Event) (n : ℕ) → n ≡ length (denials_at w e) → w.ticks + ticks_of e ≤ 2 ^ 63
+    → w.denials + n ≤ 2 ^ 63 → passes_end w e ≡ false
 unfolding passes_end
 passes_end-within w e n counted ticks denials =
     let low : nat_lt (2 ^ 63) (w.ticks + ticks_of e) ≡ false = grind (arith, nat_tests) in
@@ -70,7 +78,8 @@ unfolding effects_at
 effects_received w e received is = ap (effects_for w) is
 
 -- what a datagram is received as on its port
-pub receive_datagram : (w : State) (port : ℕ) (from : BipAddr) (octets : List ℕ) (received : Received) → received ≡ receive_on w.ports w.device.network port from octets → received ≡ receive w (Datagram port from octets)
+pub receive_datagram : (w : State) (port : ℕ) (from : BipAddr) (octets : List ℕ) (received : Received)
+    → received ≡ receive_on w.relay.links (device_network w.device) port from octets → received ≡ receive w (Datagram port from octets)
 unfolding receive
 receive_datagram w port from octets received is = is
 
@@ -81,3 +90,47 @@ not_past told m n e tells =
       | inl lt ↦ absurd (differs told e (tells lt))
       | inr le ↦ le
     ]
+
+-- where the ticks don't pass the end, the denials do
+pub denials_past : (w : State) (e : Event) (n : ℕ) → n ≡ length (denials_at w e) → w.ticks + ticks_of e ≤ 2 ^ 63 → passes_end w e ≡ true
+    → 2 ^ 63 < w.denials + n
+denials_past w e n counted ticks past =
+    elim (cases_lt (2 ^ 63) (w.denials + n)) [
+      | inl lt ↦ lt
+      | inr le ↦ absurd (true≢false (sym past ∙ passes_end-within w e n counted ticks le))
+    ]
+
+-- what is sent and changed of what is received is what the event sends and changes
+pub sends_received : (w : State) (e : Event) (received : Received) → received ≡ receive w e
+    → sends w e ≡ sends_for w.rules w.relay w.device received
+unfolding sends
+sends_received w e received is = ap (sends_for w.rules w.relay w.device) (sym is)
+
+pub change_received : (w : State) (e : Event) (received : Received) → received ≡ receive w e
+    → change_for w.rules w.device received ≡ change_at w e
+unfolding change_at
+change_received w e received is = ap (change_for w.rules w.device) is
+
+pub move_received : (w : State) (port : ℕ) (from : BipAddr) (octets : List ℕ) (received : Received) (change : Option Change)
+    → received ≡ receive w (Datagram port from octets)
+    → change ≡ relay_change_for w.rules received → option_map Commit change ≡ move_at w (Datagram port from octets)
+unfolding move_at
+move_received w port from octets received change is granted =
+    ap (option_map Commit) granted ∙ ap (move_for w.rules (Datagram port from octets)) is
+
+-- what isn't at most a number is more
+pub more_than : (m n : ℕ) → (n ≤ m → ⊥) → m < n
+more_than m n not =
+    elim (cases_lt m n) [
+      | inl lt ↦ lt
+      | inr le ↦ absurd (not le)
+    ]
+
+-- what the code receives a datagram as, where its links and its network are those of the state
+pub received_as : (w : State) (links : List Link) (network port : ℕ) (from : BipAddr) (octets : List ℕ) (received : Received)
+    → received ≡ receive_on links network port from octets → links ≡ w.relay.links → network ≡ device_network w.device
+    → received ≡ receive w (Datagram port from octets)
+received_as w links network port from octets received is same its =
+    receive_datagram w port from octets received
+    (is ∙ ap (λ (l : List Link). receive_on l network port from octets) same
+    ∙ ap (λ (n : ℕ). receive_on w.relay.links n port from octets) its)

@@ -1,8 +1,9 @@
 -- A history goes on by one event, and a list of events is history_after one after the other.
-use Rattle.std.proofs.Common.{◌≡◌, ℕ, ◌+◌, ◌-◌, ◌<◌, ◌≤◌, List, [], ◌∷◌, ◌++◌, length, get_or, take, drop, Some, true, refl, sym, ap, ◌∙◌, arith, add_assoc, add-zero, append_assoc}
-use Rattle.std.specs.Prelude.{map, slice_get, IsErrOf, Result, Err}
+use Rattle.std.proofs.Common.{◌≡◌, ℕ, suc, ◌+◌, ◌-◌, ◌<◌, ◌≤◌, List, [], ◌∷◌, ◌++◌, length, get_or, take, drop, Option, Some, None, true, refl, sym, ap, subst, ◌∙◌, arith, add_assoc, add-zero, append_assoc}
+use Rattle.std.specs.Prelude.{map, slice_get, IsErrOf, Err}
 use Rattle.gw_core.specs.declared.fault.StepFault.{StepFault}
-use Rattle.std.proofs.lemmas.List.{take_at}
+use Rattle.std.specs.Option.{option_map}
+use Rattle.std.proofs.lemmas.List.{take_at, length-map}
 use Rattle.std.proofs.Math.Seq.{take-length}
 use Rattle.gw_addr.specs.declared.bip.BipAddr.{BipAddr}
 use Rattle.gw_core.specs.declared.effects.Effects.{Effects}
@@ -10,50 +11,105 @@ use Rattle.gw_core.specs.declared.event.Counts.{Counts}
 use Rattle.gw_script.specs.declared.event.Event.{Event as LentEvent}
 use Rattle.gw_script.specs.Event.{Event, Datagram, Tick, event_view}
 use Rattle.gw_policy_text.specs.Configuration.{Configuration}
+use Rattle.gw_objects.specs.Objects.{Database, database_of}
+use Rattle.gw_objects.specs.Write.{Write}
+use Rattle.gw_relay.specs.History.{acts_moved, learned_moved}
+use Rattle.gw_relay.specs.History.{Acts as PortActs}
+use Rattle.gw_policy_text.specs.declared.port.Port.{Port}
+use Rattle.gw_relay.specs.declared.change.Change.{Change}
+use Rattle.gw_relay.specs.Initial.{initial, links_from}
+use Rattle.gw_relay.specs.internal.Ticks.{AreAlike}
+use Rattle.gw_relay.proofs.Places.{length_after}
+use Rattle.gw_relay.proofs.Ticks.{after_alike, initial_alike, later_alike}
+use Rattle.gw_relay.specs.State.{Move, Relay, later, link_later, moved, moved_by}
+use Rattle.gw_relay.specs.State as move
+use Rattle.gw_routes.specs.History.{History as Learned}
 use Rattle.gw_core.specs.Denials.{denials_at}
-use Rattle.gw_core.specs.Effects.{effects_at, passes_end, ticks_of}
-use Rattle.gw_core.specs.History.{acts_of, state_after, next, IsStateAfter, run_after, run_from, state_from, history_after, StopsAtEnd}
-use Rattle.gw_core.specs.Laws.{StepsExtendHistories, RunsExtendHistories}
+use Rattle.gw_core.specs.Effects.{change_at, changed, effects_at, move_at, passes_end, relay_change_for, ticks_of}
+use Rattle.gw_core.specs.History.{acts_of, state_after, with_granted, with_move, written, RoutesGoOn, RoutesStand, TablesGoOn, TablesStand, WritesGoOn, WritesStand, next, IsStateAfter, run_after, run_from, state_from, history_after, StopsAtEnd}
+use Rattle.gw_core.specs.Laws.{ConfigurationStays, StepsExtendHistories, RunsExtendHistories}
 use Rattle.gw_core.specs.Receive.{receive}
-use Rattle.gw_core.specs.State.{State, initial_states}
+use Rattle.gw_core.specs.State.{State}
 
-abbrev counted : Configuration → ℕ → ℕ → State
-counted c ticks denials = record {
-  ports = c.ports;
-  device = c.device;
-  objects = initial_states c.objects;
+abbrev counted : Configuration → Relay → Database → ℕ → ℕ → State
+counted c relay device ticks denials = record {
+  relay = relay;
+  device = device;
   rules = c.rules;
   ticks = ticks;
   denials = denials;
 }
 
+-- a granted write changes the device that those before it left
+written_more : (granted : Option Write) (writes : List Write) (d : Database)
+    → written (with_granted granted writes) d ≡ changed granted (written writes d)
+unfolding written
+written_more None writes d = refl
+written_more (Some write) writes d = refl
+
+-- a move changes the relay that those before it left
+moved_more : (m : Option Move) (moves : List Move) (relay : Relay) → moved_by (with_move m moves) relay ≡ moved m (moved_by moves relay)
+unfolding moved_by
+moved_more None moves relay = refl
+moved_more (Some m) moves relay = refl
+
 -- the state after one event more is the next state
 pub state_next : (c : Configuration) (k : Counts) (h : List Event) (e : Event) → state_after c k (e ∷ h) ≡ next (state_after c k h) e
 unfolding acts_of next
 state_next c k h e =
-    ap (λ (t : ℕ). counted c t (k.denials + ((acts_of c k h).denials + length (denials_at (state_after c k h) e)))) (sym (add_assoc k.ticks (acts_of c k h).ticks (ticks_of e)))
-    ∙ ap (λ (d : ℕ). counted c (k.ticks + (acts_of c k h).ticks + ticks_of e) d) (sym (add_assoc k.denials (acts_of c k h).denials (length (denials_at (state_after c k h) e))))
+    let w = state_after c k h in
+    let acts = acts_of c k h in
+    let denied = length (denials_at w e) in
+    let ticks = k.ticks + (acts.ticks + ticks_of e) in
+    let denials = k.denials + (acts.denials + denied) in
+    ap (λ (r : Relay). counted c r (written (with_granted (change_at w e) acts.writes) (database_of c)) ticks denials)
+    (moved_more (move_at w e) acts.moves (initial c))
+    ∙ ap (λ (d : Database). counted c (moved (move_at w e) w.relay) d ticks denials)
+    (written_more (change_at w e) acts.writes (database_of c))
+    ∙ ap (λ (t : ℕ). counted c (moved (move_at w e) w.relay) (changed (change_at w e) w.device) t denials)
+    (sym (add_assoc k.ticks acts.ticks (ticks_of e)))
+    ∙ ap (λ (d : ℕ). counted c (moved (move_at w e) w.relay) (changed (change_at w e) w.device) (k.ticks + acts.ticks + ticks_of e) d)
+    (sym (add_assoc k.denials acts.denials denied))
 
 -- the next state of the state after a history is that after one event more
-pub after_next : (w v : State) (c : Configuration) (k : Counts) (h : List Event) (e : Event) → v ≡ next w e → IsStateAfter w c k h → IsStateAfter v c k (e ∷ h)
-after_next w v c k h e moved after = moved ∙ ap (λ (x : State). next x e) after ∙ sym (state_next c k h e)
+pub after_next : (w v : State) (c : Configuration) (k : Counts) (h : List Event) (e : Event) → v ≡ next w e → IsStateAfter w c k h
+    → IsStateAfter v c k (e ∷ h)
+after_next w v c k h e goes after = goes ∙ ap (λ (x : State). next x e) after ∙ sym (state_next c k h e)
 
 -- a fresh gateway is in the state after the empty history
-pub after_none : (c : Configuration) (k : Counts) → IsStateAfter (counted c k.ticks k.denials) c k []
-unfolding acts_of
-after_none c k =
-    ap (λ (t : ℕ). counted c t k.denials) (sym (add-zero k.ticks)) ∙ ap (λ (d : ℕ). counted c (k.ticks + 0) d) (sym (add-zero k.denials))
+pub after_none : (c : Configuration) (k : Counts) (relay : Relay) (device : Database) → relay ≡ initial c → device ≡ database_of c
+    → IsStateAfter (counted c relay device k.ticks k.denials) c k []
+unfolding acts_of written moved_by
+after_none c k relay device starts is =
+    ap (λ (r : Relay). counted c r device k.ticks k.denials) starts
+    ∙ ap (λ (d : Database). counted c (initial c) d k.ticks k.denials) is
+    ∙ ap (λ (t : ℕ). counted c (initial c) (database_of c) t k.denials) (sym (add-zero k.ticks))
+    ∙ ap (λ (d : ℕ). counted c (initial c) (database_of c) (k.ticks + 0) d) (sym (add-zero k.denials))
 
--- a datagram moves on the number of denials alone
-pub moves_denials : (w : State) (port : ℕ) (from : BipAddr) (octets : List ℕ) (n : ℕ) → n ≡ length (denials_at w (Datagram port from octets)) → record w { denials = w.denials + n } ≡ next w (Datagram port from octets)
+-- a state with other parts
+abbrev at : State → Relay → Database → ℕ → ℕ → State
+at w relay device ticks denials = record w { relay = relay; device = device; ticks = ticks; denials = denials }
+
+-- a datagram moves on the relay and the device, by its change and its write, and the number of denials
+pub moves_on : (w v : State) (port : ℕ) (from : BipAddr) (octets : List ℕ) (m : Option Move) (change : Option Write) (n : ℕ)
+    → v ≡ record w { relay = moved m w.relay; device = changed change w.device; denials = w.denials + n }
+    → m ≡ move_at w (Datagram port from octets) → change ≡ change_at w (Datagram port from octets)
+    → n ≡ length (denials_at w (Datagram port from octets))
+    → v ≡ next w (Datagram port from octets)
 unfolding next
-moves_denials w port from octets n counted =
-    ap (λ (t : ℕ). record w { ticks = t; denials = w.denials + n }) (sym (add-zero w.ticks)) ∙ ap (λ (d : ℕ). record w { ticks = w.ticks + 0; denials = w.denials + d }) counted
+moves_on w v port from octets m change n is moves granted counted =
+    is
+    ∙ ap (λ (t : ℕ). at w (moved m w.relay) (changed change w.device) t (w.denials + n)) (sym (add-zero w.ticks))
+    ∙ ap (λ (d : ℕ). at w (moved m w.relay) (changed change w.device) (w.ticks + 0) (w.denials + d)) counted
+    ∙ ap (λ (g : Option Write). at w (moved m w.relay) (changed g w.device) (w.ticks + 0)
+    (w.denials + length (denials_at w (Datagram port from octets)))) granted
+    ∙ ap (λ (x : Option Move). at w (moved x w.relay) (changed (change_at w (Datagram port from octets)) w.device) (w.ticks + 0)
+    (w.denials + length (denials_at w (Datagram port from octets)))) moves
 
--- a tick moves on the count of ticks alone
-pub moves_ticks : (w : State) → record w { ticks = w.ticks + 1 } ≡ next w Tick
-unfolding next denials_at receive
-moves_ticks w = ap (λ (d : ℕ). record w { ticks = w.ticks + 1; denials = d }) (sym (add-zero w.denials))
+-- a tick moves on the relay by a tick, and the count of ticks
+pub moves_ticks : (w : State) → record w { relay = later w.relay; ticks = w.ticks + 1 } ≡ next w Tick
+unfolding next denials_at change_at move_at receive
+moves_ticks w = ap (λ (d : ℕ). record w { relay = later w.relay; ticks = w.ticks + 1; denials = d }) (sym (add-zero w.denials))
 
 -- ---- a list of events, one after the other
 
@@ -78,17 +134,18 @@ run_begins w all given none = record {
   told = ap (λ (g : List Effects). g ++ run_from w all) none;
 }
 
-pub run_goes_on : (first w v : State) (all rest later : List Event) (given more : List Effects) (e : Event) (x : Effects) → RunProgress first w all rest given → rest ≡ e ∷ later → v ≡ next w e → x ≡ effects_at w e → more ≡ given ++ x ∷ []
+pub run_goes_on : (first w v : State) (all rest later : List Event) (given more : List Effects) (e : Event) (x : Effects)
+    → RunProgress first w all rest given → rest ≡ e ∷ later → v ≡ next w e → x ≡ effects_at w e → more ≡ given ++ x ∷ []
     → RunProgress first v all later more
 unfolding run_from
-run_goes_on first w v all rest later given more e x p split moved does pushed = record {
+run_goes_on first w v all rest others given more e x p split goes does pushed = record {
   done = p.done ++ e ∷ [];
-  parts = p.parts ∙ ap (λ (l : List Event). p.done ++ l) split ∙ sym (append_assoc p.done (e ∷ []) later);
-  state = moved ∙ ap (λ (s : State). next s e) p.state ∙ sym (state_from-append first p.done e);
-  told = ap (λ (g : List Effects). g ++ run_from v later) pushed
-      ∙ append_assoc given (x ∷ []) (run_from v later)
-      ∙ ap (λ (s : State). given ++ x ∷ run_from s later) moved
-      ∙ ap (λ (y : Effects). given ++ y ∷ run_from (next w e) later) does
+  parts = p.parts ∙ ap (λ (l : List Event). p.done ++ l) split ∙ sym (append_assoc p.done (e ∷ []) others);
+  state = goes ∙ ap (λ (s : State). next s e) p.state ∙ sym (state_from-append first p.done e);
+  told = ap (λ (g : List Effects). g ++ run_from v others) pushed
+      ∙ append_assoc given (x ∷ []) (run_from v others)
+      ∙ ap (λ (s : State). given ++ x ∷ run_from s others) goes
+      ∙ ap (λ (y : Effects). given ++ y ∷ run_from (next w e) others) does
       ∙ ap (λ (l : List Event). given ++ run_from w l) (sym split)
       ∙ p.told;
 }
@@ -102,25 +159,29 @@ pub next_event : (done : List Event) (e : Event) (later : List Event) → slice_
 next_event [] e later = refl
 next_event (d ∷ done) e later = next_event done e later
 
-fault_is : {T : Type 0} (fault other : StepFault) → IsErrOf {T = T} {E = StepFault} (Err fault) other → fault ≡ other
+pub fault_is : {T : Type 0} (fault other : StepFault) → IsErrOf {T = T} {E = StepFault} (Err fault) other → fault ≡ other
 fault_is fault other e = cc
 
 -- a fault of one call as that of another
-pub fault_as : {S T : Type 0} (fault other : StepFault) → IsErrOf {T = S} {E = StepFault} (Err fault) other → IsErrOf {T = T} {E = StepFault} (Err fault) other
+pub fault_as : {S T : Type 0} (fault other : StepFault) → IsErrOf {T = S} {E = StepFault} (Err fault) other
+    → IsErrOf {T = T} {E = StepFault} (Err fault) other
 fault_as {S} {T} fault other e = ap Err (fault_is {T = S} fault other e)
 
 -- where the next event would pass the end of a count
-pub run_stops : (first w v : State) (all rest later : List Event) (given : List Effects) (e : Event) → RunProgress first w all rest given → rest ≡ e ∷ later → v ≡ w → passes_end w e ≡ true → StopsAtEnd first all v
+pub run_stops : (first w v : State) (all rest later : List Event) (given : List Effects) (e : Event) → RunProgress first w all rest given
+    → rest ≡ e ∷ later → v ≡ w → passes_end w e ≡ true → StopsAtEnd first all v
 run_stops first w v all rest later given e p split same passes = record {
   count = length p.done;
   event = e;
   took = same ∙ p.state ∙ ap (state_from first) (sym (first_events all p.done rest p.parts));
-  next_is = ap (λ (l : List Event). slice_get l (length p.done)) (p.parts ∙ ap (λ (l : List Event). p.done ++ l) split) ∙ next_event p.done e later;
+  next_is = ap (λ (l : List Event). slice_get l (length p.done)) (p.parts ∙ ap (λ (l : List Event). p.done ++ l) split)
+      ∙ next_event p.done e later;
   passes = ap (λ (s : State). passes_end s e) same ∙ passes;
 }
 
 -- the first of some events that are lent, and the later ones
-pub first_split : (events : List LentEvent) (d : LentEvent) → 1 ≤ length events → map event_view events ≡ event_view (get_or events 0 d) ∷ map event_view (take (length events - 1) (drop 1 events))
+pub first_split : (events : List LentEvent) (d : LentEvent) → 1 ≤ length events
+    → map event_view events ≡ event_view (get_or events 0 d) ∷ map event_view (take (length events - 1) (drop 1 events))
 first_split [] d some = absurd (omega arith)
 first_split (x ∷ xs) d some =
     let len : length (x ∷ xs) - 1 ≡ length xs = omega arith in
@@ -134,7 +195,8 @@ none_left (x ∷ xs) none = absurd (omega arith)
 -- ---- from a state, and after a history
 
 -- a list of events moves on the state after a history to that after a longer one
-pub state_from-after : (c : Configuration) (k : Counts) (h l : List Event) → state_from (state_after c k h) l ≡ state_after c k (history_after h l)
+pub state_from-after : (c : Configuration) (k : Counts) (h l : List Event)
+    → state_from (state_after c k h) l ≡ state_after c k (history_after h l)
 unfolding state_from history_after
 state_from-after c k h [] = refl
 state_from-after c k h (e ∷ l) = ap (λ (x : State). state_from x l) (sym (state_next c k h e)) ∙ state_from-after c k (e ∷ h) l
@@ -145,7 +207,8 @@ unfolding run_from run_after
 run_from-after c k h [] = refl
 run_from-after c k h (e ∷ l) =
     let given = effects_at (state_after c k h) e in
-    ap (λ (x : State). given ∷ run_from x l) (sym (state_next c k h e)) ∙ ap (λ (x : List Effects). given ∷ x) (run_from-after c k (e ∷ h) l)
+    ap (λ (x : State). given ∷ run_from x l) (sym (state_next c k h e))
+    ∙ ap (λ (x : List Effects). given ∷ x) (run_from-after c k (e ∷ h) l)
 
 -- one event more behind a history
 pub history_more : (h l : List Event) (e : Event) → history_after h (l ++ e ∷ []) ≡ e ∷ history_after h l
@@ -159,3 +222,97 @@ steps_extend before event given after step c k h is =
 
 pub runs_extend : RunsExtendHistories
 runs_extend c k h l = (run_from-after c k h l, state_from-after c k h l)
+
+-- what is configured of the device stays, whatever is written
+written_stays : (writes : List Write) (d : Database) → (written writes d).configured ≡ d.configured
+unfolding written
+written_stays [] d = refl
+written_stays (write ∷ writes) d = written_stays writes d
+
+pub configuration_stays : ConfigurationStays
+configuration_stays c k h = written_stays (acts_of c k h).writes (database_of c)
+
+-- what stands after a granted write, where the write is another's word
+pub writes_go_on : (w v : State) (e : Event) (granted : Option Write) → granted ≡ change_at w e
+    → ((c : Configuration) (writes : List Write) → WritesStand c writes w → WritesStand c (with_granted granted writes) v)
+    → WritesGoOn w e v
+writes_go_on w v e granted is go c writes stand = subst (λ (g : Option Write). WritesStand c (with_granted g writes) v) is
+    (go c writes stand)
+
+-- a tick is granted no write
+pub no_change_at_tick : (w : State) → None ≡ change_at w Tick
+unfolding change_at receive
+no_change_at_tick w = refl
+
+-- the same of the ports' tables
+pub tables_go_on : (w v : State) (e : Event) (m : Option Move) → m ≡ move_at w e
+    → ((c : Configuration) (acts : List PortActs) → TablesStand c acts w → TablesStand c (acts_moved m acts) v) → TablesGoOn w e v
+tables_go_on w v e m is go c acts stand = subst (λ (x : Option Move). TablesStand c (acts_moved x acts) v) is (go c acts stand)
+
+-- and of the routes
+pub routes_go_on : (w v : State) (e : Event) (m : Option Move) → m ≡ move_at w e
+    → ((c : Configuration) (learned : Learned) → RoutesStand c learned w → RoutesStand c (learned_moved m w.relay.routes learned) v)
+    → RoutesGoOn w e v
+routes_go_on w v e m is go c learned stand = subst (λ (x : Option Move). RoutesStand c (learned_moved x w.relay.routes learned) v) is
+    (go c learned stand)
+
+-- a tick is a tick of the relay
+pub move_at_tick : (w : State) → Some move.Tick ≡ move_at w Tick
+unfolding move_at receive
+move_at_tick w = refl
+
+-- ---- the links
+
+-- a move leaves the number of ports
+pub length_moved : (m : Option Move) (relay : Relay) → length (moved m relay).links ≡ length relay.links
+length_moved None relay = refl
+length_moved (Some (move.Commit change)) relay = length_after change relay.links
+length_moved (Some move.Tick) relay = length-map relay.links link_later
+
+length_by : (moves : List Move) (relay : Relay) → length (moved_by moves relay).links ≡ length relay.links
+unfolding moved_by
+length_by [] relay = refl
+length_by (m ∷ moves) relay = length_moved (Some m) (moved_by moves relay) ∙ length_by moves relay
+
+pub length_from : (number : ℕ) (ports : List Port) → length (links_from number ports) ≡ length ports
+length_from number [] = refl
+length_from number (p ∷ ports) = ap suc (length_from (number + 1) ports)
+
+-- so each configured port has its link, whatever came
+pub ports_stay : (c : Configuration) (k : Counts) (h : List Event) → length (state_after c k h).relay.links ≡ length c.ports
+ports_stay c k h = length_by (acts_of c k h).moves (initial c) ∙ length_from 1 c.ports
+
+-- a change is no tick
+pub same_ticks : (change : Option Change) (relay : Relay) → (moved (option_map move.Commit change) relay).ticks ≡ relay.ticks
+same_ticks None relay = refl
+same_ticks (Some change) relay = refl
+
+-- the relay's ticks are those of the history
+ticks_moved : (c : Configuration) (k : Counts) (h : List Event) → (state_after c k h).relay.ticks ≡ (acts_of c k h).ticks
+unfolding acts_of moved_by move_at receive
+ticks_moved c k [] = refl
+ticks_moved c k (Datagram port from octets ∷ h) =
+    let w = state_after c k h in
+    let e = Datagram port from octets in
+    ap (λ (r : Relay). r.ticks) (moved_more (move_at w e) (acts_of c k h).moves (initial c))
+    ∙ same_ticks (relay_change_for w.rules (receive w e)) w.relay ∙ ticks_moved c k h ∙ sym (add-zero (acts_of c k h).ticks)
+ticks_moved c k (Tick ∷ h) = ap (λ (n : ℕ). n + 1) (ticks_moved c k h)
+
+pub relay_ticks : (c : Configuration) (k : Counts) (h : List Event) → (state_after c k h).relay.ticks ≡ (acts_of c k h).ticks
+relay_ticks = ticks_moved
+
+-- all tables have seen the same ticks
+alike_moved : (m : Option Move) (relay : Relay) → AreAlike relay.ticks relay.links → AreAlike (moved m relay).ticks (moved m relay).links
+alike_moved None relay alike = alike
+alike_moved (Some (move.Commit change)) relay alike = after_alike change relay.ticks relay.links alike
+alike_moved (Some move.Tick) relay alike = later_alike relay.ticks relay.links alike
+
+alike_by : (moves : List Move) (relay : Relay) → AreAlike relay.ticks relay.links
+    → AreAlike (moved_by moves relay).ticks (moved_by moves relay).links
+unfolding moved_by
+alike_by [] relay alike = alike
+alike_by (m ∷ moves) relay alike = alike_moved (Some m) (moved_by moves relay) (alike_by moves relay alike)
+
+pub links_alike : (c : Configuration) (k : Counts) (h : List Event)
+    → AreAlike (state_after c k h).relay.ticks (state_after c k h).relay.links
+links_alike c k h = alike_by (acts_of c k h).moves (initial c) (initial_alike 1 c.ports)

@@ -1,10 +1,13 @@
 pub mod DenialLemmas
+pub mod SilenceLemmas
 pub mod EffectLemmas
 pub mod HistoryLemmas
 pub mod ExampleRuns
 pub mod LogLemmas
 pub mod ShownLemmas
 pub mod LineOutcomeLemmas
+pub mod ServeLemmas
 pub mod ReplayLemmas
 pub mod CallLemmas
-pub mod ReplyLemmas
+pub mod RespondLemmas
+pub mod TrafficLemmas

@@ -15,7 +15,8 @@ pub record Left (held text : List ℕ) (known : Option (List ℕ)) : Type 0 wher
   pub is : known ≡ Some rest
   pub text_is : text ≡ held ++ rest
 
-pub left_known : (old new : Option (List ℕ)) (before held text : List ℕ) → Keeps (prepend_known before old) (prepend_known held new) → prepend_known before old ≡ Some text → Left held text new
+pub left_known : (old new : Option (List ℕ)) (before held text : List ℕ) → Keeps (prepend_known before old) (prepend_known held new)
+    → prepend_known before old ≡ Some text → Left held text new
 left_known None new before held text keeps e = absurd cc
 left_known (Some xs) None before held text keeps e = absurd keeps
 left_known (Some xs) (Some ys) before held text keeps e =
@@ -39,12 +40,15 @@ pub same_line : (p q : ℕ) (a b : List ℕ) (e : Event) → p ≡ q → a ≡ b
 same_line p q a b e ports lines is =
     subst (λ (l : List ℕ). IsLine p l e) (sym lines) (subst (λ (n : ℕ). IsLine n b e) (sym ports) is)
 
-pub nothing_held : (held : List ℕ) (known : Option (List ℕ)) (script : List ℕ) → held ≡ [] → known ≡ Some script → prepend_known held known ≡ Some script
+pub nothing_held : (held : List ℕ) (known : Option (List ℕ)) (script : List ℕ) → held ≡ [] → known ≡ Some script
+    → prepend_known held known ≡ Some script
 nothing_held held known script none e = ap (λ (h : List ℕ). prepend_known h known) none ∙ ap (prepend_known []) e
 
 -- an event that isn't history_after leaves what was written as it was
-pub not_taken : (n : ℕ) (w moved : State) (text : List ℕ) (left : Option (List ℕ)) (before : List ℕ) (after : Option (List ℕ)) (fault : RunFault) (wants passes : Type 0)
-    → ((fault ≡ Memory) × wants) ⊎ ((fault ≡ CountEnd) × passes) → (wants → MemoryWant w text) → (passes → PassesEnd w text) → after ≡ Some before → LineOutcome n w moved text left before after (Err fault)
+pub not_taken : (n : ℕ) (w moved : State) (text : List ℕ) (left : Option (List ℕ)) (before : List ℕ) (after : Option (List ℕ))
+    (fault : RunFault) (wants passes : Type 0)
+    → ((fault ≡ Memory) × wants) ⊎ ((fault ≡ CountEnd) × passes) → (wants → MemoryWant w text) → (passes → PassesEnd w text)
+    → after ≡ Some before → LineOutcome n w moved text left before after (Err fault)
 not_taken n w moved text left before after fault wants passes (inl h) short past held =
     subst (λ (f : RunFault). LineOutcome n w moved text left before after (Err f)) (sym h.0) (short h.1, held)
 not_taken n w moved text left before after fault wants passes (inr h) short past held =

@@ -17,9 +17,10 @@ use Rattle.gw_script.specs.Script.{lines_of, IsLine, AreLines}
 use Rattle.gw_core.specs.Shown.{text_of_run, effects_text}
 use Rattle.gw_core.specs.Replay.{no_counts, run_text, FirstLines, RunsWhole, RunsToLine, RunsToEnd, RunsToMemory, RunsPart, RunsFront}
 use Rattle.gw_core.specs.LineOutcome.{LineOutcome}
-use Rattle.gw_core.proofs.HistoryLemmas.{after_next}
+use Rattle.gw_core.proofs.HistoryLemmas.{after_next, ports_stay}
 
-pub run_more : (c : Configuration) (k : Counts) (h l : List Event) (e : Event) → run_after c k h (l ++ e ∷ []) ≡ run_after c k h l ++ effects c k (history_after h l) e ∷ []
+pub run_more : (c : Configuration) (k : Counts) (h l : List Event) (e : Event)
+    → run_after c k h (l ++ e ∷ []) ≡ run_after c k h l ++ effects c k (history_after h l) e ∷ []
 unfolding run_after history_after
 run_more c k h [] e = refl
 run_more c k h (x ∷ l) e = ap (λ (r : List Effects). effects c k h x ∷ r) (run_more c k (x ∷ h) l e)
@@ -32,12 +33,15 @@ taken_more h (x ∷ l) e = taken_more (x ∷ h) l e
 one_text : (x : Effects) → text_of_run (x ∷ []) ≡ effects_text x
 one_text x = flat_map-cons effects_text x [] ∙ append-nil (effects_text x)
 
-pub run_text_more : (c : Configuration) (l : List Event) (e : Event) → run_text c (l ++ e ∷ []) ≡ run_text c l ++ effects_text (effects c no_counts (history_after [] l) e)
+pub run_text_more : (c : Configuration) (l : List Event) (e : Event)
+    → run_text c (l ++ e ∷ []) ≡ run_text c l ++ effects_text (effects c no_counts (history_after [] l) e)
 run_text_more c l e =
-    ap text_of_run (run_more c no_counts [] l e) ∙ flat_map-append effects_text (run c no_counts l) (effects c no_counts (history_after [] l) e ∷ [])
+    ap text_of_run (run_more c no_counts [] l e)
+    ∙ flat_map-append effects_text (run c no_counts l) (effects c no_counts (history_after [] l) e ∷ [])
     ∙ ap (λ (t : List ℕ). run_text c l ++ t) (one_text (effects c no_counts (history_after [] l) e))
 
-pub are_more : (ports : ℕ) (lines : List (List ℕ)) (events : List Event) (line : List ℕ) (e : Event) → AreLines ports lines events → IsLine ports line e → AreLines ports (lines ++ line ∷ []) (events ++ e ∷ [])
+pub are_more : (ports : ℕ) (lines : List (List ℕ)) (events : List Event) (line : List ℕ) (e : Event) → AreLines ports lines events
+    → IsLine ports line e → AreLines ports (lines ++ line ∷ []) (events ++ e ∷ [])
 are_more ports [] [] line e are is = (is, tt)
 are_more ports [] (x ∷ events) line e are is = absurd are
 are_more ports (l ∷ lines) [] line e are is = absurd are
@@ -65,28 +69,35 @@ pub record Progress (c : Configuration) (script before : List ℕ) (n : ℕ) (w 
 abbrev pub Turns : ℕ → State → State → Option (List ℕ) → Option (List ℕ) → Option (List ℕ) → Option (List ℕ) → Result Bool RunFault → Type 0
 Turns n w moved text left written after r = (t b : List ℕ) → text ≡ Some t → written ≡ Some b → LineOutcome n w moved t left b after r
 
-first_lines : (c : Configuration) (script : List ℕ) (done others : List (List ℕ)) (events : List Event) → AreLines (length c.ports) done events → lines_of script ≡ done ++ others → FirstLines c script events
+first_lines : (c : Configuration) (script : List ℕ) (done others : List (List ℕ)) (events : List Event)
+    → AreLines (length c.ports) done events → lines_of script ≡ done ++ others → FirstLines c script events
 first_lines c script done others events are lines =
-    let front : take (length events) (lines_of script) ≡ done = ap (take (length events)) lines ∙ take_at done others (length events) (are_length (length c.ports) done events are) in
+    let front : take (length events) (lines_of script) ≡ done = ap (take (length events)) lines
+    ∙ take_at done others (length events) (are_length (length c.ports) done events are) in
     subst (λ (l : List (List ℕ)). AreLines (length c.ports) l events) (sym front) are
 
-other_lines : (c : Configuration) (script : List ℕ) (done others : List (List ℕ)) (events : List Event) → AreLines (length c.ports) done events → lines_of script ≡ done ++ others → drop (length events) (lines_of script) ≡ others
-other_lines c script done others events are lines = ap (drop (length events)) lines ∙ drop_at done others (length events) (are_length (length c.ports) done events are)
+other_lines : (c : Configuration) (script : List ℕ) (done others : List (List ℕ)) (events : List Event)
+    → AreLines (length c.ports) done events → lines_of script ≡ done ++ others → drop (length events) (lines_of script) ≡ others
+other_lines c script done others events are lines = ap (drop (length events)) lines
+    ∙ drop_at done others (length events) (are_length (length c.ports) done events are)
 
-same_ports : (c : Configuration) (w : State) (h : List Event) → IsStateAfter w c no_counts h → length w.ports ≡ length c.ports
-same_ports c w h stands = ap (λ (x : State). length x.ports) stands
+same_ports : (c : Configuration) (w : State) (h : List Event) → IsStateAfter w c no_counts h → length w.relay.links ≡ length c.ports
+same_ports c w h stands = ap (λ (x : State). length x.relay.links) stands ∙ ports_stay c no_counts h
 
-on_ports : (c : Configuration) (w : State) (h : List Event) (line : List ℕ) (e : Event) → IsStateAfter w c no_counts h → IsLine (length w.ports) line e → IsLine (length c.ports) line e
+on_ports : (c : Configuration) (w : State) (h : List Event) (line : List ℕ) (e : Event) → IsStateAfter w c no_counts h
+    → IsLine (length w.relay.links) line e → IsLine (length c.ports) line e
 on_ports c w h line e stands is = subst (λ (p : ℕ). IsLine p line e) (same_ports c w h stands) is
 
-text_after : (c : Configuration) (w : State) (before : List ℕ) (events : List Event) (e : Event) → IsStateAfter w c no_counts (history_after [] events)
+text_after : (c : Configuration) (w : State) (before : List ℕ) (events : List Event) (e : Event)
+    → IsStateAfter w c no_counts (history_after [] events)
     → (before ++ run_text c events) ++ effects_text (effects_at w e) ≡ before ++ run_text c (events ++ e ∷ [])
 text_after c w before events e stands =
     append_assoc before (run_text c events) (effects_text (effects_at w e))
     ∙ ap (λ (x : State). before ++ (run_text c events ++ effects_text (effects_at x e))) stands
     ∙ ap (λ (t : List ℕ). before ++ t) (sym (run_text_more c events e))
 
-pub begins : (c : Configuration) (script before : List ℕ) (w : State) (text written : Option (List ℕ)) → text ≡ Some script → written ≡ Some before → IsStateAfter w c no_counts [] → Progress c script before 1 w text written
+pub begins : (c : Configuration) (script before : List ℕ) (w : State) (text written : Option (List ℕ)) → text ≡ Some script
+    → written ≡ Some before → IsStateAfter w c no_counts [] → Progress c script before 1 w text written
 unfolding history_after run_after
 begins c script before w text written known held stands = record {
   events = [];
@@ -101,13 +112,15 @@ begins c script before w text written known held stands = record {
 }
 
 pub goes_on : (c : Configuration) (script before : List ℕ) (n : ℕ) (w moved : State) (text left written after : Option (List ℕ))
-    → Progress c script before n w text written → Turns n w moved text left written after (Ok true) → Progress c script before (n + 1) moved left after
+    → Progress c script before n w text written → Turns n w moved text left written after (Ok true)
+    → Progress c script before (n + 1) moved left after
 goes_on c script before n w moved text left written after p turns =
     let step = turns p.left (before ++ run_text c p.events) p.text_is p.written_is in
     let done_lines : lines_of script ≡ (p.done ++ step.line ∷ []) ++ lines_of step.rest =
     p.lines ∙ ap (λ (l : List (List ℕ)). p.done ++ l) step.lines ∙ sym (append_assoc p.done (step.line ∷ []) (lines_of step.rest)) in
     let stood : IsStateAfter moved c no_counts (history_after [] (p.events ++ step.event ∷ [])) =
-    after_next w moved c no_counts (history_after [] p.events) step.event step.moves p.stands ∙ ap (state_after c no_counts) (sym (taken_more [] p.events step.event)) in
+    after_next w moved c no_counts (history_after [] p.events) step.event step.moves p.stands
+    ∙ ap (state_after c no_counts) (sym (taken_more [] p.events step.event)) in
     let is = on_ports c w (history_after [] p.events) step.line step.event p.stands step.writes in
     record {
       events = p.events ++ step.event ∷ [];
@@ -128,7 +141,8 @@ known P (Some x) t e h =
     subst P same h
 
 pub ends_whole : (c : Configuration) (script before : List ℕ) (n : ℕ) (w moved : State) (text left written after : Option (List ℕ))
-    → Progress c script before n w text written → Turns n w moved text left written after (Ok false) → IsSomeAnd after (RunsWhole c script before)
+    → Progress c script before n w text written → Turns n w moved text left written after (Ok false)
+    → IsSomeAnd after (RunsWhole c script before)
 ends_whole c script before n w moved text left written after p turns =
     let said = turns p.left (before ++ run_text c p.events) p.text_is p.written_is in
     let all : lines_of script ≡ p.done = p.lines ∙ ap (λ (l : List (List ℕ)). p.done ++ l) said.0 ∙ append-nil p.done in
@@ -149,22 +163,27 @@ Stops CountEnd = ⊥
 Stops Write = ⊥
 Stops (Line m) = ⊥
 
-same_text : (n : ℕ) (w moved : State) (t : List ℕ) (left : Option (List ℕ)) (b : List ℕ) (after : Option (List ℕ)) (fault : RunFault) → Stops fault → LineOutcome n w moved t left b after (Err fault) → after ≡ Some b
+same_text : (n : ℕ) (w moved : State) (t : List ℕ) (left : Option (List ℕ)) (b : List ℕ) (after : Option (List ℕ)) (fault : RunFault)
+    → Stops fault → LineOutcome n w moved t left b after (Err fault) → after ≡ Some b
 same_text n w moved t left b after Read stops said = said
 same_text n w moved t left b after Memory stops said = said.1
 same_text n w moved t left b after CountEnd stops said = absurd stops
 same_text n w moved t left b after Write stops said = absurd stops
 same_text n w moved t left b after (Line m) stops said = absurd stops
 
-pub stops_part : (c : Configuration) (script before : List ℕ) (n : ℕ) (w moved : State) (text left written after : Option (List ℕ)) (fault : RunFault)
-    → Stops fault → Progress c script before n w text written → Turns n w moved text left written after (Err fault) → IsSomeAnd after (RunsPart c script before)
+pub stops_part : (c : Configuration) (script before : List ℕ) (n : ℕ) (w moved : State) (text left written after : Option (List ℕ))
+    (fault : RunFault)
+    → Stops fault → Progress c script before n w text written → Turns n w moved text left written after (Err fault)
+    → IsSomeAnd after (RunsPart c script before)
 stops_part c script before n w moved text left written after fault stops p turns =
     let said = turns p.left (before ++ run_text c p.events) p.text_is p.written_is in
-    known (RunsPart c script before) after (before ++ run_text c p.events) (same_text n w moved p.left left (before ++ run_text c p.events) after fault stops said)
+    known (RunsPart c script before) after (before ++ run_text c p.events)
+    (same_text n w moved p.left left (before ++ run_text c p.events) after fault stops said)
     (record { events = p.events; lines = first_lines c script p.done (lines_of p.left) p.events p.are p.lines; text = refl })
 
 pub ends_at_memory : (c : Configuration) (script before : List ℕ) (n : ℕ) (w moved : State) (text left written after : Option (List ℕ))
-    → Progress c script before n w text written → Turns n w moved text left written after (Err Memory) → IsSomeAnd after (RunsToMemory c script before)
+    → Progress c script before n w text written → Turns n w moved text left written after (Err Memory)
+    → IsSomeAnd after (RunsToMemory c script before)
 ends_at_memory c script before n w moved text left written after p turns =
     let said = turns p.left (before ++ run_text c p.events) p.text_is p.written_is in
     let want = said.0 in
@@ -183,17 +202,23 @@ ends_at_memory c script before n w moved text left written after p turns =
     })
 
 -- where memory is wanted before the first line
-pub ends_before : (c : Configuration) (script before : List ℕ) (written : Option (List ℕ)) → written ≡ Some before → IsSomeAnd written (RunsToMemory c script before)
+pub ends_before : (c : Configuration) (script before : List ℕ) (written : Option (List ℕ)) → written ≡ Some before
+    → IsSomeAnd written (RunsToMemory c script before)
 unfolding run_after
-ends_before c script before written is = known (RunsToMemory c script before) written before is (record { events = []; lines = tt; cause = inl refl; text = sym (append-nil before) })
+ends_before c script before written is = known (RunsToMemory c script before) written before is
+    (record { events = []; lines = tt; cause = inl refl; text = sym (append-nil before) })
 
 -- and what was written is then the text of no line
-pub part_before : (c : Configuration) (script before : List ℕ) (written : Option (List ℕ)) → written ≡ Some before → IsSomeAnd written (RunsPart c script before)
+pub part_before : (c : Configuration) (script before : List ℕ) (written : Option (List ℕ)) → written ≡ Some before
+    → IsSomeAnd written (RunsPart c script before)
 unfolding run_after
-part_before c script before written is = known (RunsPart c script before) written before is (record { events = []; lines = tt; text = sym (append-nil before) })
+part_before c script before written is = known (RunsPart c script before) written before is
+    (record { events = []; lines = tt; text = sym (append-nil before) })
 
-pub ends_at_line : (c : Configuration) (script before : List ℕ) (n : ℕ) (w moved : State) (text left written after : Option (List ℕ)) (m : ℕ)
-    → Progress c script before n w text written → Turns n w moved text left written after (Err (Line m)) → IsSomeAnd after (RunsToLine m c script before)
+pub ends_at_line : (c : Configuration) (script before : List ℕ) (n : ℕ) (w moved : State) (text left written after : Option (List ℕ))
+    (m : ℕ)
+    → Progress c script before n w text written → Turns n w moved text left written after (Err (Line m))
+    → IsSomeAnd after (RunsToLine m c script before)
 ends_at_line c script before n w moved text left written after m p turns =
     let said = turns p.left (before ++ run_text c p.events) p.text_is p.written_is in
     let none = said.1 in
@@ -204,12 +229,14 @@ ends_at_line c script before n w moved text left written after m p turns =
       line = none.line;
       rest = none.others;
       stands = other_lines c script p.done (lines_of p.left) p.events p.are p.lines ∙ none.lines;
-      no_event = λ e is. none.no_event e (subst (λ (q : ℕ). IsLine q none.line e) (sym (same_ports c w (history_after [] p.events) p.stands)) is);
+      no_event = λ e is. none.no_event e
+          (subst (λ (q : ℕ). IsLine q none.line e) (sym (same_ports c w (history_after [] p.events) p.stands)) is);
       text = refl;
     })
 
 pub ends_at_end : (c : Configuration) (script before : List ℕ) (n : ℕ) (w moved : State) (text left written after : Option (List ℕ))
-    → Progress c script before n w text written → Turns n w moved text left written after (Err CountEnd) → IsSomeAnd after (RunsToEnd c script before)
+    → Progress c script before n w text written → Turns n w moved text left written after (Err CountEnd)
+    → IsSomeAnd after (RunsToEnd c script before)
 ends_at_end c script before n w moved text left written after p turns =
     let said = turns p.left (before ++ run_text c p.events) p.text_is p.written_is in
     let past = said.0 in
@@ -226,7 +253,8 @@ ends_at_end c script before n w moved text left written after p turns =
     })
 
 pub ends_at_write : (c : Configuration) (script before : List ℕ) (n : ℕ) (w moved : State) (text left written after : Option (List ℕ))
-    → Progress c script before n w text written → Turns n w moved text left written after (Err Write) → IsSomeAnd after (RunsFront c script before)
+    → Progress c script before n w text written → Turns n w moved text left written after (Err Write)
+    → IsSomeAnd after (RunsFront c script before)
 ends_at_write c script before n w moved text left written after p turns =
     let cut_step = turns p.left (before ++ run_text c p.events) p.text_is p.written_is in
     let so_far = before ++ run_text c p.events in
@@ -235,20 +263,24 @@ ends_at_write c script before n w moved text left written after p turns =
     p.lines ∙ ap (λ (l : List (List ℕ)). p.done ++ l) cut_step.lines ∙ sym (append_assoc p.done (cut_step.line ∷ []) cut_step.others) in
     known (RunsFront c script before) after (so_far ++ cut_step.front) cut_step.appended (record {
       events = p.events ++ cut_step.event ∷ [];
-      lines = first_lines c script (p.done ++ cut_step.line ∷ []) cut_step.others (p.events ++ cut_step.event ∷ []) (are_more (length c.ports) p.done p.events cut_step.line cut_step.event p.are is) lines;
+      lines = first_lines c script (p.done ++ cut_step.line ∷ []) cut_step.others (p.events ++ cut_step.event ∷ [])
+          (are_more (length c.ports) p.done p.events cut_step.line cut_step.event p.are is) lines;
       front = run_text c p.events ++ cut_step.front;
       unwritten = cut_step.unwritten;
-      parts = sym (text_after c w [] p.events cut_step.event p.stands) ∙ ap (λ (t : List ℕ). run_text c p.events ++ t) cut_step.parts ∙ sym (append_assoc (run_text c p.events) cut_step.front cut_step.unwritten);
+      parts = sym (text_after c w [] p.events cut_step.event p.stands) ∙ ap (λ (t : List ℕ). run_text c p.events ++ t) cut_step.parts
+          ∙ sym (append_assoc (run_text c p.events) cut_step.front cut_step.unwritten);
       text = append_assoc before (run_text c p.events) cut_step.front;
     })
 
 pub fault_is : {T : Type 0} (fault other : RunFault) → IsErrOf {T = T} {E = RunFault} (Err fault) other → fault ≡ other
 fault_is fault other e = cc
 
-pub stops : {T : Type 0} (fault : RunFault) → IsErrOf {T = T} {E = RunFault} (Err fault) Read ⊎ IsErrOf {T = T} {E = RunFault} (Err fault) Memory → Stops fault
+pub stops : {T : Type 0} (fault : RunFault)
+    → IsErrOf {T = T} {E = RunFault} (Err fault) Read ⊎ IsErrOf {T = T} {E = RunFault} (Err fault) Memory → Stops fault
 stops {T} fault (inl e) = subst Stops (sym (fault_is {T = T} fault Read e)) tt
 stops {T} fault (inr e) = subst Stops (sym (fault_is {T = T} fault Memory e)) tt
 
 -- a fault of one call as that of another
-pub err_as : {S T : Type 0} (fault other : RunFault) → IsErrOf {T = S} {E = RunFault} (Err fault) other → IsErrOf {T = T} {E = RunFault} (Err fault) other
+pub err_as : {S T : Type 0} (fault other : RunFault) → IsErrOf {T = S} {E = RunFault} (Err fault) other
+    → IsErrOf {T = T} {E = RunFault} (Err fault) other
 err_as {S} {T} fault other e = ap Err (fault_is {T = S} fault other e)

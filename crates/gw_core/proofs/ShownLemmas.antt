@@ -1,24 +1,53 @@
 -- How long the text of effects is.
-use Rattle.std.proofs.Common.{◌≡◌, ℕ, zero, suc, ◌+◌, ◌<◌, ◌≤◌, List, [], ◌∷◌, ◌++◌, length, take, get_or, refl, ap, ◌∙◌, arith}
+use Rattle.std.proofs.Common.{◌≡◌, ℕ, zero, suc, ◌+◌, ◌<◌, ◌≤◌, List, [], ◌∷◌, ◌++◌, length, map, take, get_or, refl, ap, ap₂, ◌∙◌, arith}
+use Rattle.std.specs.List.{flat_map}
 use Rattle.std.proofs.lemmas.List.{length-append}
 use Rattle.std.proofs.lemmas.List.Concat.{flat_map-cons}
+use Rattle.gw_audit.specs.declared.denial.Denial.{Denial}
 use Rattle.gw_script.specs.Event.{Event}
-use Rattle.gw_core.specs.declared.effects.Sending.{Sending}
+use Rattle.std.proofs.lemmas.Grind.{flat_map-append}
+use Rattle.gw_addr.specs.declared.bip.BipAddr.{BipAddr}
+use Rattle.gw_script.specs.Text.{send_line}
+use Rattle.gw_relay.specs.Sends.{Batch, Sending, sending, sendings_of}
+use Rattle.gw_core.specs.Denials.{denials_at}
 use Rattle.gw_core.specs.State.{State}
 use Rattle.gw_core.specs.Effects.{NeedsNoMemory, effects_at, sends}
-use Rattle.gw_core.specs.Shown.{effects_text, sending_line, sends_text}
+use Rattle.gw_core.specs.Shown.{batch_text, denials_text, effects_text, sending_line, sends_text}
+use Rattle.gw_core.proofs.DenialLemmas.{no_denials}
 use Rattle.gw_script.specs.Text.{end_line}
 
 -- what needs no memory has `end` alone as its text
 pub few_octets : (w : State) (e : Event) → NeedsNoMemory w e → length (effects_text (effects_at w e)) ≡ 4
-unfolding effects_text effects_at sends
-few_octets w e none = ap (λ (s : List Sending). length (sends_text s ++ end_line)) none.1
+unfolding effects_text effects_at denials_at sends
+few_octets w e none =
+    ap₂ (λ (d : List Denial) (s : List Sending). length (denials_text d ++ sends_text s ++ end_line)) (no_denials w e none.0) none.1
 
-text_length : (s : Sending) (sends : List Sending) → length (sends_text (s ∷ sends)) ≡ length (sending_line s) + length (sends_text sends)
-text_length s sends = ap length (flat_map-cons sending_line s sends) ∙ length-append (sending_line s) (sends_text sends)
+text_length : {A : Type 0} (text : A → List ℕ) (x : A) (xs : List A)
+    → length (flat_map text (x ∷ xs)) ≡ length (text x) + length (flat_map text xs)
+text_length text x xs = ap length (flat_map-cons text x xs) ∙ length-append (text x) (flat_map text xs)
 
--- the text up to one of the datagrams is no longer than the whole
-pub front_fits : (sends : List Sending) (i : ℕ) (s : Sending) → i < length sends → s ≡ get_or sends i s → length (sends_text (take i sends)) + length (sending_line s) ≤ length (sends_text sends)
-front_fits [] i s lt is = absurd (omega arith)
-front_fits (x ∷ sends) zero s lt is = omega (arith, text_length x sends, ap (λ (t : Sending). length (sending_line t)) is)
-front_fits (x ∷ sends) (suc i) s lt is = omega (arith, text_length x sends, text_length x (take i sends), front_fits sends i s (omega (arith, lt)) is)
+-- the text up to one of the items is no longer than the whole
+pub front_fits : {A : Type 0} (text : A → List ℕ) (xs : List A) (i : ℕ) (x : A) → i < length xs → x ≡ get_or xs i x
+    → length (flat_map text (take i xs)) + length (text x) ≤ length (flat_map text xs)
+front_fits text [] i x lt is = absurd (omega arith)
+front_fits {A} text (y ∷ xs) zero x lt is = omega (arith, text_length text y xs, ap (λ (t : A). length (text t)) is)
+front_fits text (y ∷ xs) (suc i) x lt is = omega
+    (arith, text_length text y xs, text_length text y (take i xs), front_fits text xs i x (omega (arith, lt)) is)
+
+-- the lines of a message are those of its datagrams
+one_text : (port : ℕ) (octets : List ℕ) (targets : List BipAddr)
+    → flat_map sending_line (map (sending port octets) targets) ≡ flat_map (λ to. send_line port to octets) targets
+one_text port octets [] = refl
+one_text port octets (to ∷ targets) = ap (λ (t : List ℕ). send_line port to octets ++ t) (one_text port octets targets)
+
+pub batches_text : (batches : List Batch) → sends_text (flat_map sendings_of batches) ≡ flat_map batch_text batches
+batches_text [] = refl
+batches_text (b ∷ batches) =
+    flat_map-append sending_line (sendings_of b) (flat_map sendings_of batches)
+    ∙ ap₂ (λ (s t : List ℕ). s ++ t) (one_text b.port b.octets b.targets) (batches_text batches)
+
+-- an item of a list, whatever stands behind it
+pub item_at : {A : Type 0} (xs : List A) (i : ℕ) (d : A) → i < length xs → get_or xs i d ≡ get_or xs i (get_or xs i d)
+item_at [] i d lt = absurd (omega arith)
+item_at (x ∷ xs) zero d lt = refl
+item_at (x ∷ xs) (suc i) d lt = item_at xs i d (omega (arith, lt))

@@ -2,53 +2,71 @@
 use Rattle.std.specs.Prelude.{ℕ, List, [], ◌++◌, Option, Some, None}
 use Rattle.gw_rules.specs.Ask.{Ask}
 use Rattle.gw_rules.specs.declared.rule.Rule.{Rule}
+use Rattle.gw_objects.specs.Objects.{Database}
+use Rattle.gw_device.specs.declared.context.Context.{Context}
+use Rattle.gw_device.specs.Device.{device_asks}
+use Rattle.gw_relay.specs.Asks as table
+use Rattle.gw_relay.specs.Cast as broadcast
+use Rattle.gw_relay.specs.Manage as network
+use Rattle.gw_relay.specs.Route as routing
+use Rattle.gw_relay.specs.State.{Relay}
 use Rattle.gw_script.specs.Event.{Event}
-use Rattle.gw_core.specs.declared.device.Context.{Context}
-use Rattle.gw_policy_text.specs.declared.device.Device.{Device}
-use Rattle.gw_core.specs.Device.{device_asks}
 use Rattle.gw_core.specs.Receive.{Message, Received, dropped, managed, stranger, message, receive}
 use Rattle.gw_core.specs.Reply.{apdu_for, context_of}
-use Rattle.gw_core.specs.State.{State}
+use Rattle.gw_core.specs.State.{State, device_network}
 
--- ---- the list, part by part: what isn't built yet asks nothing
+-- ---- the list, part by part
 
 -- tables of a port that are read or changed (Annex J.2, J.4, J.5)
 abbrev pub link_asks : Received → List Ask
-link_asks received = []
+link_asks dropped = []
+link_asks (managed on from frame) = table.link_asks on.port from frame
+link_asks (stranger m) = []
+link_asks (message m) = []
 
 -- distribution to peers and foreign devices (Annex J.4, J.5)
 abbrev pub cast_asks : Received → List Ask
-cast_asks received = []
+cast_asks dropped = []
+cast_asks (managed on from frame) = []
+cast_asks (stranger m) = []
+cast_asks (message m) = broadcast.cast_asks m.here m.from m.frame m.npdu
 
 -- routing by the destination network (clause 6.5)
-abbrev pub route_asks : Received → List Ask
-route_asks received = []
+abbrev pub route_asks : Relay → Received → List Ask
+route_asks relay dropped = []
+route_asks relay (managed on from frame) = []
+route_asks relay (stranger m) = []
+route_asks relay (message m) = routing.route_asks relay.links relay.routes m.here m.link m.npdu
 
 -- network layer messages to the gateway (clause 6.4)
-abbrev pub manage_asks : Received → List Ask
-manage_asks received = []
+abbrev pub manage_asks : Relay → Received → List Ask
+manage_asks relay dropped = []
+manage_asks relay (managed on from frame) = []
+manage_asks relay (stranger m) = []
+manage_asks relay (message m) = network.manage_asks relay.links relay.routes m.here m.link m.npdu
 
 -- the device, for an APDU where there is one
-abbrev pub apdu_asks : Device → List Rule → Context → Option (List ℕ) → List Ask
-apdu_asks device rules context None = []
-apdu_asks device rules context (Some octets) = device_asks device rules context octets
+abbrev pub apdu_asks : List Rule → Database → Context → Option (List ℕ) → List Ask
+apdu_asks rules d context None = []
+apdu_asks rules d context (Some octets) = device_asks rules d context octets
 
-abbrev pub message_asks : Device → List Rule → Message → List Ask
-message_asks device rules m = apdu_asks device rules (context_of device.network m) (apdu_for device.network m.npdu)
+abbrev pub message_asks : List Rule → Database → Message → List Ask
+message_asks rules d m =
+    apdu_asks rules d (context_of (device_network d) m) (apdu_for (device_network d) m.npdu)
 
--- requests to the device (clause 15)
-abbrev pub serve_asks : Device → List Rule → Received → List Ask
-serve_asks device rules dropped = []
-serve_asks device rules (managed number port from frame) = []
-serve_asks device rules (stranger number port from) = []
-serve_asks device rules (message m) = message_asks device rules m
+-- requests to the device (clauses 15 and 16)
+abbrev pub serve_asks : List Rule → Database → Received → List Ask
+serve_asks rules d dropped = []
+serve_asks rules d (managed on from frame) = []
+serve_asks rules d (stranger m) = []
+serve_asks rules d (message m) = message_asks rules d m
 
 -- all of them, in the order of the steps
-abbrev pub asks_for : Device → List Rule → Received → List Ask
-asks_for device rules received =
-    link_asks received ++ cast_asks received ++ route_asks received ++ manage_asks received
-    ++ serve_asks device rules received
+abbrev pub asks_for : List Rule → Relay → Database → Received → List Ask
+asks_for rules relay d received =
+    link_asks received ++ cast_asks received ++ route_asks relay received ++ manage_asks relay received
+    ++ serve_asks rules d received
 
 -- what an event asks in this state
 unfoldable pub asks : State → Event → List Ask
-asks w e = asks_for w.device w.rules (receive w e)
+asks w e = asks_for w.rules w.relay w.device (receive w e)

@@ -1,11 +1,10 @@
 -- What the policy denies of what an event asks, and the record of it.
 use Rattle.std.specs.Prelude.{ℕ, ◌+◌, ◌-◌, ◌==◌, List, [], ◌∷◌, Option, Some, None, codes, slice_get, if◌then◌else◌}
 use Rattle.std.specs.Option.{option_map_or}
-use Rattle.gw_rules.specs.Ask.{Ask}
 use Rattle.gw_rules.specs.Authorizer.{denied_of}
 use Rattle.gw_rules.specs.declared.refusal.Refusal.{Refusal}
 use Rattle.gw_rules.specs.declared.rule.Rule.{Rule}
-use Rattle.gw_core.specs.declared.effects.Denial.{Denial}
+use Rattle.gw_audit.specs.declared.denial.Denial.{Denial}
 use Rattle.gw_script.specs.Event.{Event}
 use Rattle.gw_core.specs.Asks.{asks_for}
 use Rattle.gw_core.specs.Receive.{Origin, Received, origin, receive}
@@ -37,15 +36,16 @@ denials_from rules number tick from (refusal ∷ refusals) = record {
   rule = rule_name rules refusal.by;
 } ∷ denials_from rules (number + 1) tick from refusals
 
--- the record of what was denied of these asks, which came from there
-abbrev pub denials_of : List Rule → ℕ → ℕ → Option Origin → List Ask → List Denial
-denials_of rules number tick None asks = []
-denials_of rules number tick (Some from) asks = denials_from rules number tick from (denied_of rules asks)
+-- the record of refusals that came from there, counted on from a number
+abbrev pub denials_of : List Rule → ℕ → ℕ → Option Origin → List Refusal → List Denial
+denials_of rules number tick None refusals = []
+denials_of rules number tick (Some from) refusals = denials_from rules number tick from refusals
 
 -- what is denied of what is received in this state
 abbrev pub denials_for : State → Received → List Denial
 denials_for w received =
-    denials_of w.rules (w.denials + 1) w.ticks (origin received) (asks_for w.device w.rules received)
+    denials_of w.rules (w.denials + 1) w.ticks (origin received)
+    (denied_of w.rules (asks_for w.rules w.relay w.device received))
 
 -- The denials of an event: the first is numbered one more than the last before, and each has the ticks
 -- so far.

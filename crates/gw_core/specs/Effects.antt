@@ -1,67 +1,138 @@
--- What an event does: its sends and its denials.
+-- What an event does: its sends and its denials, and what changes.
 use Rattle.std.specs.Prelude.{◌≡◌, ℕ, ◌+◌, ◌^◌, Bool, List, [], ◌++◌, length, Option, Some, None, nat_lt, ◌||◌}
+use Rattle.std.specs.Option.{option_map}
 use Rattle.gw_rules.specs.declared.rule.Rule.{Rule}
-use Rattle.gw_core.specs.declared.effects.Sending.{Sending}
+use Rattle.gw_objects.specs.History.{with_write}
+use Rattle.gw_objects.specs.Objects.{Database}
+use Rattle.gw_objects.specs.Write.{Write}
+use Rattle.gw_device.specs.declared.context.Context.{Context}
+use Rattle.gw_device.specs.Device.{device_answer, device_change}
+use Rattle.gw_device.specs.Response.{Answer}
+use Rattle.gw_relay.specs.Cast as broadcast
+use Rattle.gw_relay.specs.Link as table
+use Rattle.gw_relay.specs.Manage as network
+use Rattle.gw_relay.specs.Route as routing
+use Rattle.gw_relay.specs.Sends.{Sending}
+use Rattle.gw_relay.specs.State.{Move, Relay}
+use Rattle.gw_relay.specs.State as move
+use Rattle.gw_relay.specs.declared.change.Change.{Change}
 use Rattle.gw_core.specs.declared.effects.Effects.{Effects}
 use Rattle.gw_script.specs.Event.{Event}
 use Rattle.gw_script.specs.Event.{Datagram, Tick}
-use Rattle.gw_core.specs.declared.object.ObjectState.{ObjectState}
 use Rattle.gw_core.specs.Asks.{asks}
 use Rattle.gw_core.specs.Denials.{denials_at, denials_for}
-use Rattle.gw_policy_text.specs.declared.device.Device.{Device}
-use Rattle.gw_core.specs.Device.{Answer, device_answer}
 use Rattle.gw_core.specs.Receive.{Message, Received, dropped, managed, stranger, message, receive}
 use Rattle.gw_core.specs.Reply.{apdu_for, context_of, reply_sends}
-use Rattle.gw_core.specs.State.{State}
+use Rattle.gw_core.specs.State.{State, device_network}
 
--- ---- the sends, part by part: what isn't built yet sends nothing
+-- ---- the sends, part by part
 
--- answers to the management of a port's tables, and the refusal of a stranger's broadcast (Annex J.2)
-abbrev pub link_sends : Received → List Sending
-link_sends received = []
+-- answers to the management of a port's tables (Annex J.2)
+abbrev pub link_sends : List Rule → Received → List Sending
+link_sends rules dropped = []
+link_sends rules (managed on from frame) = table.link_answer rules on from frame
+link_sends rules (stranger m) = []
+link_sends rules (message m) = []
 
--- distribution to peers and foreign devices (Annex J.4, J.5)
-abbrev pub cast_sends : Received → List Sending
-cast_sends received = []
+-- distribution to peers and foreign devices, and its refusal (Annex J.4, J.5)
+abbrev pub cast_sends : List Rule → Received → List Sending
+cast_sends rules dropped = []
+cast_sends rules (managed on from frame) = []
+cast_sends rules (stranger m) = broadcast.cast_sends rules m.here m.from m.frame m.npdu
+cast_sends rules (message m) = broadcast.cast_sends rules m.here m.from m.frame m.npdu
 
 -- what goes onward to another network (clause 6.5)
-abbrev pub route_sends : Received → List Sending
-route_sends received = []
+abbrev pub route_sends : List Rule → Relay → Received → List Sending
+route_sends rules relay dropped = []
+route_sends rules relay (managed on from frame) = []
+route_sends rules relay (stranger m) = []
+route_sends rules relay (message m) =
+    routing.route_sends rules relay.links relay.routes m.here m.link m.npdu
 
 -- answers to network layer messages (clause 6.4)
-abbrev pub manage_sends : Received → List Sending
-manage_sends received = []
+abbrev pub manage_sends : List Rule → Relay → Received → List Sending
+manage_sends rules relay dropped = []
+manage_sends rules relay (managed on from frame) = []
+manage_sends rules relay (stranger m) = []
+manage_sends rules relay (message m) =
+    network.manage_sends rules relay.links relay.routes m.here m.link m.npdu
 
--- the datagram of an answer, where there is one
+-- the datagrams of an answer, where there is one
 abbrev pub answer_sends : ℕ → Message → Option Answer → List Sending
 answer_sends network m None = []
 answer_sends network m (Some answer) = reply_sends network m answer
 
 -- the answer to an APDU, where there is one
-abbrev pub apdu_sends : Device → List Rule → List ObjectState → Message → Option (List ℕ) → List Sending
-apdu_sends device rules objects m None = []
-apdu_sends device rules objects m (Some octets) =
-    answer_sends device.network m (device_answer device rules objects (context_of device.network m) octets)
+abbrev pub apdu_answer : List Rule → Database → Context → Option (List ℕ) → Option Answer
+apdu_answer rules d context None = None
+apdu_answer rules d context (Some octets) = device_answer rules d context octets
 
-abbrev pub message_sends : Device → List Rule → List ObjectState → Message → List Sending
-message_sends device rules objects m = apdu_sends device rules objects m (apdu_for device.network m.npdu)
+abbrev pub message_sends : List Rule → Database → Message → List Sending
+message_sends rules d m =
+    let network = device_network d in
+    answer_sends network m (apdu_answer rules d (context_of network m) (apdu_for network m.npdu))
 
--- answers of the device (clause 15)
-abbrev pub serve_sends : Device → List Rule → List ObjectState → Received → List Sending
-serve_sends device rules objects dropped = []
-serve_sends device rules objects (managed number port from frame) = []
-serve_sends device rules objects (stranger number port from) = []
-serve_sends device rules objects (message m) = message_sends device rules objects m
+-- answers of the device (clauses 15 and 16)
+abbrev pub serve_sends : List Rule → Database → Received → List Sending
+serve_sends rules d dropped = []
+serve_sends rules d (managed on from frame) = []
+serve_sends rules d (stranger m) = []
+serve_sends rules d (message m) = message_sends rules d m
 
 -- all of them, in the order of the steps
-abbrev pub sends_for : Device → List Rule → List ObjectState → Received → List Sending
-sends_for device rules objects received =
-    link_sends received ++ cast_sends received ++ route_sends received ++ manage_sends received
-    ++ serve_sends device rules objects received
+abbrev pub sends_for : List Rule → Relay → Database → Received → List Sending
+sends_for rules relay d received =
+    link_sends rules received ++ cast_sends rules received ++ route_sends rules relay received
+    ++ manage_sends rules relay received ++ serve_sends rules d received
 
 -- what an event sends in this state
 unfoldable pub sends : State → Event → List Sending
-sends w e = sends_for w.device w.rules w.objects (receive w e)
+sends w e = sends_for w.rules w.relay w.device (receive w e)
+
+-- ---- the changes
+
+-- the change of a port's tables or of the routes that is granted of what is received
+abbrev pub relay_change_for : List Rule → Received → Option Change
+relay_change_for rules dropped = None
+relay_change_for rules (managed on from frame) = table.link_change rules on from frame
+relay_change_for rules (stranger m) = None
+relay_change_for rules (message m) = network.manage_change rules m.here m.link m.npdu
+
+-- what happens to the ports' tables and the routes at an event: the change that is granted, if there is
+-- one; at a tick they are a tick later
+abbrev pub move_for : List Rule → Event → Received → Option Move
+move_for rules (Datagram port from octets) received =
+    option_map move.Commit (relay_change_for rules received)
+move_for rules Tick received = Some move.Tick
+
+-- the same in this state
+unfoldable pub move_at : State → Event → Option Move
+move_at w e = move_for w.rules e (receive w e)
+
+-- the write that an APDU makes, where there is one
+abbrev pub apdu_change : List Rule → Database → Context → Option (List ℕ) → Option Write
+apdu_change rules d context None = None
+apdu_change rules d context (Some octets) = device_change rules d context octets
+
+abbrev pub message_change : List Rule → Database → Message → Option Write
+message_change rules d m =
+    apdu_change rules d (context_of (device_network d) m) (apdu_for (device_network d) m.npdu)
+
+-- the write that is granted of what is received (clause 15.9)
+abbrev pub change_for : List Rule → Database → Received → Option Write
+change_for rules d dropped = None
+change_for rules d (managed on from frame) = None
+change_for rules d (stranger m) = None
+change_for rules d (message m) = message_change rules d m
+
+-- the write that an event makes in this state, where it is granted one
+unfoldable pub change_at : State → Event → Option Write
+change_at w e = change_for w.rules w.device (receive w e)
+
+-- the device once a write is made, where there is one
+abbrev pub changed : Option Write → Database → Database
+changed None d = d
+changed (Some write) d = with_write write d
 
 -- ---- what it does
 
@@ -72,7 +143,7 @@ nothing = record { sends = []; denials = [] }
 -- what is done about what is received in this state
 abbrev pub effects_for : State → Received → Effects
 effects_for w received = record {
-  sends = sends_for w.device w.rules w.objects received;
+  sends = sends_for w.rules w.relay w.device received;
   denials = denials_for w received;
 }
 

@@ -1,13 +1,18 @@
 -- Worked examples of the built-in configuration, frame by frame: what a reader can hold against the standard. Frames are written in
 -- hexadecimal. In each, a station at 192.168.1.5 on port 1 sends a datagram to a fresh gateway.
 use Rattle.std.specs.Prelude.{◌≡◌, ℕ, zero, suc, ◌+◌, ◌-◌, ◌*◌, ◌^◌, true, false, List, [], ◌∷◌, ◌++◌, take, map, replicate, codes, Some, None, nat_lt, if◌then◌else◌}
+use Rattle.gw_addr.specs.declared.bip.BipAddr.{BipAddr}
 use Rattle.gw_rules.specs.Ask.{Ask}
 use Rattle.gw_core.specs.declared.effects.Effects.{Effects}
 use Rattle.gw_script.specs.Event.{Event, Datagram, Tick}
 use Rattle.gw_core.specs.State.{State}
 use Rattle.gw_core.specs.Effects.{nothing, passes_end}
 use Rattle.gw_core.specs.History.{effects, run, state_after}
-use Rattle.gw_core.specs.Setting.{node, setting}
+use Rattle.gw_rules.specs.declared.field.FieldName.TheVariants.{Operation}
+use Rattle.gw_rules.specs.Rule.{rule_without_fields, with_range}
+use Rattle.gw_policy_text.specs.Configuration.{Configuration}
+use Rattle.gw_relay.specs.Sends.{Sending}
+use Rattle.gw_core.specs.Setting.{node, only, setting}
 
 -- the value of a hexadecimal digit
 abbrev pub digit : ℕ → ℕ
@@ -42,19 +47,23 @@ asks_for instance = record {
   priority = None;
 }
 
--- one answer to the station, and the denial of this number and tick, by the rule that hides the object
-abbrev pub refuses_at : ℕ → ℕ → List ℕ → ℕ → Effects
-refuses_at number tick octets instance = record {
+-- one answer to the station, and the denial of this number, tick and ask, by a rule of this name
+abbrev pub denies : ℕ → ℕ → Ask → List ℕ → List ℕ → Effects
+denies number tick ask rule octets = record {
   sends = record { port = 1; to = node 1 5; octets = octets } ∷ [];
   denials = record {
     number = number;
     tick = tick;
     port = 1;
     source = record { net = 1; mac = hex (codes "C0A80105BAC0") };
-    ask = asks_for instance;
-    rule = codes "hide";
+    ask = ask;
+    rule = rule;
   } ∷ [];
 }
+
+-- the same for a read of an object that a rule hides
+abbrev pub refuses_at : ℕ → ℕ → List ℕ → ℕ → Effects
+refuses_at number tick octets instance = denies number tick (asks_for instance) (codes "hide") octets
 
 -- the first denial, before any tick
 abbrev pub refuses : List ℕ → ℕ → Effects
@@ -108,7 +117,7 @@ RoutedReadIsAnswered = gives (hex (codes "810A001A012C0064010101F40107FE0005070C
 abbrev pub going_on : ℕ → ℕ → State
 going_on ticks denials = state_after setting (record { ticks = ticks; denials = denials }) []
 
--- At the end of the ticks a tick isn't history_after. At the end of the denials a denied read isn't, and an allowed one is.
+-- At the end of the ticks a tick isn't taken. At the end of the denials a denied read isn't, and an allowed one is.
 abbrev pub CountsEnd : Type 0
 CountsEnd =
     (passes_end (going_on (2 ^ 63) 0) Tick ≡ true)
@@ -127,3 +136,148 @@ abbrev pub DenialsAreCountedOn : Type 0
 DenialsAreCountedOn =
     run setting (record { ticks = 0; denials = 0 }) (Tick ∷ hidden_read ∷ Tick ∷ hidden_read ∷ [])
     ≡ nothing ∷ refuses_at 1 1 access_error 2 ∷ nothing ∷ refuses_at 2 2 access_error 2 ∷ []
+
+-- ---- what writes leave
+
+-- a datagram from the station, as an event
+abbrev pub sent : List ℕ → Event
+sent octets = Datagram 1 (node 1 5) octets
+
+-- what the events of a list do, one after the other, to a fresh gateway
+abbrev pub runs : List Event → List Effects
+runs events = run setting (record { ticks = 0; denials = 0 }) events
+
+-- Multi-state Value 1: write 3 at priority 8, write 2 at 16, empty the slot of priority 8, and read
+abbrev pub write_3_at_8 : Event
+write_3_at_8 = sent (hex (codes "810A001C012400640101FF00050A0F0C04C0000119553E21033F4908"))
+
+abbrev pub write_2_at_16 : Event
+write_2_at_16 = sent (hex (codes "810A001C012400640101FF00050A0F0C04C0000119553E21023F4910"))
+
+abbrev pub relinquish_at_8 : Event
+relinquish_at_8 = sent (hex (codes "810A001B012400640101FF00050A0F0C04C0000119553E003F4908"))
+
+abbrev pub read_state : Event
+read_state = sent (hex (codes "810A0016012400640101FF00050B0C0C04C000011955"))
+
+abbrev pub acknowledged : Effects
+acknowledged = answers (hex (codes "810A000D010800640101200A0F"))
+
+-- the answer to the read where the state is 1, 2 or 3
+abbrev pub reads_as : ℕ → Effects
+reads_as state = answers (hex (codes "810A0018010800640101300B0C0C04C0000119553E21") ++ state ∷ 0x3F ∷ [])
+
+-- A read sees the write before it.
+abbrev pub WriteIsSeen : Type 0
+WriteIsSeen = runs (read_state ∷ write_3_at_8 ∷ read_state ∷ []) ≡ reads_as 1 ∷ acknowledged ∷ reads_as 3 ∷ []
+
+-- The lower number of a priority wins, whichever write came last; once its slot is empty, the next one does.
+abbrev pub RelinquishIsSeen : Type 0
+RelinquishIsSeen =
+    runs (write_3_at_8 ∷ write_2_at_16 ∷ read_state ∷ relinquish_at_8 ∷ read_state ∷ [])
+    ≡ acknowledged ∷ acknowledged ∷ reads_as 3 ∷ acknowledged ∷ reads_as 2 ∷ []
+
+-- the built-in configuration, where a first rule denies all writes
+abbrev pub no_writes : Configuration
+no_writes = record setting { rules = with_range Operation (only 10) (rule_without_fields (codes "no-writes") false) ∷ setting.rules }
+
+-- a write of Binary Value 1 without a priority, which is one at 16
+abbrev pub write_ask : Ask
+write_ask = record (asks_for 1) { operation = Some 10; service = Some 15; priority = Some 16 }
+
+-- A denied write answers the access error and is logged; the read behind it doesn't see it.
+abbrev pub DeniedWriteIsUnseen : Type 0
+DeniedWriteIsUnseen =
+    run no_writes (record { ticks = 0; denials = 0 }) (sent (hex (codes "810A001A012400640101FF0005100F0C0140000119553E91013F")) ∷ sent read_frame ∷ [])
+    ≡ denies 1 0 write_ask (codes "no-writes") (hex (codes "810A001101080064010150100F91029128"))
+    ∷ answers (hex (codes "810A001801080064010130070C0C0140000119553E91003F")) ∷ []
+
+-- ---- other services
+
+-- ReadPropertyMultiple of ALL of Binary Value 1: each property has its place, and the denied one its error.
+abbrev pub AllArePlaced : Type 0
+AllArePlaced = gives (hex (codes "810A0018012400640101FF00050D0E0C014000011E09081F"))
+    ≡ denies 1 0 (record (asks_for 1) { service = Some 14; property = Some 28 }) (codes "no-desc")
+    (hex (codes "810A0082010800640101300D0E0C014000011E294B4EC4014000014F294D4E740066616E4F294F4E"
+    ++ codes "91054F29554E91004F296F4E8204004F29244E91004F29514E104F291C5E9102911B5F29574E0000"
+    ++ codes "00000000000000000000000000004F29684E91004F29044E7507006163746976654F292E4E750900"
+    ++ codes "696E6163746976654F1F"))
+
+-- A Who-Is to everyone on the device's network is answered to everyone on the network of the requester.
+abbrev pub WhoIsIsAnswered : Type 0
+WhoIsIsAnswered = gives (hex (codes "810B000C0120006400FF1008"))
+    ≡ record {
+      sends = record {
+        port = 1;
+        to = node 1 255;
+        octets = hex (codes "810B00190108006401011000C4020004D22205C491032203E7");
+      } ∷ [];
+      denials = [];
+    }
+
+-- ---- what is passed on
+
+-- a gateway that nothing came to does this at an event, after the events of a history, newest first
+abbrev pub after_all : List Event → Event → Effects
+after_all h e = effects setting (record { ticks = 0; denials = 0 }) h e
+
+-- one datagram on a port
+abbrev pub sends_to : ℕ → BipAddr → List ℕ → Sending
+sends_to port to octets = record { port = port; to = to; octets = octets }
+
+-- these datagrams, and no denial
+abbrev pub sends_all : List Sending → Effects
+sends_all sends = record { sends = sends; denials = [] }
+
+-- a datagram on port 1 from a workstation that isn't on its subnet, 192.168.3.9
+abbrev pub from_afar : List ℕ → Event
+from_afar octets = Datagram 1 (node 3 9) octets
+
+-- it registers for 60 seconds, and later asks who is registered
+abbrev pub registers : Event
+registers = from_afar (hex (codes "81050006003C"))
+
+abbrev pub asks_registered : Event
+asks_registered = from_afar (hex (codes "81060004"))
+
+-- A registration for 60 seconds is told as a success, is shown 89 ticks later with one second left, and is gone with the 90th tick.
+abbrev pub RegistrationEnds : Type 0
+RegistrationEnds =
+    (after_all [] registers ≡ sends_all (sends_to 1 (node 3 9) (hex (codes "810000060000")) ∷ []))
+    × (after_all (replicate 89 Tick ++ registers ∷ []) asks_registered
+    ≡ sends_all (sends_to 1 (node 3 9) (hex (codes "8107000EC0A80309BAC0003C0001")) ∷ []))
+    × (after_all (replicate 90 Tick ++ registers ∷ []) asks_registered
+    ≡ sends_all (sends_to 1 (node 3 9) (hex (codes "81070004")) ∷ []))
+
+-- A table of the port itself and of the manager 192.168.4.1 is written; then a broadcast on the subnet goes to that manager, and to nobody else.
+abbrev pub BroadcastIsDistributed : Type 0
+BroadcastIsDistributed =
+    runs (sent (hex (codes "81010018C0A8010ABAC0FFFFFFFFC0A80401BAC0FFFFFFFF")) ∷ sent (hex (codes "810B000801001008")) ∷ [])
+    ≡ answers (hex (codes "810000060000"))
+    ∷ sends_all (sends_to 1 (node 4 1) (hex (codes "8104000EC0A80105BAC001001008")) ∷ []) ∷ []
+
+-- a message for station 07 of network 400, with a whole hop count
+abbrev pub to_400 : Event
+to_400 = sent (hex (codes "810A000D012001900107FF1008"))
+
+-- A router on port 2 names networks 400 and 300. A message for network 400 then goes to it, with its source added and one hop less. Network 300
+-- has a configured route, and keeps it.
+abbrev pub LearnedRouteIsTaken : Type 0
+LearnedRouteIsTaken =
+    runs (Datagram 2 (node 2 21) (hex (codes "810B000B0180010190012C")) ∷ to_400 ∷ sent (hex (codes "810A000D0120012C0107FF1008")) ∷ [])
+    ≡ nothing
+    ∷ sends_all (sends_to 2 (node 2 21) (hex (codes "810A0016012801900107000106C0A80105BAC0FE1008")) ∷ [])
+    ∷ sends_all (sends_to 2 (node 2 20) (hex (codes "810A00160128012C0107000106C0A80105BAC0FE1008")) ∷ []) ∷ []
+
+-- A message for a network that no router is known for: its sender is told, and the other port's routers are asked.
+abbrev pub UnknownNetworkIsSought : Type 0
+UnknownNetworkIsSought =
+    after_all [] to_400
+    ≡ sends_all (sends_to 1 (node 1 5) (hex (codes "810A000A018003010190")) ∷ sends_to 2 (node 2 255) (hex (codes "810B00090180000190")) ∷ [])
+
+-- A Who-Is to every network goes on to the other port, with one hop less, and the device answers it on the port that it came on.
+abbrev pub GlobalWhoIsGoesOn : Type 0
+GlobalWhoIsGoesOn =
+    after_all [] (sent (hex (codes "810B000C0120FFFF00FF1008")))
+    ≡ sends_all (sends_to 2 (node 2 255) (hex (codes "810B00150128FFFF00000106C0A80105BAC0FE1008"))
+    ∷ sends_to 1 (node 1 255) (hex (codes "810B00190108006401011000C4020004D22205C491032203E7")) ∷ [])

@@ -1,39 +1,70 @@
 -- The state of a gateway after a history, which is the list of the events that it took, newest first; and
 -- what it does then.
-use Rattle.std.specs.Prelude.{◌≡◌, ℕ, ◌+◌, Bool, true, false, List, [], ◌∷◌, length, map, take, Some, slice_get}
+use Rattle.std.specs.Prelude.{◌≡◌, ℕ, ◌+◌, true, false, List, [], ◌∷◌, length, map, take, Option, Some, None, slice_get}
 use Rattle.gw_core.specs.declared.effects.Effects.{Effects}
 use Rattle.gw_core.specs.declared.event.Counts.{Counts}
 use Rattle.gw_script.specs.Event.{Event}
 use Rattle.gw_policy_text.specs.Configuration.{Configuration}
+use Rattle.gw_objects.specs.History.{IsStateAfter as StandsAfter}
+use Rattle.gw_objects.specs.Objects.{Database, database_of, defaults_of}
+use Rattle.gw_objects.specs.Write.{Write}
+use Rattle.gw_routes.specs.History.{History as Learned}
+use Rattle.gw_routes.specs.History.{IsStateAfter as IsTableAfter}
+use Rattle.gw_relay.specs.History.{Acts as PortActs}
+use Rattle.gw_relay.specs.History.{StandAfter, acts_moved, learned_moved, ports_from}
+use Rattle.gw_relay.specs.Initial.{direct_of, initial, routed_of}
+use Rattle.gw_relay.specs.State.{Move, moved, moved_by}
 use Rattle.gw_core.specs.Denials.{denials_at}
-use Rattle.gw_core.specs.Effects.{effects_at, passes_end, ticks_of}
-use Rattle.gw_core.specs.State.{State, initial_states}
+use Rattle.gw_core.specs.Effects.{change_at, changed, effects_at, move_at, passes_end, ticks_of}
+use Rattle.gw_core.specs.State.{State}
 
 -- ---- after a history
 
--- what came of a history for each part of a gateway: so far, how many ticks there were and how many
--- denials
+-- What came of a history for each part of a gateway: the moves of the ports' tables and the routes, which
+-- are the changes that were granted and the ticks, and the writes to the device that were granted, each
+-- newest first; and how many ticks there were and how many denials.
 pub record Acts : Type 0 where
+  pub moves : List Move
+  pub writes : List Write
   pub ticks : ℕ
   pub denials : ℕ
 
 abbrev pub no_acts : Acts
-no_acts = record { ticks = 0; denials = 0 }
+no_acts = record { moves = []; writes = []; ticks = 0; denials = 0 }
+
+-- the device once these writes were made, of which the first is the newest
+unfoldable pub written : List Write → Database → Database
+written [] d = d
+written (write ∷ writes) d = changed (Some write) (written writes d)
 
 -- the state once these acts were done
 abbrev pub state_of : Configuration → Counts → Acts → State
 state_of c k acts = record {
-  ports = c.ports;
-  device = c.device;
-  objects = initial_states c.objects;
+  relay = moved_by acts.moves (initial c);
+  device = written acts.writes (database_of c);
   rules = c.rules;
   ticks = k.ticks + acts.ticks;
   denials = k.denials + acts.denials;
 }
 
+-- these writes, and before them one more where it is granted
+abbrev pub with_granted : Option Write → List Write → List Write
+with_granted None writes = writes
+with_granted (Some write) writes = write ∷ writes
+
+-- these moves, and before them one more where there is one
+abbrev pub with_move : Option Move → List Move → List Move
+with_move None moves = moves
+with_move (Some move) moves = move ∷ moves
+
 -- what an event adds to the acts
 abbrev pub grants : State → Event → Acts → Acts
-grants w e acts = record { ticks = acts.ticks + ticks_of e; denials = acts.denials + length (denials_at w e) }
+grants w e acts = record {
+  moves = with_move (move_at w e) acts.moves;
+  writes = with_granted (change_at w e) acts.writes;
+  ticks = acts.ticks + ticks_of e;
+  denials = acts.denials + length (denials_at w e);
+}
 
 unfoldable pub acts_of : Configuration → Counts → List Event → Acts
 acts_of c k [] = no_acts
@@ -65,11 +96,47 @@ unfoldable pub history_after : List Event → List Event → List Event
 history_after h [] = h
 history_after h (e ∷ l) = history_after (e ∷ h) l
 
+-- Each slot and each default of the device's objects is what these granted writes left, newest first: the
+-- last write to it, or the default that is configured (clause 19.2).
+abbrev pub WritesStand : Configuration → List Write → State → Type 0
+WritesStand c writes w = StandsAfter (defaults_of c) writes w.device.states
+
+-- What stood before an event stands after it, with the write that it is granted, where it is granted one.
+abbrev pub WritesGoOn : State → Event → State → Type 0
+WritesGoOn before event after = (c : Configuration) (writes : List Write) →
+    WritesStand c writes before → WritesStand c (with_granted (change_at before event) writes) after
+
+-- The ports' tables are those that the last granted entries, the granted registrations and deletions and
+-- the ticks left (Annex J.4, J.5).
+abbrev pub TablesStand : Configuration → List PortActs → State → Type 0
+TablesStand c acts w = StandAfter w.relay.links (ports_from 1 c.ports) acts
+
+-- What stood before an event stands after it, with what becomes of the tables, where something does.
+abbrev pub TablesGoOn : State → Event → State → Type 0
+TablesGoOn before event after = (c : Configuration) (acts : List PortActs) →
+    TablesStand c acts before → TablesStand c (acts_moved (move_at before event) acts) after
+
+-- The routes are the configured ones, and those of the networks that were granted to be learned (clause 6.6).
+abbrev pub RoutesStand : Configuration → Learned → State → Type 0
+RoutesStand c learned w =
+    IsTableAfter w.relay.routes (direct_of c) (map routed_of c.routes) learned
+
+-- What stood before an event stands after it, with the networks that are learned, where some are.
+abbrev pub RoutesGoOn : State → Event → State → Type 0
+RoutesGoOn before event after = (c : Configuration) (learned : Learned) →
+    RoutesStand c learned before
+    → RoutesStand c (learned_moved (move_at before event) before.relay.routes learned) after
+
 -- ---- from a state
 
 -- the state one event later
 unfoldable pub next : State → Event → State
-next w e = record w { ticks = w.ticks + ticks_of e; denials = w.denials + length (denials_at w e) }
+next w e = record w {
+  relay = moved (move_at w e) w.relay;
+  device = changed (change_at w e) w.device;
+  ticks = w.ticks + ticks_of e;
+  denials = w.denials + length (denials_at w e);
+}
 
 -- the state once the events of a list have come, in order
 unfoldable pub state_from : State → List Event → State

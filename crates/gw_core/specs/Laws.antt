@@ -1,7 +1,14 @@
 -- Laws over the definitions of the headline: what the folds of a history say in plain words.
-use Rattle.std.specs.Prelude.{◌≡◌, ℕ, zero, suc, ◌+◌, Bool, true, false, List, [], ◌∷◌, length, map, filter, not, replicate, count_by}
-use Rattle.std.specs.List.{flat_map}
-use Rattle.gw_core.specs.declared.effects.Denial.{Denial}
+use Rattle.std.specs.Prelude.{◌≡◌, None, ℕ, zero, suc, ◌+◌, Bool, true, false, List, [], ◌∷◌, length, map, filter, not, replicate, count_by}
+use Rattle.std.specs.List.{AllByRecursion, flat_map, list_all}
+use Rattle.gw_addr.specs.declared.bip.BipAddr.{BipAddr}
+use Rattle.gw_relay.specs.Cast.{is_heard}
+use Rattle.gw_relay.specs.Link.{answer_to, refused}
+use Rattle.gw_relay.specs.Manage.{manage_steps}
+use Rattle.gw_relay.specs.Route.{route_steps}
+use Rattle.gw_relay.specs.State.{Relay, later}
+use Rattle.gw_relay.specs.Steps.{Step}
+use Rattle.gw_audit.specs.declared.denial.Denial.{Denial}
 use Rattle.gw_core.specs.declared.effects.Effects.{Effects}
 use Rattle.gw_core.specs.declared.event.Counts.{Counts}
 use Rattle.gw_script.specs.Event.{Event}
@@ -11,14 +18,21 @@ use Rattle.gw_core.specs.History.{state_after, run, history_after, IsStep, IsSta
 use Rattle.gw_rules.specs.Ask.{Ask}
 use Rattle.gw_rules.specs.declared.rule.Rule.{Rule}
 use Rattle.gw_rules.specs.RuleList.{first, allows}
-use Rattle.gw_core.specs.declared.device.Context.{Context}
-use Rattle.gw_core.specs.declared.object.ObjectState.{ObjectState}
-use Rattle.gw_core.specs.Asks.{asks}
+use Rattle.gw_apdu.specs.declared.header.ConfirmedRequest.{ConfirmedRequest}
+use Rattle.gw_apdu.specs.Answers.{error}
+use Rattle.gw_objects.specs.Objects.{Database, database_of}
+use Rattle.gw_services.specs.Read.{Read}
+use Rattle.gw_services.specs.Write.{Write}
+use Rattle.gw_device.specs.declared.context.Context.{Context}
+use Rattle.gw_device.specs.Errors.{error_of}
+use Rattle.gw_device.specs.Read.{named_read, read_ask, read_response}
+use Rattle.gw_device.specs.Response.{to_client}
+use Rattle.gw_device.specs.Services.{read_property, write_property}
+use Rattle.gw_device.specs.Write.{write_ask, write_response}
+use Rattle.gw_core.specs.Asks.{asks, cast_asks, manage_asks, route_asks}
 use Rattle.gw_core.specs.Denials.{rule_name}
-use Rattle.gw_policy_text.specs.declared.device.Device.{Device}
-use Rattle.gw_core.specs.Device.{error_apdu, read_answer, read_ask, read_value}
-use Rattle.gw_core.specs.Effects.{effects_at, nothing}
-use Rattle.gw_core.specs.Read.{Read}
+use Rattle.gw_core.specs.Effects.{NeedsNoMemory, cast_sends, change_at, effects_at, manage_sends, move_at, nothing, route_sends}
+use Rattle.gw_core.specs.Receive.{Message, dropped, message, receive}
 use Rattle.gw_core.specs.State.{State}
 
 -- a tick, and no datagram
@@ -38,6 +52,12 @@ numbers_from first (suc count) = first ∷ numbers_from (first + 1) count
 -- The ticks of a gateway are the first count and the ticks of its history.
 abbrev pub TicksAreCounted : Type 0
 TicksAreCounted = (c : Configuration) (k : Counts) (h : List Event) → (state_after c k h).ticks ≡ k.ticks + count_by is_tick h
+
+-- The ticks that the ports' tables have seen are those of the history.
+abbrev pub RelayTicksAreCounted : Type 0
+RelayTicksAreCounted = (c : Configuration) (k : Counts) (h : List Event) →
+    ((state_after c k h).relay.ticks ≡ count_by is_tick h)
+    × AllByRecursion (λ link. link.fdt.ticks ≡ count_by is_tick h) (state_after c k h).relay.links
 
 -- The number of its last denial is the first count and the length of the log so far.
 abbrev pub DenialsAreCounted : Type 0
@@ -63,10 +83,11 @@ RunsExtendHistories =
     (run_from (state_after c k h) l ≡ run_after c k h l)
     × (state_from (state_after c k h) l ≡ state_after c k (history_after h l))
 
--- A tick does nothing but count.
+-- A tick sends and logs nothing: it counts, and the ports' tables are a tick later.
 abbrev pub TicksOnlyCount : Type 0
 TicksOnlyCount =
-    (w : State) → (effects_at w Tick ≡ nothing) × (next w Tick ≡ record w { ticks = w.ticks + 1 })
+    (w : State) → (effects_at w Tick ≡ nothing)
+    × (next w Tick ≡ record w { relay = later w.relay; ticks = w.ticks + 1 })
 
 -- An event that asks nothing logs nothing.
 abbrev pub NothingAskedIsLogged : Type 0
@@ -93,7 +114,56 @@ DenialsHaveTheirTick =
 -- A denied read answers exactly the error of class 2 and code 27, whatever is there.
 abbrev pub DeniedReadsAreRefused : Type 0
 DeniedReadsAreRefused =
-    (device : Device) (rules : List Rule) (objects : List ObjectState) (context : Context) (read : Read) →
-    allows rules (read_ask device context read) ≡ false →
-    read_answer read (read_value device rules objects context read)
-    ≡ error_apdu read.invoke (record { class = 2; code = 27 })
+    (rules : List Rule) (d : Database) (context : Context) (request : ConfirmedRequest) (read : Read) →
+    allows rules (read_ask d context (named_read d read)) ≡ false →
+    (read_response rules d context request read).answer
+    ≡ to_client (error request.invoke read_property (error_of 2 27))
+
+-- A denied write answers exactly the error of class 2 and code 40, and changes nothing.
+abbrev pub DeniedWritesAreRefused : Type 0
+DeniedWritesAreRefused =
+    (rules : List Rule) (d : Database) (context : Context) (invoke : ℕ) (write : Write) →
+    allows rules (write_ask d context write) ≡ false →
+    ((write_response rules d context invoke write).answer
+    ≡ to_client (error invoke write_property (error_of 2 40)))
+    × ((write_response rules d context invoke write).change ≡ None)
+
+-- What the policy allows of a step of routing or of the network layer: each ask on which its sends hang.
+abbrev pub is_allowed : List Rule → Step → Bool
+is_allowed rules step = list_all (allows rules) step.asks
+
+-- What is routed, and answered to network layer messages, are the sends of exactly those steps whose asks the
+-- policy all allows, in order; and the asks are those of all steps.
+abbrev pub AllowedTrafficIsSent : Type 0
+AllowedTrafficIsSent = (rules : List Rule) (relay : Relay) (m : Message) →
+    (route_sends rules relay (message m)
+    ≡ flat_map (λ s. s.sends) (filter (is_allowed rules) (route_steps relay.links relay.routes m.here m.link m.npdu)))
+    × (route_asks relay (message m) ≡ flat_map (λ s. s.asks) (route_steps relay.links relay.routes m.here m.link m.npdu))
+    × (manage_sends rules relay (message m)
+    ≡ flat_map (λ s. s.sends) (filter (is_allowed rules) (manage_steps relay.links relay.routes m.here m.link m.npdu)))
+    × (manage_asks relay (message m) ≡ flat_map (λ s. s.asks) (manage_steps relay.links relay.routes m.here m.link m.npdu))
+
+-- A broadcast that the policy denies is distributed to nobody: a Distribute-Broadcast gets its refusal, and any
+-- other frame nothing.
+abbrev pub DeniedBroadcastsAreKept : Type 0
+DeniedBroadcastsAreKept = (rules : List Rule) (m : Message) →
+    list_all (allows rules) (cast_asks (message m)) ≡ false → is_heard m.here m.from m.frame ≡ true →
+    cast_sends rules (message m) ≡ map (answer_to m.here.port m.from) (refused m.frame)
+
+-- A datagram that is dropped asks nothing and sends nothing, so it needs no memory.
+abbrev pub DroppedNeedsNoMemory : Type 0
+DroppedNeedsNoMemory = (w : State) (e : Event) → receive w e ≡ dropped → NeedsNoMemory w e
+
+-- A datagram that asks nothing changes no table and no route.
+abbrev pub NothingAskedIsChanged : Type 0
+NothingAskedIsChanged = (w : State) (port : ℕ) (from : BipAddr) (octets : List ℕ) →
+    asks w (Datagram port from octets) ≡ [] → move_at w (Datagram port from octets) ≡ None
+
+-- An event that asks nothing writes nothing.
+abbrev pub NothingAskedIsWritten : Type 0
+NothingAskedIsWritten = (w : State) (e : Event) → asks w e ≡ [] → change_at w e ≡ None
+
+-- What is configured of the device never changes.
+abbrev pub ConfigurationStays : Type 0
+ConfigurationStays = (c : Configuration) (k : Counts) (h : List Event) →
+    (state_after c k h).device.configured ≡ (database_of c).configured

@@ -1,25 +1,26 @@
 -- What the gateway makes of an event before any policy is asked.
-use Rattle.std.specs.Prelude.{ℕ, ◌-◌, Bool, true, false, List, length, Option, Some, None, Ok, Err, nat_le, ◌==◌, ◌&&◌, ◌||◌, not, slice_get, if◌then◌else◌}
+use Rattle.std.specs.Prelude.{ℕ, Bool, true, false, List, length, Option, Some, None, Ok, Err, nat_le, ◌==◌, ◌&&◌, ◌||◌, not, if◌then◌else◌}
 use Rattle.std.specs.List.{list_any}
 use Rattle.gw_addr.specs.declared.bip.BipAddr.{BipAddr}
 use Rattle.gw_addr.specs.declared.station.Source.{Source}
 use Rattle.gw_addr.specs.Address.{octets_of, big_endian}
 use Rattle.gw_bvll.specs.Reading.{bvll_at}
-use Rattle.gw_bvll.specs.Bvll.{write_bdt, read_bdt, register, read_fdt, delete, distribute, original_unicast, original_broadcast}
+use Rattle.gw_bvll.specs.Bvll.{write_bdt, read_bdt, forwarded, register, read_fdt, delete, distribute, original_unicast, original_broadcast}
 use Rattle.gw_bvll.specs.Bvll.{Message as Frame}
 use Rattle.gw_npdu.specs.Npdu.{Fields, Address}
 use Rattle.gw_npdu.specs.Reading.{npdu_at}
-use Rattle.gw_policy_text.specs.declared.port.Port.{Port}
+use Rattle.gw_relay.specs.Cast.{is_heard, is_strange}
+use Rattle.gw_relay.specs.Claim.{link_source, here, claimed}
+use Rattle.gw_relay.specs.State.{link_at}
+use Rattle.gw_relay.specs.declared.port.Link.{Link}
 use Rattle.gw_script.specs.Event.{Event}
 use Rattle.gw_script.specs.Event.{Datagram, Tick}
-use Rattle.gw_core.specs.Claim.{link_source, here, claimed}
-use Rattle.gw_core.specs.State.{State}
+use Rattle.gw_core.specs.State.{State, device_network}
 
--- A message of the network layer that is heard: the port that it came on with its number, its sender
--- and frame, the link source, the claim, and the NPDU.
+-- A message of the network layer: the port that it came on with its tables, its sender and frame, the
+-- link source, the claim, and the NPDU.
 pub record Message : Type 0 where
-  pub number : ℕ
-  pub port : Port
+  pub here : Link
   pub from : BipAddr
   pub frame : Frame
   pub link : BipAddr
@@ -27,11 +28,11 @@ pub record Message : Type 0 where
   pub npdu : Fields
 
 -- What an event is received as: nothing; a frame that manages a table of its port; a broadcast to be
--- distributed from someone who isn't registered; or a message of the network layer.
+-- distributed, from someone who isn't registered; or a message of the network layer that is heard.
 pub data Received : Type 0 where
   dropped : Received
-  managed : (number : ℕ) (port : Port) (from : BipAddr) (frame : Frame) → Received
-  stranger : (number : ℕ) (port : Port) (from : BipAddr) → Received
+  managed : (on : Link) (from : BipAddr) (frame : Frame) → Received
+  stranger : Message → Received
   message : Message → Received
 
 -- ---- the datagram (Annex J.1)
@@ -55,86 +56,83 @@ manages read_fdt = true
 manages (delete address) = true
 manages other = false
 
--- The NPDU that a frame brings. A Forwarded-NPDU brings none as long as a port has no peers: it comes
--- from a peer or is dropped.
+-- the NPDU that a frame brings
 abbrev pub payload_of : Frame → Option (List ℕ)
+payload_of (forwarded originator npdu) = Some npdu
 payload_of (distribute npdu) = Some npdu
 payload_of (original_unicast npdu) = Some npdu
 payload_of (original_broadcast npdu) = Some npdu
 payload_of other = None
 
--- Distribute-Broadcast-To-Network is for registered foreign devices (Annex J.5), of which there are
--- none yet.
-abbrev pub is_strange : Frame → Bool
-is_strange (distribute npdu) = true
-is_strange other = false
-
 -- ---- the NPDU (clause 6.2)
 
 -- the network of a port, or the device's
-abbrev pub is_direct : List Port → ℕ → ℕ → Bool
-is_direct ports device network = network == device || list_any (λ p. p.network == network) ports
+abbrev pub is_direct : List Link → ℕ → ℕ → Bool
+is_direct links device network =
+    network == device || list_any (λ link. link.port.network == network) links
 
 -- whether a message names a source on a network that the gateway itself stands on
-abbrev pub claims_direct : List Port → ℕ → Option Address → Bool
-claims_direct ports device None = false
-claims_direct ports device (Some s) = is_direct ports device s.network
+abbrev pub claims_direct : List Link → ℕ → Option Address → Bool
+claims_direct links device None = false
+claims_direct links device (Some s) = is_direct links device s.network
 
 -- an NPDU of at most 1497 octets that claims no source on a network of the gateway's own
-unfoldable pub npdu_of : List Port → ℕ → List ℕ → Option Fields
-npdu_of ports device octets =
+unfoldable pub npdu_of : List Link → ℕ → List ℕ → Option Fields
+npdu_of links device octets =
     if nat_le (length octets) 1497 then (elim (npdu_at octets) [
-      | Ok npdu ↦ if claims_direct ports device npdu.source then None else Some npdu
+      | Ok npdu ↦ if claims_direct links device npdu.source then None else Some npdu
       | Err fault ↦ None
     ]) else None
 
 -- ---- what is received
 
 -- a message that a frame brings on a port
-abbrev pub message_of : ℕ → Port → BipAddr → Frame → Fields → Message
-message_of number port from frame npdu = record {
-  number = number;
-  port = port;
+abbrev pub message_of : Link → BipAddr → Frame → Fields → Message
+message_of on from frame npdu = record {
+  here = on;
   from = from;
   frame = frame;
   link = link_source from frame;
-  claim = claimed port.network (link_source from frame) npdu;
+  claim = claimed on.port.network (link_source from frame) npdu;
   npdu = npdu;
 }
 
-abbrev pub receive_npdu : List Port → ℕ → ℕ → Port → BipAddr → Frame → List ℕ → Received
-receive_npdu ports device number port from frame octets = elim (npdu_of ports device octets) [
-  | Some npdu ↦ if is_strange frame then stranger number port from else message (message_of number port from frame npdu)
+-- a message is heard, or a stranger's (Annex J.5)
+abbrev pub receive_npdu : List Link → ℕ → Link → BipAddr → Frame → List ℕ → Received
+receive_npdu links device on from frame octets = elim (npdu_of links device octets) [
+  | Some npdu ↦
+      if is_strange on from frame then stranger (message_of on from frame npdu)
+      else message (message_of on from frame npdu)
   | None ↦ dropped
 ]
 
-abbrev pub receive_frame : List Port → ℕ → ℕ → Port → BipAddr → Frame → Received
-receive_frame ports device number port from frame =
-    if manages frame then managed number port from frame else (elim (payload_of frame) [
-      | Some octets ↦ receive_npdu ports device number port from frame octets
+-- a frame manages a table, or brings an NPDU where it is heard (Annex J.4)
+abbrev pub receive_frame : List Link → ℕ → Link → BipAddr → Frame → Received
+receive_frame links device on from frame =
+    if manages frame then managed on from frame
+    else if not (is_heard on from frame) then dropped
+    else (elim (payload_of frame) [
+      | Some octets ↦ receive_npdu links device on from frame octets
       | None ↦ dropped
     ])
 
-abbrev pub receive_datagram : List Port → ℕ → ℕ → Port → BipAddr → List ℕ → Received
-receive_datagram ports device number port from octets =
-    if comes_in port.address from octets then (elim (bvll_at octets) [
-      | Ok frame ↦ receive_frame ports device number port from frame
+abbrev pub receive_datagram : List Link → ℕ → Link → BipAddr → List ℕ → Received
+receive_datagram links device on from octets =
+    if comes_in on.port.address from octets then (elim (bvll_at octets) [
+      | Ok frame ↦ receive_frame links device on from frame
       | Err fault ↦ dropped
     ]) else dropped
 
--- the port of a number, which is counted from 1
-abbrev pub port_at : List Port → ℕ → Option Port
-port_at ports number = if number == 0 then None else slice_get ports (number - 1)
-
-unfoldable pub receive_on : List Port → ℕ → ℕ → BipAddr → List ℕ → Received
-receive_on ports device number from octets = elim (port_at ports number) [
-  | Some port ↦ receive_datagram ports device number port from octets
+unfoldable pub receive_on : List Link → ℕ → ℕ → BipAddr → List ℕ → Received
+receive_on links device number from octets = elim (link_at links number) [
+  | Some on ↦ receive_datagram links device on from octets
   | None ↦ dropped
 ]
 
 -- what an event is received as in this state
 unfoldable pub receive : State → Event → Received
-receive w (Datagram port from octets) = receive_on w.ports w.device.network port from octets
+receive w (Datagram port from octets) =
+    receive_on w.relay.links (device_network w.device) port from octets
 receive w Tick = dropped
 
 -- ---- where it comes from
@@ -144,14 +142,19 @@ pub record Origin : Type 0 where
   pub port : ℕ
   pub source : Source
 
+-- a node of the port's network
+abbrev pub node_origin : Link → BipAddr → Origin
+node_origin on from =
+    record { port = on.port.number; source = here on.port.network from }
+
 -- the origin of a message: who it claims to come from
 abbrev pub message_origin : Message → Origin
-message_origin m = record { port = m.number; source = m.claim }
+message_origin m = record { port = m.here.port.number; source = m.claim }
 
 -- The origin of what is received: a frame that manages a table, and a stranger's, claim to come from
 -- their sender.
 abbrev pub origin : Received → Option Origin
 origin dropped = None
-origin (managed number port from frame) = Some (record { port = number; source = here port.network from })
-origin (stranger number port from) = Some (record { port = number; source = here port.network from })
+origin (managed on from frame) = Some (node_origin on from)
+origin (stranger m) = Some (node_origin m.here m.from)
 origin (message m) = Some (message_origin m)

@@ -1,19 +1,15 @@
 -- The message that an APDU for the device comes in, and those that carry its answer (clauses 6.2.2, 16.9
 -- and 16.10).
-use Rattle.std.specs.Prelude.{ℕ, Bool, true, false, List, [], ◌∷◌, length, slice_index, Option, Some, None, is_some, ◌==◌, ◌&&◌, ◌||◌, nat_le, not, if◌then◌else◌}
+use Rattle.std.specs.Prelude.{ℕ, ◌-◌, Bool, true, false, List, [], ◌∷◌, length, slice_index, Option, Some, None, is_some, ◌==◌, ◌&&◌, ◌||◌, not, if◌then◌else◌}
 use Rattle.std.specs.Option.{option_map}
-use Rattle.gw_addr.specs.declared.bip.BipAddr.{BipAddr}
 use Rattle.gw_addr.specs.Station.{key_of}
-use Rattle.gw_bvll.specs.Bvll.{original_unicast, original_broadcast}
-use Rattle.gw_bvll.specs.Bvll as bvll
 use Rattle.gw_npdu.specs.Npdu.{Fields, Address, Destination, Payload, apdu, message}
 use Rattle.gw_npdu.specs.Numbers.{every_network}
 use Rattle.gw_npdu.specs.Npdu as npdu
-use Rattle.gw_policy_text.specs.declared.port.Port.{Port}
-use Rattle.gw_core.specs.declared.effects.Sending.{Sending}
-use Rattle.gw_core.specs.declared.device.Context.{Context}
-use Rattle.gw_policy_text.specs.declared.device.Device.{Device}
-use Rattle.gw_core.specs.Device.{Answer}
+use Rattle.gw_relay.specs.Sends.{Sending}
+use Rattle.gw_relay.specs.Steps.{broadcast, unicast}
+use Rattle.gw_device.specs.declared.context.Context.{Context}
+use Rattle.gw_device.specs.Response.{Answer}
 use Rattle.gw_core.specs.Receive.{Message}
 
 -- ---- to the device
@@ -51,15 +47,6 @@ abbrev pub goes_to_all : ℕ → Option Destination → Bool
 goes_to_all network None = false
 goes_to_all network (Some d) = is_broadcast network d
 
--- what the device knows of it
-abbrev pub context_of : ℕ → Message → Context
-context_of network m = record {
-  port = m.number;
-  source_network = m.claim.net;
-  source_key = key_of m.claim.mac;
-  broadcast = goes_to_all network m.npdu.destination;
-}
-
 -- ---- from the device
 
 -- The way back by a router, with a whole count of hops: to the station that asked, or to its network.
@@ -87,39 +74,36 @@ reply_npdu network request answer = record {
   payload = apdu answer.apdu;
 }
 
--- the octets of an NPDU, unless there are more than 1497 (Annex J.1.5)
-unfoldable pub within : Fields → Option (List ℕ)
-within fields = if nat_le (length (npdu.encoding fields)) 1497 then Some (npdu.encoding fields) else None
+-- ---- what the device is told
+
+-- the most octets that an NPDU has (Annex J.1.5)
+abbrev pub most_octets : ℕ
+most_octets = 1497
+
+-- how many octets the APDU may have that goes back to the station that asked
+abbrev pub room_back : ℕ → Fields → ℕ
+room_back network request =
+    most_octets - length (npdu.header (reply_npdu network request (record { apdu = []; broadcast = false })))
+
+-- where a message came from, whether it goes to more than the device, and the room for the answer
+abbrev pub context_of : ℕ → Message → Context
+context_of network m = record {
+  port = m.here.port.number;
+  source_network = m.claim.net;
+  source_key = key_of m.claim.mac;
+  broadcast = goes_to_all network m.npdu.destination;
+  room = room_back network m.npdu;
+}
+
+-- ---- what is sent
 
 -- whether an answer goes to everyone on the port's network
 abbrev pub is_local_broadcast : Fields → Answer → Bool
 is_local_broadcast request answer = answer.broadcast && not (is_some request.source)
 
--- the datagram of an NPDU: to everyone on the port's network, or to one address
-abbrev pub framed : Bool → List ℕ → List ℕ
-framed false octets = bvll.encoding (original_unicast octets)
-framed true octets = bvll.encoding (original_broadcast octets)
-
--- an NPDU to one address
-abbrev pub unicast : ℕ → BipAddr → List ℕ → Sending
-unicast port to octets = record { port = port; to = to; octets = bvll.encoding (original_unicast octets) }
-
--- an NPDU to everyone on a port's network
-abbrev pub broadcast_on : ℕ → Port → List ℕ → Sending
-broadcast_on number port octets = record {
-  port = number;
-  to = port.broadcast;
-  octets = bvll.encoding (original_broadcast octets);
-}
-
-abbrev pub reply_sending : Message → Answer → List ℕ → Sending
-reply_sending m answer octets =
-    if is_local_broadcast m.npdu answer then broadcast_on m.number m.port octets else unicast m.number m.link octets
-
--- The answer's datagram, where its NPDU is within its length: back to where the message came from, or to
--- everyone on that network.
+-- An answer, where its NPDU is within its length: back to where the message came from; or as a broadcast
+-- by the gateway on the port's network, which its peers and foreign devices get too.
 unfoldable pub reply_sends : ℕ → Message → Answer → List Sending
-reply_sends network m answer = elim (within (reply_npdu network m.npdu answer)) [
-  | Some octets ↦ reply_sending m answer octets ∷ []
-  | None ↦ []
-]
+reply_sends network m answer =
+    if is_local_broadcast m.npdu answer then broadcast (reply_npdu network m.npdu answer) m.here
+    else unicast m.here.port.number m.link (reply_npdu network m.npdu answer)

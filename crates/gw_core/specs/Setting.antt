@@ -1,5 +1,5 @@
 -- The built-in configuration, with which the worked examples are run.
-use Rattle.std.specs.Prelude.{ℕ, ℤ, pos, negsuc, true, false, List, [], ◌∷◌, codes}
+use Rattle.std.specs.Prelude.{ℕ, negsuc, true, false, List, [], ◌∷◌, codes}
 use Rattle.gw_addr.specs.declared.bip.BipAddr.{BipAddr}
 use Rattle.gw_rules.specs.declared.field.FieldName.TheVariants.{Operation, ObjectType, Instance, Property}
 use Rattle.gw_rules.specs.declared.range.Range.{Range}

@@ -1,35 +1,42 @@
 -- What the code's values mean, without where they lie in memory.
-use Rattle.std.specs.Prelude.{ℕ, List, Result, Ok, Err}
+use Rattle.std.specs.Prelude.{not, if◌then◌else◌, Option, Some, None}
+use Rattle.gw_addr.specs.declared.bip.BipAddr.{BipAddr}
 use Rattle.gw_bvll.specs.Bvll.{view as frame_view}
+use Rattle.gw_bvll.specs.Bvll.{Message as Frame}
+use Rattle.gw_npdu.specs.Npdu.{Fields}
 use Rattle.gw_npdu.specs.Npdu.{view as npdu_view}
-use Rattle.gw_tags.specs.Value.{enumerated, value_encoding}
-use Rattle.gw_core.specs.declared.apdu.Answer.{Answer as TypedAnswer}
-use Rattle.gw_core.specs.declared.failure.Failure.{Failure}
+use Rattle.gw_relay.specs.Cast.{is_heard, is_strange}
+use Rattle.gw_relay.specs.declared.port.Link.{Link}
+use Rattle.gw_core.specs.declared.denial.Origin.{Origin as CodeOrigin}
 use Rattle.gw_core.specs.declared.message.Message.{Message as LentMessage}
 use Rattle.gw_core.specs.declared.receive.Received.{Received as LentReceived}
 use Rattle.gw_core.specs.declared.receive.Received.TheVariants as lent
-use Rattle.gw_core.specs.Device.{Answer, read_answer}
-use Rattle.gw_core.specs.Read.{read_of}
-use Rattle.gw_core.specs.Receive.{Message, Received, message_of, dropped, managed, stranger, message}
+use Rattle.gw_core.specs.Receive.{Message, Origin, Received, message_of, message_origin, node_origin, dropped, managed, stranger, message}
 
 abbrev pub message_view : LentMessage → Message
-message_view m = message_of m.number m.port.now m.from (frame_view m.frame) (npdu_view m.npdu)
+message_view m = message_of m.here.now m.from (frame_view m.frame) (npdu_view m.npdu)
+
+-- A message is judged once it is passed on: it may be unheard, or a stranger's.
+abbrev pub judged : Message → Received
+judged m =
+    if not (is_heard m.here m.from m.frame) then dropped
+    else if is_strange m.here m.from m.frame then stranger m else message m
 
 abbrev pub received_view : LentReceived → Received
 received_view lent.Dropped = dropped
-received_view (lent.Managed number port from frame) = managed number port.now from (frame_view frame)
-received_view (lent.Stranger number port from) = stranger number port.now from
-received_view (lent.Message m) = message (message_view m)
+received_view (lent.Managed on from frame) = managed on.now from (frame_view frame)
+received_view (lent.Message m) = judged (message_view m)
 
--- the octets of an enumeration of this number
-abbrev pub enumeration : ℕ → List ℕ
-enumeration number = value_encoding (enumerated number)
+-- what a message is received as, where there is one
+abbrev pub received_npdu : Link → BipAddr → Frame → Option Fields → Received
+received_npdu on from frame None = dropped
+received_npdu on from frame (Some npdu) = judged (message_of on from frame npdu)
 
--- what a property reads as, in octets
-abbrev pub octets_of : Result ℕ Failure → Result (List ℕ) Failure
-octets_of (Ok number) = Ok (enumeration number)
-octets_of (Err failure) = Err failure
+-- whom the code takes a datagram to come from, unjudged
+abbrev pub origin_of : LentReceived → Option Origin
+origin_of lent.Dropped = None
+origin_of (lent.Managed on from frame) = Some (node_origin on.now from)
+origin_of (lent.Message m) = Some (message_origin (message_view m))
 
--- an answer, with the octets that its APDU is made of
-abbrev pub answer_view : TypedAnswer → Answer
-answer_view a = record { apdu = read_answer (read_of a.read) (octets_of a.value); broadcast = a.broadcast }
+abbrev pub origin_view : CodeOrigin → Origin
+origin_view o = record { port = o.port; source = o.source }

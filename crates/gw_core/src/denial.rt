@@ -1,12 +1,14 @@
 //! The record of what the policy denies.
 
 ghost use Rattle.std.specs.Prelude.{◌≡◌, ◌<◌, ◌+◌, ◌^◌, [], length, IfOk, IsOk};
-ghost use Rattle.gw_core.specs.Denials.{denials_from, name_at, rule_name};
-ghost use Rattle.gw_core.specs.Receive.{message_origin};
-ghost use Rattle.gw_core.specs.View.{message_view};
+ghost use Rattle.std.specs.Option.{option_map};
+ghost use Rattle.gw_core.specs.Denials.{denials_from, denials_of, name_at, rule_name};
+ghost use Rattle.gw_core.specs.View.{origin_of, origin_view};
 
-use crate::effects::{Denial, Denials};
-use crate::message::Message;
+use crate::message::here;
+use crate::receive::Received;
+use gw_addr::Source;
+use gw_audit::{Denial, Denials};
 use gw_rules::{Refusal, RuleList, RuleName};
 use std::alloc::{AllocError, Global};
 
@@ -44,25 +46,53 @@ fn copy_name(alloc: Global, name: &str) -> Result<RuleName, AllocError>
     }
 }
 
-/// The record of what was refused of a message, counted on from a number. Where nothing was, it
-/// takes no memory.
+/// The port that a datagram came on, and who it claims to come from.
+#[derive(Clone, Copy)]
+struct Origin {
+    port: u8,
+    source: Source,
+}
+
+/// Where what is received comes from: a frame that manages a table, from its sender; a message, from
+/// who it claims to come from.
+fn origin_of(received: &Received<'_>) -> Option<Origin>
+    ensures { option_map origin_view result ≡ origin_of received.now }
+{
+    match received {
+        Received::Dropped => None,
+        Received::Managed { on, from, .. } => Some(Origin {
+            port: on.port.number,
+            source: here(on.port.network, *from),
+        }),
+        Received::Message(message) => Some(Origin {
+            port: message.here.port.number,
+            source: message.claim(),
+        }),
+    }
+}
+
+/// The record of what was refused of what is received, counted on from a number. Where nothing was,
+/// it takes no memory.
 pub fn denials_of(
     alloc: Global,
     rules: &RuleList,
     number: u64,
     tick: u64,
-    message: &Message<'_>,
+    received: &Received<'_>,
     refusals: &[Refusal],
 ) -> Result<Denials, AllocError>
     requires { number + length refusals.now < 2 ^ 64 }
-    ensures denials { let from = message_origin (message_view message.now) in
-        IfOk result (λ denials. denials ≡ denials_from rules.now number tick from refusals.now) }
+    ensures denials { let from = origin_of received.now in
+        IfOk result (λ denials. denials ≡ denials_of rules.now number tick from refusals.now) }
     ensures silent { refusals.now ≡ [] → IsOk result }
 {
     if refusals.is_empty() {
         return Ok(Denials::new(alloc));
     }
-    denials_from(alloc, rules, number, tick, message, refusals)
+    match origin_of(received) {
+        Some(from) => denials_from(alloc, rules, number, tick, &from, refusals),
+        None => Ok(Denials::new(alloc)),
+    }
 }
 
 /// The record of refusals, counted on from a number.
@@ -72,11 +102,11 @@ fn denials_from(
     rules: &RuleList,
     number: u64,
     tick: u64,
-    message: &Message<'_>,
+    from: &Origin,
     refusals: &[Refusal],
 ) -> Result<Denials, AllocError>
     requires { number + length refusals.now < 2 ^ 64 }
-    ensures { let from = message_origin (message_view message.now) in
+    ensures { let from = origin_view from.now in
         IfOk result (λ denials. denials ≡ denials_from rules.now number tick from refusals.now) }
 {
     let mut denials = Denials::with_capacity(alloc, refusals.len())?;
@@ -85,8 +115,8 @@ fn denials_from(
         denials.push(Denial {
             number: number + place as u64,
             tick,
-            port: message.number,
-            source: message.claim(),
+            port: from.port,
+            source: from.source,
             ask: refusal.ask,
             rule,
         })?;

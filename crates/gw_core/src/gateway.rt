@@ -1,205 +1,273 @@
 //! The gateway: its state, and what it answers to one event.
 
-ghost use Rattle.std.specs.Prelude.{◌≡◌, ◌+◌, ◌≤◌, ◌<◌, ◌^◌, ◌↔◌, ◌∷◌, [], false, true, length, ◌++◌, take};
-ghost use Rattle.std.specs.Prelude.{IsOk, IsTrue, IfOk, OnOk, OnErr, IsErrOf};
+ghost use Rattle.std.specs.Prelude.{◌≡◌, ◌+◌, ◌≤◌, ◌<◌, ◌^◌, ◌↔◌, ℕ, [], false, true, length, map, None};
+ghost use Rattle.std.specs.Prelude.{IsOk, IfOk, OnOk, OnErr, IsErrOf, List};
+ghost use Rattle.std.specs.Option.{option_map};
+ghost use Rattle.gw_objects.specs.Write.{Write};
+ghost use Rattle.gw_policy_text.specs.Configuration.{Configuration};
+ghost use Rattle.gw_device.specs.Response.{HasPlace};
+ghost use Rattle.gw_relay.specs.History.{acts_moved, initial_acts, learned_moved};
+ghost use Rattle.gw_relay.specs.History.{Acts as PortActs};
+ghost use Rattle.gw_relay.specs.History.{StandAfter};
+ghost use Rattle.gw_relay.specs.State.{Commit, moved};
+ghost use Rattle.gw_relay.specs.declared.port.Port.{Port};
+ghost use Rattle.gw_routes.specs.History.{History as Learned};
+ghost use Rattle.gw_routes.specs.History.{IsStateAfter as IsTableAfter};
+ghost use Rattle.gw_routes.specs.Table.{Routed};
+ghost use Rattle.gw_objects.specs.History.{IsStateAfter as StandsAfter};
+ghost use Rattle.gw_objects.specs.declared.value.PropertyValue.{PropertyValue};
+ghost use Rattle.gw_core.specs.Effects.{changed};
+ghost use Rattle.gw_core.specs.History.{with_granted};
 ghost use Rattle.gw_script.specs.Event.{Datagram, Tick};
-ghost use Rattle.gw_core.specs.State.{initial_states, initial_value};
 
+use crate::count::left_by;
 use crate::denial::denials_of;
-use crate::device;
 use crate::effects::Effects;
 use crate::event::Counts;
 use crate::fault::StepFault;
-use crate::message::Message;
-use crate::object::ObjectState;
 use crate::receive::{Received, receive_on};
-use crate::reply::{answer_sends, apdu_for, context_of};
+use crate::respond::{Response, network_of, respond};
 use gw_addr::BipAddr;
-use gw_policy_text::{Config, Object, ObjectValue};
-use gw_rules::Authorizer;
+use gw_device::{Change, Device};
+use gw_policy_text::Config;
+use gw_relay::{Change as RelayChange, Relay};
+use gw_rule_index::Policy;
 use std::alloc::{AllocError, Global};
 use std::marker::Model;
 
 /// Where each count of a gateway ends.
 const LAST_COUNT: u64 = 1 << 63;
 
-/// How many asks an event raises at most.
-const MAX_ASKS: u64 = 1;
+/// What is done about a datagram, before the gateway moves on: what it does; the change of the ports'
+/// tables or of the routes that it makes, and the write to the device, where it is granted one.
+#[derive(Drop)]
+struct Outcome {
+    effects: Effects,
+    change: Option<RelayChange>,
+    write: Option<Change>,
+}
 
-/// A gateway. It takes one event in a call, whole: it answers what the event does, and is then in the next state.
-#[derive(Debug, Drop)]
+/// A datagram isn't taken: a growth was refused, or the number of the last denial would pass its
+/// end.
+#[derive(Clone, Copy, Debug)]
+struct NotTaken;
+
+/// Makes a change of the relay, where there is one. The only fault is want of memory; then nothing
+/// changed.
+fn commit_change(relay: &mut Relay, change: Option<RelayChange>) -> Result<(), AllocError>
+    ensures state { OnOk result (relay.new ≡ moved (option_map Commit change) relay.old) }
+    ensures tables { OnOk result ((ports : List Port) (acts : List PortActs) →
+        StandAfter relay.old.links ports acts →
+        StandAfter relay.new.links ports (acts_moved (option_map Commit change) acts)) }
+    ensures routes { OnOk result ((direct : List ℕ) (configured : Routed) (learned : Learned) →
+        IsTableAfter relay.old.routes direct configured learned →
+        IsTableAfter relay.new.routes direct configured
+        (learned_moved (option_map Commit change) relay.old.routes learned)) }
+    ensures err { OnErr result (relay.new ≡ relay.old) }
+    ensures no_growth { change ≡ None → IsOk result }
+{
+    match change {
+        Some(change) => relay.commit(change),
+        None => Ok(()),
+    }
+}
+
+/// Makes a write to the device, where there is one. It takes no memory.
+fn commit_write(device: &mut Device, write: Option<Change>)
+    requires place { HasPlace device.old write }
+    ensures state { device.new ≡ changed write device.old }
+    ensures writes { (defaults : List PropertyValue) (writes : List Write) →
+        StandsAfter defaults writes device.old.states →
+        StandsAfter defaults (with_granted write writes) device.new.states }
+{
+    if let Some(write) = write {
+        device.commit(write);
+    }
+}
+
+/// A gateway. It takes one event in a call, whole: it answers what the event does, and is then in
+/// the next state.
+#[derive(Drop)]
 pub struct Gateway {
-    config: Config,
-    objects: Vec<ObjectState>,
+    ports: u8,
+    policy: Policy,
+    relay: Relay,
+    device: Device,
     counts: Counts,
 }
 
 impl Model for Gateway {
-    ghost use Rattle.std.specs.Prelude.{◌≤◌, ◌^◌};
     ghost use Rattle.gw_core.specs.State.{State};
+    ghost use Rattle.gw_core.specs.Kept.{IsKept};
 
     ghost Value = { State };
 
     ghost view = { λ g. record {
-      ports = g.config.ports;
-      device = g.config.device;
-      objects = g.objects.items;
-      rules = g.config.rules;
+      relay = g.relay;
+      device = g.device;
+      rules = g.policy;
       ticks = g.counts.ticks;
       denials = g.counts.denials;
     } };
 
-    ghost invariant = { λ g. (g.counts.ticks ≤ 2 ^ 63) × (g.counts.denials ≤ 2 ^ 63) };
-}
-
-/// The objects before anything commands them.
-fn initial_states(alloc: Global, objects: &[Object]) -> Result<Vec<ObjectState>, AllocError>
-    ensures { IfOk result (λ states. states.items ≡ initial_states objects.now) }
-{
-    let mut states = Vec::with_capacity(alloc, objects.len())?;
-    for object in objects {
-        put_initial(object, &mut states)?;
-    }
-    Ok(states)
-}
-
-/// Appends the object before anything commands it, where it is a Binary Value. Others aren't served yet.
-fn put_initial(object: &Object, states: &mut Vec<ObjectState>) -> Result<(), AllocError>
-    ensures { OnOk result (states.new.items ≡ states.old.items ++ initial_value object.now.instance object.now.value) }
-{
-    match &object.value {
-        ObjectValue::BinaryValue { default, .. } => states.push(ObjectState {
-            instance: object.instance.get(),
-            present_value: *default,
-        })?,
-        ObjectValue::MultiStateValue(_)
-        | ObjectValue::CharacterStringValue { .. }
-        | ObjectValue::IntegerValue { .. }
-        | ObjectValue::PositiveIntegerValue { .. } => {}
-    }
-    Ok(())
+    ghost invariant = { λ g. IsKept g.ports g.relay g.counts };
 }
 
 impl Gateway {
     ghost use Rattle.gw_core.specs.Asks.{asks_for};
     ghost use Rattle.gw_core.specs.Denials.{denials_for};
-    ghost use Rattle.gw_core.specs.Effects.{NeedsNoMemory, effects_for, nothing, passes_end};
-    ghost use Rattle.gw_core.specs.History.{IsStateAfter, IsStep};
-    ghost use Rattle.gw_core.specs.View.{message_view, received_view};
-    ghost use Rattle.gw_core.specs.Receive.{message};
+    ghost use Rattle.gw_core.specs.Effects.{NeedsNoMemory, change_for, effects_for, nothing, passes_end, relay_change_for, sends_for};
+    ghost use Rattle.gw_core.specs.History.{IsStateAfter, IsStep, RoutesGoOn, RoutesStand, TablesGoOn, TablesStand, WritesGoOn, WritesStand};
+    ghost use Rattle.gw_core.specs.View.{received_view};
 
-    /// A gateway of this configuration that goes on from these counts. `Memory` where a growth was refused.
+    /// A gateway of this configuration that goes on from these counts. The only fault is want of
+    /// memory.
     #[tactic(auto, using(crate::proofs::HistoryLemmas::after_none))]
     pub fn new(alloc: Global, config: Config, counts: Counts) -> Result<Self, AllocError>
         requires ticks { counts.ticks ≤ 2 ^ 63 }
         requires denials { counts.denials ≤ 2 ^ 63 }
         ensures state { IfOk result (λ gateway. IsStateAfter gateway config counts []) }
+        ensures writes { IfOk result (WritesStand config []) }
+        ensures tables { IfOk result (TablesStand config (map initial_acts config.ports)) }
+        ensures routes { IfOk result (RoutesStand config []) }
     {
-        let objects = initial_states(alloc, config.objects())?;
+        let ports = config.ports().len() as u8;
+        let relay = Relay::new(alloc, &config)?;
+        let device = Device::new(alloc, &config)?;
+        let policy = Policy::new(alloc, config.into_rules())?;
         Ok(Gateway {
-            config,
-            objects,
+            ports,
+            policy,
+            relay,
+            device,
             counts,
         })
     }
 
     /// How many ports there are, 1 to 8.
     pub fn ports(&self) -> u8
-        ensures count { result ≡ length self.now.ports }
+        ensures count { result ≡ length self.now.relay.links }
         ensures least { 1 ≤ result }
         ensures most { result ≤ 8 }
     {
-        self.config.ports().len() as u8
+        self.ports
     }
 
-    /// What is done about a message, while the gateway stays as it is.
-    #[inline(never)]
-    fn message_effects(&self, alloc: Global, incoming: &Message<'_>) -> Result<Effects, AllocError>
-        requires { let received = message (message_view incoming.now) in
-            self.now.denials + length (denials_for self.now received) ≤ 2 ^ 63 }
-        ensures effects { let received = message (message_view incoming.now) in
-            IfOk result (λ given. given ≡ effects_for self.now received) }
-        ensures silent { let received = message (message_view incoming.now) in
-            asks_for self.now.device self.now.rules received ≡ [] → IsOk result }
+    /// How many denials more may be numbered.
+    fn left(&self) -> u64
+        ensures { result + self.now.denials ≡ 2 ^ 63 }
     {
-        let device = self.config.device();
-        let network = device.network;
-        let Some(apdu) = apdu_for(network, &incoming.npdu) else {
-            return Ok(Effects::none(alloc));
-        };
-        let context = context_of(network, incoming);
-        let mut authorizer = Authorizer::new(alloc, self.config.rules());
-        let answer = device::answer(device, &self.objects, &mut authorizer, &context, apdu)?;
-        let sends = answer_sends(alloc, network, incoming, answer)?;
-        let number = self.counts.denials + 1;
-        let denials = denials_of(
-            alloc,
-            self.config.rules(),
-            number,
-            self.counts.ticks,
-            incoming,
-            authorizer.refusals(),
-        )?;
-        Ok(Effects { sends, denials })
+        LAST_COUNT - self.counts.denials
     }
 
     /// What is done about what is received, while the gateway stays as it is.
-    fn effects(&self, alloc: Global, received: &Received<'_>) -> Result<Effects, AllocError>
-        requires { let received = received_view received.now in
-            self.now.denials + length (denials_for self.now received) ≤ 2 ^ 63 }
+    fn outcome(&self, alloc: Global, received: &Received<'_>) -> Result<Outcome, NotTaken>
+        requires { self.now.denials ≤ 2 ^ 63 }
         ensures effects { let received = received_view received.now in
-            IfOk result (λ given. given ≡ effects_for self.now received) }
+            IfOk result (λ outcome. outcome.effects ≡ effects_for self.now received) }
+        ensures change { let received = received_view received.now in
+            let due = relay_change_for self.now.rules received in
+            IfOk result (λ outcome. outcome.change ≡ due) }
+        ensures write { let received = received_view received.now in
+            let due = change_for self.now.rules self.now.device received in
+            IfOk result (λ outcome. outcome.write ≡ due) }
+        ensures place { IfOk result (λ outcome. HasPlace self.now.device outcome.write) }
+        ensures room { let received = received_view received.now in IsOk result →
+            self.now.denials + length (denials_for self.now received) ≤ 2 ^ 63 }
         ensures silent { let received = received_view received.now in
-            asks_for self.now.device self.now.rules received ≡ [] → IsOk result }
+            asks_for self.now.rules self.now.relay self.now.device received ≡ [] →
+            sends_for self.now.rules self.now.relay self.now.device received ≡ [] → IsOk result }
     {
-        match received {
-            Received::Message(incoming) => self.message_effects(alloc, incoming),
-            Received::Dropped | Received::Managed { .. } | Received::Stranger { .. } => {
-                Ok(Effects::none(alloc))
-            }
+        let rules = self.policy.rules();
+        let Ok(Response { relayed, write }) = respond(
+            alloc,
+            &self.policy,
+            &self.relay,
+            &self.device,
+            received,
+        ) else {
+            return Err(NotTaken);
+        };
+        if relayed.refusals.len() as u64 > self.left() {
+            return Err(NotTaken);
+        }
+        let Ok(denials) = denials_of(
+            alloc,
+            rules,
+            self.counts.denials + 1,
+            self.counts.ticks,
+            received,
+            relayed.refusals.as_slice(),
+        ) else {
+            return Err(NotTaken);
+        };
+        Ok(Outcome {
+            effects: Effects {
+                sends: relayed.sends,
+                denials,
+            },
+            change: relayed.change,
+            write,
+        })
+    }
+
+    /// Why what is received isn't taken: the end of the count comes before any want of memory.
+    fn fault(&self, received: &Received<'_>) -> StepFault
+        ensures { let received = received_view received.now in result ≡ StepFault.CountEnd
+            ↔ (2 ^ 63 < self.now.denials + length (denials_for self.now received)) }
+    {
+        match left_by(
+            &self.policy,
+            &self.relay,
+            &self.device,
+            received,
+            self.left(),
+        ) {
+            Some(_) => StepFault::Memory,
+            None => StepFault::CountEnd,
         }
     }
 
-    /// How many asks are denied of a message. It takes no memory.
-    #[tactic(auto, using(crate::proofs::DenialLemmas::length_denials))]
-    fn count_message(&self, incoming: &Message<'_>) -> u64
-        ensures count { let received = message (message_view incoming.now) in
-            result ≡ length (denials_for self.now received) }
+    /// Moves on by a datagram: makes its change of the relay and its write to the device, where there
+    /// is one, and counts its denials. The only fault is want of memory for the change; then nothing
+    /// changed.
+    fn move_on(
+        &mut self,
+        change: Option<RelayChange>,
+        write: Option<Change>,
+        denied: u64,
+    ) -> Result<(), AllocError>
+        requires place { HasPlace self.old.device write }
+        requires room { self.old.denials + denied ≤ 2 ^ 63 }
+        ensures state { OnOk result (self.new ≡ record self.old {
+          relay = moved (option_map Commit change) self.old.relay;
+          device = changed write self.old.device;
+          denials = self.old.denials + denied;
+        }) }
+        ensures writes { OnOk result ((c : Configuration) (writes : List Write) →
+            WritesStand c writes self.old → WritesStand c (with_granted write writes) self.new) }
+        ensures tables { OnOk result ((c : Configuration) (acts : List PortActs) →
+            TablesStand c acts self.old →
+            TablesStand c (acts_moved (option_map Commit change) acts) self.new) }
+        ensures routes { OnOk result ((c : Configuration) (learned : Learned) →
+            RoutesStand c learned self.old → RoutesStand c
+            (learned_moved (option_map Commit change) self.old.relay.routes learned) self.new) }
+        ensures err { OnErr result (self.new ≡ self.old) }
+        ensures no_growth { change ≡ None → IsOk result }
     {
-        let device = self.config.device();
-        let network = device.network;
-        match apdu_for(network, &incoming.npdu) {
-            Some(apdu) => {
-                let context = context_of(network, incoming);
-                device::count_denied(device, self.config.rules(), &context, apdu)
-            }
-            None => 0,
-        }
+        commit_change(&mut self.relay, change)?;
+        commit_write(&mut self.device, write);
+        self.counts.denials += denied;
+        Ok(())
     }
 
-    /// How many asks are denied of what is received. It takes no memory.
-    fn count_denials(&self, received: &Received<'_>) -> u64
-        ensures count { result ≡ length (denials_for self.now (received_view received.now)) }
-    {
-        match received {
-            Received::Message(incoming) => self.count_message(incoming),
-            Received::Dropped | Received::Managed { .. } | Received::Stranger { .. } => 0,
-        }
-    }
-
-    /// Whether the number of the last denial would pass its end. The asks are judged beforehand only where the end is near.
-    #[tactic(auto, using(crate::proofs::DenialLemmas::few_denials))]
-    fn passes_end(&self, received: &Received<'_>) -> bool
-        ensures { let received = received_view received.now in
-            IsTrue result ↔ (2 ^ 63 < self.now.denials + length (denials_for self.now received)) }
-    {
-        let left = LAST_COUNT - self.counts.denials;
-        left < MAX_ASKS && self.count_denials(received) > left
-    }
-
-    /// Takes a datagram on the port of this number: answers what it does, and moves on by it. On a port that isn't there it does
-    /// nothing. `Memory` where a growth was refused, and `CountEnd` where the number of the last denial would pass 2^63; then
-    /// nothing changed, and the datagram isn't taken.
+    /// Takes a datagram on the port of this number: answers what it does, and moves on by it. On a
+    /// port that isn't there it does nothing.
+    ///
+    /// # Errors
+    ///
+    /// 1 `Memory` where a growth was refused, and 2 `CountEnd` where the number of the last denial
+    /// would pass 2^63. Then nothing changed, and the datagram isn't taken.
     pub fn step(
         &mut self,
         alloc: Global,
@@ -210,6 +278,15 @@ impl Gateway {
         // What it does, and the state then.
         ensures step { IfOk result
             (λ given. IsStep self.old (Datagram port from octets.now) given self.new) }
+        // The slots and the defaults of the device are what the granted writes left.
+        ensures writes { OnOk result
+            (WritesGoOn self.old (Datagram port from octets.now) self.new) }
+        // The ports' tables are what the granted changes of them and the ticks left,
+        ensures tables { OnOk result
+            (TablesGoOn self.old (Datagram port from octets.now) self.new) }
+        // and the routes what the networks left that were granted to be learned.
+        ensures routes { OnOk result
+            (RoutesGoOn self.old (Datagram port from octets.now) self.new) }
         // The end of a count comes before any want of memory.
         ensures count_end { IsErrOf result StepFault.CountEnd
             ↔ (passes_end self.old (Datagram port from octets.now) ≡ true) }
@@ -217,26 +294,31 @@ impl Gateway {
         ensures silent { NeedsNoMemory self.old (Datagram port from octets.now) → IsOk result }
         ensures err { OnErr result (self.new ≡ self.old) }
     {
-        let received = receive_on(
-            self.config.ports(),
-            self.config.device().network,
-            port,
-            from,
-            octets,
-        );
-        if self.passes_end(&received) {
-            return Err(StepFault::CountEnd);
-        }
-        let Ok(effects) = self.effects(alloc, &received) else {
-            return Err(StepFault::Memory);
+        let now = &*self;
+        let network = network_of(&now.device);
+        let received = receive_on(now.relay.links(), network, port, from, octets);
+        let Ok(
+            Outcome {
+                effects,
+                change,
+                write,
+            },
+        ) = now.outcome(alloc, &received)
+        else {
+            return Err(now.fault(&received));
         };
-        self.counts.denials += effects.denials.len() as u64;
-        Ok(effects)
+        match self.move_on(change, write, effects.denials.len() as u64) {
+            Ok(()) => Ok(effects),
+            Err(_) => Err(StepFault::Memory),
+        }
     }
 
     /// Takes a tick. `CountEnd` where the count of ticks would pass 2^63; then nothing changed.
     pub fn tick(&mut self) -> Result<(), StepFault>
         ensures step { OnOk result (IsStep self.old Tick nothing self.new) }
+        ensures writes { OnOk result (WritesGoOn self.old Tick self.new) }
+        ensures tables { OnOk result (TablesGoOn self.old Tick self.new) }
+        ensures routes { OnOk result (RoutesGoOn self.old Tick self.new) }
         ensures count_end { IsErrOf result StepFault.CountEnd ↔ (passes_end self.old Tick ≡ true) }
         ensures refused { OnErr result (IsErrOf result StepFault.CountEnd) }
         ensures err { OnErr result (self.new ≡ self.old) }
@@ -244,6 +326,7 @@ impl Gateway {
         if self.counts.ticks == LAST_COUNT {
             return Err(StepFault::CountEnd);
         }
+        self.relay.tick();
         self.counts.ticks += 1;
         Ok(())
     }

@@ -1,27 +1,37 @@
 //! Laws of the definitions, and worked examples of them. The functions do nothing: their contracts are the laws.
 
-ghost use Rattle.gw_core.specs.Examples.{CountsEnd, DenialsAreCountedOn, EachCutIsDropped, HiddenObjectIsUntold, HiddenReadIsDenied, LocalReadIsUnheard, ReadIsAnswered, RoutedReadIsAnswered, UnknownObjectIsTold, WrongLengthsAreDropped};
-ghost use Rattle.gw_core.specs.Laws.{DeniedAsksAreLogged, DeniedReadsAreRefused, DenialsAreCounted, DenialsHaveTheirTick, LogIsNumbered, NothingAskedIsLogged, RunsExtendHistories, StepsExtendHistories, TicksAreCounted, TicksOnlyCount};
+ghost use Rattle.gw_core.specs.Examples.{AllArePlaced, BroadcastIsDistributed, CountsEnd, DeniedWriteIsUnseen, DenialsAreCountedOn, EachCutIsDropped, GlobalWhoIsGoesOn, HiddenObjectIsUntold, HiddenReadIsDenied, LearnedRouteIsTaken, LocalReadIsUnheard, ReadIsAnswered, RegistrationEnds, RelinquishIsSeen, RoutedReadIsAnswered, UnknownNetworkIsSought, UnknownObjectIsTold, WhoIsIsAnswered, WriteIsSeen, WrongLengthsAreDropped};
+ghost use Rattle.gw_core.specs.Laws.{AllowedTrafficIsSent, ConfigurationStays, DeniedAsksAreLogged, DeniedBroadcastsAreKept, DeniedReadsAreRefused, DeniedWritesAreRefused, DenialsAreCounted, DenialsHaveTheirTick, DroppedNeedsNoMemory, LogIsNumbered, NothingAskedIsChanged, NothingAskedIsLogged, NothingAskedIsWritten, RelayTicksAreCounted, RunsExtendHistories, StepsExtendHistories, TicksAreCounted, TicksOnlyCount};
 
-/// What holds after every history: each step extends it, and so does each list of events.
+/// What holds after every history: each step extends it, and so does each list of events; and what is
+/// configured of the device stays.
 pub fn histories()
     ensures steps { StepsExtendHistories }
     ensures runs { RunsExtendHistories }
+    ensures configuration { ConfigurationStays }
 {}
 
-/// What an event does, in plain words: a tick only counts; the log has exactly the asks that the policy denies, each under the
-/// first rule that matches and with the ticks of its moment; and a denied read is answered by the access error.
+/// What an event does, in plain words: a tick sends nothing and only counts; the log has exactly the asks that the
+/// policy denies, each under the first rule that matches and with the ticks of its moment; a denied
+/// read or write is answered by its access error, and changes nothing.
 pub fn events()
     ensures ticks { TicksOnlyCount }
     ensures silent { NothingAskedIsLogged }
     ensures log { DeniedAsksAreLogged }
     ensures moments { DenialsHaveTheirTick }
     ensures refused { DeniedReadsAreRefused }
+    ensures unwritten { DeniedWritesAreRefused }
+    ensures unasked { NothingAskedIsWritten }
+    ensures unchanged { NothingAskedIsChanged }
+    ensures dropped { DroppedNeedsNoMemory }
+    ensures traffic { AllowedTrafficIsSent }
+    ensures kept { DeniedBroadcastsAreKept }
 {}
 
 /// What a gateway counts, whatever it is configured with and whatever comes.
 pub fn counts()
     ensures ticks { TicksAreCounted }
+    ensures relay { RelayTicksAreCounted }
     ensures denials { DenialsAreCounted }
     ensures log { LogIsNumbered }
 {}
@@ -38,4 +48,14 @@ pub fn worked_examples()
     ensures routed_read_is_answered { RoutedReadIsAnswered }
     ensures counts_end { CountsEnd }
     ensures denials_are_counted_on { DenialsAreCountedOn }
+    ensures write_is_seen { WriteIsSeen }
+    ensures relinquish_is_seen { RelinquishIsSeen }
+    ensures denied_write_is_unseen { DeniedWriteIsUnseen }
+    ensures all_are_placed { AllArePlaced }
+    ensures who_is_is_answered { WhoIsIsAnswered }
+    ensures registration_ends { RegistrationEnds }
+    ensures broadcast_is_distributed { BroadcastIsDistributed }
+    ensures learned_route_is_taken { LearnedRouteIsTaken }
+    ensures unknown_network_is_sought { UnknownNetworkIsSought }
+    ensures global_who_is_goes_on { GlobalWhoIsGoesOn }
 {}

@@ -1,25 +1,23 @@
-//! A message of the network layer that is heard, and who it claims to come from.
+//! A message of the network layer, and who it claims to come from.
 
 ghost use Rattle.std.specs.Prelude.{◌≡◌, ◌≤◌, length};
 ghost use Rattle.std.specs.Option.{option_map};
 ghost use Rattle.gw_addr.specs.Station.{key_of};
 ghost use Rattle.gw_bvll.specs.Bvll.{view as frame_view};
 ghost use Rattle.gw_npdu.specs.Npdu.{view as npdu_view, address_view};
-ghost use Rattle.gw_core.specs.Claim.{here, there, link_source};
+ghost use Rattle.gw_relay.specs.Claim.{here, there, link_source};
 ghost use Rattle.gw_core.specs.View.{message_view};
 
 use gw_addr::{BipAddr, Mac, NetNum, Source};
 use gw_bvll::Bvll;
 use gw_npdu::{AddressRef, Npdu};
-use gw_policy_text::Port;
+use gw_relay::{Link, link_source};
 
-/// A message of the network layer that is heard.
-#[derive(Clone, Copy, Debug)]
+/// A message of the network layer.
+#[derive(Clone, Copy)]
 pub struct Message<'a> {
-    /// The number of the port that it came on, from 1.
-    pub number: u8,
-    /// The port.
-    pub port: &'a Port,
+    /// The port that it came on, with its tables.
+    pub here: &'a Link,
     /// Whom its frame came from.
     pub from: BipAddr,
     /// The frame that brought it.
@@ -33,10 +31,7 @@ impl Message<'_> {
     pub fn link(&self) -> BipAddr
         ensures { result ≡ link_source self.now.from (frame_view self.now.frame) }
     {
-        match &self.frame {
-            Bvll::Forwarded { originator, .. } => *originator,
-            _ => self.from,
-        }
+        link_source(self.from, &self.frame)
     }
 
     /// Where it claims to come from (clause 6.2.2).
@@ -44,7 +39,7 @@ impl Message<'_> {
         ensures { result ≡ (message_view self.now).claim }
     {
         match &self.npdu.source {
-            None => here(self.port.network, self.link()),
+            None => here(self.here.port.network, self.link()),
             Some(address) => there(address),
         }
     }
@@ -54,7 +49,7 @@ impl Message<'_> {
         ensures { result ≡ (message_view self.now).claim.net }
     {
         match &self.npdu.source {
-            None => self.port.network.get(),
+            None => self.here.port.network.get(),
             Some(address) => address.network,
         }
     }
@@ -79,7 +74,7 @@ fn mac_of(octets: &[u8]) -> Mac
 }
 
 /// A node of a port's network.
-fn here(network: NetNum, address: BipAddr) -> Source
+pub(crate) fn here(network: NetNum, address: BipAddr) -> Source
     ensures { result ≡ here network address }
 {
     Source {

@@ -1,14 +1,15 @@
 //! The replay of a script: its events one by one through a fresh gateway, and the text of what
 //! they do.
 
-ghost use Rattle.std.specs.Prelude.{◌≡◌, ◌+◌, ◌*◌, ◌<◌, ◌≤◌, ℕ, List, length, ◌⊎◌, Ok, Some, OnOk, IfErr, IsErrOf, true, vec_capacity};
+ghost use Rattle.std.specs.Prelude.{◌≡◌, ◌+◌, ◌*◌, ◌<◌, ◌≤◌, ℕ, List, [], length, ◌⊎◌, Ok, Some, OnOk, IfErr, IsErrOf, true, vec_capacity};
 ghost use Rattle.std.specs.Io.KnownBytes.{prepend_known};
 ghost use Rattle.gw_script.specs.Event.{event_view};
 ghost use Rattle.gw_script.specs.Reader.{IsPaid};
 ghost use Rattle.gw_core.specs.Effects.{effects_at};
-ghost use Rattle.gw_core.specs.History.{next};
+ghost use Rattle.gw_policy_text.specs.Configuration.{Configuration};
+ghost use Rattle.gw_core.specs.History.{IsStateAfter, next};
 ghost use Rattle.gw_core.specs.Shown.{effects_text};
-ghost use Rattle.gw_core.specs.Replay.{OnKnown, RunsWhole, RunsToLine, RunsToEnd, RunsToMemory, RunsPart, RunsFront};
+ghost use Rattle.gw_core.specs.Replay.{OnKnown, no_counts, RunsWhole, RunsToLine, RunsToEnd, RunsToMemory, RunsPart, RunsFront};
 ghost use Rattle.gw_core.specs.LineOutcome.{IsEventFault, IsShorter, OnKnownLine};
 
 use crate::event::Counts;
@@ -48,7 +49,7 @@ pub enum RunFault {
 }
 
 /// What a replay keeps from line to line.
-#[derive(Debug, Drop)]
+#[derive(Drop)]
 struct ScriptRun {
     gateway: Gateway,
     lines: LineReader,
@@ -69,10 +70,12 @@ struct ScriptRun {
 /// 1 192.168.1.5:47808 -
 /// ```
 ///
-/// For each event there is a line for each of its sends, and then `end`.
+/// For each event there is a line for each of its denials, `deny ` and the line of the log, then one
+/// for each of its sends, and then `end`.
 ///
 /// ```text
-/// send 1 192.168.1.5:47808 810A001801080064010130070C0C0140000119553E91003F
+/// deny 1 0 1 1:C0A80105BAC0 read dst=100 svc=12 obj=5,2 prop=85 prio=- rule=hide
+/// send 1 192.168.1.5:47808 810A001101080064010150080C9102911B
 /// end
 /// ```
 pub fn replay<R: OctetSource, W: OctetSink>(
@@ -122,17 +125,47 @@ pub fn replay<R: OctetSource, W: OctetSink>(
         datagram: [0; MAX_DATAGRAM],
         text,
     };
-    for number in 1..u64::MAX {
-        match run.replay_line(alloc, number, reader, writer) {
-            Ok(true) => {}
-            Ok(false) => return Ok(()),
-            Err(fault) => return Err(fault),
-        }
-    }
-    Err(RunFault::Read)
+    run.replay_script(alloc, reader, writer)
 }
 
 impl ScriptRun {
+    /// Replays each line, in order.
+    fn replay_script<R: OctetSource, W: OctetSink>(
+        &mut self,
+        alloc: Global,
+        reader: &mut R,
+        writer: &mut W,
+    ) -> Result<(), RunFault>
+        requires unread { self.old.lines.unread ≡ [] }
+        requires calls { self.old.lines.calls ≡ 0 }
+        ensures whole { (c : Configuration) → IsStateAfter self.old.gateway c no_counts [] → OnOk result
+            (OnKnown (R.left reader.old) (W.held writer.old) (W.held writer.new) (RunsWhole c)) }
+        ensures line { (c : Configuration) (n : ℕ) → IsStateAfter self.old.gateway c no_counts [] → IsErrOf result (RunFault.Line n) →
+            OnKnown (R.left reader.old) (W.held writer.old) (W.held writer.new) (RunsToLine n c) }
+        ensures count_end { (c : Configuration) → IsStateAfter self.old.gateway c no_counts [] → IsErrOf result RunFault.CountEnd →
+            OnKnown (R.left reader.old) (W.held writer.old) (W.held writer.new) (RunsToEnd c) }
+        ensures front { (c : Configuration) → IsStateAfter self.old.gateway c no_counts [] → IsErrOf result RunFault.Write →
+            OnKnown (R.left reader.old) (W.held writer.old) (W.held writer.new) (RunsFront c) }
+        ensures part { (c : Configuration) → IsStateAfter self.old.gateway c no_counts [] →
+            (IsErrOf result RunFault.Read ⊎ IsErrOf result RunFault.Memory) →
+            OnKnown (R.left reader.old) (W.held writer.old) (W.held writer.new) (RunsPart c) }
+        ensures memory { (c : Configuration) → IsStateAfter self.old.gateway c no_counts [] → IsErrOf result RunFault.Memory →
+            OnKnown (R.left reader.old) (W.held writer.old) (W.held writer.new) (RunsToMemory c) }
+        ensures sure_reader { R.NeverFails reader.old → (script : List ℕ) →
+            R.left reader.old ≡ Some script → 2 * length script + 1 < 4294967295 →
+            ¬ (IsErrOf result RunFault.Read) }
+        ensures sure_writer { W.NeverFails writer.old → ¬ (IsErrOf result RunFault.Write) }
+    {
+        for number in 1..u64::MAX {
+            match self.replay_line(alloc, number, reader, writer) {
+                Ok(true) => {}
+                Ok(false) => return Ok(()),
+                Err(fault) => return Err(fault),
+            }
+        }
+        Err(RunFault::Read)
+    }
+
     /// Replays the line of this number. It answers whether there was one.
     fn replay_line<R: OctetSource, W: OctetSink>(
         &mut self,

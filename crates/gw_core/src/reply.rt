@@ -1,22 +1,25 @@
-//! The message that an APDU for the device comes in, and those that carry its answer (clause 6.2.2).
+//! The message that an APDU for the device comes in, and those that carry its answer (clause
+//! 6.2.2).
 
-ghost use Rattle.std.specs.Prelude.{◌≡◌, ◌<◌, ◌≤◌, ◌^◌, ◌++◌, [], ◌∷◌, length, take, drop, if◌then◌else◌};
+ghost use Rattle.std.specs.Prelude.{◌≡◌, ◌+◌, ◌<◌, ◌≤◌, ◌^◌, ◌++◌, [], ◌∷◌, length, take, drop};
 ghost use Rattle.std.specs.Prelude.{IfOk, IsOk, OnOk, None, Ok, true, false};
 ghost use Rattle.std.specs.Int.{w16, to_be_bytes};
 ghost use Rattle.std.specs.Option.{option_map};
+ghost use Rattle.gw_device.specs.Response.{answer_view};
+ghost use Rattle.gw_npdu.specs.Npdu.{destination_view, payload_view, address_view, encoding, max_header_len, view as npdu_view};
 ghost use Rattle.gw_core.specs.Effects.{answer_sends};
-ghost use Rattle.gw_npdu.specs.Npdu.{destination_view, payload_view, address_view, encoding, view as npdu_view};
-ghost use Rattle.gw_core.specs.Reply.{apdu_for, apdu_of, context_of, framed, goes_to_all, is_broadcast, is_device, is_local_broadcast, reply_npdu, way_back, within};
-ghost use Rattle.gw_core.specs.View.{answer_view, message_view};
+ghost use Rattle.gw_bvll.specs.Bvll.{original_unicast};
+ghost use Rattle.gw_bvll.specs.Bvll.{encoding as bvll_encoding};
+ghost use Rattle.gw_relay.specs.Steps.{broadcast, npdu_octets, unicast};
+ghost use Rattle.gw_core.specs.Reply.{apdu_for, apdu_of, context_of, goes_to_all, is_broadcast, is_device, is_local_broadcast, most_octets, reply_npdu, reply_sends, room_back, way_back};
+ghost use Rattle.gw_core.specs.View.{message_view};
 
-use crate::apdu::Answer;
-use crate::device::Context;
-use crate::effects::{Sending, Sends};
 use crate::message::Message;
-use crate::octets::Octets;
-use gw_addr::{BipAddr, NetNum};
+use gw_addr::NetNum;
 use gw_bvll::Bvll;
+use gw_device::{Answer, Context};
 use gw_npdu::{AddressRef, Destination, Npdu, Payload};
+use gw_relay::{Batch, Sends};
 use std::alloc::{AllocError, Global};
 
 /// The one station of the device's network.
@@ -25,8 +28,8 @@ const DEVICE_STATION: u8 = 1;
 const WHOLE_COUNT: u8 = 255;
 /// How many octets of a frame stand before its NPDU (Annex J.2.11, J.2.12).
 const FRAME_HEADER: usize = 4;
-/// How many octets most replies have, so that a buffer seldom grows.
-const REPLY_LEN: usize = 64;
+/// How many octets most replies have before the APDU, so that a buffer seldom grows.
+const REPLY_HEADERS: usize = 32;
 
 /// Whether a destination is every network, or every station of the device's.
 fn is_broadcast(network: NetNum, destination: &Destination<'_>) -> bool
@@ -74,21 +77,10 @@ fn goes_to_all(network: NetNum, destination: &Option<Destination<'_>>) -> bool
     }
 }
 
-/// What the device knows of a message's APDU.
-pub fn context_of(network: NetNum, message: &Message<'_>) -> Context
-    ensures { result ≡ context_of network (message_view message.now) }
-{
-    Context {
-        port: message.number,
-        source_network: message.source_network(),
-        source_key: message.source_key(),
-        broadcast: goes_to_all(network, &message.npdu.destination),
-    }
-}
-
 /// The way back to the station that asked, or to everyone on its network.
 fn way_back<'a>(broadcast: bool, source: &Option<AddressRef<'a>>) -> Option<Destination<'a>>
-    ensures { option_map destination_view result ≡ option_map (way_back broadcast) (option_map address_view source.now) }
+    ensures { option_map destination_view result
+        ≡ option_map (way_back broadcast) (option_map address_view source.now) }
 {
     match source {
         None => None,
@@ -100,50 +92,76 @@ fn way_back<'a>(broadcast: bool, source: &Option<AddressRef<'a>>) -> Option<Dest
     }
 }
 
-/// Appends a frame that brings no NPDU yet, to everyone on the port's network or to one address.
-fn put_frame(out: &mut Vec<u8>, is_local: bool) -> Result<(), AllocError>
-    ensures { OnOk result (out.new.items ≡ out.old.items ++ framed is_local []) }
+/// The NPDU that carries an APDU of the device back.
+fn reply_npdu<'a>(network: NetNum, request: &Npdu<'a>, apdu: &'a [u8], broadcast: bool) -> Npdu<'a>
+    ensures { npdu_view result ≡ reply_npdu network (npdu_view request.now)
+        (record { apdu = apdu.now; broadcast = broadcast }) }
 {
-    let frame = if is_local {
-        Bvll::OriginalBroadcast(&[])
-    } else {
-        Bvll::OriginalUnicast(&[])
-    };
-    match gw_bvll::encode(&frame, out) {
+    Npdu {
+        destination: way_back(broadcast, &request.source),
+        source: Some(AddressRef {
+            network: network.get(),
+            mac: &[DEVICE_STATION],
+        }),
+        reply_expected: false,
+        priority: request.priority,
+        payload: Payload::Apdu(apdu),
+    }
+}
+
+/// How many octets the APDU may have that goes back to the station that asked.
+fn room_back(network: NetNum, request: &Npdu<'_>) -> usize
+    ensures room { result ≡ room_back network (npdu_view request.now) }
+    ensures least { most_octets ≤ result + max_header_len }
+{
+    gw_npdu::MAX_LEN - reply_npdu(network, request, &[], false).header_len()
+}
+
+/// What the device is told of a message.
+pub fn context_of(network: NetNum, message: &Message<'_>) -> Context
+    ensures context { result ≡ context_of network (message_view message.now) }
+    ensures room { most_octets ≤ result.room + max_header_len }
+{
+    Context {
+        port: message.here.port.number,
+        source_network: message.source_network(),
+        source_key: message.source_key(),
+        broadcast: goes_to_all(network, &message.npdu.destination),
+        room: room_back(network, &message.npdu),
+    }
+}
+
+/// Appends an Original-Unicast-NPDU that brings no NPDU yet.
+fn put_frame(out: &mut Vec<u8>) -> Result<(), AllocError>
+    ensures { OnOk result (out.new.items ≡ out.old.items ++ bvll_encoding (original_unicast [])) }
+{
+    match gw_bvll::encode(&Bvll::OriginalUnicast(&[]), out) {
         Ok(()) => Ok(()),
         Err(_) => Err(AllocError),
     }
 }
 
-/// Appends the NPDU that carries an answer back. It answers whether that was done: not where what stands before the APDU would be
-/// over 1497 octets.
+/// Appends the NPDU that carries an answer back. It answers whether that was done: not where it
+/// would be over 1497 octets.
 fn put_reply(
     out: &mut Vec<u8>,
     network: NetNum,
     message: &Message<'_>,
     answer: &Answer,
 ) -> Result<bool, AllocError>
-    ensures put { let npdu = reply_npdu network (npdu_view message.now.npdu) (answer_view answer.now) in
+    ensures put { let request = npdu_view message.now.npdu in
+        let npdu = reply_npdu network request (answer_view answer.now) in
         OnOk result (result ≡ Ok true → out.new.items ≡ out.old.items ++ encoding npdu) }
-    ensures no_room { let npdu = reply_npdu network (npdu_view message.now.npdu) (answer_view answer.now) in
+    ensures within { let request = npdu_view message.now.npdu in
+        let npdu = reply_npdu network request (answer_view answer.now) in
+        result ≡ Ok true → length (encoding npdu) ≤ 1497 }
+    ensures no_room { let request = npdu_view message.now.npdu in
+        let npdu = reply_npdu network request (answer_view answer.now) in
         result ≡ Ok false → 1497 < length (encoding npdu) }
 {
-    let (mac, no_apdu) = ([DEVICE_STATION], []);
-    let front = Npdu {
-        destination: way_back(answer.broadcast, &message.npdu.source),
-        source: Some(AddressRef {
-            network: network.get(),
-            mac: &mac,
-        }),
-        reply_expected: false,
-        priority: message.npdu.priority,
-        payload: Payload::Apdu(&no_apdu),
-    };
-    match gw_npdu::encode(&front, out) {
-        Ok(()) => {
-            answer.put_apdu(out)?;
-            Ok(true)
-        }
+    let npdu = reply_npdu(network, &message.npdu, &answer.apdu, answer.broadcast);
+    match gw_npdu::encode(&npdu, out) {
+        Ok(()) => Ok(true),
         Err(gw_npdu::EncodeFault::TooLong) => Ok(false),
         Err(gw_npdu::EncodeFault::Memory) => Err(AllocError),
     }
@@ -160,28 +178,63 @@ fn put_length(frame: &mut [u8])
     frame[2..4].copy_from_slice(&len);
 }
 
-/// The datagram of an answer, in one buffer: the frame's header, the NPDU and its APDU. None where the NPDU would be over 1497 octets.
-#[tactic(auto, unfolding(crate::specs::Reply::within))]
-fn reply_octets(
+/// The datagram of an answer to one address, in one buffer: the frame's header, the NPDU and its
+/// APDU. None where the NPDU would be over 1497 octets.
+fn unicast_octets(
     alloc: Global,
     network: NetNum,
     message: &Message<'_>,
     answer: &Answer,
-    is_local: bool,
-) -> Result<Option<Octets>, AllocError>
+) -> Result<Option<Vec<u8>>, AllocError>
     ensures { let npdu = reply_npdu network (npdu_view message.now.npdu) (answer_view answer.now) in
-        IfOk result (λ octets. octets ≡ option_map (framed is_local) (within npdu)) }
+        IfOk result (λ made. option_map (λ v. v.items) made
+        ≡ option_map (λ octets. bvll_encoding (original_unicast octets)) (npdu_octets npdu)) }
 {
-    let mut octets = Vec::with_capacity(alloc, REPLY_LEN)?;
-    put_frame(&mut octets, is_local)?;
+    let mut octets = Vec::with_capacity(alloc, REPLY_HEADERS + answer.apdu.len())?;
+    put_frame(&mut octets)?;
     if !put_reply(&mut octets, network, message, answer)? {
         return Ok(None);
     }
-    if octets.len() > FRAME_HEADER + gw_npdu::MAX_LEN {
-        return Ok(None);
-    }
     put_length(octets.as_mut_slice());
-    Ok(Some(Octets::new(octets)))
+    Ok(Some(octets))
+}
+
+/// The datagram of an answer to where the message came from.
+fn unicast_sends(
+    alloc: Global,
+    network: NetNum,
+    message: &Message<'_>,
+    answer: &Answer,
+) -> Result<Sends, AllocError>
+    ensures { let m = message_view message.now in
+        let npdu = reply_npdu network m.npdu (answer_view answer.now) in
+        IfOk result (λ sends. sends ≡ unicast m.here.port.number m.link npdu) }
+{
+    match unicast_octets(alloc, network, message, answer)? {
+        Some(octets) => Sends::of(
+            alloc,
+            Batch::to_one(message.here.port.number, message.link(), octets),
+        ),
+        None => Ok(Sends::new(alloc)),
+    }
+}
+
+/// The datagrams of an answer to everyone on the port's network.
+fn broadcast_sends(
+    alloc: Global,
+    network: NetNum,
+    message: &Message<'_>,
+    answer: &Answer,
+) -> Result<Sends, AllocError>
+    ensures { let m = message_view message.now in
+        let npdu = reply_npdu network m.npdu (answer_view answer.now) in
+        IfOk result (λ sends. sends ≡ broadcast npdu m.here) }
+{
+    let mut npdu = Vec::with_capacity(alloc, REPLY_HEADERS + answer.apdu.len())?;
+    if !put_reply(&mut npdu, network, message, answer)? {
+        return Ok(Sends::new(alloc));
+    }
+    message.here.spread(alloc, npdu.as_slice())
 }
 
 /// Whether an answer goes to everyone on the port's network.
@@ -191,15 +244,21 @@ fn is_local_broadcast(message: &Message<'_>, answer: &Answer) -> bool
     answer.broadcast && message.npdu.source.is_none()
 }
 
-/// Whom an answer goes to: where the message came from, or everyone on that network.
-fn reply_address(message: &Message<'_>, is_local: bool) -> BipAddr
-    ensures { let message = message_view message.now in
-        result ≡ (if is_local then message.port.broadcast else message.link) }
+/// The sends of an answer to a message.
+#[tactic(auto, unfolding(crate::specs::Reply::reply_sends))]
+fn reply_sends(
+    alloc: Global,
+    network: NetNum,
+    message: &Message<'_>,
+    answer: &Answer,
+) -> Result<Sends, AllocError>
+    ensures { let answer = answer_view answer.now in
+        IfOk result (λ sends. sends ≡ reply_sends network (message_view message.now) answer) }
 {
-    if is_local {
-        message.port.broadcast
+    if is_local_broadcast(message, answer) {
+        broadcast_sends(alloc, network, message, answer)
     } else {
-        message.link()
+        unicast_sends(alloc, network, message, answer)
     }
 }
 
@@ -208,23 +267,14 @@ pub fn answer_sends(
     alloc: Global,
     network: NetNum,
     message: &Message<'_>,
-    answer: Option<Answer>,
+    answer: &Option<Answer>,
 ) -> Result<Sends, AllocError>
-    ensures sends { IfOk result (λ sends. sends ≡ answer_sends network (message_view message.now) (option_map answer_view answer)) }
-    ensures silent { answer ≡ None → IsOk result }
+    ensures sends { let due = option_map answer_view answer.now in
+        IfOk result (λ sends. sends ≡ answer_sends network (message_view message.now) due) }
+    ensures silent { answer.now ≡ None → IsOk result }
 {
-    let Some(answer) = answer else {
-        return Ok(Sends::new(alloc));
-    };
-    let is_local = is_local_broadcast(message, &answer);
-    let Some(octets) = reply_octets(alloc, network, message, &answer, is_local)? else {
-        return Ok(Sends::new(alloc));
-    };
-    let mut sends = Sends::with_capacity(alloc, 1)?;
-    sends.push(Sending {
-        port: message.number,
-        to: reply_address(message, is_local),
-        octets,
-    })?;
-    Ok(sends)
+    match answer {
+        Some(answer) => reply_sends(alloc, network, message, answer),
+        None => Ok(Sends::new(alloc)),
+    }
 }

@@ -1,11 +1,10 @@
 use Rattle.std.proofs.Common.{◌≡◌, ◌+◌, ◌++◌, drop}
 use Rattle.gw_core.specs.Denials.{denials_from}
-use Rattle.gw_core.specs.Receive.{Origin, message_origin}
-use Rattle.gw_core.specs.View.{message_view}
+use Rattle.gw_core.specs.View.{origin_view}
 use Rattle.gw_core.proofs.denial.denials_from.Given as goal
 
 abbrev pub invariant-loop-place : goal.invariant-loop-place
 invariant-loop-place l =
-    let from : Origin = message_origin (message_view l.message) in
+    let from = origin_view l.from in
     l.denials ++ denials_from l.rules (l.number + l.place) l.tick from (drop l.place l.refusals)
     ≡ denials_from l.rules l.number l.tick from l.refusals

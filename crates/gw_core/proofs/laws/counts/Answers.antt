@@ -1,4 +1,4 @@
-use Rattle.gw_core.proofs.LogLemmas.{ticks_are_counted, denials_are_counted, log_is_numbered}
+use Rattle.gw_core.proofs.LogLemmas.{relay_ticks_are_counted, ticks_are_counted, denials_are_counted, log_is_numbered}
 use Rattle.gw_core.proofs.laws.counts.Goals as goal
 
 pub returns-clause-ticks : goal.returns-clause-ticks
@@ -9,3 +9,6 @@ returns-clause-denials c = denials_are_counted
 
 pub returns-clause-log : goal.returns-clause-log
 returns-clause-log c = log_is_numbered
+
+pub returns-clause-relay : goal.returns-clause-relay
+returns-clause-relay c = relay_ticks_are_counted

@@ -1,4 +1,4 @@
-use Rattle.gw_core.proofs.ExampleRuns.{read_is_answered, hidden_read_is_denied, local_read_is_unheard, hidden_object_is_untold, unknown_object_is_told, each_cut_is_dropped, wrong_lengths_are_dropped, routed_read_is_answered, counts_end, denials_are_counted_on}
+use Rattle.gw_core.proofs.ExampleRuns.{read_is_answered, hidden_read_is_denied, local_read_is_unheard, hidden_object_is_untold, unknown_object_is_told, each_cut_is_dropped, wrong_lengths_are_dropped, routed_read_is_answered, counts_end, denials_are_counted_on, write_is_seen, relinquish_is_seen, denied_write_is_unseen, all_are_placed, who_is_is_answered, registration_ends, broadcast_is_distributed, learned_route_is_taken, unknown_network_is_sought, global_who_is_goes_on}
 use Rattle.gw_core.proofs.laws.worked_examples.Goals as goal
 
 pub returns-clause-read_is_answered : goal.returns-clause-read_is_answered
@@ -31,3 +31,33 @@ returns-clause-counts_end c = counts_end
 
 pub returns-clause-denials_are_counted_on : goal.returns-clause-denials_are_counted_on
 returns-clause-denials_are_counted_on c = denials_are_counted_on
+
+pub returns-clause-write_is_seen : goal.returns-clause-write_is_seen
+returns-clause-write_is_seen c = write_is_seen
+
+pub returns-clause-relinquish_is_seen : goal.returns-clause-relinquish_is_seen
+returns-clause-relinquish_is_seen c = relinquish_is_seen
+
+pub returns-clause-denied_write_is_unseen : goal.returns-clause-denied_write_is_unseen
+returns-clause-denied_write_is_unseen c = denied_write_is_unseen
+
+pub returns-clause-all_are_placed : goal.returns-clause-all_are_placed
+returns-clause-all_are_placed c = all_are_placed
+
+pub returns-clause-who_is_is_answered : goal.returns-clause-who_is_is_answered
+returns-clause-who_is_is_answered c = who_is_is_answered
+
+pub returns-clause-registration_ends : goal.returns-clause-registration_ends
+returns-clause-registration_ends c = registration_ends
+
+pub returns-clause-broadcast_is_distributed : goal.returns-clause-broadcast_is_distributed
+returns-clause-broadcast_is_distributed c = broadcast_is_distributed
+
+pub returns-clause-learned_route_is_taken : goal.returns-clause-learned_route_is_taken
+returns-clause-learned_route_is_taken c = learned_route_is_taken
+
+pub returns-clause-unknown_network_is_sought : goal.returns-clause-unknown_network_is_sought
+returns-clause-unknown_network_is_sought c = unknown_network_is_sought
+
+pub returns-clause-global_who_is_goes_on : goal.returns-clause-global_who_is_goes_on
+returns-clause-global_who_is_goes_on c = global_who_is_goes_on

@@ -1,4 +1,4 @@
-use Rattle.std.proofs.Common.{ℕ, ◌∙◌, ap, length, arith, refl, inl}
+use Rattle.std.proofs.Common.{◌∙◌, ap, length, arith, refl, inl}
 use Rattle.gw_script.specs.Event.{event_view}
 use Rattle.gw_core.specs.declared.effects.Effects.{Effects}
 use Rattle.gw_core.specs.Shown.{effects_text}
@@ -9,7 +9,8 @@ pub returns-in-Err-clause-fault : goal.returns-in-Err-clause-fault
 returns-in-Err-clause-fault c = inl (
   refl,
   λ none.
-      let len = ap (λ (x : Effects). length (effects_text x)) c.in-Ok.ensures.given ∙ few_octets c.args.gateway.now (event_view c.args.event.now) none in
+      let len = ap (λ (x : Effects). length (effects_text x)) c.in-Ok.ensures.given
+      ∙ few_octets c.args.gateway.now (event_view c.args.event.now) none in
       let refused = c.in-Err.ensures.room (omega (arith, len, c.requires.room, c.clear.ensures.len, c.clear.ensures.capacity)) in
       absurd cc,
 )

@@ -1,16 +1,16 @@
-use Rattle.std.proofs.Common.{ℕ, List, ap, length, arith, take}
-use Rattle.std.proofs.lemmas.List.{length-append}
-use Rattle.gw_script.specs.Text.{send_line}
+use Rattle.std.proofs.Common.{◌∙◌, ◌+◌, ◌++◌, ◌≤◌, ◌≡◌, ℕ, List, sym, ap, subst, length, vec_len, vec_capacity}
+use Rattle.std.specs.Prelude.{OnOk}
 use Rattle.gw_core.specs.Shown.{sends_text}
-use Rattle.gw_core.proofs.ShownLemmas.{front_fits}
+use Rattle.gw_core.proofs.ShownLemmas.{batches_text}
 use Rattle.gw_core.proofs.shown.append_sends.Goals as goal
 
-pub returns-in_err-append_send_to-clause-room : goal.returns-in_err-append_send_to-clause-room
-returns-in_err-append_send_to-clause-room c = λ room.
-    let sends = c.args.sends.now in
-    let i = c.loop-sending.sending-index in
-    let before = c.loop-sending.invariant in
-    let fits = front_fits sends i c.sending-item.result (omega (arith, c.loop-sending-test.true)) c.sending-item.is in
-    let same = ap (λ (octets : List ℕ). length (send_line c.sending-item.result.port c.sending-item.result.to octets)) c.as_slice.ensures in
-    let refused = c.in_err-append_send_to.ensures.room (omega (arith, room, fits, same, before.capacity, ap length before.items, length-append c.args.out.now.items (sends_text (take i sends)))) in
-    absurd cc
+pub returns-clause-ok : goal.returns-clause-ok
+returns-clause-ok c =
+    let same = sym (batches_text c.batches.result.now) ∙ ap sends_text c.batches.ensures.all in
+    subst (λ (text : List ℕ). OnOk c.append_batches.result (c.append_batches.new.out.items ≡ c.args.out.now.items ++ text)) same
+    c.append_batches.ensures.ok
+
+pub returns-clause-room : goal.returns-clause-room
+returns-clause-room c = λ room.
+    let same = ap sends_text (sym c.batches.ensures.all) ∙ batches_text c.batches.result.now in
+    c.append_batches.ensures.room (subst (λ (text : List ℕ). vec_len c.args.out.now + length text ≤ vec_capacity c.args.out.now) same room)

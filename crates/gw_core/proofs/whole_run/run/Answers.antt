@@ -1,11 +1,11 @@
-use Rattle.std.proofs.Common.{◌≡◌, ◌++◌, [], ◌∷◌, List, length, map, sym, ap, ◌∙◌, refl, arith}
+use Rattle.std.proofs.Common.{◌++◌, [], ◌∷◌, List, length, map, sym, ap, ◌∙◌, refl, arith}
 use Rattle.std.proofs.lemmas.List.{append-nil}
 use Rattle.gw_script.specs.Event.{Event, event_view}
 use Rattle.gw_core.specs.History.{run_from, state_from}
 use Rattle.std.proofs.Common.{Vec, Global}
 use Rattle.gw_core.specs.declared.effects.Effects.{Effects}
 use Rattle.gw_core.specs.declared.fault.StepFault.TheVariants.{CountEnd}
-use Rattle.gw_core.proofs.HistoryLemmas.{fault_as, RunProgress, run_begins, run_goes_on, run_stops, first_events, first_split, none_left}
+use Rattle.gw_core.proofs.HistoryLemmas.{fault_as, run_begins, run_goes_on, run_stops, first_events, first_split, none_left}
 use Rattle.gw_core.proofs.whole_run.run.Goals as goal
 
 pub loop-rest-init : goal.loop-rest-init
@@ -14,19 +14,25 @@ loop-rest-init c = run_begins c.args.gateway.now (map event_view c.args.events.n
 pub returns-in-Err-clause-count_end : goal.returns-in-Err-clause-count_end
 returns-in-Err-clause-count_end c = λ ended.
     let split = first_split c.loop-rest.rest.now _ c.in-len1-up.len_at_least in
-    run_stops c.args.gateway.now c.loop-rest.gateway c.take_event.new.gateway (map event_view c.args.events.now) (map event_view c.loop-rest.rest.now) _ c.loop-rest.given.items _ c.loop-rest.invariant split c.in-Err.ensures.err (c.in-Err.ensures.count_end.0 (fault_as {S = Vec Effects Global} {T = Effects} c.in-Err.fault CountEnd ended))
+    run_stops c.args.gateway.now c.loop-rest.gateway c.take_event.new.gateway (map event_view c.args.events.now)
+    (map event_view c.loop-rest.rest.now) _ c.loop-rest.given.items _ c.loop-rest.invariant split c.in-Err.ensures.err
+    (c.in-Err.ensures.count_end.0 (fault_as {S = Vec Effects Global} {T = Effects} c.in-Err.fault CountEnd ended))
 
 pub returns-in-Err-clause-err : goal.returns-in-Err-clause-err
 returns-in-Err-clause-err c =
     let p = c.loop-rest.invariant in (
       length p.done,
-      c.in-Err.ensures.err ∙ p.state ∙ ap (state_from c.args.gateway.now) (sym (first_events (map event_view c.args.events.now) p.done (map event_view c.loop-rest.rest.now) p.parts)),
+      c.in-Err.ensures.err ∙ p.state ∙ ap (state_from c.args.gateway.now)
+          (sym (first_events (map event_view c.args.events.now) p.done (map event_view c.loop-rest.rest.now) p.parts)),
     )
 
 pub returns-then-is_err-clause-err : goal.returns-then-is_err-clause-err
 returns-then-is_err-clause-err c =
     let split = first_split c.loop-rest.rest.now _ c.in-len1-up.len_at_least in
-    let p = run_goes_on c.args.gateway.now c.loop-rest.gateway c.take_event.new.gateway (map event_view c.args.events.now) (map event_view c.loop-rest.rest.now) _ c.loop-rest.given.items (c.loop-rest.given.items ++ c.in-Ok.effects ∷ []) _ c.in-Ok.effects c.loop-rest.invariant split c.in-Ok.ensures.moved c.in-Ok.ensures.given refl in (
+    let p = run_goes_on c.args.gateway.now c.loop-rest.gateway c.take_event.new.gateway (map event_view c.args.events.now)
+    (map event_view c.loop-rest.rest.now) _ c.loop-rest.given.items
+    (c.loop-rest.given.items ++ c.in-Ok.effects ∷ []) _ c.in-Ok.effects c.loop-rest.invariant split c.in-Ok.ensures.moved
+    c.in-Ok.ensures.given refl in (
       length p.done,
       p.state ∙ ap (state_from c.args.gateway.now) (sym (first_events (map event_view c.args.events.now) p.done _ p.parts)),
     )
@@ -35,14 +41,17 @@ pub loop-rest-preserved : goal.loop-rest-preserved
 loop-rest-preserved c =
     let split = first_split c.loop-rest.rest.now _ c.in-len1-up.len_at_least in
     let pushed = rw c.if-is_err.ensures.negation at c.push.ensures.items in
-    run_goes_on c.args.gateway.now c.loop-rest.gateway c.take_event.new.gateway (map event_view c.args.events.now) (map event_view c.loop-rest.rest.now) _ c.loop-rest.given.items _ _ c.in-Ok.effects c.loop-rest.invariant split c.in-Ok.ensures.moved c.in-Ok.ensures.given pushed
+    run_goes_on c.args.gateway.now c.loop-rest.gateway c.take_event.new.gateway (map event_view c.args.events.now)
+    (map event_view c.loop-rest.rest.now) _ c.loop-rest.given.items _ _ c.in-Ok.effects c.loop-rest.invariant split c.in-Ok.ensures.moved
+    c.in-Ok.ensures.given pushed
 
 pub returns-clause-effects : goal.returns-clause-effects
 unfolding run_from
 returns-clause-effects c =
     let p = c.loop-rest.invariant in
     let done = none_left c.loop-rest.rest.now (omega (arith, c.in_default.len_below)) in
-    sym (append-nil c.loop-rest.given.items) ∙ ap (λ (l : List Event). c.loop-rest.given.items ++ run_from c.loop-rest.gateway l) (sym done) ∙ p.told
+    sym (append-nil c.loop-rest.given.items) ∙ ap (λ (l : List Event). c.loop-rest.given.items ++ run_from c.loop-rest.gateway l) (sym done)
+    ∙ p.told
 
 pub returns-clause-state : goal.returns-clause-state
 returns-clause-state c =

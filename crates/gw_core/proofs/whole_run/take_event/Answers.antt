@@ -7,4 +7,5 @@ use Rattle.gw_core.proofs.whole_run.take_event.Goals as goal
 
 pub returns-in_ok-tick-in-Tick-clause-given : goal.returns-in_ok-tick-in-Tick-clause-given
 returns-in_ok-tick-in-Tick-clause-given c =
-    nothing_is c.none.result c.none.ensures.sends c.none.ensures.denials ∙ sym (effects_at-tick c.args.gateway.now) ∙ ap (λ (e : LentEvent). effects_at c.args.gateway.now (event_view e)) (sym c.in-Tick.is)
+    nothing_is c.none.result c.none.ensures.sends c.none.ensures.denials ∙ sym (effects_at-tick c.args.gateway.now)
+    ∙ ap (λ (e : LentEvent). effects_at c.args.gateway.now (event_view e)) (sym c.in-Tick.is)

@@ -1,4 +1,4 @@
-use Rattle.std.proofs.Common.{◌≡◌, ◌≤◌, ◌+◌, ◌++◌, ◌∷◌, List, ℕ, length, take, drop, arith, refl, subst, sym, ap, ◌∙◌}
+use Rattle.std.proofs.Common.{◌≡◌, ◌++◌, ◌∷◌, List, ℕ, length, take, drop, arith, refl, subst, sym, ap, ◌∙◌}
 use Rattle.std.specs.Io.KnownBytes.{prepend_known}
 use Rattle.std.proofs.lemmas.List.{length-append, length-drop}
 use Rattle.gw_script.specs.declared.reader.NextLine.{NextLine}
@@ -14,9 +14,21 @@ returns-in_default-clause-outcome g c = λ text before known written.
     let len = c.in-Ok-Line.len in
     let span = c.in-Ok-Line.span in
     let left = left_known _ _ _ front text c.in-Ok-Line.ensures.text known in
-    let piece : IsNextLine front left.rest c.in-Ok-Line.field-0 = if_known (λ (r : List ℕ). IsNextLine front r c.in-Ok-Line.field-0) _ left.rest left.is c.in-Ok-Line.ensures.found in
-    let lines : lines_of (front ++ left.rest) ≡ take len front ∷ lines_of (drop span front ++ left.rest) = subst (λ (p : NextLine). IsNextLine front left.rest p) c.in-Ok-Line.field-0-is piece in
-    (refl, record { line = take len front; others = lines_of (drop span front ++ left.rest); lines = ap lines_of left.text_is ∙ lines; no_event = λ e is. c.in_default.ensures.only refl e (same_line _ _ _ _ e c.ports-ports.ensures.count c.front-line.ensures is) }, written)
+    let piece : IsNextLine front left.rest c.in-Ok-Line.field-0 = if_known
+    (λ (r : List ℕ). IsNextLine front r c.in-Ok-Line.field-0) _ left.rest left.is c.in-Ok-Line.ensures.found in
+    let lines : lines_of (front ++ left.rest) ≡ take len front ∷ lines_of (drop span front ++ left.rest) = subst
+    (λ (p : NextLine). IsNextLine front left.rest p) c.in-Ok-Line.field-0-is piece in (
+      refl,
+      record {
+        line = take len front;
+        others = lines_of (drop span front ++ left.rest);
+        lines = ap lines_of left.text_is
+            ∙ lines;
+        no_event = λ e is. c.in_default.ensures.only refl e
+            (same_line _ _ _ _ e c.ports-ports.ensures.count c.front-line.ensures is);
+      },
+      written,
+    )
 
 pub returns-in-Err-make_text-clause-outcome : goal.returns-in-Err-make_text-clause-outcome
 returns-in-Err-make_text-clause-outcome g c = λ text before known written.
@@ -24,10 +36,14 @@ returns-in-Err-make_text-clause-outcome g c = λ text before known written.
     let len = c.in-Ok-Line.len in
     let span = c.in-Ok-Line.span in
     let left = left_known _ _ _ front text c.in-Ok-Line.ensures.text known in
-    let piece : IsNextLine front left.rest c.in-Ok-Line.field-0 = if_known (λ (r : List ℕ). IsNextLine front r c.in-Ok-Line.field-0) _ left.rest left.is c.in-Ok-Line.ensures.found in
-    let lines : lines_of (front ++ left.rest) ≡ take len front ∷ lines_of (drop span front ++ left.rest) = subst (λ (p : NextLine). IsNextLine front left.rest p) c.in-Ok-Line.field-0-is piece in
+    let piece : IsNextLine front left.rest c.in-Ok-Line.field-0 = if_known
+    (λ (r : List ℕ). IsNextLine front r c.in-Ok-Line.field-0) _ left.rest left.is c.in-Ok-Line.ensures.found in
+    let lines : lines_of (front ++ left.rest) ≡ take len front ∷ lines_of (drop span front ++ left.rest) = subst
+    (λ (p : NextLine). IsNextLine front left.rest p) c.in-Ok-Line.field-0-is piece in
     let event = event_view c.in-Some.event in
-    not_taken c.args.number c.args.self.now.gateway c.make_text.new.gateway text (prepend_known front (g.R.OctetSource.left c.find_line.new.source)) before (g.W.OctetSink.held c.args.writer.now) c.in-Err-make_text.fault _ _ c.in-Err-make_text.ensures.fault
+    not_taken c.args.number c.args.self.now.gateway c.make_text.new.gateway text
+    (prepend_known front (g.R.OctetSource.left c.find_line.new.source)) before
+    (g.W.OctetSink.held c.args.writer.now) c.in-Err-make_text.fault _ _ c.in-Err-make_text.ensures.fault
     (λ wants. record {
       line = take len front;
       event = event;
@@ -51,8 +67,10 @@ returns-in_default-write_whole-clause-outcome g c = λ text before known written
     let len = c.in-Ok-Line.len in
     let span = c.in-Ok-Line.span in
     let left = left_known _ _ _ front text c.in-Ok-Line.ensures.text known in
-    let piece : IsNextLine front left.rest c.in-Ok-Line.field-0 = if_known (λ (r : List ℕ). IsNextLine front r c.in-Ok-Line.field-0) _ left.rest left.is c.in-Ok-Line.ensures.found in
-    let lines : lines_of (front ++ left.rest) ≡ take len front ∷ lines_of (drop span front ++ left.rest) = subst (λ (p : NextLine). IsNextLine front left.rest p) c.in-Ok-Line.field-0-is piece in
+    let piece : IsNextLine front left.rest c.in-Ok-Line.field-0 = if_known
+    (λ (r : List ℕ). IsNextLine front r c.in-Ok-Line.field-0) _ left.rest left.is c.in-Ok-Line.ensures.found in
+    let lines : lines_of (front ++ left.rest) ≡ take len front ∷ lines_of (drop span front ++ left.rest) = subst
+    (λ (p : NextLine). IsNextLine front left.rest p) c.in-Ok-Line.field-0-is piece in
     let event = event_view c.in-Some.event in
     let cut = c.in_default-write_whole.ensures.front in
     record {
@@ -76,5 +94,17 @@ returns-clause-shorter g c = λ text known done.
     let within : IsWithin front c.in-Ok-Line.field-0 = c.in-Ok-Line.ensures.within in
     let bounds = subst (λ (p : NextLine). IsWithin front p) c.in-Ok-Line.field-0-is within in
     let after = drop span front ++ left.rest in
-    let remains = ap (λ (t : List ℕ). prepend_known t (g.R.OctetSource.left c.find_line.new.source)) c.consume.ensures.unread ∙ ap (prepend_known (drop span front)) left.is in
-    (after, remains, omega (arith, bounds, ap length left.text_is, length-append front left.rest, length-append (drop span front) left.rest, length-drop span front))
+    let remains = ap (λ (t : List ℕ). prepend_known t (g.R.OctetSource.left c.find_line.new.source)) c.consume.ensures.unread
+    ∙ ap (prepend_known (drop span front)) left.is in (
+      after,
+      remains,
+      omega (
+        arith,
+        bounds,
+        ap length left.text_is,
+        length-append front left.rest,
+        length-append
+            (drop span front) left.rest,
+        length-drop span front,
+      ),
+    )

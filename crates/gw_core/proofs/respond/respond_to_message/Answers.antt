@@ -1,0 +1,60 @@
+use Rattle.std.proofs.Common.{◌++◌, List, Option, refl, sym, ap, ap₂, ◌∙◌}
+use Rattle.std.specs.Option.{option_or}
+use Rattle.gw_relay.specs.Sends.{Sending}
+use Rattle.gw_relay.specs.declared.change.Change.{Change}
+use Rattle.gw_rules.specs.declared.refusal.Refusal.{Refusal}
+use Rattle.gw_rules.specs.Authorizer.{denied_of}
+use Rattle.gw_core.specs.View.{message_view}
+use Rattle.gw_core.proofs.RespondLemmas.{goes, goes_denied, judged_silent, or_none, served_silent, stops}
+use Rattle.gw_core.proofs.respond.respond_to_message.Goals as goal
+
+pub returns-in_err-given-clause-silent : goal.returns-in_err-given-clause-silent
+returns-in_err-given-clause-silent g c = λ rules stands asks sends.
+    let silent = judged_silent rules c.args.relay.now c.args.device.now (message_view c.args.message.now) _ refl asks sends in
+    let ok = c.in_err-given.ensures.silent rules stands silent.0 silent.1 in
+    absurd cc
+
+pub returns-then-not-given-clause-response : goal.returns-then-not-given-clause-response
+returns-then-not-given-clause-response g c = λ rules stands.
+    let off = sym c.in_ok-given.ensures.goes_on ∙ c.if-not-given.true in
+    let s = stops rules c.args.relay.now c.args.device.now (message_view c.args.message.now) off in record {
+      sends = c.in_ok-given.ensures.sends rules stands ∙ sym s.sends;
+      refusals = c.in_ok-given.ensures.refusals rules stands ∙ ap (denied_of rules) (sym s.asks);
+      change = c.in_ok-given.ensures.change rules stands ∙ sym s.change;
+      write = sym s.write;
+      place = tt;
+    }
+
+pub returns-in_err-served-clause-silent : goal.returns-in_err-served-clause-silent
+returns-in_err-served-clause-silent g c = λ rules stands asks sends.
+    let on = sym c.in_ok-given.ensures.goes_on ∙ c.if-not-given.false in
+    let silent = served_silent rules c.args.relay.now c.args.device.now (message_view c.args.message.now) on asks sends in
+    let ok = c.in_err-served.ensures.silent rules stands silent.0 silent.1 in
+    absurd cc
+
+pub returns-in_err-and-clause-silent : goal.returns-in_err-and-clause-silent
+returns-in_err-and-clause-silent g c = λ rules stands asks sends.
+    let on = sym c.in_ok-given.ensures.goes_on ∙ c.if-not-given.false in
+    let silent = served_silent rules c.args.relay.now c.args.device.now (message_view c.args.message.now) on asks sends in
+    let ok = c.in_err-and.ensures.silent (c.in_ok-served.ensures.sends rules stands ∙ silent.1)
+    (c.in_ok-served.ensures.refusals rules stands ∙ ap (denied_of rules) silent.0) in
+    absurd cc
+
+pub returns-clause-response : goal.returns-clause-response
+returns-clause-response g c = λ rules stands.
+    let relay = c.args.relay.now in
+    let d = c.args.device.now in
+    let m = message_view c.args.message.now in
+    let on = sym c.in_ok-given.ensures.goes_on ∙ c.if-not-given.false in
+    let all = goes rules relay d m on in record {
+      sends = c.in_ok-and.ensures.sends ∙ ap₂ (λ (x y : List Sending). x ++ y) (c.in_ok-given.ensures.sends rules stands)
+          (c.in_ok-served.ensures.sends rules stands) ∙ sym all.sends;
+      refusals = c.in_ok-and.ensures.refusals
+          ∙ ap₂ (λ (x y : List Refusal). x ++ y) (c.in_ok-given.ensures.refusals rules stands) (c.in_ok-served.ensures.refusals rules stands)
+          ∙ sym (goes_denied rules relay d m on);
+      change = c.in_ok-and.ensures.change
+          ∙ ap₂ (λ (x y : Option Change). option_or x y) (c.in_ok-given.ensures.change rules stands) c.in_ok-served.ensures.change ∙ or_none _
+          ∙ sym all.change;
+      write = c.in_ok-served.ensures.write rules stands ∙ sym all.write;
+      place = c.in_ok-served.ensures.place;
+    }

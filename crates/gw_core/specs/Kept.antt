@@ -1,0 +1,14 @@
+-- What a gateway keeps true of its parts.
+use Rattle.std.specs.Prelude.{◌≡◌, ◌^◌, ◌≤◌, ℕ, length}
+use Rattle.gw_relay.specs.State.{Relay}
+use Rattle.gw_core.specs.declared.event.Counts.{Counts}
+
+-- There are 1 to 8 ports, each with its link; and no count is past its end, nor are the relay's ticks more than the
+-- gateway's.
+pub record IsKept (ports : ℕ) (relay : Relay) (counts : Counts) : Type 0 where
+  pub some : 1 ≤ ports
+  pub most : ports ≤ 8
+  pub links : length relay.links ≡ ports
+  pub later : relay.ticks ≤ counts.ticks
+  pub ticks : counts.ticks ≤ 2 ^ 63
+  pub denials : counts.denials ≤ 2 ^ 63

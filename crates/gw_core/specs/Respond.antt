@@ -1,0 +1,50 @@
+-- What the code's steps do about a message, as far as they have come.
+use Rattle.std.specs.Prelude.{◌≡◌, List, [], ◌++◌, Option, None, if◌then◌else◌}
+use Rattle.gw_device.specs.Response.{HasPlace}
+use Rattle.gw_objects.specs.Objects.{Database}
+use Rattle.gw_relay.specs.Cast.{cast_asks, cast_sends, goes_on}
+use Rattle.gw_relay.specs.Manage.{manage_asks, manage_change, manage_sends}
+use Rattle.gw_relay.specs.Route.{route_asks, route_sends}
+use Rattle.gw_relay.specs.Sends.{Sending}
+use Rattle.gw_relay.specs.State.{Relay}
+use Rattle.gw_relay.specs.declared.change.Change.{Change}
+use Rattle.gw_rules.specs.Ask.{Ask}
+use Rattle.gw_rules.specs.Authorizer.{denied_of}
+use Rattle.gw_rules.specs.declared.rule.Rule.{Rule}
+use Rattle.gw_core.specs.declared.respond.Response.{Response}
+use Rattle.gw_core.specs.Asks.{asks_for}
+use Rattle.gw_core.specs.Effects.{change_for, relay_change_for, sends_for}
+use Rattle.gw_core.specs.Receive.{Message, Received}
+
+-- what is asked before the device is: for the distribution, and where the frame goes on, for the routing
+-- and the network layer
+abbrev pub passed_asks : Relay → Message → List Ask
+passed_asks relay m =
+    cast_asks m.here m.from m.frame m.npdu
+    ++ (if goes_on m.here m.from m.frame
+    then route_asks relay.links relay.routes m.here m.link m.npdu
+    ++ manage_asks relay.links relay.routes m.here m.link m.npdu
+    else [])
+
+-- what is sent then
+abbrev pub passed_sends : List Rule → Relay → Message → List Sending
+passed_sends rules relay m =
+    cast_sends rules m.here m.from m.frame m.npdu
+    ++ (if goes_on m.here m.from m.frame
+    then route_sends rules relay.links relay.routes m.here m.link m.npdu
+    ++ manage_sends rules relay.links relay.routes m.here m.link m.npdu
+    else [])
+
+-- what changes then
+abbrev pub passed_change : List Rule → Message → Option Change
+passed_change rules m =
+    if goes_on m.here m.from m.frame then manage_change rules m.here m.link m.npdu else None
+
+-- a response of the code is what is due about what is received
+pub record IsResponse (rules : List Rule) (relay : Relay) (d : Database) (received : Received)
+    (given : Response) : Type 0 where
+  pub sends : given.relayed.sends ≡ sends_for rules relay d received
+  pub refusals : given.relayed.refusals ≡ denied_of rules (asks_for rules relay d received)
+  pub change : given.relayed.change ≡ relay_change_for rules received
+  pub write : given.write ≡ change_for rules d received
+  pub place : HasPlace d given.write

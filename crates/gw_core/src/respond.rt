@@ -1,0 +1,205 @@
+//! What is done about what is received, while the gateway stays as it is: what all its parts ask,
+//! send and change.
+
+ghost use Rattle.std.specs.Prelude.{◌≡◌, [], List, None, IfOk, IsOk};
+ghost use Rattle.gw_bvll.specs.Bvll.{view as frame_view};
+ghost use Rattle.gw_objects.specs.Objects.{Database};
+ghost use Rattle.gw_device.specs.Response.{HasPlace};
+ghost use Rattle.gw_rules.specs.Authorizer.{denied_of};
+ghost use Rattle.gw_rules.specs.declared.rule.Rule.{Rule};
+ghost use Rattle.gw_relay.specs.Cast.{goes_on};
+ghost use Rattle.gw_core.specs.Asks.{asks_for, message_asks};
+ghost use Rattle.gw_core.specs.Effects.{message_change, message_sends, sends_for};
+ghost use Rattle.gw_relay.specs.State.{Relay as RelayState};
+ghost use Rattle.gw_core.specs.Receive.{managed};
+ghost use Rattle.gw_core.specs.Respond.{IsResponse, passed_asks, passed_change, passed_sends};
+ghost use Rattle.gw_core.specs.State.{device_network};
+ghost use Rattle.gw_core.specs.View.{judged, message_view, received_view};
+
+use crate::message::Message;
+use crate::receive::Received;
+use crate::reply::{answer_sends, apdu_for, context_of};
+use gw_addr::{BipAddr, NetNum};
+use gw_bvll::Bvll;
+use gw_device::{Change, Device, Reply};
+use gw_relay::{Link, Relay, Relayed};
+use gw_rules::Judge;
+use std::alloc::{AllocError, Global};
+
+/// What is done: what is sent, what the policy denied and what the relay commits; and the write to
+/// the device that is granted, if there is one.
+#[derive(Drop)]
+pub(crate) struct Response {
+    pub(crate) relayed: Relayed,
+    pub(crate) write: Option<Change>,
+}
+
+/// The device's network.
+pub(crate) fn network_of(device: &Device) -> NetNum
+    ensures { result ≡ device_network device.now }
+{
+    device.configured().device.network
+}
+
+/// What is done about a message but for the device (steps 4 and 6 to 9): it is distributed; and where
+/// it goes on to the network layer, it is routed and answered there.
+fn pass_on<J: Judge>(
+    alloc: Global,
+    judge: &J,
+    relay: &Relay,
+    message: &Message<'_>,
+) -> Result<Relayed, AllocError>
+    ensures sends { (rules : List Rule) → J.StandsFor judge.now rules →
+        let due = passed_sends rules relay.now (message_view message.now) in
+        IfOk result (λ given. given.sends ≡ due) }
+    ensures refusals { (rules : List Rule) → J.StandsFor judge.now rules →
+        let asks = passed_asks relay.now (message_view message.now) in
+        IfOk result (λ given. given.refusals ≡ denied_of rules asks) }
+    ensures change { (rules : List Rule) → J.StandsFor judge.now rules →
+        let due = passed_change rules (message_view message.now) in
+        IfOk result (λ given. given.change ≡ due) }
+    ensures goes_on { let m = message_view message.now in
+        IfOk result (λ given. given.goes_on ≡ goes_on m.here m.from m.frame) }
+    ensures silent { (rules : List Rule) → J.StandsFor judge.now rules →
+        let m = message_view message.now in
+        passed_asks relay.now m ≡ [] → passed_sends rules relay.now m ≡ [] → IsOk result }
+{
+    let Message {
+        here,
+        from,
+        frame,
+        npdu,
+    } = message;
+    let given = here.cast(alloc, judge, *from, frame, npdu)?;
+    if !given.goes_on {
+        return Ok(given);
+    }
+    let link = message.link();
+    let routed = relay.route_from(alloc, judge, here, link, npdu)?;
+    let told = relay.manage_from(alloc, judge, here, link, npdu)?;
+    given.and(routed.and(told)?)
+}
+
+/// What the device does about a message (step 10).
+fn serve<J: Judge>(
+    alloc: Global,
+    judge: &J,
+    device: &Device,
+    message: &Message<'_>,
+) -> Result<Response, AllocError>
+    ensures sends { (rules : List Rule) → J.StandsFor judge.now rules →
+        let due = message_sends rules device.now (message_view message.now) in
+        IfOk result (λ given. given.relayed.sends ≡ due) }
+    ensures refusals { (rules : List Rule) → J.StandsFor judge.now rules →
+        let asks = message_asks rules device.now (message_view message.now) in
+        IfOk result (λ given. given.relayed.refusals ≡ denied_of rules asks) }
+    ensures change { IfOk result (λ given. given.relayed.change ≡ None) }
+    ensures write { (rules : List Rule) → J.StandsFor judge.now rules →
+        let due = message_change rules device.now (message_view message.now) in
+        IfOk result (λ given. given.write ≡ due) }
+    ensures place { IfOk result (λ given. HasPlace device.now given.write) }
+    ensures silent { (rules : List Rule) → J.StandsFor judge.now rules →
+        let m = message_view message.now in
+        message_asks rules device.now m ≡ [] → message_sends rules device.now m ≡ [] → IsOk result }
+{
+    let network = network_of(device);
+    let Some(apdu) = apdu_for(network, &message.npdu) else {
+        return Ok(Response {
+            relayed: Relayed::nothing(alloc),
+            write: None,
+        });
+    };
+    let context = context_of(network, message);
+    let Reply {
+        answer,
+        refusals,
+        change,
+    } = device.answer(alloc, judge, &context, apdu)?;
+    Ok(Response {
+        relayed: Relayed {
+            sends: answer_sends(alloc, network, message, &answer)?,
+            refusals,
+            ..Relayed::nothing(alloc)
+        },
+        write: change,
+    })
+}
+
+/// What is done about a message (steps 4 and 6 to 10).
+fn respond_to_message<J: Judge>(
+    alloc: Global,
+    judge: &J,
+    relay: &Relay,
+    device: &Device,
+    message: &Message<'_>,
+) -> Result<Response, AllocError>
+    ensures response { (rules : List Rule) → J.StandsFor judge.now rules →
+        let due = judged (message_view message.now) in
+        IfOk result (IsResponse rules relay.now device.now due) }
+    ensures silent { (rules : List Rule) → J.StandsFor judge.now rules →
+        let due = judged (message_view message.now) in
+        asks_for rules relay.now device.now due ≡ [] →
+        sends_for rules relay.now device.now due ≡ [] → IsOk result }
+{
+    let given = pass_on(alloc, judge, relay, message)?;
+    if !given.goes_on {
+        return Ok(Response {
+            relayed: given,
+            write: None,
+        });
+    }
+    let served = serve(alloc, judge, device, message)?;
+    Ok(Response {
+        relayed: given.and(served.relayed)?,
+        write: served.write,
+    })
+}
+
+/// What is done about a frame that manages a table (step 3).
+fn respond_to_managed<J: Judge>(
+    alloc: Global,
+    judge: &J,
+    on: &Link,
+    from: BipAddr,
+    frame: &Bvll<'_>,
+) -> Result<Response, AllocError>
+    ensures response { (rules : List Rule) (relay : RelayState) (device : Database) →
+        J.StandsFor judge.now rules →
+        let due = managed on.now from (frame_view frame.now) in
+        IfOk result (IsResponse rules relay device due) }
+    ensures silent { (rules : List Rule) (relay : RelayState) (device : Database) →
+        let due = managed on.now from (frame_view frame.now) in
+        asks_for rules relay device due ≡ [] → IsOk result }
+{
+    Ok(Response {
+        relayed: on.manage(alloc, judge, from, frame)?,
+        write: None,
+    })
+}
+
+/// What is done about what is received.
+pub(crate) fn respond<J: Judge>(
+    alloc: Global,
+    judge: &J,
+    relay: &Relay,
+    device: &Device,
+    received: &Received<'_>,
+) -> Result<Response, AllocError>
+    ensures response { (rules : List Rule) → J.StandsFor judge.now rules →
+        IfOk result (IsResponse rules relay.now device.now (received_view received.now)) }
+    ensures silent { (rules : List Rule) → J.StandsFor judge.now rules →
+        let due = received_view received.now in
+        asks_for rules relay.now device.now due ≡ [] →
+        sends_for rules relay.now device.now due ≡ [] → IsOk result }
+{
+    match received {
+        Received::Dropped => Ok(Response {
+            relayed: Relayed::nothing(alloc),
+            write: None,
+        }),
+        Received::Managed { on, from, frame } => {
+            respond_to_managed(alloc, judge, on, *from, frame)
+        }
+        Received::Message(message) => respond_to_message(alloc, judge, relay, device, message),
+    }
+}
