@@ -1,5 +1,5 @@
 -- What several writes one after the other append.
-use Rattle.std.proofs.Common.{◌≡◌, ◌∙◌, ◌++◌, ap, append_assoc, ℕ, List, Result, Ok, Err, Option, Some, None, OnOk}
+use Rattle.std.proofs.Common.{◌∙◌, ◌++◌, ap, append_assoc, ℕ, List, Result, Ok, Err, Option, Some, None, OnOk}
 use Rattle.std.specs.Io.KnownBytes.{Appends}
 
 -- three texts that are appended are appended as one

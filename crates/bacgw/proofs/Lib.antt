@@ -1,3 +1,4 @@
 mod AppendLemmas
+mod PortLemmas
 mod ReplayLemmas
 mod WordsLemmas

@@ -1,5 +1,5 @@
 -- What a replay leaves written, from what the run and the flush behind it leave.
-use Rattle.std.proofs.Common.{◌≡◌, ◌∙◌, ◌⊎◌, inl, inr, refl, sym, subst, rules, true, false, Bool, ℕ, ◌++◌, List, Result, Ok, Err, Option, Some, None, [], ◌∷◌, length, take, IsSomeAnd, OnOk, IsErrOf}
+use Rattle.std.proofs.Common.{◌≡◌, ◌⊎◌, inl, refl, sym, subst, rules, true, false, Bool, ℕ, ◌++◌, List, Result, Ok, Err, Option, Some, None, [], ◌∷◌, length, take, IsSomeAnd, OnOk, IsErrOf}
 use Rattle.std.specs.Io.KnownBytes.{Keeps}
 use Rattle.gw_core.specs.declared.replaying.RunFault.{RunFault}
 use Rattle.gw_core.specs.declared.replaying.RunFault.TheVariants as run

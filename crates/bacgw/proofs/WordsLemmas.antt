@@ -1,5 +1,5 @@
 -- What the program makes of words, from what a parse of them gives.
-use Rattle.std.proofs.Common.{◌≡◌, ◌≢◌, ◌∙◌, ◌⊎◌, inl, inr, refl, sym, ap, subst, rules, true, ℕ, List, Option, Some, None, Result, Ok, Err, codes, [], ◌∷◌, string_bytes, option_map, Box}
+use Rattle.std.proofs.Common.{◌≡◌, ◌≢◌, ◌∙◌, ◌⊎◌, inl, inr, refl, sym, ap, subst, rules, true, false, Bool, List, Option, Some, None, Result, Ok, Err, codes, [], ◌∷◌, string_bytes, option_map, Box}
 use Rattle.clap.specs.Words.{IsAmong, Kinds, Row, Text, fault_of, is_simple, is_simple_and_free}
 use Rattle.std.specs.Box.{box_value}
 use Rattle.clap.specs.Simple.{subcommand_rows}
@@ -8,7 +8,7 @@ use Rattle.clap.specs.declared.parser.matches.SubCommand.{SubCommand}
 use Rattle.clap.specs.declared.error.kind.ErrorKind.{ErrorKind}
 use Rattle.clap.specs.declared.error.kind.ErrorKind.TheVariants as parse
 use Rattle.clap.proofs.OnLiterals.{clap_on_literals}
-use Rattle.bacgw.specs.CommandLine.{called, commands, CallsCheck, CallsReplay, IsAnswer, IsCheck, IsChosen, IsMistake, IsRefusal, IsReplay, IsTaken}
+use Rattle.bacgw.specs.CommandLine.{Call, called, commands, CallsCheck, CallsExplain, CallsReplay, IsAnswer, IsCheck, IsChosen, IsRefusal, IsReplay}
 use Rattle.bacgw.specs.declared.command_line.Choice.{Choice}
 use Rattle.bacgw.specs.declared.command_line.Choice.TheVariants as choice
 use Rattle.bacgw.specs.declared.fault.Fault.{Fault}
@@ -35,7 +35,7 @@ mistake_among kinds k (inr among) other = among
 
 -- what is made of a failed parse answers the kinds of fault that it may have
 pub refusal_answers : (words : List Text) (k : ErrorKind) (r : Result Choice Fault) → (k ≡ parse.OutOfMemory) ⊎ IsAmong k (fault_of commands words) → IsRefusal k r → IsAnswer words r
-refusal_answers words k (Ok (choice.Check file)) among is = absurd is
+refusal_answers words k (Ok (choice.Check file explains)) among is = absurd is
 refusal_answers words k (Ok (choice.Replay file)) among is = absurd is
 refusal_answers words k (Ok (choice.Help text)) among is = help_among (fault_of commands words) k among is
 refusal_answers words k (Err fault.CommandLine) among is = inl (k, mistake_among (fault_of commands words) k among is.1, is.0)
@@ -49,7 +49,7 @@ refusal_answers words k (Err fault.CountEnd) among is = absurd is
 
 -- what is chosen of words that the parser takes answers them
 pub taken_answers : (words : List Text) (r : Result Choice Fault) → fault_of commands words ≡ [] → IsChosen (called words) r → IsAnswer words r
-taken_answers words (Ok (choice.Check file)) none is = (none, is)
+taken_answers words (Ok (choice.Check file explains)) none is = (none, is)
 taken_answers words (Ok (choice.Replay file)) none is = (none, is)
 taken_answers words (Ok (choice.Help text)) none is = absurd is
 taken_answers words (Err fault.CommandLine) none is = inr (none, is)
@@ -60,6 +60,10 @@ taken_answers words (Err (fault.Line n)) none is = absurd is
 taken_answers words (Err fault.Read) none is = absurd is
 taken_answers words (Err fault.Write) none is = absurd is
 taken_answers words (Err fault.CountEnd) none is = absurd is
+
+-- the options of a call
+abbrev Options : Type 0
+Options = Option Text × Bool
 
 some_same : {A : Type 0} (x y : A) → Some x ≡ Some y → x ≡ y
 some_same x y e = cc
@@ -79,7 +83,7 @@ pub no_fault : (program : Text) → fault_of commands (program ∷ codes "replay
 unfolding clap_on_literals
 no_fault program = refl
 
-pub calls_replay : (program : Text) → called (program ∷ codes "replay" ∷ []) ≡ Some (codes "replay", None)
+pub calls_replay : (program : Text) → called (program ∷ codes "replay" ∷ []) ≡ Some (codes "replay", (None, false))
 unfolding clap_on_literals
 calls_replay program = refl
 
@@ -87,54 +91,81 @@ no_kind : (kinds : Kinds) (k : ErrorKind) → kinds ≡ [] → IsAmong k kinds �
 no_kind [] k none among = among
 no_kind (x ∷ kinds) k none among = search rules
 
-abbrev pair : Text → Option Text → Text × Option Text
-pair name file = (name, file)
+abbrev pair : Text → Options → Call
+pair name options = (name, options)
 
-no_check : (file other : Option Text) → Some (pair (codes "replay") file) ≡ Some (pair (codes "check") other) → ⊥
-no_check file other e = let bad : codes "replay" ≡ codes "check" = ap (λ (p : Text × Option Text). p.0) (some_same _ _ e) in search rules
+same_options : (name : Text) (one other : Options) → Some (pair name one) ≡ Some (pair name other) → one ≡ other
+same_options name one other e = ap (λ (p : Call). p.1) (some_same _ _ e)
+
+no_check : (one other : Options) → Some (pair (codes "replay") one) ≡ Some (pair (codes "check") other) → ⊥
+no_check one other e = let bad : codes "replay" ≡ codes "check" = ap (λ (p : Call). p.0) (some_same _ _ e) in search rules
 
 -- what answers a call that plays a script is that choice, or want of memory
-replay_or_memory : (words : List Text) (file : Option Text) (r : Result Choice Fault) → fault_of commands words ≡ [] → called words ≡ Some (codes "replay", file) → IsAnswer words r → IsReplay file r
-replay_or_memory words file (Ok (choice.Check name)) none calls is = absurd (no_check file (Some (string_bytes name)) (sym calls ∙ is.1))
-replay_or_memory words file (Ok (choice.Replay name)) none calls is = ap (λ (p : Text × Option Text). p.1) (some_same _ _ (sym is.1 ∙ calls))
-replay_or_memory words file (Ok (choice.Help text)) none calls is = absurd (no_kind (fault_of commands words) parse.DisplayHelp none is)
-replay_or_memory words file (Err fault.CommandLine) none calls (inl is) = absurd (no_kind (fault_of commands words) is.0 none is.1)
-replay_or_memory words file (Err fault.CommandLine) none calls (inr is) = absurd (is.1.0 file calls)
-replay_or_memory words file (Err fault.Memory) none calls is = tt
-replay_or_memory words file (Err fault.Unreadable) none calls is = absurd is
-replay_or_memory words file (Err (fault.Configuration f)) none calls is = absurd is
-replay_or_memory words file (Err (fault.Line n)) none calls is = absurd is
-replay_or_memory words file (Err fault.Read) none calls is = absurd is
-replay_or_memory words file (Err fault.Write) none calls is = absurd is
-replay_or_memory words file (Err fault.CountEnd) none calls is = absurd is
+replay_or_memory : (words : List Text) (options : Options) (r : Result Choice Fault) → fault_of commands words ≡ [] → called words ≡ Some (pair (codes "replay") options) → IsAnswer words r → IsReplay options.0 r
+replay_or_memory words options (Ok (choice.Check name explains)) none calls is = absurd (no_check options (Some (string_bytes name), explains) (sym calls ∙ is.1))
+replay_or_memory words options (Ok (choice.Replay name)) none calls is =
+    ap (λ (o : Options). o.0) (same_options (codes "replay") (option_map string_bytes name, is.1.0) options (sym is.1.1 ∙ calls))
+replay_or_memory words options (Ok (choice.Help text)) none calls is = absurd (no_kind (fault_of commands words) parse.DisplayHelp none is)
+replay_or_memory words options (Err fault.CommandLine) none calls (inl is) = absurd (no_kind (fault_of commands words) is.0 none is.1)
+replay_or_memory words options (Err fault.CommandLine) none calls (inr is) = absurd (is.1.0 options calls)
+replay_or_memory words options (Err fault.Memory) none calls is = tt
+replay_or_memory words options (Err fault.Unreadable) none calls is = absurd is
+replay_or_memory words options (Err (fault.Configuration f)) none calls is = absurd is
+replay_or_memory words options (Err (fault.Line n)) none calls is = absurd is
+replay_or_memory words options (Err fault.Read) none calls is = absurd is
+replay_or_memory words options (Err fault.Write) none calls is = absurd is
+replay_or_memory words options (Err fault.CountEnd) none calls is = absurd is
 
 pub replay_is_taken : (words : List Text) (r : Result Choice Fault) → IsAnswer words r → CallsReplay words → IsReplay None r
 replay_is_taken words r is call =
-    replay_or_memory words None r (ap (λ (w : List Text). fault_of commands w) call.1 ∙ no_fault call.0) (ap called call.1 ∙ calls_replay call.0) is
+    replay_or_memory words (None, false) r (ap (λ (w : List Text). fault_of commands w) call.1 ∙ no_fault call.0) (ap called call.1 ∙ calls_replay call.0) is
 
-check_or_memory : (words : List Text) (file : Text) (r : Result Choice Fault) → fault_of commands words ≡ [] → called words ≡ Some (codes "check", Some file) → IsAnswer words r → IsCheck file r
-check_or_memory words file (Ok (choice.Check name)) none calls is = some_same _ _ (ap (λ (p : Text × Option Text). p.1) (some_same _ _ (sym is.1 ∙ calls)))
-check_or_memory words file (Ok (choice.Replay name)) none calls is = absurd (no_check (option_map string_bytes name) (Some file) (sym is.1 ∙ calls))
-check_or_memory words file (Ok (choice.Help text)) none calls is = absurd (no_kind (fault_of commands words) parse.DisplayHelp none is)
-check_or_memory words file (Err fault.CommandLine) none calls (inl is) = absurd (no_kind (fault_of commands words) is.0 none is.1)
-check_or_memory words file (Err fault.CommandLine) none calls (inr is) = absurd (is.1.1 file calls)
-check_or_memory words file (Err fault.Memory) none calls is = tt
-check_or_memory words file (Err fault.Unreadable) none calls is = absurd is
-check_or_memory words file (Err (fault.Configuration f)) none calls is = absurd is
-check_or_memory words file (Err (fault.Line n)) none calls is = absurd is
-check_or_memory words file (Err fault.Read) none calls is = absurd is
-check_or_memory words file (Err fault.Write) none calls is = absurd is
-check_or_memory words file (Err fault.CountEnd) none calls is = absurd is
+check_or_memory : (words : List Text) (file : Text) (explains : Bool) (r : Result Choice Fault) → fault_of commands words ≡ []
+    → called words ≡ Some (pair (codes "check") (Some file, explains)) → IsAnswer words r → IsCheck file explains r
+check_or_memory words file explains (Ok (choice.Check name chosen)) none calls is =
+    let same = same_options (codes "check") (Some (string_bytes name), chosen) (Some file, explains) (sym is.1 ∙ calls) in
+    (some_same _ _ (ap (λ (o : Options). o.0) same), ap (λ (o : Options). o.1) same)
+check_or_memory words file explains (Ok (choice.Replay name)) none calls is =
+    absurd (no_check (option_map string_bytes name, is.1.0) (Some file, explains) (sym is.1.1 ∙ calls))
+check_or_memory words file explains (Ok (choice.Help text)) none calls is = absurd (no_kind (fault_of commands words) parse.DisplayHelp none is)
+check_or_memory words file explains (Err fault.CommandLine) none calls (inl is) = absurd (no_kind (fault_of commands words) is.0 none is.1)
+check_or_memory words file explains (Err fault.CommandLine) none calls (inr is) = absurd (is.1.1 file explains calls)
+check_or_memory words file explains (Err fault.Memory) none calls is = tt
+check_or_memory words file explains (Err fault.Unreadable) none calls is = absurd is
+check_or_memory words file explains (Err (fault.Configuration f)) none calls is = absurd is
+check_or_memory words file explains (Err (fault.Line n)) none calls is = absurd is
+check_or_memory words file explains (Err fault.Read) none calls is = absurd is
+check_or_memory words file explains (Err fault.Write) none calls is = absurd is
+check_or_memory words file explains (Err fault.CountEnd) none calls is = absurd is
 
-check_no_fault : (program : Text) → fault_of commands (program ∷ codes "check" ∷ codes "--config" ∷ codes "site.toml" ∷ []) ≡ []
+-- the words of a call that checks a file, and explains its fault
+abbrev check_words : Text → List Text
+check_words program = program ∷ codes "check" ∷ codes "--config" ∷ codes "site.toml" ∷ []
+
+abbrev explain_words : Text → List Text
+explain_words program = program ∷ codes "check" ∷ codes "--config" ∷ codes "site.toml" ∷ codes "--explain" ∷ []
+
+check_no_fault : (program : Text) → fault_of commands (check_words program) ≡ []
 unfolding clap_on_literals
 check_no_fault program = refl
 
-calls_check : (program : Text) → called (program ∷ codes "check" ∷ codes "--config" ∷ codes "site.toml" ∷ []) ≡ Some (codes "check", Some (codes "site.toml"))
+calls_check : (program : Text) → called (check_words program) ≡ Some (codes "check", (Some (codes "site.toml"), false))
 unfolding clap_on_literals
 calls_check program = refl
 
+explain_no_fault : (program : Text) → fault_of commands (explain_words program) ≡ []
+unfolding clap_on_literals
+explain_no_fault program = refl
+
+calls_explain : (program : Text) → called (explain_words program) ≡ Some (codes "check", (Some (codes "site.toml"), true))
+unfolding clap_on_literals
+calls_explain program = refl
+
 -- a call that checks a file is answered by that choice, or memory ran out
-pub check_is_taken : (words : List Text) (r : Result Choice Fault) → IsAnswer words r → CallsCheck words → IsCheck (codes "site.toml") r
+pub check_is_taken : (words : List Text) (r : Result Choice Fault) → IsAnswer words r → CallsCheck words → IsCheck (codes "site.toml") false r
 check_is_taken words r is call =
-    check_or_memory words (codes "site.toml") r (ap (λ (w : List Text). fault_of commands w) call.1 ∙ check_no_fault call.0) (ap called call.1 ∙ calls_check call.0) is
+    check_or_memory words (codes "site.toml") false r (ap (λ (w : List Text). fault_of commands w) call.1 ∙ check_no_fault call.0) (ap called call.1 ∙ calls_check call.0) is
+
+pub explain_is_taken : (words : List Text) (r : Result Choice Fault) → IsAnswer words r → CallsExplain words → IsCheck (codes "site.toml") true r
+explain_is_taken words r is call =
+    check_or_memory words (codes "site.toml") true r (ap (λ (w : List Text). fault_of commands w) call.1 ∙ explain_no_fault call.0) (ap called call.1 ∙ calls_explain call.0) is

@@ -1,5 +1,5 @@
 -- The configuration that a command runs under, and what `check` says of one.
-use Rattle.std.specs.Prelude.{◌≡◌, ◌≢◌, ⊤, ℕ, List, [], ◌∷◌, ◌++◌, length, Option, Some, None, Result, Ok, Err, codes, decimal}
+use Rattle.std.specs.Prelude.{◌≡◌, ◌≢◌, ⊤, ℕ, List, ◌++◌, length, Option, Some, None, Result, Ok, Err, codes, decimal}
 use Rattle.gw_policy_text.specs.Configuration.{Configuration}
 use Rattle.gw_policy_text.specs.Document.{configuration}
 use Rattle.gw_policy_text.specs.declared.fault.ConfigFault.TheVariants.{Memory}

@@ -2,5 +2,8 @@ pub mod CommandLine
 pub mod Configured
 pub mod Ending
 pub mod Files
+pub mod Ports
 pub mod Program
 pub mod Replay
+pub mod SockPair
+pub mod Socket

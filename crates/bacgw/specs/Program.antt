@@ -1,13 +1,15 @@
 -- The program as a whole: what the words chose, what stands on standard output then, the line on standard error and the exit status.
-use Rattle.std.specs.Prelude.{◌≡◌, ℕ, List, [], ◌++◌, Option, Some, Result, Ok, Err, OnOk, option_map, string_bytes}
+use Rattle.std.specs.Prelude.{◌≡◌, ◌⊎◌, Bool, true, IsTrue, ℕ, List, [], ◌∷◌, ◌++◌, Option, Some, Result, Ok, Err, OnOk, option_map, string_bytes}
+use Rattle.std.specs.List.{list_all}
 use Rattle.std.specs.Io.KnownBytes.{Appends}
 use Rattle.gw_core.specs.Replay.{OnKnown}
 use Rattle.gw_policy_text.specs.Configuration.{Configuration}
+use Rattle.gw_policy_text.specs.Explanation.{is_printed}
 use Rattle.bacgw.specs.declared.command_line.Choice.{Choice}
 use Rattle.bacgw.specs.declared.command_line.Choice.TheVariants as choice
 use Rattle.bacgw.specs.declared.fault.Fault.{Fault}
 use Rattle.bacgw.specs.declared.fault.Fault.TheVariants as fault
-use Rattle.bacgw.specs.Configured.{IsConfigured, summary}
+use Rattle.bacgw.specs.Configured.{IsConfigurationOf, IsConfigured, summary}
 use Rattle.bacgw.specs.Ending.{error_text, status_after}
 use Rattle.bacgw.specs.Replay.{Plays}
 
@@ -18,17 +20,40 @@ pub record AppendsFront (held holds : Option (List ℕ)) (text : List ℕ) : Typ
   pub parts : text ≡ front ++ unwritten
   pub appends : Appends held holds front
 
+-- one line, with no control character but its line feed
+pub record IsLine (text : List ℕ) : Type 0 where
+  pub line : List ℕ
+  pub printed : IsTrue (list_all is_printed line)
+  pub parts : text ≡ line ++ 10 ∷ []
+
+-- What an explanation leaves: one line, of which a failed write may leave a front, or nothing.
+abbrev pub LeavesLine : Option (List ℕ) → Option (List ℕ) → Type 0
+LeavesLine held holds = (holds ≡ held) ⊎ ((text : List ℕ) × IsLine text × AppendsFront held holds text)
+
+-- What is left at a fault: an explanation where one is asked for and the fault is of the configuration, and else nothing.
+abbrev pub LeavesFault : Bool → Fault → Option (List ℕ) → Option (List ℕ) → Type 0
+LeavesFault true (fault.Configuration f) held holds = LeavesLine held holds
+LeavesFault _ _ held holds = holds ≡ held
+
 -- What `check` leaves of the configuration that was read: its summary, of which a failed write may leave a front. Where there is none
--- nothing is written, and the outcome is why.
-abbrev pub LeavesChecked : Option (List ℕ) → Option (List ℕ) → Result Configuration Fault → Result (Unit {0}) Fault → Type 0
-LeavesChecked held holds (Ok c) (Ok done) = Appends held holds (summary c)
-LeavesChecked held holds (Ok c) (Err fault.Write) = AppendsFront held holds (summary c)
-LeavesChecked held holds (Ok c) (Err fault.Memory) = holds ≡ held
-LeavesChecked held holds (Ok c) (Err _) = ⊥
-LeavesChecked held holds (Err f) outcome = (outcome ≡ Err f) × (holds ≡ held)
+-- the outcome is why, whatever became of the explanation.
+abbrev pub LeavesChecked : Bool → Option (List ℕ) → Option (List ℕ)
+    → Result Configuration Fault → Result (Unit {0}) Fault → Type 0
+LeavesChecked explains held holds (Ok c) (Ok done) = Appends held holds (summary c)
+LeavesChecked explains held holds (Ok c) (Err fault.Write) = AppendsFront held holds (summary c)
+LeavesChecked explains held holds (Ok c) (Err fault.Memory) = holds ≡ held
+LeavesChecked explains held holds (Ok c) (Err _) = ⊥
+LeavesChecked explains held holds (Err f) outcome = (outcome ≡ Err f) × LeavesFault explains f held holds
+
+-- what `check` leaves of a text that was read, or of why none was
+abbrev pub LeavesOfText : Bool → Result (List ℕ) Fault → Option (List ℕ) → Option (List ℕ)
+    → Result (Unit {0}) Fault → Type 0
+LeavesOfText explains text held holds outcome =
+    (c : Result Configuration Fault) × IsConfigurationOf text c × LeavesChecked explains held holds c outcome
 
 -- What `replay` leaves under the configuration that was read. Where there is none the script isn't played, and the outcome is why.
-abbrev pub LeavesPlayed : Option (List ℕ) → Option (List ℕ) → Option (List ℕ) → Result Configuration Fault → Result (Unit {0}) Fault → Type 0
+abbrev pub LeavesPlayed : Option (List ℕ) → Option (List ℕ) → Option (List ℕ)
+    → Result Configuration Fault → Result (Unit {0}) Fault → Type 0
 LeavesPlayed input held holds (Ok c) outcome = OnKnown input held holds (λ script before. Plays c script before outcome)
 LeavesPlayed input held holds (Err f) outcome = (outcome ≡ Err f) × (holds ≡ held)
 
@@ -37,8 +62,8 @@ LeavesPlayed input held holds (Err f) outcome = (outcome ≡ Err f) × (holds �
 -- nothing leave it as it was, and their fault is the outcome.
 abbrev pub LeavesOutput : (Reads : List ℕ → Result (List ℕ) Fault → Type 0)
     → Option (List ℕ) → Option (List ℕ) → Option (List ℕ) → Result Choice Fault → Result (Unit {0}) Fault → Type 0
-LeavesOutput Reads input held holds (Ok (choice.Check file)) outcome =
-    (c : Result Configuration Fault) × IsConfigured Reads (Some (string_bytes file)) c × LeavesChecked held holds c outcome
+LeavesOutput Reads input held holds (Ok (choice.Check file explains)) outcome =
+    (c : Result Configuration Fault) × IsConfigured Reads (Some (string_bytes file)) c × LeavesChecked explains held holds c outcome
 LeavesOutput Reads input held holds (Ok (choice.Replay file)) outcome =
     (c : Result Configuration Fault) × IsConfigured Reads (option_map string_bytes file) c × LeavesPlayed input held holds c outcome
 LeavesOutput Reads input held holds (Ok (choice.Help text)) (Ok done) = Appends held holds (string_bytes text)

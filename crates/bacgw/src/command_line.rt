@@ -1,20 +1,20 @@
 //! The command line: which command the words choose, read with `clap`.
 
-ghost use Rattle.std.specs.Prelude.{◌≡◌, Some, None, false, IfOk, map, codes, option_map, string_bytes};
+ghost use Rattle.std.specs.Prelude.{◌≡◌, Some, None, true, false, IfOk, map, codes, option_map, string_bytes};
 ghost use Rattle.clap.specs.Words.{app_of, first_value, found_of, kind_of, subcommand_rows_of};
 ghost use Rattle.clap.specs.declared.builder.command.Command.TheViews.{out-Command};
-ghost use Rattle.bacgw.specs.CommandLine.{call_of, check, commands, replay, CallsCheck, CallsReplay, IsAnswer, IsCheck, IsChosen, IsRefusal, IsReplay};
+ghost use Rattle.bacgw.specs.CommandLine.{call_of, check, check_of_file, commands, is_given, replay, CallsCheck, CallsExplain, CallsReplay, IsAnswer, IsCheck, IsChosen, IsRefusal, IsReplay};
 
 use crate::fault::Fault;
 use clap::error::ErrorKind;
-use clap::{Arg, ArgMatches, Command, Error};
+use clap::{Arg, ArgAction, ArgMatches, Command, Error};
 use std::alloc::{AllocError, Global};
 
 /// What the words ask for.
 #[derive(Debug, Drop)]
 pub enum Choice {
-    /// Judge the configuration in the file of this name.
-    Check(String),
+    /// Judge the configuration in the file of this name, and explain its fault if that is asked for.
+    Check { file: String, explains: bool },
     /// Play the script on standard input, under the configuration in the file of this name or the
     /// built-in one.
     Replay(Option<String>),
@@ -24,6 +24,17 @@ pub enum Choice {
 
 fn make_check<'a>(alloc: Global) -> Result<Command<'a>, AllocError>
     ensures app { IfOk result (λ command. app_of command ≡ check) }
+    ensures local { IfOk result (λ command. (out-Command command).has_globals ≡ false) }
+{
+    let explain = Arg::new(alloc, "explain")
+        .long("explain")
+        .help("Also prints where the fault is")
+        .action(ArgAction::SetTrue);
+    make_check_of_file(alloc)?.arg(explain)
+}
+
+fn make_check_of_file<'a>(alloc: Global) -> Result<Command<'a>, AllocError>
+    ensures app { IfOk result (λ command. app_of command ≡ check_of_file) }
     ensures local { IfOk result (λ command. (out-Command command).has_globals ≡ false) }
 {
     let config = Arg::new(alloc, "config")
@@ -83,15 +94,25 @@ fn file_of(alloc: Global, matches: &ArgMatches<'_>) -> Result<Option<String>, Al
     }
 }
 
-/// What a command asks for, by its name and the file that was named.
-fn choice_for(name: &str, file: Option<String>) -> Result<Choice, Fault>
-    ensures { IsChosen (Some (name.now, option_map string_bytes file)) result }
+/// Whether `--explain` is given.
+fn is_explaining(matches: &ArgMatches<'_>) -> bool
+    ensures { result ≡ is_given (first_value (found_of matches.now) (codes "explain")) }
+{
+    match matches.get_str("explain") {
+        Some(text) => text == "true",
+        None => false,
+    }
+}
+
+/// What a command asks for, by its name, the file that was named, and whether to explain.
+fn choice_for(name: &str, file: Option<String>, explains: bool) -> Result<Choice, Fault>
+    ensures { IsChosen (Some (name.now, (option_map string_bytes file, explains))) result }
 {
     if name == "replay" {
         return Ok(Choice::Replay(file));
     }
     match file {
-        Some(file) if name == "check" => Ok(Choice::Check(file)),
+        Some(file) if name == "check" => Ok(Choice::Check { file, explains }),
         Some(_) | None => Err(Fault::CommandLine),
     }
 }
@@ -101,7 +122,10 @@ fn choice_among(alloc: Global, matches: &ArgMatches<'_>) -> Result<Choice, Fault
     ensures { IsChosen (option_map call_of (subcommand_rows_of matches.now)) result }
 {
     match matches.subcommand() {
-        Some((name, matches)) => choice_for(name, file_of(alloc, matches)?),
+        Some((name, matches)) => {
+            let file = file_of(alloc, matches)?;
+            choice_for(name, file, is_explaining(matches))
+        }
         None => Err(Fault::CommandLine),
     }
 }
@@ -111,7 +135,8 @@ fn choice_among(alloc: Global, matches: &ArgMatches<'_>) -> Result<Choice, Fault
 pub fn choice_of(alloc: Global, words: &[String]) -> Result<Choice, Fault>
     ensures answers { IsAnswer (map string_bytes words.now) result }
     ensures replay { CallsReplay (map string_bytes words.now) → IsReplay None result }
-    ensures check { CallsCheck (map string_bytes words.now) → IsCheck (codes "site.toml") result }
+    ensures check { CallsCheck (map string_bytes words.now) → IsCheck (codes "site.toml") false result }
+    ensures explain { CallsExplain (map string_bytes words.now) → IsCheck (codes "site.toml") true result }
 {
     let command = make_commands(alloc)?;
     match command.try_get_matches_from(words) {

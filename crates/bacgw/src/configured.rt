@@ -12,28 +12,24 @@ use itoa::Buffer;
 use std::alloc::{AllocError, Global};
 
 /// The configuration of a text that was read.
-fn configuration_of(alloc: Global, text: Result<Vec<u8>, Fault>) -> Result<Config, Fault>
-    ensures { IsConfigurationOf (result_map (λ octets. octets.items) text) result }
+pub fn configuration_of(alloc: Global, text: &Result<Vec<u8>, Fault>) -> Result<Config, Fault>
+    ensures { IsConfigurationOf (result_map (λ octets. octets.items) text.now) result }
 {
     match text {
-        Ok(text) => match read_config(alloc, &text) {
+        Ok(text) => match read_config(alloc, text) {
             Ok(config) => Ok(config),
             Err(fault) => Err(Fault::from(fault)),
         },
-        Err(fault) => Err(fault),
+        Err(fault) => Err(*fault),
     }
 }
 
 /// The configuration of the file of this name. Faults: `Unreadable`, `Configuration` and `Memory`.
-pub fn configuration_in<F: ConfigFiles>(
-    alloc: Global,
-    files: &F,
-    name: &str,
-) -> Result<Config, Fault>
+fn configuration_in<F: ConfigFiles>(alloc: Global, files: &F, name: &str) -> Result<Config, Fault>
     ensures { IsConfigured (F.Reads files.now) (Some name.now) result }
 {
     let text = files.read(alloc, name);
-    configuration_of(alloc, text)
+    configuration_of(alloc, &text)
 }
 
 /// The configuration of the file of this name, or the built-in one where none is named. Faults:

@@ -32,7 +32,8 @@ fn write_configuration_fault<E: OctetSink>(
     fault: ConfigFault,
     errors: &mut E,
 ) -> Result<(), WriteFailed>
-    ensures ok { OnOk result (Appends (E.held errors.old) (E.held errors.new) (codes "bacgw: configuration: " ++ name_of fault ++ 10 ∷ [])) }
+    ensures ok { let line = codes "bacgw: configuration: " ++ name_of fault ++ 10 ∷ [] in
+        OnOk result (Appends (E.held errors.old) (E.held errors.new) line) }
     ensures sure { E.NeverFails errors.old → IsOk result }
 {
     match write_whole(errors, b"bacgw: configuration: ") {

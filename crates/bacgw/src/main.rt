@@ -10,10 +10,17 @@ mod configured;
 mod ending;
 mod fault;
 mod files;
+mod ports;
 mod program;
 mod script;
+mod sock_pair;
+mod socket;
 #[cfg(test)]
 mod tests;
+#[cfg(test)]
+mod turn_tests;
+mod turns;
+mod udp;
 
 use fault::Fault;
 use files::SystemFiles;

@@ -1,31 +1,32 @@
 //! The whole program, over any words, reader and writers.
 
-ghost use Rattle.std.specs.Prelude.{◌≡◌, ◌++◌, [], List, ℕ, map, string_bytes, MatchResult, IfErr, OnOk, OnErr};
+ghost use Rattle.std.specs.Prelude.{◌≡◌, ◌++◌, [], Bool, List, ℕ, Ok, map, string_bytes, MatchResult, IfErr, IfOk, IfSome, OnOk, OnErr};
 ghost use Rattle.std.specs.Io.Buffered.{writer_buffer, writer_contents};
 ghost use Rattle.std.specs.Io.KnownBytes.{Appends};
 ghost use Rattle.std.specs.Process.{exit_status};
 ghost use Rattle.gw_policy_text.specs.Configuration.{Configuration};
 ghost use Rattle.bacgw.specs.CommandLine.{IsAnswer};
 ghost use Rattle.bacgw.specs.Configured.{IsConfigured};
-ghost use Rattle.bacgw.specs.Program.{AppendsFront, IsRun, LeavesChecked, LeavesOutput, LeavesPlayed};
+ghost use Rattle.bacgw.specs.Files.{result_map};
+ghost use Rattle.bacgw.specs.Program.{AppendsFront, IsLine, IsRun, LeavesChecked, LeavesFault, LeavesLine, LeavesOfText, LeavesOutput, LeavesPlayed};
 ghost use Rattle.bacgw.specs.declared.fault.Fault.{Fault};
 ghost use Rattle.bacgw.specs.declared.fault.Fault.TheVariants as fault;
 
 use crate::command_line::{Choice, choice_of};
-use crate::configured::{configuration, configuration_in, summary};
+use crate::configured::{configuration, configuration_of, summary};
 use crate::ending::end;
 use crate::fault::Fault;
 use crate::files::ConfigFiles;
 use crate::script::replay;
-use gw_policy_text::Config;
+use gw_policy_text::{Config, ConfigFault, Explanation, explain};
 use gw_script::{OctetSink, OctetSource, write_whole};
-use std::alloc::Global;
+use std::alloc::{AllocError, Global};
 use std::io::{BufWriter, Write};
 use std::process::ExitCode;
 
-/// Prints a text and flushes it. `Write` where a write or the flush fails; then a front of the text
+/// Prints octets and flushes them. `Write` where a write or the flush fails; then a front of the text
 /// is written.
-fn print<W: Write + Drop>(text: &str, output: &mut BufWriter<W>) -> Result<(), Fault>
+fn print<W: Write + Drop>(text: &[u8], output: &mut BufWriter<W>) -> Result<(), Fault>
     ensures ok { OnOk result
         (Appends (writer_contents W.contents output.old) (writer_contents W.contents output.new)
         text.now) }
@@ -35,7 +36,7 @@ fn print<W: Write + Drop>(text: &str, output: &mut BufWriter<W>) -> Result<(), F
     ensures fault { IfErr result (λ f. f ≡ fault.Write) }
     ensures flush { OnOk result (writer_buffer output.new ≡ []) }
 {
-    let Ok(()) = write_whole(output, text.as_bytes()) else {
+    let Ok(()) = write_whole(output, text) else {
         return Err(Fault::Write);
     };
     match output.flush() {
@@ -57,20 +58,94 @@ fn choice_from(alloc: Global, words: Result<Vec<String>, Fault>) -> Result<Choic
 }
 
 /// Prints what a configuration has.
-fn check<W: Write + Drop>(
+fn print_summary<W: Write + Drop>(
     alloc: Global,
-    config: Result<Config, Fault>,
+    config: &Config,
     output: &mut BufWriter<W>,
 ) -> Result<(), Fault>
-    ensures output { LeavesChecked (writer_contents W.contents output.old) (writer_contents W.contents output.new) config result }
+    ensures output { (explains : Bool) → let held = writer_contents W.contents output.old in
+        let holds = writer_contents W.contents output.new in
+        LeavesChecked explains held holds (Ok config.now) result }
     ensures flush { OnOk result (writer_buffer output.new ≡ []) }
 {
-    let config = match config {
-        Ok(config) => config,
-        Err(fault) => return Err(fault),
-    };
-    let text = summary(alloc, &config)?;
-    print(&text, output)
+    let text = summary(alloc, config)?;
+    print(text.as_bytes(), output)
+}
+
+/// The line that explains this fault of a text, where there is one.
+fn explanation(
+    alloc: Global,
+    text: &[u8],
+    fault: ConfigFault,
+) -> Result<Option<Vec<u8>>, AllocError>
+    ensures { IfOk result (λ line. IfSome line (λ octets. IsLine octets.items)) }
+{
+    match explain(alloc, text, fault)? {
+        Some(explanation) => Ok(Some(line_of(alloc, &explanation)?)),
+        None => Ok(None),
+    }
+}
+
+/// An explanation with its line feed.
+fn line_of(alloc: Global, explanation: &Explanation) -> Result<Vec<u8>, AllocError>
+    ensures { IfOk result (λ octets. IsLine octets.items) }
+{
+    let mut line = Vec::from_slice(alloc, explanation.as_bytes())?;
+    line.push(b'\n')?;
+    Ok(line)
+}
+
+/// Prints where this fault of a text is. Where that fails the fault is still told.
+fn print_explanation<W: Write + Drop>(
+    alloc: Global,
+    text: &[u8],
+    fault: ConfigFault,
+    output: &mut BufWriter<W>,
+)
+    ensures { LeavesLine (writer_contents W.contents output.old) (writer_contents W.contents output.new) }
+{
+    match explanation(alloc, text, fault) {
+        Ok(Some(line)) => {
+            let _ = print(&line, output);
+        }
+        Ok(None) | Err(_) => {}
+    }
+}
+
+/// Prints what is wrong with the text that was read, where that is asked for.
+fn print_fault<W: Write + Drop>(
+    alloc: Global,
+    explains: bool,
+    text: &Result<Vec<u8>, Fault>,
+    fault: Fault,
+    output: &mut BufWriter<W>,
+)
+    ensures { LeavesFault explains fault (writer_contents W.contents output.old) (writer_contents W.contents output.new) }
+{
+    if let (true, Ok(text), Fault::Configuration(fault)) = (explains, text, fault) {
+        print_explanation(alloc, text, fault, output);
+    }
+}
+
+/// Prints what the configuration has that was read, or what is wrong with it where that is asked for.
+fn check<W: Write + Drop>(
+    alloc: Global,
+    explains: bool,
+    text: &Result<Vec<u8>, Fault>,
+    output: &mut BufWriter<W>,
+) -> Result<(), Fault>
+    ensures output { let held = writer_contents W.contents output.old in
+        let holds = writer_contents W.contents output.new in
+        LeavesOfText explains (result_map (λ octets. octets.items) text.now) held holds result }
+    ensures flush { OnOk result (writer_buffer output.new ≡ []) }
+{
+    match configuration_of(alloc, text) {
+        Ok(config) => print_summary(alloc, &config, output),
+        Err(fault) => {
+            print_fault(alloc, explains, text, fault, output);
+            Err(fault)
+        }
+    }
 }
 
 /// Plays the script under a configuration.
@@ -104,15 +179,15 @@ fn follow<F: ConfigFiles, R: OctetSource, W: Write + Drop>(
     ensures flush { OnOk result (writer_buffer output.new ≡ []) }
 {
     match choice {
-        Ok(Choice::Check(file)) => {
-            let config = configuration_in(alloc, files, &file);
-            check(alloc, config, output)
+        Ok(Choice::Check { file, explains }) => {
+            let text = files.read(alloc, &file);
+            check(alloc, explains, &text, output)
         }
         Ok(Choice::Replay(file)) => {
             let config = configuration(alloc, files, &file);
             play(alloc, config, input, output)
         }
-        Ok(Choice::Help(text)) => print(&text, output),
+        Ok(Choice::Help(text)) => print(text.as_bytes(), output),
         Err(fault) => Err(fault),
     }
 }

@@ -27,7 +27,14 @@ fn call(alloc: Global, words: &[&str]) -> Result<Vec<String>, AllocError> {
 /// The file that a command of this name is to work on.
 fn file_of<'a>(choice: &'a Choice, name: &str) -> Option<Option<&'a str>> {
     match choice {
-        Choice::Check(file) if name == "check" => Some(Some(file.as_str())),
+        Choice::Check {
+            file,
+            explains: false,
+        } if name == "check" => Some(Some(file.as_str())),
+        Choice::Check {
+            file,
+            explains: true,
+        } if name == "explain" => Some(Some(file.as_str())),
         Choice::Replay(None) if name == "replay" => Some(None),
         Choice::Replay(Some(file)) if name == "replay" => Some(Some(file.as_str())),
         _ => None,
@@ -36,7 +43,7 @@ fn file_of<'a>(choice: &'a Choice, name: &str) -> Option<Option<&'a str>> {
 
 #[test]
 fn takes_commands(rt: HostRuntime) -> Result<(), Fail> {
-    let cases: [(&[&str], &str, Option<&str>); 7] = [
+    let cases: [(&[&str], &str, Option<&str>); 9] = [
         (&["replay"], "replay", None),
         (
             &["replay", "--config", "site.toml"],
@@ -52,6 +59,12 @@ fn takes_commands(rt: HostRuntime) -> Result<(), Fail> {
         (&["check", "--config=/dev/null"], "check", Some("/dev/null")),
         (&["check", "--config", "replay"], "check", Some("replay")),
         (&["check", "--config", "-"], "check", Some("-")),
+        (
+            &["check", "--config", "a", "--explain"],
+            "explain",
+            Some("a"),
+        ),
+        (&["check", "--explain", "--config=a"], "explain", Some("a")),
     ];
     for (words, name, file) in cases {
         let call = call(rt.alloc(), words)?;
@@ -65,7 +78,7 @@ fn takes_commands(rt: HostRuntime) -> Result<(), Fail> {
 
 #[test]
 fn refuses_other_words(rt: HostRuntime) -> Result<(), Fail> {
-    let cases: [&[&str]; 19] = [
+    let cases: [&[&str]; 22] = [
         &[],
         &["run"],
         &["check"],
@@ -74,6 +87,9 @@ fn refuses_other_words(rt: HostRuntime) -> Result<(), Fail> {
         &["check", "--config", "a", "--config", "b"],
         &["check", "--config", "a", "b"],
         &["check", "-c", "a"],
+        &["check", "--explain"],
+        &["check", "--config", "a", "--explain", "--explain"],
+        &["replay", "--explain"],
         &["replay", "--config", "a", "--config", "a"],
         &["replay", "--config"],
         &["rep"],
@@ -122,10 +138,11 @@ Options:
 /// The text that is printed for help on `check`.
 const CHECK_HELP: &str = "Says what a configuration has, or its first fault
 
-Usage: bacgw check --config <FILE>
+Usage: bacgw check [OPTIONS] --config <FILE>
 
 Options:
       --config <FILE>  The configuration, in TOML
+      --explain        Also prints where the fault is
   -h, --help           Print help
 ";
 
@@ -364,10 +381,13 @@ fn run_on(
 /// What `check` prints of the built-in text.
 const SUMMARY: &[u8] = b"ok 2 ports 6 objects 3 rules\n";
 
+/// The words of a check that explains.
+const EXPLAIN: &[&str] = &["check", "--config", "s", "--explain"];
+
 /// A faulty configuration is told before the script is read, of which the third line is bad.
 #[test]
 fn runs_under_a_configuration(rt: HostRuntime) -> Result<(), Fail> {
-    let cases: [(&[&str], Result<&str, Fault>, &[u8], &[u8], u8); 9] = [
+    let cases: [(&[&str], Result<&str, Fault>, &[u8], &[u8], u8); 13] = [
         (&["check", "--config", "s"], Ok(SETTING), SUMMARY, b"", 0),
         (
             &["check", "--config", "s"],
@@ -385,6 +405,28 @@ fn runs_under_a_configuration(rt: HostRuntime) -> Result<(), Fail> {
         ),
         (
             &["check", "--config", "s"],
+            Err(Fault::Unreadable),
+            b"",
+            b"bacgw: cannot read configuration\n",
+            1,
+        ),
+        (EXPLAIN, Ok(SETTING), SUMMARY, b"", 0),
+        (
+            EXPLAIN,
+            Ok("format = 1"),
+            b"device: is missing\n",
+            b"bacgw: configuration: Missing\n",
+            2,
+        ),
+        (
+            EXPLAIN,
+            Ok("format = 1\n="),
+            b"the text: is no TOML document, line 2\n",
+            b"bacgw: configuration: NotToml\n",
+            2,
+        ),
+        (
+            EXPLAIN,
             Err(Fault::Unreadable),
             b"",
             b"bacgw: cannot read configuration\n",

@@ -2,7 +2,6 @@ use Rattle.std.proofs.Common.{rules, ap, ap₂, true, codes, ◌≡◌, ◌∙�
 use Rattle.std.proofs.lemmas.Result.{IfOk-weaker}
 use Rattle.clap.specs.Words.{App, app_of, new_app, with_subcommand}
 use Rattle.clap.specs.Simple.{on_top}
-use Rattle.bacgw.specs.CommandLine.{check, replay}
 use Rattle.bacgw.proofs.command_line.make_commands.Goals as goal
 
 pub returns : goal.returns

@@ -1,4 +1,4 @@
-use Rattle.std.proofs.Common.{rules, ◌≡◌, ◌∷◌, [], codes, ℕ, List, Option, subst}
+use Rattle.std.proofs.Common.{rules, ◌≡◌, ◌∷◌, [], codes, ℕ, List, subst}
 use Rattle.std.specs.Io.KnownBytes.{Appends}
 use Rattle.bacgw.specs.Ending.{name_of}
 use Rattle.bacgw.proofs.AppendLemmas.{three_writes}

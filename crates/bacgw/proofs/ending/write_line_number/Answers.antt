@@ -1,4 +1,4 @@
-use Rattle.std.proofs.Common.{rules, ◌≡◌, ◌∷◌, [], codes, decimal, ℕ, List, Option, subst}
+use Rattle.std.proofs.Common.{rules, ◌≡◌, ◌∷◌, [], codes, decimal, ℕ, List, subst}
 use Rattle.std.specs.Io.KnownBytes.{Appends}
 use Rattle.bacgw.proofs.AppendLemmas.{three_writes}
 use Rattle.bacgw.proofs.ending.write_line_number.Goals as goal

@@ -1,4 +1,4 @@
-use Rattle.std.proofs.Common.{◌≡◌, sym, subst, ℕ, List, Option, Result, IsSomeAnd}
+use Rattle.std.proofs.Common.{sym, subst, Result, IsSomeAnd}
 use Rattle.std.specs.Io.Buffered.{writer_contents}
 use Rattle.bacgw.specs.declared.fault.Fault.{Fault}
 use Rattle.bacgw.specs.Replay.{Plays}
