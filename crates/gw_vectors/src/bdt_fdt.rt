@@ -1,6 +1,6 @@
 //! Broadcast management: worked cases, many random acts beside a plain list, and refused growths.
 
-use crate::table::Chosen;
+use crate::table::{Chosen, compare};
 use gw_addr::{BdtEntry, BipAddr, FdtEntry};
 use gw_bdt_fdt::{
     Bdt, BdtFault, DeleteFault, Fdt, MAX_ENTRIES, MAX_REGISTRATIONS, RegisterFault, laws,
@@ -58,98 +58,144 @@ fn pass(fdt: &mut Fdt, seconds: u32) {
     }
 }
 
-/// Acts on an empty table, and what is refused of them, then the rows. `9/60` registers 192.168.3.9 for 60 seconds, `-9` deletes
+/// Acts on an empty table, and what is refused of them, then the rows or `none`. `9/60` registers 192.168.3.9 for 60 seconds, `-9` deletes
 /// it, `~5` lets five seconds pass; a row has the device, its time to live and the seconds that remain.
 const ACTS: &str = "\
 9/60 ~89: 9/60/1
-9/60 ~90 -9: absent
+9/60 ~90 -9: absent none
 9/65535 ~30: 9/65535/65535
 9/65535 ~31: 9/65535/65534
 9/65535 ~65564: 9/65535/1
-9/65535 ~65565:
+9/65535 ~65565: none
 9/60 10/60 9/60: 9/60/90 10/60/90
 9/60 10/60 9/5: 9/5/35 10/60/90
 9/60 10/60 -9 9/5: 10/60/90 9/5/35
 9/5 10/60 ~35 11/60 9/60: 10/60/55 11/60/90 9/60/90
 9/0 ~29: 9/0/1
-9/0 ~30:
+9/0 ~30: none
 9/0 ~29 9/0 ~29: 9/0/1
-9/0 ~29 9/0 ~30:
+9/0 ~29 9/0 ~30: none
 9/10 ~20 -9 9/10 ~39: 9/10/1
 9/10 ~5 9/5 ~34: 9/5/1
-9/10 ~5 9/5 ~35:";
+9/10 ~5 9/5 ~35: none";
 
-/// What acts on an empty table lead to.
-fn answer(alloc: Global, acts: &str) -> Result<String, Fail> {
-    let mut fdt = Fdt::new(alloc);
-    let mut answer = String::new(alloc);
-    for act in acts.split(' ') {
-        if let Some(seconds) = act.strip_prefix('~') {
-            pass(&mut fdt, seconds.parse()?);
-        } else if let Some(last) = act.strip_prefix('-') {
-            if fdt.delete(device(last.parse()?)).is_err() {
-                answer.push_str(" absent")?;
-            }
-        } else {
-            let (last, time_to_live) = act.split_once('/').ok_or("a registration")?;
-            fdt.register(device(last.parse()?), time_to_live.parse()?)?;
-        }
+/// What one act answers.
+fn act(fdt: &mut Fdt, act: &str) -> Result<&'static str, Fail> {
+    if let Some(seconds) = act.strip_prefix('~') {
+        pass(fdt, seconds.parse()?);
+        return Ok("");
     }
+    if let Some(last) = act.strip_prefix('-') {
+        let deleted = fdt.delete(device(last.parse()?));
+        return Ok(if deleted.is_err() { " absent" } else { "" });
+    }
+    let (last, time_to_live) = act.split_once('/').ok_or("a registration")?;
+    fdt.register(device(last.parse()?), time_to_live.parse()?)?;
+    Ok("")
+}
+
+/// The rows of a table.
+fn rows(alloc: Global, fdt: &Fdt) -> Result<String, Fail> {
+    let mut shown = String::new(alloc);
     for row in &fdt.rows(alloc)? {
         let [_, _, _, last] = row.address.ip;
-        let shown = format!(in alloc; " {last}/{}/{}", row.time_to_live, row.remaining)?;
-        answer.push_str(&shown)?;
+        let row = format!(in alloc; " {last}/{}/{}", row.time_to_live, row.remaining)?;
+        shown.push_str(&row)?;
     }
+    if shown.is_empty() {
+        shown.push_str(" none")?;
+    }
+    Ok(shown)
+}
+
+/// What acts answer, and the rows that they lead to.
+fn acts(alloc: Global, fdt: &mut Fdt, acts: &str) -> Result<String, Fail> {
+    let mut answer = String::new(alloc);
+    for one in acts.split(' ') {
+        answer.push_str(act(fdt, one)?)?;
+    }
+    answer.push_str(&rows(alloc, fdt)?)?;
     Ok(answer)
+}
+
+/// That on an empty table.
+fn answer(alloc: Global, line: &str) -> Result<String, Fail> {
+    let mut fdt = Fdt::new(alloc);
+    acts(alloc, &mut fdt, line)
 }
 
 #[test]
 fn registrations_end_by_their_acts(rt: HostRuntime) -> Result<(), Fail> {
-    for line in ACTS.lines() {
-        let (acts, wanted) = line.split_once(':').ok_or("a line has a colon")?;
-        assert_eq!(rt; answer(rt.alloc(), acts)?.as_str(), wanted, "at {line}");
-    }
+    compare(rt.alloc(), ACTS, answer)?;
     laws::last_grants();
     laws::registrations();
     Ok(())
 }
 
-#[test]
-fn tables_of_peers(rt: HostRuntime) -> Result<(), Fail> {
-    let many = entries_of(rt.alloc(), 65)?;
-    assert_eq!(rt; many.len(), MAX_ENTRIES + 1);
-    let full = Bdt::from_entries(rt.alloc(), &many).err();
-    assert_eq!(rt; full, Some(BdtFault::Full));
-    let bdt = Bdt::from_entries(rt.alloc(), &many[1..])?;
-    assert!(rt; bdt.entries() == &many[1..]);
-    let own = entry(64, [255, 255, 255, 0]);
-    let twice = [own, entry(4, ALL_ONES), entry(64, ALL_ONES)];
-    let refused = Bdt::from_entries(rt.alloc(), &twice).err();
-    assert_eq!(rt; refused, Some(BdtFault::Duplicate));
-    let bdt = Bdt::from_entries(rt.alloc(), &twice[..2])?;
-    assert_eq!(rt; bdt.own_mask(own.address), own.mask);
-    assert_eq!(rt; bdt.peers(own.address).count(), 1);
-    // The own entry is found by all six octets.
+/// The fault of a table of these entries.
+fn fault_of(alloc: Global, entries: &[BdtEntry]) -> Option<BdtFault> {
+    Bdt::from_entries(alloc, entries).err()
+}
+
+/// Whether a table keeps its entries.
+fn is_kept(alloc: Global, entries: &[BdtEntry]) -> Result<bool, BdtFault> {
+    let bdt = Bdt::from_entries(alloc, entries)?;
+    Ok(bdt.entries() == entries)
+}
+
+/// Whether the own entry is found by all six octets, and isn't among the peers.
+fn finds(bdt: &Bdt, own: &BdtEntry) -> bool {
     let other_port = BipAddr {
         udp: 47809,
         ..own.address
     };
-    assert_eq!(rt; bdt.own_mask(other_port), ALL_ONES);
-    assert_eq!(rt; bdt.peers(other_port).count(), 2);
+    bdt.own_mask(own.address) == own.mask
+        && bdt.peers(own.address).count() == 1
+        && bdt.own_mask(other_port) == ALL_ONES
+        && bdt.peers(other_port).count() == 2
+}
+
+/// That of a table of two entries.
+fn finds_among(alloc: Global, entries: &[BdtEntry], own: &BdtEntry) -> Result<bool, BdtFault> {
+    let bdt = Bdt::from_entries(alloc, entries)?;
+    Ok(finds(&bdt, own))
+}
+
+#[test]
+fn tables_of_peers(rt: HostRuntime) -> Result<(), Fail> {
+    let many = entries_of(rt.alloc(), MAX_ENTRIES as u8 + 1)?;
+    let own = entry(64, [255, 255, 255, 0]);
+    let twice = [own, entry(4, ALL_ONES), entry(64, ALL_ONES)];
+    assert_eq!(rt; fault_of(rt.alloc(), &many), Some(BdtFault::Full));
+    assert_eq!(rt; fault_of(rt.alloc(), &twice), Some(BdtFault::Duplicate));
+    let whole = many.get(1..).ok_or("64 entries")?;
+    assert!(rt; is_kept(rt.alloc(), whole)? && finds_among(rt.alloc(), &twice[..2], &own)?);
     Ok(())
+}
+
+/// Whether 128 foreign devices are registered, and no more.
+fn is_filled(fdt: &mut Fdt) -> Result<bool, RegisterFault> {
+    for last in 0..200 {
+        if is_granted(fdt, device(last), 60)? != (last < 128) {
+            return Ok(false);
+        }
+    }
+    Ok(fdt.count() == MAX_REGISTRATIONS)
+}
+
+/// Whether a full table renews a registration, and takes a stranger only for one that is deleted.
+fn is_renewed(fdt: &mut Fdt) -> Result<bool, RegisterFault> {
+    fdt.register(device(127), 0)?;
+    let deleted = fdt.delete(device(64));
+    fdt.register(device(129), 60)?;
+    let refused = fdt.register(device(64), 60);
+    Ok(deleted == Ok(()) && refused == Err(RegisterFault::Full))
 }
 
 #[test]
 fn a_full_table_renews_and_takes_no_stranger(rt: HostRuntime) -> Result<(), Fail> {
     let mut fdt = Fdt::new(rt.alloc());
-    for last in 0..200 {
-        assert_eq!(rt; is_granted(&mut fdt, device(last), 60)?, last < 128);
-    }
-    assert_eq!(rt; fdt.count(), MAX_REGISTRATIONS);
-    fdt.register(device(127), 0)?;
-    assert_eq!(rt; fdt.delete(device(64)), Ok(()));
-    fdt.register(device(129), 60)?;
-    assert_eq!(rt; fdt.register(device(64), 60), Err(RegisterFault::Full));
+    assert!(rt; is_filled(&mut fdt)? && is_renewed(&mut fdt)?);
     pass(&mut fdt, 90);
     assert_eq!(rt; fdt.count(), 0);
     Ok(())
@@ -227,12 +273,17 @@ fn do_both(fdt: &mut Fdt, plain: &mut Plain, kind: u64, last: u8, time: u16) -> 
 }
 
 /// One random act on both tables: whether they answer alike.
-fn act(chosen: &mut Chosen, fdt: &mut Fdt, plain: &mut Plain) -> Result<bool, Fail> {
+fn are_alike(chosen: &mut Chosen, fdt: &mut Fdt, plain: &mut Plain) -> Result<bool, Fail> {
     let last = chosen.below(160) as u8;
     let kind = chosen.below(16);
     let time = chosen.below(90) as u16;
     let alike = do_both(fdt, plain, kind, last, time)?;
     Ok(alike && fdt.contains(device(last)) == plain.place(last).is_some())
+}
+
+/// Whether a table has the rows of the list.
+fn has_rows(alloc: Global, fdt: &Fdt, plain: &Plain) -> Result<bool, AllocError> {
+    Ok(plain.is(&fdt.rows(alloc)?))
 }
 
 #[test]
@@ -242,11 +293,43 @@ fn ten_thousand_acts_beside_a_plain_list(rt: HostRuntime) -> Result<(), Fail> {
         rows: Vec::new(rt.alloc()),
     };
     let mut fdt = Fdt::new(rt.alloc());
-    for _ in 0..10_000 {
-        assert!(rt; act(&mut chosen, &mut fdt, &mut plain)?);
-        assert!(rt; plain.is(&fdt.rows(rt.alloc())?));
+    for _ in 0..10_000u16 {
+        let alike = are_alike(&mut chosen, &mut fdt, &mut plain)?;
+        assert!(rt; alike && has_rows(rt.alloc(), &fdt, &plain)?);
     }
     Ok(())
+}
+
+/// Whether a registration is done in both tables, or refused for want of memory alone and in neither.
+fn is_whole(fdt: &mut Fdt, plain: &mut Plain, last: u8, time: u16) -> Result<bool, AllocError> {
+    let whole = match fdt.register(device(last), time) {
+        Ok(()) => plain.is_granted(last, time)?,
+        Err(fault) => fault == RegisterFault::Memory,
+    };
+    Ok(
+        whole
+            && fdt.count() == plain.rows.len()
+            && fdt.contains(device(last)) == plain.place(last).is_some(),
+    )
+}
+
+/// Whether that holds of 128 registrations, each with a renewal.
+fn are_whole(fdt: &mut Fdt, plain: &mut Plain) -> Result<bool, AllocError> {
+    for last in 0..128 {
+        let time = u16::from(last);
+        if !is_whole(fdt, plain, last, time)? || !is_whole(fdt, plain, last, 200 - time)? {
+            return Ok(false);
+        }
+    }
+    Ok(true)
+}
+
+/// Seconds pass in both tables.
+fn pass_both(fdt: &mut Fdt, plain: &mut Plain, seconds: u32) {
+    pass(fdt, seconds);
+    for _ in 0..seconds {
+        plain.tick();
+    }
 }
 
 #[test]
@@ -255,39 +338,23 @@ fn a_refused_growth_changes_nothing(rt: HostRuntime) -> Result<(), Fail> {
         rows: Vec::new(rt.alloc()),
     };
     let mut fdt = Fdt::new(rt.alloc());
-    for last in 0..128 {
-        for time_to_live in [last as u16, 200 - last as u16] {
-            match fdt.register(device(last), time_to_live) {
-                Ok(()) => {
-                    let _granted = plain.is_granted(last, time_to_live)?;
-                },
-                Err(fault) => assert_eq!(rt; fault, RegisterFault::Memory),
-            }
-            assert_eq!(rt; fdt.count(), plain.rows.len());
-            assert_eq!(rt; fdt.contains(device(last)), plain.place(last).is_some());
-        }
-    }
-    for _ in 0..100 {
-        plain.tick();
-        pass(&mut fdt, 1);
-    }
-    assert!(rt; plain.is(&fdt.rows(rt.alloc())?));
+    assert!(rt; are_whole(&mut fdt, &mut plain)?);
+    pass_both(&mut fdt, &mut plain, 100);
+    assert!(rt; has_rows(rt.alloc(), &fdt, &plain)?);
     Ok(())
 }
 
 #[test]
 fn faults_in_words(rt: HostRuntime) -> Result<(), Fail> {
-    assert_eq!(rt;
-        BdtFault::Duplicate.to_string(rt.alloc())?.as_str(),
-        "an address has two entries"
+    let (twice, absent, full) = (
+        BdtFault::Duplicate,
+        DeleteFault::Absent,
+        RegisterFault::Full,
     );
+    let shown = format!(in rt.alloc(); "{twice}; {absent}; {full}")?;
     assert_eq!(rt;
-        DeleteFault::Absent.to_string(rt.alloc())?.as_str(),
-        "the foreign device is not registered"
-    );
-    assert_eq!(rt;
-        RegisterFault::Full.to_string(rt.alloc())?.as_str(),
-        "128 other foreign devices are registered"
+        shown.as_str(),
+        "an address has two entries; the foreign device is not registered; 128 other foreign devices are registered"
     );
     Ok(())
 }

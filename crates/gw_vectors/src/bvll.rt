@@ -3,7 +3,7 @@ ghost use Rattle.std.specs.Prelude.{◌≡◌, IfOk};
 ghost use Rattle.gw_addr.specs.Entry.{bdt_entry};
 ghost use Rattle.gw_bvll.specs.Entries.{lent};
 
-use crate::table::{octets_of, parts};
+use crate::table::{compare, octets_of};
 use gw_addr::BdtEntry;
 use gw_bvll::{
     BdtEntries, Bvll, BvllFault, EncodeFault, Function, ResultCode, decode, encode, put_entries,
@@ -36,12 +36,13 @@ const FRAMES: &str = "\
 8103000E C0A8010ABAC0 FFFFFF00: ReadBdtAck(Entries { octets: [192, 168, 1, 10, 186, 192, 255, 255, 255, 0], kind: PhantomData<_> })";
 
 /// What is read of a frame; a message that is written in other octets is told.
-fn answer(alloc: Global, frame: &[u8]) -> Result<String, Fail> {
-    match decode(frame) {
+fn answer(alloc: Global, line: &str) -> Result<String, Fail> {
+    let frame = octets_of(alloc, line)?;
+    match decode(&frame) {
         Ok(message) => {
             let mut out = Vec::new(alloc);
             encode(&message, &mut out)?;
-            Ok(if out.as_slice() == frame {
+            Ok(if out == frame {
                 format!(in alloc; "{message:?}")?
             } else {
                 format!(in alloc; "{message:?}, written as {out:?}")?
@@ -51,48 +52,56 @@ fn answer(alloc: Global, frame: &[u8]) -> Result<String, Fail> {
     }
 }
 
+/// Whether each front of a frame is cut.
+fn are_cut(frame: &[u8]) -> bool {
+    (0..frame.len()).all(|len| decode(&frame[..len]) == Err(BvllFault::Length))
+}
+
 #[test]
 fn frames_from_outside(rt: HostRuntime) -> Result<(), Fail> {
-    for line in FRAMES.lines() {
-        let (frame, wanted) = parts(rt.alloc(), line)?;
-        assert_eq!(rt; answer(rt.alloc(), &frame)?.as_str(), wanted, "at {line}");
-    }
-    let read = octets_of(
-        rt.alloc(),
-        "810A0016 0124 0064 01 01 FF 0005070C 0C01400001 1955",
-    )?;
-    for count in 0..22 {
-        let cut = read.get(..count).ok_or("a cut")?;
-        assert_eq!(rt; decode(cut), Err(BvllFault::Length), "at {count}");
-    }
+    compare(rt.alloc(), FRAMES, answer)?;
+    let read = "810A0016 0124 0064 01 01 FF 0005070C 0C01400001 1955";
+    assert!(rt; are_cut(&octets_of(rt.alloc(), read)?));
     Ok(())
+}
+
+/// Result codes by their order, and their frames.
+const CODES: &str = "\
+0: 810000060000 true
+1: 810000060010 false
+2: 810000060020 false
+3: 810000060030 false
+4: 810000060040 false
+5: 810000060050 false
+6: 810000060060 false";
+
+/// The result code of a place.
+fn code(place: &str) -> ResultCode {
+    match place {
+        "0" => ResultCode::SUCCESS,
+        "1" => ResultCode::WRITE_BDT_NAK,
+        "2" => ResultCode::READ_BDT_NAK,
+        "3" => ResultCode::REGISTER_NAK,
+        "4" => ResultCode::READ_FDT_NAK,
+        "5" => ResultCode::DELETE_NAK,
+        _ => ResultCode::DISTRIBUTE_NAK,
+    }
+}
+
+fn code_answer(alloc: Global, place: &str) -> Result<String, Fail> {
+    let code = code(place);
+    let mut out = Vec::new(alloc);
+    encode(&Bvll::Result(code), &mut out)?;
+    let frame = hex::encode_upper(alloc, out)?;
+    Ok(format!(in alloc; "{frame} {}", code.is_success())?)
 }
 
 #[test]
 fn result_codes(rt: HostRuntime) -> Result<(), Fail> {
-    for (code, octets) in [
-        (ResultCode::SUCCESS, [0x00, 0x00]),
-        (ResultCode::WRITE_BDT_NAK, [0x00, 0x10]),
-        (ResultCode::READ_BDT_NAK, [0x00, 0x20]),
-        (ResultCode::REGISTER_NAK, [0x00, 0x30]),
-        (ResultCode::READ_FDT_NAK, [0x00, 0x40]),
-        (ResultCode::DELETE_NAK, [0x00, 0x50]),
-        (ResultCode::DISTRIBUTE_NAK, [0x00, 0x60]),
-    ] {
-        let mut out = Vec::new(rt.alloc());
-        encode(&Bvll::Result(code), &mut out)?;
-        assert_eq!(rt;
-            out.as_slice().strip_prefix([0x81, 0, 0, 6].as_slice()),
-            Some(octets.as_slice())
-        );
-        assert_eq!(rt; code.is_success(), code == ResultCode::SUCCESS);
-    }
-    assert_eq!(rt;
-        ResultCode::refusal(Function::Register),
-        Some(ResultCode::REGISTER_NAK)
-    );
+    let refusal = ResultCode::refusal(Function::Register);
+    assert_eq!(rt; refusal, Some(ResultCode::REGISTER_NAK));
     assert_eq!(rt; ResultCode::refusal(Function::OriginalUnicast), None);
-    Ok(())
+    compare(rt.alloc(), CODES, code_answer)
 }
 
 /// The entries in a buffer of their own: their list comes through the iterator's clauses alone.

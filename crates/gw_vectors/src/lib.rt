@@ -10,26 +10,40 @@ mod addr;
 #[cfg(test)]
 mod apdu;
 #[cfg(test)]
+mod audit;
+#[cfg(test)]
 mod bdt_fdt;
 #[cfg(test)]
 mod bvll;
+#[cfg(test)]
+mod device;
 mod fakes;
 #[cfg(test)]
 mod gateway;
 #[cfg(test)]
+mod memory;
+#[cfg(test)]
 mod npdu;
+#[cfg(test)]
+mod objects;
 #[cfg(test)]
 mod policy_text;
 #[cfg(test)]
 mod priority;
 #[cfg(test)]
+mod relay;
+#[cfg(test)]
 mod replay;
 #[cfg(test)]
 mod routes;
 #[cfg(test)]
+mod rule_index;
+#[cfg(test)]
 mod rules;
 #[cfg(test)]
 mod script;
+#[cfg(test)]
+mod serve;
 #[cfg(test)]
 mod services;
 #[cfg(test)]

@@ -1,7 +1,7 @@
 //! The messages of the network layer: octets from outside, headers for the next hop, messages that differ in one field, and
 //! refused growths.
 
-use crate::table::{octets_of, parts};
+use crate::table::{compare, hold, octets_of};
 use gw_npdu::{
     AddressRef, Destination, EncodeFault, MessageKind, Npdu, NpduFault, Onward, Payload, Priority,
     decode, encode, relay_header,
@@ -109,12 +109,13 @@ const SOURCE: AddressRef<'_> = AddressRef {
 };
 
 /// What is read of a frame; where it is written in other octets, these too.
-fn answer(alloc: Global, frame: &[u8]) -> Result<String, Fail> {
-    match decode(frame) {
+fn answer(alloc: Global, line: &str) -> Result<String, Fail> {
+    let frame = octets_of(alloc, line)?;
+    match decode(&frame) {
         Ok(npdu) => {
             let mut out = Vec::new(alloc);
             encode(&npdu, &mut out)?;
-            if out.as_slice() == frame {
+            if out == frame {
                 return Ok(format!(in alloc; "{npdu:?}")?);
             }
             let written = hex::encode_upper(alloc, out)?;
@@ -126,11 +127,7 @@ fn answer(alloc: Global, frame: &[u8]) -> Result<String, Fail> {
 
 #[test]
 fn octets_from_outside(rt: HostRuntime) -> Result<(), Fail> {
-    for line in FRAMES.lines() {
-        let (octets, wanted) = parts(rt.alloc(), line)?;
-        assert_eq!(rt; answer(rt.alloc(), &octets)?.as_str(), wanted, "at {line}");
-    }
-    Ok(())
+    compare(rt.alloc(), FRAMES, answer)
 }
 
 /// The header of a message for the next hop.
@@ -145,30 +142,80 @@ fn header(alloc: Global, octets: &[u8], keeps_destination: bool) -> Result<Vec<u
     Ok(out)
 }
 
+/// Whether a message has both headers of a line.
+fn has_headers(alloc: Global, line: &str) -> Result<bool, Fail> {
+    let (digits, wanted) = line.split_once(": ").ok_or("headers")?;
+    let (delivered, passed_on) = wanted.split_once(' ').ok_or("two headers")?;
+    let octets = octets_of(alloc, digits)?;
+    Ok(
+        header(alloc, &octets, false)? == octets_of(alloc, delivered)?
+            && header(alloc, &octets, true)? == octets_of(alloc, passed_on)?,
+    )
+}
+
 #[test]
 fn headers_for_the_next_hop(rt: HostRuntime) -> Result<(), Fail> {
-    for line in HEADERS.lines() {
-        let (octets, wanted) = parts(rt.alloc(), line)?;
-        let (delivered, passed_on) = wanted.split_once(' ').ok_or("two headers")?;
-        let wanted = [delivered, passed_on];
-        for (keeps_destination, wanted) in [false, true].into_iter().zip(wanted) {
-            let made = header(rt.alloc(), &octets, keeps_destination)?;
-            assert_eq!(rt; made, octets_of(rt.alloc(), wanted)?, "at {line}");
+    hold(rt.alloc(), HEADERS, has_headers)
+}
+
+/// Whether a message is the same as itself alone, among all.
+fn differs(alloc: Global, one: &str) -> Result<bool, Fail> {
+    let first = octets_of(alloc, one)?;
+    for other in DIFFERENT.lines() {
+        let second = octets_of(alloc, other)?;
+        if (decode(&first)? == decode(&second)?) != (first == second) {
+            return Ok(false);
         }
     }
-    Ok(())
+    Ok(true)
 }
 
 #[test]
 fn messages_that_differ_in_one_field(rt: HostRuntime) -> Result<(), Fail> {
-    for one in DIFFERENT.lines() {
-        let first = octets_of(rt.alloc(), one)?;
-        for other in DIFFERENT.lines() {
-            let second = octets_of(rt.alloc(), other)?;
-            assert!(rt; (decode(&first)? == decode(&second)?) == (first == second));
-        }
+    hold(rt.alloc(), DIFFERENT, differs)
+}
+
+/// A message of these octets without addresses.
+fn plain(apdu: &[u8]) -> Npdu<'_> {
+    Npdu {
+        destination: None,
+        source: None,
+        reply_expected: false,
+        priority: Priority::Normal,
+        payload: Payload::Apdu(apdu),
     }
-    Ok(())
+}
+
+/// What is added to a message that is delivered.
+const DELIVERED: Onward<'_> = Onward {
+    keeps_destination: false,
+    source: SOURCE,
+};
+
+/// Whether longer messages and headers are refused.
+fn are_refused(npdu: &Npdu<'_>, out: &mut Vec<u8>) -> bool {
+    encode(npdu, out) == Err(EncodeFault::TooLong)
+        && relay_header(npdu, &DELIVERED, 1487, out) == Err(EncodeFault::TooLong)
+        && relay_header(npdu, &DELIVERED, usize::MAX, out) == Err(EncodeFault::TooLong)
+}
+
+/// Whether the longest message is appended whole, or the buffer left as it was.
+fn is_whole(npdu: &Npdu<'_>, out: &mut Vec<u8>) -> bool {
+    let before = out.len();
+    match encode(npdu, out) {
+        Ok(()) => out.len().checked_sub(before) == Some(1497),
+        Err(fault) => fault == EncodeFault::Memory && out.len() == before,
+    }
+}
+
+/// The same of the longest header. Room that the buffer has it keeps.
+fn is_whole_header(npdu: &Npdu<'_>, out: &mut Vec<u8>) -> bool {
+    let (before, capacity) = (out.len(), out.capacity());
+    let added = match relay_header(npdu, &DELIVERED, 1486, out) {
+        Ok(()) => 11,
+        Err(_) => 0,
+    };
+    out.len().checked_sub(before) == Some(added) && out.capacity() >= capacity
 }
 
 /// The longest message and header; each growth is refused in turn under `rt try --test --fail-alloc`: the buffer is then as before,
@@ -176,70 +223,46 @@ fn messages_that_differ_in_one_field(rt: HostRuntime) -> Result<(), Fail> {
 #[test]
 fn the_longest_messages(rt: HostRuntime) -> Result<(), Fail> {
     let apdu = [7; 1496];
-    let mut npdu = Npdu {
-        destination: None,
-        source: None,
-        reply_expected: false,
-        priority: Priority::Normal,
-        payload: Payload::Apdu(&apdu),
-    };
     let mut out = Vec::new(rt.alloc());
     out.push(9)?;
-    assert_eq!(rt; encode(&npdu, &mut out), Err(EncodeFault::TooLong));
-    let how = Onward {
-        keeps_destination: false,
-        source: SOURCE,
-    };
-    for count in [1487, usize::MAX] {
-        let refused = relay_header(&npdu, &how, count, &mut out);
-        assert_eq!(rt; refused, Err(EncodeFault::TooLong));
-    }
-    npdu.payload = Payload::Apdu(&apdu[..1495]);
+    assert!(rt; are_refused(&plain(&apdu), &mut out));
+    let npdu = plain(&apdu[..1495]);
     for _ in 0..20u8 {
-        let before = out.len();
-        match encode(&npdu, &mut out) {
-            Ok(()) => assert_eq!(rt; out.len(), before + 1497),
-            Err(fault) => {
-                assert_eq!(rt; fault, EncodeFault::Memory);
-                assert_eq!(rt; out.len(), before);
-            },
-        }
-        let capacity = out.capacity();
-        let before = out.len();
-        match relay_header(&npdu, &how, 1486, &mut out) {
-            Ok(()) => assert_eq!(rt; out.len(), before + 11),
-            Err(_) => assert_eq!(rt; out.len(), before),
-        }
-        assert!(rt; out.capacity() >= capacity);
+        assert!(rt; is_whole(&npdu, &mut out) && is_whole_header(&npdu, &mut out));
     }
     assert_eq!(rt; out.first().copied(), Some(9));
     Ok(())
 }
 
+/// Numbers of messages, and their kinds.
+const KINDS: &str = "\
+0: Some(WhoIsRouterToNetwork) Some(0)
+1: Some(IAmRouterToNetwork) Some(1)
+3: Some(RejectMessageToNetwork) Some(3)
+9: Some(DisconnectConnectionToNetwork) Some(9)
+18: Some(WhatIsNetworkNumber) Some(18)
+19: Some(NetworkNumberIs) Some(19)
+10: None None
+17: None None
+20: None None
+127: None None
+128: None None
+255: None None";
+
+fn kind(alloc: Global, digits: &str) -> Result<String, Fail> {
+    let kind = MessageKind::from_number(digits.parse()?);
+    Ok(format!(in alloc; "{kind:?} {:?}", kind.map(|kind| kind.number()))?)
+}
+
 #[test]
 fn names_and_numbers(rt: HostRuntime) -> Result<(), Fail> {
-    let known = [
-        (0x00, MessageKind::WhoIsRouterToNetwork),
-        (0x01, MessageKind::IAmRouterToNetwork),
-        (0x03, MessageKind::RejectMessageToNetwork),
-        (0x09, MessageKind::DisconnectConnectionToNetwork),
-        (0x12, MessageKind::WhatIsNetworkNumber),
-        (0x13, MessageKind::NetworkNumberIs),
-    ];
-    for (number, kind) in known {
-        assert_eq!(rt; kind.number(), number);
-        assert_eq!(rt; MessageKind::from_number(number), Some(kind));
-    }
-    for number in [0x0A, 0x11, 0x14, 0x7F, 0x80, 0xFF] {
-        assert_eq!(rt; MessageKind::from_number(number), None);
-    }
-    assert_eq!(rt; SOURCE.net().get(), 1);
+    compare(rt.alloc(), KINDS, kind)?;
     let every = Destination {
         network: Destination::EVERY_NETWORK,
         mac: &[],
         hops: 1,
     };
-    assert!(rt; every.net().is_none());
+    assert!(rt; SOURCE.net().get() == 1 && every.net().is_none());
     let short = NpduFault::Short.to_string(rt.alloc())?;
     assert_eq!(rt;
         short.as_str(),

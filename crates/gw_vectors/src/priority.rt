@@ -1,4 +1,7 @@
 //! The priority rule on the standard's kind of example, at numbers and at texts.
+ghost use Rattle.std.specs.Prelude.{◌≤◌, IfOk};
+
+use crate::table::compare;
 use gw_priority::{LOWEST, PRIORITIES, PriorityArray, PriorityFault, RESERVED, laws};
 use std::alloc::{AllocError, Global};
 use std::test::*;
@@ -17,48 +20,57 @@ const ACTS: &str = "\
 10=3 =2: 3 10=3
 10=3 =2 -10: 2";
 
-/// What acts lead to. A priority outside 1 to 16 ends it.
+/// A priority from 1 to 16.
+fn priority_of(digits: &str) -> Result<u8, Fail>
+    ensures { IfOk result (λ priority. (1 ≤ priority) × (priority ≤ 16)) }
+{
+    match digits.parse() {
+        Ok(priority @ 1..=16) => Ok(priority),
+        _ => Err("a priority from 1 to 16".into()),
+    }
+}
+
+/// What one act does, and whether it is refused.
+fn is_refused(property: &mut PriorityArray<u32>, act: &str) -> Result<bool, Fail> {
+    if let Some(priority) = act.strip_prefix('-') {
+        return Ok(property.relinquish(priority_of(priority)?) == Err(PriorityFault::Reserved));
+    }
+    let (priority, value) = act.split_once('=').ok_or("an act")?;
+    let value = value.parse()?;
+    if priority.is_empty() {
+        property.set_default(value);
+        return Ok(false);
+    }
+    Ok(property.command(priority_of(priority)?, value).is_err())
+}
+
+/// The present value, and the slots that aren't empty.
+fn shown(alloc: Global, property: &PriorityArray<u32>) -> Result<String, Fail> {
+    let mut shown = format!(in alloc; " {}", property.present())?;
+    for priority in 1..LOWEST + 1 {
+        if let Some(value) = property.slot(priority) {
+            shown.push_str(&format!(in alloc; " {priority}={value}")?)?;
+        }
+    }
+    Ok(shown)
+}
+
+/// What acts lead to.
 fn answer(alloc: Global, acts: &str) -> Result<String, Fail> {
     let mut property = PriorityArray::new(1u32);
     let mut answer = String::new(alloc);
     for act in acts.split(' ') {
-        let (priority, value) = match act.strip_prefix('-') {
-            Some(priority) => (priority, None),
-            None => {
-                let (priority, value) = act.split_once('=').ok_or("an act")?;
-                (priority, Some(value.parse()?))
-            },
-        };
-        let acted = match (priority.parse().ok(), value) {
-            (Some(priority @ 1..=16), Some(value)) => property
-                .command(priority, value)
-                .map_err(|refused| refused.fault),
-            (Some(priority @ 1..=16), None) => property.relinquish(priority),
-            (_, Some(value)) => {
-                property.set_default(value);
-                Ok(())
-            },
-            (_, None) => return Err("a priority from 1 to 16".into()),
-        };
-        if acted == Err(PriorityFault::Reserved) {
+        if is_refused(&mut property, act)? {
             answer.push_str(" reserved")?;
         }
     }
-    answer.push_str(&format!(in alloc; " {}", property.present())?)?;
-    for priority in 1..LOWEST + 1 {
-        if let Some(value) = property.slot(priority) {
-            answer.push_str(&format!(in alloc; " {priority}={value}")?)?;
-        }
-    }
+    answer.push_str(&shown(alloc, &property)?)?;
     Ok(answer)
 }
 
 #[test]
 fn the_highest_priority_decides(rt: HostRuntime) -> Result<(), Fail> {
-    for line in ACTS.lines() {
-        let (acts, wanted) = line.split_once(':').ok_or("a line has a colon")?;
-        assert_eq!(rt; answer(rt.alloc(), acts)?.as_str(), wanted, "at {line}");
-    }
+    compare(rt.alloc(), ACTS, answer)?;
     laws::present_value::<u32>();
     laws::slots_after::<String>();
     Ok(())
@@ -68,18 +80,30 @@ fn text(alloc: Global, text: &str) -> Result<String, AllocError> {
     String::from_str(alloc, text)
 }
 
+/// The value of a command that is refused comes back.
+fn refused(note: &mut PriorityArray<String>, value: String) -> Option<String> {
+    match note.command(RESERVED, value) {
+        Ok(()) => None,
+        Err(refused) => Some(refused.value),
+    }
+}
+
+/// Texts are commanded, refused, made the default and relinquished: the present text before and after, and the refused one.
+fn texts(alloc: Global, note: &mut PriorityArray<String>) -> Result<String, Fail> {
+    let commanded = note.command(9, text(alloc, "open")?).is_ok();
+    let before = text(alloc, note.present().as_str())?;
+    let refused = refused(note, text(alloc, "mine")?).ok_or("a refusal")?;
+    note.set_default(text(alloc, "bye")?);
+    let relinquished = note.relinquish(9).is_ok();
+    let after = note.present();
+    Ok(format!(in alloc; "{commanded} {before} {refused} {relinquished} {after}")?)
+}
+
 #[test]
 fn texts_move_in_and_back_out(rt: HostRuntime) -> Result<(), Fail> {
     let mut note = PriorityArray::new(text(rt.alloc(), "hi")?);
-    assert!(rt; note.command(9, text(rt.alloc(), "open")?).is_ok());
-    assert_eq!(rt; note.present().as_str(), "open");
-    match note.command(RESERVED, text(rt.alloc(), "mine")?) {
-        Ok(()) => assert!(rt; false, "a command at priority 6 was accepted"),
-        Err(refused) => assert_eq!(rt; refused.value.as_str(), "mine"),
-    }
-    note.set_default(text(rt.alloc(), "bye")?);
-    assert!(rt; note.relinquish(9).is_ok());
-    assert_eq!(rt; note.present().as_str(), "bye");
+    let shown = texts(rt.alloc(), &mut note)?;
+    assert_eq!(rt; shown.as_str(), "true open mine true bye");
     assert_eq!(rt; (PRIORITIES, LOWEST, RESERVED), (16, 16, 6));
     let fault = PriorityFault::Reserved.to_string(rt.alloc())?;
     assert_eq!(rt; fault.as_str(), "priority 6 is reserved");

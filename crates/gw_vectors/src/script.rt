@@ -3,11 +3,13 @@
 ghost use Rattle.std.specs.Prelude.{⊤, None, Some};
 
 use crate::fakes::Slow;
+use crate::table::compare;
 use gw_addr::BipAddr;
 use gw_script::{
     Event, LineReader, MAX_DATAGRAM, NextLine, OctetSink, OctetSource, ReadFailed, WriteFailed,
     append_end, append_send, parse_line, write_whole,
 };
+use std::alloc::Global;
 use std::test::*;
 
 const PANEL: BipAddr = BipAddr {
@@ -54,30 +56,37 @@ impl OctetSink for Abyss {
     }
 }
 
-#[test]
-fn lines_of_a_text(rt: HostRuntime) {
-    let mut source = Text {
-        octets: b"tick\n\nlonger than that\nlast",
-    };
-    let mut lines = LineReader::new();
-    let wanted: [(&[u8], usize); 4] = [
-        (b"tick", 5),
-        (b"", 1),
-        (b"longer than that", 17),
-        (b"last", 4),
-    ];
-    for (line, with_feed) in wanted {
-        match lines.find_line(&mut source) {
-            Ok(NextLine::Line { len, span }) => {
-                assert_eq!(rt; lines.front(len), line);
-                assert_eq!(rt; span, with_feed);
-                lines.consume(span);
-            }
-            _ => assert!(rt; false, "a line is there"),
-        }
+/// The next line, with the count of its octets and its line feed, or how the lines end.
+fn next_line(alloc: Global, lines: &mut LineReader, source: &mut Text) -> Result<String, Fail> {
+    match lines.find_line(source) {
+        Ok(NextLine::Line { len, span }) => {
+            let line = hex::encode_upper(alloc, lines.front(len))?;
+            lines.consume(span);
+            Ok(format!(in alloc; "{line} {span}; ")?)
+        },
+        Ok(_) => Ok(String::from_str(alloc, "no line; ")?),
+        Err(_) => Ok(String::from_str(alloc, "failed; ")?),
     }
-    assert!(rt; matches!(lines.find_line(&mut source), Ok(NextLine::End)));
-    assert!(rt; matches!(lines.find_line(&mut source), Ok(NextLine::End)));
+}
+
+/// What six calls give.
+fn six_lines(alloc: Global, octets: &'static [u8]) -> Result<String, Fail> {
+    let mut source = Text { octets };
+    let mut lines = LineReader::new();
+    let mut all = String::new(alloc);
+    for _ in 0..6u8 {
+        all.push_str(&next_line(alloc, &mut lines, &mut source)?)?;
+    }
+    Ok(all)
+}
+
+#[test]
+fn lines_of_a_text(rt: HostRuntime) -> Result<(), Fail> {
+    let lines = six_lines(rt.alloc(), b"tick\n\nlonger than that\nlast")?;
+    let wanted =
+        "7469636B 5;  1; 6C6F6E676572207468616E2074686174 17; 6C617374 4; no line; no line; ";
+    assert_eq!(rt; lines.as_str(), wanted);
+    Ok(())
 }
 
 #[test]
@@ -95,55 +104,61 @@ fn a_failed_read_ends_the_lines(rt: HostRuntime) {
     assert!(rt; lines.find_line(&mut whole).is_ok());
 }
 
-#[test]
-fn what_lines_write(rt: HostRuntime) {
+/// Lines under two ports, and what they write.
+const LINES: &str = "\
+tick: tick
+2 192.168.1.5:47808 810aFF: port 2, 192.168.1.5:47808, 810AFF
+1 192.168.1.5:47808 -: port 1, 192.168.1.5:47808, no octets
+: nothing
+Tick: nothing
+tick : nothing
+0 192.168.1.5:47808 -: nothing
+3 192.168.1.5:47808 -: nothing
+01 192.168.1.5:47808 -: nothing
+1  192.168.1.5:47808 -: nothing
+1 192.168.1.05:47808 -: nothing
+1 192.168.1.5:47808: nothing
+1 192.168.1.5:47808 : nothing
+1 192.168.1.5:47808 0: nothing
+1 192.168.1.5:47808 0G: nothing";
+
+/// What a line writes.
+fn event(alloc: Global, line: &str) -> Result<String, Fail> {
     let mut datagram = [0; MAX_DATAGRAM];
-    assert!(rt; matches!(parse_line(2, b"tick", &mut datagram), Some(Event::Tick)));
-    match parse_line(2, b"2 192.168.1.5:47808 810aFF", &mut datagram) {
+    if line.len() > 4096 {
+        return Err("a line of at most 4096 octets".into());
+    }
+    match parse_line(2, line.as_bytes(), &mut datagram) {
+        Some(Event::Tick) => Ok(String::from_str(alloc, "tick")?),
         Some(Event::Datagram { port, from, octets }) => {
-            assert_eq!(rt; port, 2);
-            assert_eq!(rt; from, PANEL);
-            assert_eq!(rt; octets, &[0x81, 0x0A, 0xFF][..]);
-        }
-        _ => assert!(rt; false, "a datagram is there"),
-    }
-    match parse_line(1, b"1 192.168.1.5:47808 -", &mut datagram) {
-        Some(Event::Datagram { octets, .. }) => assert!(rt; octets.is_empty()),
-        _ => assert!(rt; false, "a datagram is there"),
-    }
-    let refused: [&[u8]; 12] = [
-        b"",
-        b"Tick",
-        b"tick ",
-        b"0 192.168.1.5:47808 -",
-        b"3 192.168.1.5:47808 -",
-        b"01 192.168.1.5:47808 -",
-        b"1  192.168.1.5:47808 -",
-        b"1 192.168.1.05:47808 -",
-        b"1 192.168.1.5:47808",
-        b"1 192.168.1.5:47808 ",
-        b"1 192.168.1.5:47808 0",
-        b"1 192.168.1.5:47808 0G",
-    ];
-    for line in refused {
-        assert!(rt; parse_line(2, line, &mut datagram).is_none(), "{line:?}");
+            if octets.is_empty() {
+                return Ok(format!(in alloc; "port {port}, {from}, no octets")?);
+            }
+            let octets = hex::encode_upper(alloc, octets)?;
+            Ok(format!(in alloc; "port {port}, {from}, {octets}")?)
+        },
+        None => Ok(String::from_str(alloc, "nothing")?),
     }
 }
 
 #[test]
-fn texts_of_sends(rt: HostRuntime) -> Result<(), Fail> {
-    let mut text = Vec::with_capacity(rt.alloc(), 40)?;
+fn what_lines_write(rt: HostRuntime) -> Result<(), Fail> {
+    compare(rt.alloc(), LINES, event)
+}
+
+/// The texts of a send, an end, and a send of no octets.
+fn sends(alloc: Global) -> Result<Vec<u8>, Fail> {
+    let mut text = Vec::with_capacity(alloc, 40)?;
     append_send(&mut text, 1, PANEL, &[0x81, 0x0A, 0x00, 0xF9])?;
     append_end(&mut text)?;
-    assert_eq!(rt;
-        text.as_slice(),
-        &b"send 1 192.168.1.5:47808 810A00F9\nend\n"[..]
-    );
     append_send(&mut text, 255, BipAddr { ip: [0; 4], udp: 0 }, &[])?;
-    assert_eq!(rt;
-        text.as_slice(),
-        &b"send 1 192.168.1.5:47808 810A00F9\nend\nsend 255 0.0.0.0:0 \n"[..]
-    );
+    Ok(text)
+}
+
+#[test]
+fn texts_of_sends(rt: HostRuntime) -> Result<(), Fail> {
+    let wanted = b"send 1 192.168.1.5:47808 810A00F9\nend\nsend 255 0.0.0.0:0 \n";
+    assert_eq!(rt; sends(rt.alloc())?.as_slice(), wanted.as_slice());
     Ok(())
 }
 

@@ -1,11 +1,11 @@
 //! Tags, values and lists: octets from outside. A line of a table has octets and what is read of them.
-use crate::table::{octets_of, parts};
+use crate::table::{compare, octets_of};
 use gw_tags::{
     AppValue, ContextFault, ObjectId, laws, read_closing, read_context, read_list, read_opening,
     read_tag, read_unsigned, read_value, write_closing, write_context, write_context_unsigned,
     write_opening, write_tag, write_value,
 };
-use std::alloc::Global;
+use std::alloc::{AllocError, Global};
 use std::test::*;
 
 /// Octets, the tag in front or the fault, and its shortest encoding.
@@ -118,8 +118,8 @@ const LISTS: &str = "\
 06: no list";
 
 /// The tag in front of the octets, and its shortest encoding.
-fn tag_answer(alloc: Global, octets: &[u8]) -> Result<String, Fail> {
-    match read_tag(octets) {
+fn tag_answer(alloc: Global, line: &str) -> Result<String, Fail> {
+    match read_tag(&octets_of(alloc, line)?) {
         Ok(header) => {
             let class = if header.tag.context {
                 "context"
@@ -137,8 +137,8 @@ fn tag_answer(alloc: Global, octets: &[u8]) -> Result<String, Fail> {
 }
 
 /// The value in front of the octets, and its shortest encoding.
-fn value_answer(alloc: Global, octets: &[u8]) -> Result<String, Fail> {
-    match read_value(octets) {
+fn value_answer(alloc: Global, line: &str) -> Result<String, Fail> {
+    match read_value(&octets_of(alloc, line)?) {
         Ok((value, _)) => {
             let mut out = Vec::new(alloc);
             write_value(&mut out, value)?;
@@ -149,54 +149,84 @@ fn value_answer(alloc: Global, octets: &[u8]) -> Result<String, Fail> {
     }
 }
 
-#[test]
-fn octets_from_outside(rt: HostRuntime) -> Result<(), Fail> {
-    let alloc = rt.alloc();
-    for line in TAGS.lines() {
-        let (octets, wanted) = parts(alloc, line)?;
-        assert_eq!(rt; tag_answer(alloc, &octets)?.as_str(), wanted, "at {line}");
+/// How many octets come before the closing tag of number 3.
+fn list_answer(alloc: Global, line: &str) -> Result<String, Fail> {
+    match read_list(3, &octets_of(alloc, line)?) {
+        Some((list, _)) => Ok(format!(in alloc; "{} octets", list.len())?),
+        None => Ok(String::from_str(alloc, "no list")?),
     }
-    for line in VALUES.lines() {
-        let (octets, wanted) = parts(alloc, line)?;
-        assert_eq!(rt; value_answer(alloc, &octets)?.as_str(), wanted, "at {line}");
-    }
-    for line in LISTS.lines() {
-        let (octets, wanted) = parts(alloc, line)?;
-        let answer = match read_list(3, &octets) {
-            Some((list, _)) => format!(in alloc; "{} octets", list.len())?,
-            None => String::from_str(alloc, "no list")?,
-        };
-        assert_eq!(rt; answer.as_str(), wanted, "at {line}");
-    }
-    Ok(())
 }
 
 #[test]
-fn parameters(rt: HostRuntime) -> Result<(), Fail> {
-    let mut out = Vec::new(rt.alloc());
+fn octets_from_outside(rt: HostRuntime) -> Result<(), Fail> {
+    compare(rt.alloc(), TAGS, tag_answer)?;
+    compare(rt.alloc(), VALUES, value_answer)?;
+    compare(rt.alloc(), LISTS, list_answer)
+}
+
+/// An object, a property, and a value between tags.
+fn parameters_written(alloc: Global) -> Result<Vec<u8>, AllocError> {
+    let mut out = Vec::new(alloc);
     write_context(&mut out, 0, &[1, 0x40, 0, 1])?;
     write_context_unsigned(&mut out, 1, 85)?;
     write_opening(&mut out, 3)?;
     write_value(&mut out, AppValue::Enumerated(1))?;
     write_closing(&mut out, 3)?;
-    assert_eq!(rt;
-        out.as_slice(),
-        octets_of(rt.alloc(), "0C0140000119553E91013F")?.as_slice()
-    );
+    Ok(out)
+}
+
+/// Whether the property is 85, and no parameter of number 2 follows.
+fn has_property(octets: &[u8]) -> bool {
+    match read_context(1, octets) {
+        Ok((property, rest)) => {
+            read_unsigned(property) == Some(85)
+                && read_context(2, rest).err() == Some(ContextFault::OtherTag)
+                && has_value(rest)
+        },
+        Err(_) => false,
+    }
+}
+
+/// Whether a value stands between tags of number 3, and nothing behind them.
+fn has_value(octets: &[u8]) -> bool {
+    let Ok(rest) = read_opening(3, octets) else {
+        return false;
+    };
+    match read_value(rest) {
+        Ok((_, rest)) => read_closing(3, rest).ok() == Some([].as_slice()),
+        Err(_) => false,
+    }
+}
+
+#[test]
+fn parameters(rt: HostRuntime) -> Result<(), Fail> {
+    let out = parameters_written(rt.alloc())?;
+    assert_eq!(rt; out, octets_of(rt.alloc(), "0C0140000119553E91013F")?);
     let (_, rest) = read_context(0, &out).ok().ok_or("an object")?;
-    let (property, rest) = read_context(1, rest).ok().ok_or("a property")?;
-    assert_eq!(rt; read_unsigned(property), Some(85));
-    assert_eq!(rt; read_context(2, rest).err(), Some(ContextFault::OtherTag));
-    let rest = read_opening(3, rest).ok().ok_or("an opening")?;
-    let (_, rest) = read_value(rest).ok().ok_or("a value")?;
-    assert_eq!(rt; read_closing(3, rest).ok(), Some([].as_slice()));
+    assert!(rt; has_property(rest));
+    Ok(())
+}
+
+#[test]
+fn laws_of_tags(rt: HostRuntime) {
     assert_eq!(rt; ObjectId::new(1024, 0), None);
     assert_eq!(rt; ObjectId::new(0, 4_194_304), None);
     laws::tags();
     laws::objects();
     laws::values();
     laws::numbers();
-    Ok(())
+}
+
+/// Whether a value of five octets is appended whole, or the buffer left as it was.
+fn is_whole_value(out: &mut Vec<u8>) -> bool {
+    write_value(out, AppValue::Octets(&[1, 2, 3, 4, 5])).is_ok()
+        || out.as_slice() == [0xAA].as_slice()
+}
+
+/// Whether a parameter is appended whole, or the buffer left as it was.
+fn is_whole_parameter(out: &mut Vec<u8>) -> bool {
+    let len = out.len();
+    write_context(out, 20, &[1, 2, 3]).is_ok() || out.len() == len
 }
 
 /// With each growth refused in turn, a call either appends the whole or leaves the buffer as it was.
@@ -204,13 +234,7 @@ fn parameters(rt: HostRuntime) -> Result<(), Fail> {
 fn refused_growth_leaves_the_buffer(rt: HostRuntime) -> Result<(), Fail> {
     let mut out = Vec::with_capacity(rt.alloc(), 1)?;
     out.push(0xAA)?;
-    if write_value(&mut out, AppValue::Octets(&[1, 2, 3, 4, 5])).is_err() {
-        assert_eq!(rt; out.as_slice(), [0xAA].as_slice());
-    }
-    let len = out.len();
-    if write_context(&mut out, 20, &[1, 2, 3]).is_err() {
-        assert_eq!(rt; out.len(), len);
-    }
+    assert!(rt; is_whole_value(&mut out) && is_whole_parameter(&mut out));
     assert_eq!(rt; out.first().copied(), Some(0xAA));
     Ok(())
 }
