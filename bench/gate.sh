@@ -123,6 +123,7 @@ with open(report, "w") as file:
     print(len(os.sched_getaffinity(0)), file=file)
 seen = sum(cost.spent.values())
 print(f"{total:.0f} processor seconds; {seen:.0f} were seen in samples, {sum(crates.values()):.0f} of them as a crate's", file=sys.stderr)
+print("minutes:", ", ".join(f"{name} {crates[name] / 60:.1f}" for name in sorted(crates, key=lambda name: -crates[name])), file=sys.stderr)
 PYTHON
 
 { read -r status; read -r last; read -r minutes; read -r wall; read -r peak; read -r dearest; read -r processors; } < "$work/cost"

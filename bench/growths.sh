@@ -6,8 +6,8 @@
 # It goes over each test of gw_vectors and over `bacgw replay` on each script of the folder. A test then passes, or ends by want of
 # memory and with no wrong answer. A replay does what it does with ample memory, or ends with `bacgw: out of memory` and status 1,
 # and what it wrote is whole blocks, each up to its line `end`, from the front of the right output. NAME.out has the right output;
-# NAME.toml, where it is there, is the configuration. A script of another folder whose right output the program doesn't print yet,
-# but for lines `deny`, is left out.
+# NAME.toml, where it is there, is the configuration. A script of another folder whose right output the program doesn't print yet
+# is left out.
 #
 # It wants gcc and python3, and both built: (cd crates/gw_vectors && rt test) and ./bacgw --help. Where all agree with examples/ it
 # writes the date to docs/GATE.md. The last line says how many refused growths were met well.
@@ -96,7 +96,7 @@ def prints_right(words, script):
     right = script.with_suffix(".out").read_bytes()
     at_fault = script.with_suffix(".err")
     right += at_fault.read_bytes() if at_fault.exists() else b""
-    return output + errors in (right, re.sub(rb"(?m)^deny .*\n", b"", right))
+    return output + errors == right
 
 
 cases, left_out = [], []

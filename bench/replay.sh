@@ -27,9 +27,16 @@ if ! command -v rustc > /dev/null || ! rustc --edition 2024 -O -o "$yardstick" "
 fi
 
 kinds="answered denied cut routed long tick mix"
+requests="write multiple who_is device" # what the yardstick doesn't know
+passed="register spread_3 spread_192 onward unknown router passing" # nor this
 declare -A name=(
     [answered]="read, answered" [denied]="read, denied" [cut]="broken, cut" [routed]="source behind a router of 255 octets"
     [long]="1,632 octets" [tick]="tick" [mix]="a mix of all"
+    [write]="write, acknowledged" [multiple]="six properties by one request" [who_is]="Who-Is"
+    [device]="a mix of the device's requests"
+    [register]="a registration" [spread_3]="a broadcast to 3 addresses" [spread_192]="a broadcast to 192 addresses"
+    [onward]="routed to another port" [unknown]="routed, and no way known" [router]="Who-Is-Router, answered"
+    [passing]="a mix of what is passed on"
 )
 
 # Scripts of 1,000 and of 3,000 lines of each kind, and a mix of 300,000, by fixed seeds.
@@ -87,16 +94,103 @@ def mix(choose):
     return choose.choices(kinds, (40, 20, 15, 20, 3, 2))[0](choose)
 
 
-def write(kind, count):
+def write(choose):
+    priority = choose.choice((7, 8, 16))
+    apdu = f"0005{choose.randrange(256):02X}0F0C04C0000119553E21{choose.randrange(1, 4):02X}3F49{priority:02X}"
+    return datagram(choose, "012400640101FF" + apdu)
+
+
+def multiple(choose):
+    invoke = choose.randrange(256)
+    lists = "0C014000011E0955094D096F1F" + "0C04C000011E0955094A096F1F"
+    return datagram(choose, f"012400640101FF0005{invoke:02X}0E{lists}")
+
+
+def who_is(choose):
+    return datagram(choose, "0120006400FF1008")
+
+
+def device(choose):
+    kinds = (answered, write, multiple, who_is, denied, cut)
+    return choose.choices(kinds, (40, 15, 10, 5, 15, 15))[0](choose)
+
+
+def frame(source, function, content):
+    return f"{source} 81{function}{len(content) // 2 + 4:04X}{content}"
+
+
+def device_on(choose, others):
+    """One of so many foreign devices."""
+    return f"1 192.168.{100 + choose.randrange(others)}.1:47808"
+
+
+def register(choose):
+    return frame(device_on(choose, 3), "05", "FFFF")
+
+
+def spread(choose):
+    return frame(source(choose).replace("2 192.168.2.", "1 192.168.1."), "0B", f"0100{octets(choose, 2)}")
+
+
+def spread_3(choose):
+    return spread(choose)
+
+
+def spread_192(choose):
+    return spread(choose)
+
+
+def onward(choose):
+    port = choose.choice((1, 2))
+    host = choose.randrange(20, 200)
+    npdu = f"0120{3 - port:04X}06C0A8{3 - port:02X}{host:02X}BAC0FF{octets(choose, 12)}"
+    return frame(f"{port} 192.168.{port}.{host}:47808", "0A", npdu)
+
+
+def unknown(choose):
+    return datagram(choose, f"0120{choose.randrange(2000, 3000):04X}0107FF1008")
+
+
+def router(choose):
+    return datagram(choose, "0180000064")
+
+
+def passing(choose):
+    kinds = (answered, register, spread, onward, unknown, router)
+    return choose.choices(kinds, (30, 5, 20, 30, 5, 10))[0](choose)
+
+
+# The tables that a script begins with, in lines that are the same at each length: foreign devices, and peers.
+def registered(count):
+    return [frame(f"1 192.168.{100 + place}.1:47808", "05", "FFFF") for place in range(count)]
+
+
+def peers(count):
+    entries = "".join(f"0A{place:02X}0001BAC0FFFFFFFF" for place in range(count))
+    return [frame("1 192.168.1.5:47808", "01", entries)]
+
+
+begins = {
+    "spread_3": peers(2) + registered(1),
+    "spread_192": peers(64) + registered(128),
+    "passing": peers(2) + registered(1),
+}
+
+
+def script(kind, count):
     choose = random.Random(135)
-    with open(f"{sys.argv[1]}/{kind.__name__}.{count}", "w", encoding="ascii") as script:
-        script.writelines(kind(choose) + "\n" for _ in range(count))
+    with open(f"{sys.argv[1]}/{kind.__name__}.{count}", "w", encoding="ascii") as lines:
+        lines.writelines(line + "\n" for line in begins.get(kind.__name__, []))
+        lines.writelines(kind(choose) + "\n" for _ in range(count))
 
 
-for kind in (answered, denied, cut, routed, long, tick, mix):
-    write(kind, 1000)
-    write(kind, 3000)
-write(mix, 300_000)
+all_kinds = (answered, denied, cut, routed, long, tick, mix, write, multiple, who_is, device)
+all_kinds += (register, spread_3, spread_192, onward, unknown, router, passing)
+for kind in all_kinds:
+    script(kind, 1000)
+    script(kind, 3000)
+for kind in (mix, device, passing):
+    script(kind, 300_000)
 PYTHON
 
 # instructions SCRIPT PROGRAM..: how many instructions the program takes for the script
@@ -121,12 +215,12 @@ each() {
 
 grouped() { sed ':a; s/\B[0-9]\{3\}\>/,&/; ta'; }
 
-# seconds PROGRAM..: the least time of the runs of the long mix
+# seconds KIND PROGRAM..: the least time of the runs of its long script
 seconds() {
     local run start end least=
     for ((run = 0; run < runs; run++)); do
         start=${EPOCHREALTIME/[.,]/}
-        timeout 120 "$@" < "$work/mix.300000" > /dev/null
+        timeout 120 "${@:2}" < "$work/$1.300000" > /dev/null
         end=${EPOCHREALTIME/[.,]/}
         [ -n "$least" ] && [ "$least" -le $((end - start)) ] || least=$((end - start))
     done
@@ -148,14 +242,22 @@ row() {
         [ -z "$yardstick" ] || plain=$(each instructions "$kind" "$yardstick" | sed 's/\..*//')
         row "instructions: ${name[$kind]}" "$(each instructions "$kind" "$program" replay | sed 's/\..*//')" "$plain"
     done
+    for kind in $requests $passed; do
+        row "instructions: ${name[$kind]}" "$(each instructions "$kind" "$program" replay | sed 's/\..*//')" -
+    done
     for kind in answered denied cut; do
         plain=-
         [ -z "$yardstick" ] || plain=$(each allocations "$kind" "$yardstick")
         echo "| allocations: ${name[$kind]} | $(each allocations "$kind" "$program" replay) | $plain | |"
     done
+    for kind in write multiple who_is register spread_3 spread_192 onward unknown router; do
+        echo "| allocations: ${name[$kind]} | $(each allocations "$kind" "$program" replay) | - | |"
+    done
     plain=-
-    [ -z "$yardstick" ] || plain=$(seconds "$yardstick")
-    row "seconds for 300,000 lines of the mix, least of $runs" "$(seconds "$program" replay)" "$plain"
+    [ -z "$yardstick" ] || plain=$(seconds mix "$yardstick")
+    row "seconds for 300,000 lines of the mix, least of $runs" "$(seconds mix "$program" replay)" "$plain"
+    row "seconds for 300,000 lines of the device's requests" "$(seconds device "$program" replay)" -
+    row "seconds for 300,000 lines of what is passed on" "$(seconds passing "$program" replay)" -
     /usr/bin/time -o "$work/peak" -f %M "$program" replay < "$work/mix.300000" > /dev/null
     echo "| peak memory over them, MiB | $(awk '{ printf "%.1f", $1 / 1024 }' "$work/peak") | | |"
 } | tee "$work/table"

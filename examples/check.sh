@@ -111,6 +111,21 @@ faulty '\xff' NotToml
 faulty 'colour = 1' UnknownKey
 faulty 'format = 1\nport = []\n[device]\n' Range
 
+# explained TEXT NAME LINE: `check --explain` tells the fault as before, and says where it is
+explained() {
+    printf "$1" > "$work/faulty.toml"
+    "$program" check --config "$work/faulty.toml" --explain < /dev/null > "$work/out" 2> "$work/err"
+    status=$?
+    printf '%s\n' "$3" > "$work/line"
+    printf 'bacgw: configuration: %s\n' "$2" > "$work/told"
+    agrees "an explanation: $3" 2 "$work/line" "$work/told"
+}
+explained '' Missing 'format: is missing'
+explained 'format = 1\nformat = ' NotToml 'the text: is no TOML document, line 2'
+explained '\xff' NotToml 'the text: is no TOML document'
+explained 'colour = 1' UnknownKey 'colour: is no key of this table'
+explained 'format = 1\nport = []\n[device]\n' Range 'port: at least 1'
+
 # Each recipe of the cookbook: its rules behind base.toml are accepted, and its line, marked by `> `, prints what stands under it.
 recipe() {
     cat "$here/base.toml" "$work/rules" > "$work/recipe.toml"

@@ -14,6 +14,7 @@ const PRESENT_VALUE: u32 = 85;
 
 /// A rule of the policy: the ranges of object types, instances and properties that it matches, and what it says of them.
 struct Rule {
+    name: &'static str,
     kinds: Option<(u64, u64)>,
     instances: Option<(u64, u64)>,
     properties: Option<(u64, u64)>,
@@ -22,22 +23,27 @@ struct Rule {
 
 #[rustfmt::skip]
 const POLICY: [Rule; 3] = [
-    Rule { kinds: Some((5, 5)), instances: Some((2, 9)), properties: None, allow: false },
-    Rule { kinds: Some((5, 5)), instances: Some((1, 1)), properties: Some((28, 28)), allow: false },
-    Rule { kinds: None, instances: None, properties: None, allow: true },
+    Rule { name: "hide", kinds: Some((5, 5)), instances: Some((2, 9)), properties: None, allow: false },
+    Rule { name: "no-desc", kinds: Some((5, 5)), instances: Some((1, 1)), properties: Some((28, 28)), allow: false },
+    Rule { name: "all", kinds: None, instances: None, properties: None, allow: true },
 ];
 
 fn holds(range: Option<(u64, u64)>, value: u64) -> bool {
     range.is_none_or(|(low, high)| low <= value && value <= high)
 }
 
-fn allows(read: &Read) -> bool {
+/// The name under which a read is denied, where it is.
+fn denied(read: &Read) -> Option<&'static str> {
     let first = POLICY.iter().find(|rule| {
         holds(rule.kinds, read.kind.into())
             && holds(rule.instances, read.instance.into())
             && holds(rule.properties, read.property.into())
     });
-    first.is_some_and(|rule| rule.allow)
+    match first {
+        Some(rule) if rule.allow => None,
+        Some(rule) => Some(rule.name),
+        None => Some("default"),
+    }
 }
 
 struct Address<'a> {
@@ -192,8 +198,8 @@ fn read_of(apdu: &[u8]) -> Option<Read> {
 }
 
 /// The class and the code of an error, or the value.
-fn value_of(read: &Read) -> Result<u8, (u8, u8)> {
-    if !allows(read) {
+fn value_of(read: &Read, is_denied: bool) -> Result<u8, (u8, u8)> {
+    if is_denied {
         return Err((2, 27));
     }
     if read.kind != BINARY_VALUE || read.instance != 1 {
@@ -206,8 +212,8 @@ fn value_of(read: &Read) -> Result<u8, (u8, u8)> {
     }
 }
 
-fn put_apdu(read: &Read, reply: &mut Vec<u8>) {
-    match value_of(read) {
+fn put_apdu(read: &Read, is_denied: bool, reply: &mut Vec<u8>) {
+    match value_of(read, is_denied) {
         Ok(value) => {
             let object = u32::from(read.kind) << 22 | read.instance;
             reply.extend_from_slice(&[0x30, read.invoke, 12, 0x0C]);
@@ -220,7 +226,7 @@ fn put_apdu(read: &Read, reply: &mut Vec<u8>) {
     }
 }
 
-fn put_reply(npdu: &Npdu, read: &Read, reply: &mut Vec<u8>) -> Option<()> {
+fn put_reply(npdu: &Npdu, read: &Read, is_denied: bool, reply: &mut Vec<u8>) -> Option<()> {
     reply.clear();
     reply.extend_from_slice(&[0x81, 0x0A, 0, 0, 1, 0x08 | npdu.priority]);
     if let Some(source) = &npdu.source {
@@ -234,14 +240,68 @@ fn put_reply(npdu: &Npdu, read: &Read, reply: &mut Vec<u8>) -> Option<()> {
     if npdu.source.is_some() {
         reply.push(255);
     }
-    put_apdu(read, reply);
+    put_apdu(read, is_denied, reply);
     let len = u16::try_from(reply.len()).ok().filter(|len| *len <= 1501)?;
     reply[2..4].copy_from_slice(&len.to_be_bytes());
     Some(())
 }
 
-/// The reply to a datagram, where there is one.
-fn answer(port: usize, from: SocketAddrV4, octets: &[u8], reply: &mut Vec<u8>) -> Option<()> {
+/// How many denials and ticks there were.
+#[derive(Default)]
+struct Log {
+    denials: u64,
+    ticks: u64,
+}
+
+impl Log {
+    fn put_denial(
+        &mut self,
+        out: &mut Vec<u8>,
+        port: usize,
+        from: SocketAddrV4,
+        npdu: &Npdu,
+        read: &Read,
+        rule: &str,
+    ) -> io::Result<()> {
+        self.denials += 1;
+        write!(out, "deny {} {} {port} ", self.denials, self.ticks)?;
+        if let Some(source) = &npdu.source {
+            write!(out, "{}:", source.network)?;
+            put_digits(out, source.mac);
+        } else {
+            write!(out, "{port}:")?;
+            put_digits(out, &from.ip().octets());
+            put_digits(out, &from.port().to_be_bytes());
+        }
+        let Read { kind, instance, property, .. } = read;
+        writeln!(out, " read dst={DEVICE_NETWORK} svc=12 obj={kind},{instance} prop={property} prio=- rule={rule}")
+    }
+}
+
+/// Puts what a datagram does: the line of its denial and that of its reply, where there is one.
+fn put_event(
+    port: usize,
+    from: SocketAddrV4,
+    octets: &[u8],
+    log: &mut Log,
+    reply: &mut Vec<u8>,
+    out: &mut Vec<u8>,
+) -> io::Result<()> {
+    let Some((npdu, read)) = heard(port, from, octets) else {
+        return Ok(());
+    };
+    let rule = denied(&read);
+    if let Some(rule) = rule {
+        log.put_denial(out, port, from, &npdu, &read, rule)?;
+    }
+    if put_reply(&npdu, &read, rule.is_some(), reply).is_some() {
+        put_line(out, port, from, reply)?;
+    }
+    Ok(())
+}
+
+/// The read that a datagram brings to the device, where it brings one.
+fn heard(port: usize, from: SocketAddrV4, octets: &[u8]) -> Option<(Npdu<'_>, Read)> {
     if from == SocketAddrV4::new(Ipv4Addr::new(192, 168, port as u8, 10), 47808) {
         return None;
     }
@@ -251,18 +311,22 @@ fn answer(port: usize, from: SocketAddrV4, octets: &[u8], reply: &mut Vec<u8>) -
         return None;
     }
     let read = read_of(npdu.apdu)?;
-    put_reply(&npdu, &read, reply)
+    Some((npdu, read))
 }
 
-fn put_line(out: &mut Vec<u8>, port: usize, to: SocketAddrV4, octets: &[u8]) -> io::Result<()> {
+fn put_digits(out: &mut Vec<u8>, octets: &[u8]) {
     const DIGITS: &[u8; 16] = b"0123456789ABCDEF";
-    write!(out, "send {port} {to} ")?;
     let start = out.len();
     out.resize(start + 2 * octets.len(), 0);
     for (pair, octet) in out[start..].chunks_exact_mut(2).zip(octets) {
         pair[0] = DIGITS[usize::from(octet >> 4)];
         pair[1] = DIGITS[usize::from(octet & 15)];
     }
+}
+
+fn put_line(out: &mut Vec<u8>, port: usize, to: SocketAddrV4, octets: &[u8]) -> io::Result<()> {
+    write!(out, "send {port} {to} ")?;
+    put_digits(out, octets);
     out.push(b'\n');
     Ok(())
 }
@@ -272,16 +336,17 @@ fn main() -> io::Result<()> {
     let mut out = BufWriter::with_capacity(65_536, io::stdout().lock());
     let (mut line, mut reply, mut text) = (Vec::new(), Vec::new(), Vec::new());
     let mut buffer = [0; 2048];
+    let mut log = Log::default();
     while input.read_until(b'\n', &mut line)? > 0 {
         text.clear();
         let event = line.strip_suffix(b"\n").unwrap_or(&line);
-        if event != b"tick" {
+        if event == b"tick" {
+            log.ticks += 1;
+        } else {
             let Some((port, from, octets)) = datagram(event, &mut buffer) else {
                 break;
             };
-            if answer(port, from, octets, &mut reply).is_some() {
-                put_line(&mut text, port, from, &reply)?;
-            }
+            put_event(port, from, octets, &mut log, &mut reply, &mut text)?;
         }
         text.extend_from_slice(b"end\n");
         out.write_all(&text)?;
