@@ -20,7 +20,6 @@ mod device;
 mod fakes;
 #[cfg(test)]
 mod gateway;
-#[cfg(test)]
 mod memory;
 #[cfg(test)]
 mod npdu;
