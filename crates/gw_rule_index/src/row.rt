@@ -1,5 +1,5 @@
 //! A row of an index: a bit for each rule.
-ghost use Rattle.std.specs.Prelude.{◌≡◌, ℕ, ◌+◌, ◌≤◌, ◌<◌, ◌&&◌, Bool, List, Option, length, true, nat_lt, position, IfSome};
+ghost use Rattle.std.specs.Prelude.{◌≡◌, ℕ, ◌+◌, ◌≤◌, ◌<◌, ◌&&◌, Bool, List, Option, length, true, nat_lt, position, slice_index, bit_and, IfSome};
 ghost use Rattle.std.specs.Int.{bit_at};
 ghost use Rattle.std.specs.Option.{option_map};
 ghost use Rattle.gw_rules.specs.Range.{admits, holds};
@@ -12,6 +12,7 @@ ghost use Rattle.gw_rule_index.specs.internal.Row.{Marks, admits_in, bit, is_mar
 
 use crate::Counted;
 use gw_rules::{FieldName, Range, Rule};
+use std::simd::u64x8;
 
 /// How many bits a word has.
 const WORD_BITS: usize = 64;
@@ -58,9 +59,7 @@ impl Row {
         ensures ands { counted.new.ands ≡ counted.old.ands + 1 }
     {
         counted.ands += 1;
-        for place in 0..WORDS {
-            self.words[place] &= other.words[place];
-        }
+        self.words = and_lanes(self.words, other.words);
     }
 
     /// The number of the first rule in the row, counted from 1.
@@ -78,6 +77,14 @@ impl Row {
         }
         None
     }
+}
+
+/// The bits that both rows have, as one vector.
+fn and_lanes(one: [u64; WORDS], two: [u64; WORDS]) -> [u64; WORDS]
+    ensures { (k : ℕ) → k < WORDS →
+        slice_index result k ≡ bit_and (slice_index one k) (slice_index two k) }
+{
+    (u64x8::from_array(one) & u64x8::from_array(two)).to_array()
 }
 
 /// The place of the lowest bit that is set.
