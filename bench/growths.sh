@@ -99,9 +99,15 @@ def prints_right(words, script):
     return output + errors == right
 
 
+# Serving goes on where memory is wanted, and an event is then lost. These two compare what comes with ample memory;
+# serve::a_refused_growth compares what comes without.
+AMPLE = {"serve::a_log_that_fails_after_each_octet", "serve::calls_and_what_they_come_to"}
+
 cases, left_out = [], []
 listed = subprocess.run([tests, "--list"], capture_output=True, text=True, check=True).stdout
 for name in re.findall(r"(?m)^(\S+): test$", listed):
+    if name in AMPLE:
+        continue
     cases.append((name, [tests, name], None, is_well_tested))
 count_of_tests = len(cases)
 for script in sorted(folder.glob("*.script")):
