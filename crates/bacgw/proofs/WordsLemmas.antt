@@ -45,6 +45,8 @@ refusal_answers words k (Err (fault.Configuration f)) among is = absurd is
 refusal_answers words k (Err (fault.Line n)) among is = absurd is
 refusal_answers words k (Err fault.Read) among is = absurd is
 refusal_answers words k (Err fault.Write) among is = absurd is
+refusal_answers words k (Err fault.Log) among is = absurd is
+refusal_answers words k (Err (fault.Socket port)) among is = absurd is
 refusal_answers words k (Err fault.CountEnd) among is = absurd is
 
 -- what is chosen of words that the parser takes answers them
@@ -59,6 +61,8 @@ taken_answers words (Err (fault.Configuration f)) none is = absurd is
 taken_answers words (Err (fault.Line n)) none is = absurd is
 taken_answers words (Err fault.Read) none is = absurd is
 taken_answers words (Err fault.Write) none is = absurd is
+taken_answers words (Err fault.Log) none is = absurd is
+taken_answers words (Err (fault.Socket port)) none is = absurd is
 taken_answers words (Err fault.CountEnd) none is = absurd is
 
 -- the options of a call
@@ -114,6 +118,8 @@ replay_or_memory words options (Err (fault.Configuration f)) none calls is = abs
 replay_or_memory words options (Err (fault.Line n)) none calls is = absurd is
 replay_or_memory words options (Err fault.Read) none calls is = absurd is
 replay_or_memory words options (Err fault.Write) none calls is = absurd is
+replay_or_memory words options (Err fault.Log) none calls is = absurd is
+replay_or_memory words options (Err (fault.Socket port)) none calls is = absurd is
 replay_or_memory words options (Err fault.CountEnd) none calls is = absurd is
 
 pub replay_is_taken : (words : List Text) (r : Result Choice Fault) → IsAnswer words r → CallsReplay words → IsReplay None r
@@ -136,6 +142,8 @@ check_or_memory words file explains (Err (fault.Configuration f)) none calls is 
 check_or_memory words file explains (Err (fault.Line n)) none calls is = absurd is
 check_or_memory words file explains (Err fault.Read) none calls is = absurd is
 check_or_memory words file explains (Err fault.Write) none calls is = absurd is
+check_or_memory words file explains (Err fault.Log) none calls is = absurd is
+check_or_memory words file explains (Err (fault.Socket port)) none calls is = absurd is
 check_or_memory words file explains (Err fault.CountEnd) none calls is = absurd is
 
 -- the words of a call that checks a file, and explains its fault
