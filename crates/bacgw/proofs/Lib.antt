@@ -1,3 +1,4 @@
+mod AnnouncementLemmas
 mod AppendLemmas
 mod PortLemmas
 mod ReplayLemmas

@@ -5,11 +5,13 @@
 //! on standard error, and the exit status says of which kind it is.
 #![tactic(auto)]
 
+mod announcement;
 mod command_line;
 mod configured;
 mod ending;
 mod fault;
 mod files;
+mod host;
 mod ports;
 mod program;
 mod script;
@@ -17,10 +19,14 @@ mod sock_pair;
 mod socket;
 #[cfg(test)]
 mod tests;
+mod timed;
 #[cfg(test)]
 mod turn_tests;
 mod turns;
 mod udp;
+#[cfg(test)]
+mod udp_tests;
+mod waiter;
 
 use fault::Fault;
 use files::SystemFiles;
