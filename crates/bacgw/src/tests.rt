@@ -167,7 +167,7 @@ fn helps(rt: HostRuntime) -> Result<(), Fail> {
 
 #[test]
 fn tells_faults(rt: HostRuntime) -> Result<(), Fail> {
-    let cases: [(Result<(), Fault>, &[u8], u8); 11] = [
+    let cases: [(Result<(), Fault>, &[u8], u8); 13] = [
         (Ok(()), b"", 0),
         (
             Err(Fault::of_words(ErrorKind::InvalidData)),
@@ -203,6 +203,12 @@ fn tells_faults(rt: HostRuntime) -> Result<(), Fail> {
             1,
         ),
         (Err(Fault::CountEnd), b"bacgw: count at its end\n", 1),
+        (Err(Fault::Log), b"bacgw: log failed\n", 1),
+        (
+            Err(Fault::Socket(8)),
+            b"bacgw: socket failed on port 8\n",
+            1,
+        ),
     ];
     for (outcome, text, status) in cases {
         let mut errors = Vec::new(rt.alloc());
