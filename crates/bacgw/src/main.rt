@@ -24,8 +24,6 @@ mod timed;
 mod turn_tests;
 mod turns;
 mod udp;
-#[cfg(test)]
-mod udp_tests;
 mod waiter;
 
 use fault::Fault;
