@@ -1,4 +1,6 @@
+mod AnnouncementLemmas
 mod AppendLemmas
 mod PortLemmas
 mod ReplayLemmas
+mod ServingLemmas
 mod WordsLemmas
