@@ -1,8 +1,8 @@
 """A small client of BACnet/IP, by the standard library alone: it finds a device, reads two of its points, and registers as a foreign
 device. It prints what it sends and what comes back.
 
-    client.py panel ADDRESS BROADCAST       finds the device, and reads the fan and the door
-    client.py workstation ADDRESS MANAGER   registers with the broadcast manager, and waits for a broadcast of its subnet
+    client.py panel BROADCAST       finds the device, and reads the fan and the door
+    client.py workstation MANAGER   registers with the broadcast manager, and waits for a broadcast of its subnet
 """
 
 import socket
@@ -13,11 +13,11 @@ ERROR, COMPLEX_ACK = 5, 3
 NAMES = {(2, 27): "read-access-denied", (2, 32): "unknown-property", (1, 31): "unknown-object"}
 
 
-def open_line(address):
-    """A socket at an address that may send broadcasts and waits two seconds at most."""
+def open_line():
+    """A socket that hears and may send broadcasts, and waits two seconds at most."""
     line = socket.socket(socket.AF_INET, socket.SOCK_DGRAM)
     line.setsockopt(socket.SOL_SOCKET, socket.SO_BROADCAST, 1)
-    line.bind((address, PORT))
+    line.bind(("", PORT))
     line.settimeout(2)
     return line
 
@@ -88,8 +88,8 @@ def wait(line):
 
 
 def main():
-    role, address, other = sys.argv[1:]
-    with open_line(address) as line:
+    role, other = sys.argv[1:]
+    with open_line() as line:
         if role == "panel":
             device = who_is(line, other)
             read(line, device, "the fan", 1)

@@ -53,11 +53,11 @@ done
 cat "$work/told"
 
 echo "the workstation, 10.2.0.9 on the second subnet:"
-ip netns exec bacgw-second python3 "$here/client.py" workstation 10.2.0.9 10.1.0.2 > "$work/workstation" &
+ip netns exec bacgw-second python3 "$here/client.py" workstation 10.1.0.2 > "$work/workstation" &
 workstation=$!
 sleep 0.5
 echo "the panel, 10.1.0.5 on the first subnet:" > "$work/panel"
-ip netns exec bacgw-first python3 "$here/client.py" panel 10.1.0.5 10.1.0.255 >> "$work/panel"
+ip netns exec bacgw-first python3 "$here/client.py" panel 10.1.0.255 >> "$work/panel"
 wait "$workstation"
 cat "$work/workstation" "$work/panel"
 
