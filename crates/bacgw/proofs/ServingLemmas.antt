@@ -1,5 +1,5 @@
 -- What serving leaves, from what is opened and what serving a wire leads to.
-use Rattle.std.proofs.Common.{◌≡◌, ◌++◌, ℕ, List, [], Option, Some, None, Result, Ok, Err, OnOk, inl, refl, rules, subst}
+use Rattle.std.proofs.Common.{◌≡◌, ◌∙◌, ◌++◌, ap, append_assoc, ℕ, List, [], Option, Some, None, Result, Ok, Err, OnOk, inl, refl, rules, subst}
 use Rattle.std.specs.Io.KnownBytes.{Appends}
 use Rattle.gw_core.specs.History.{state_after}
 use Rattle.gw_core.specs.Replay.{no_counts}
@@ -50,7 +50,4 @@ pub appends_two : (a b c : Option (List ℕ)) (x y : List ℕ) → Appends a b x
 appends_two None b c x y first second = tt
 appends_two (Some a) None c x y first second = absurd first
 appends_two (Some a) (Some b) None x y first second = absurd second
-appends_two (Some a) (Some b) (Some c) x y first second = joined a b c x y first second
-  where
-    joined : (a b c x y : List ℕ) → b ≡ a ++ x → c ≡ b ++ y → c ≡ a ++ (x ++ y)
-    joined a b c x y first second = search rules
+appends_two (Some a) (Some b) (Some c) x y first second = second ∙ ap (λ (t : List ℕ). t ++ y) first ∙ append_assoc a x y

@@ -14,7 +14,7 @@ use std::process::ExitCode;
 /// Writes a text, this number, and a line feed.
 fn write_number<E: OctetSink>(text: &str, number: u64, errors: &mut E) -> Result<(), WriteFailed>
     ensures ok { OnOk result (Appends (E.held errors.old) (E.held errors.new)
-        (text.now ++ decimal number ++ 10 ∷ [])) }
+        (text.now ++ (decimal number ++ 10 ∷ []))) }
     ensures sure { E.NeverFails errors.old → IsOk result }
 {
     match write_whole(errors, text.as_bytes()) {
