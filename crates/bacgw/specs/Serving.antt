@@ -13,6 +13,7 @@ use Rattle.gw_core.specs.declared.serving.ServeStop.{ServeStop}
 use Rattle.gw_policy_text.specs.Configuration.{Configuration}
 use Rattle.gw_policy_text.specs.declared.port.Port.{Port}
 use Rattle.bacgw.specs.Announcement.{told_text}
+use Rattle.bacgw.specs.Ending.{fault_of_serving}
 use Rattle.bacgw.specs.declared.options.RunOptions.{RunOptions}
 use Rattle.bacgw.specs.declared.fault.Fault.{Fault}
 use Rattle.bacgw.specs.declared.fault.Fault.TheVariants as fault
@@ -50,6 +51,12 @@ Serves c turns before after (Err fault.Memory) = StopsBy serving.Memory c turns 
 Serves c turns before after (Err fault.CountEnd) = StopsBy serving.CountEnd c turns before after
 Serves c turns before after (Err _) = ⊥
 
+-- What serving from a state leaves at each outcome: all turns, or a stop by the fault.
+pub data ServesFrom (turns : ℕ) (before after : Scene) (outcome : Result (Unit {0}) Fault) : Type 0 where
+  whole : (served : Served) → ServesAll turns before served after → outcome ≡ Ok tt → ServesFrom turns before after outcome
+  stopped : (stop : ServeStop) → Stops turns before stop after → outcome ≡ Err (fault_of_serving stop.fault) →
+      ServesFrom turns before after outcome
+
 -- What opening and closing may give: of a machine, the log of a name, the sockets of some ports, and both when they are closed, the log
 -- where one was opened; and what a log holds and sockets tell.
 pub record Machine (Log Sockets : Type 0) : Type 1 where
@@ -69,73 +76,56 @@ machine LogOpens SocketsOpen Closes held calls = record {
   calls = calls;
 }
 
--- The same of one run: what its log may be when it is opened, its sockets when they are opened, how all stands where nothing was opened
--- or the log alone, and how it may stand when both are closed.
-pub record Openings (Log Sockets : Type 0) : Type 1 where
-  pub LogOpens : Result Log Fault → Type 0
-  pub SocketsOpen : Result Sockets Fault → Type 0
-  pub Untouched : Type 0
-  pub LogAlone : Log → Type 0
-  pub Closes : Sockets → Log → Type 0
-  pub held : Log → Option (List ℕ)
-  pub calls : Sockets → Option (List Call)
+-- The log is open: it is in the file of this name, and standard output is as it was; or it is standard output, whose buffer was flushed.
+abbrev pub LogIsOpen : {Log Sockets : Type 0} → Machine Log Sockets → Option (List ℕ) → (held holds : Option (List ℕ)) → Option Log → Type 0
+LogIsOpen machine (Some name) held holds (Some log) = machine.LogOpens name (Ok log) × (holds ≡ held)
+LogIsOpen machine None held holds None = Keeps held holds
+LogIsOpen machine _ held holds _ = ⊥
 
--- What `run` leaves under a configuration: memory ran out before anything was opened; the log can't be opened; then the sockets can't; or
--- both were opened, this line was told, and then they were served and closed.
-pub data LeavesServed {Log Sockets : Type 0} (opens : Openings Log Sockets) (c : Configuration) (turns : ℕ) (line : List ℕ)
-    (told : List ℕ) (outcome : Result (Unit {0}) Fault) : Type 0 where
-  no_memory : outcome ≡ Err fault.Memory → told ≡ [] → opens.Untouched → LeavesServed opens c turns line told outcome
-  no_log : (f : Fault) → opens.LogOpens (Err f) → outcome ≡ Err f → told ≡ [] → LeavesServed opens c turns line told outcome
-  no_sockets : (log : Log) (f : Fault) → opens.LogOpens (Ok log) → opens.SocketsOpen (Err f) → opens.LogAlone log →
-      outcome ≡ Err f → told ≡ [] → LeavesServed opens c turns line told outcome
-  served : (log log_then : Log) (sockets sockets_then : Sockets) → opens.LogOpens (Ok log) → opens.SocketsOpen (Ok sockets) →
-      opens.Closes sockets_then log_then →
-      Serves c turns (ends (opens.held log) (opens.calls sockets)) (ends (opens.held log_then) (opens.calls sockets_then)) outcome →
-      told ≡ line →
-      LeavesServed opens c turns line told outcome
+-- The log can't be opened. On standard output that is where its buffer can't be flushed.
+abbrev pub LogIsShut : {Log Sockets : Type 0} → Machine Log Sockets → Option (List ℕ) → (held holds : Option (List ℕ)) → Fault → Type 0
+LogIsShut machine (Some name) held holds f = machine.LogOpens name (Err f) × (holds ≡ held)
+LogIsShut machine None held holds f = (f ≡ fault.Log) × Keeps held holds
 
--- the log in a file of this name
-abbrev pub in_file : {Log Sockets : Type 0} → Machine Log Sockets → List ℕ → List Port → Openings Log Sockets
-in_file machine name ports = record {
-  LogOpens = machine.LogOpens name;
-  SocketsOpen = machine.SocketsOpen ports;
-  Untouched = ⊤;
-  LogAlone = λ log. ⊤;
-  Closes = λ sockets log. machine.Closes sockets (Some log);
-  held = machine.held;
-  calls = machine.calls;
-}
+-- what the log holds, which is a file or standard output
+abbrev pub log_held : {Log : Type 0} → (Log → Option (List ℕ)) → Option Log → Option (List ℕ) → Option (List ℕ)
+log_held held (Some log) output = held log
+log_held held None output = output
 
--- Standard output, which held `held`, as the log: what of it is in the buffer is flushed first, and that may fail.
-abbrev pub OutputOpens : (held holds : Option (List ℕ)) → Result (Option (List ℕ)) Fault → Type 0
-OutputOpens held holds (Ok log) = Keeps held log
-OutputOpens held holds (Err f) = (f ≡ fault.Log) × Keeps held holds
+-- Standard output is as it was where the log is a file.
+abbrev pub OutputStays : {Log : Type 0} → Option Log → (held holds : Option (List ℕ)) → Type 0
+OutputStays (Some log) held holds = holds ≡ held
+OutputStays None held holds = ⊤
 
--- the log on standard output, which holds `holds` at the end
-abbrev pub on_output : {Log Sockets : Type 0} → Machine Log Sockets → (held holds : Option (List ℕ)) → List Port
-    → Openings (Option (List ℕ)) Sockets
-on_output machine held holds ports = record {
-  LogOpens = OutputOpens held holds;
-  SocketsOpen = machine.SocketsOpen ports;
-  Untouched = holds ≡ held;
-  LogAlone = λ log. holds ≡ log;
-  Closes = λ sockets log. machine.Closes sockets None × (holds ≡ log);
-  held = λ log. log;
-  calls = machine.calls;
-}
+-- The log and the sockets are open, or why they aren't.
+pub record AreOpen {Log Sockets : Type 0} (machine : Machine Log Sockets) (name : Option (List ℕ)) (held holds : Option (List ℕ))
+    (ports : List Port) (log : Option Log) (sockets : Sockets) : Type 0 where
+  pub log_is : LogIsOpen machine name held holds log
+  pub sockets_are : machine.SocketsOpen ports (Ok sockets)
 
--- What `run` leaves with its log in the file of this name, and standard output then as it was, or with its log there.
-abbrev pub LeavesLogged : {Log Sockets : Type 0} → Machine Log Sockets → Option (List ℕ) → (held holds : Option (List ℕ))
-    → Configuration → (turns : ℕ) → (line told : List ℕ) → Result (Unit {0}) Fault → Type 0
-LeavesLogged machine (Some name) held holds c turns line told outcome =
-    (holds ≡ held) × LeavesServed (in_file machine name c.ports) c turns line told outcome
-LeavesLogged machine None held holds c turns line told outcome =
-    LeavesServed (on_output machine held holds c.ports) c turns line told outcome
+pub data ArentOpen {Log Sockets : Type 0} (machine : Machine Log Sockets) (name : Option (List ℕ)) (held holds : Option (List ℕ))
+    (ports : List Port) (f : Fault) : Type 0 where
+  no_log : LogIsShut machine name held holds f → ArentOpen machine name held holds ports f
+  no_sockets : (log : Option Log) → LogIsOpen machine name held holds log → machine.SocketsOpen ports (Err f) →
+      ArentOpen machine name held holds ports f
+
+-- What `run` leaves under a configuration: memory ran out before anything was opened; something can't be opened; or all was opened, this
+-- line was told, and then it was served and closed.
+pub data LeavesServed {Log Sockets : Type 0} (machine : Machine Log Sockets) (name : Option (List ℕ)) (held holds : Option (List ℕ))
+    (c : Configuration) (turns : ℕ) (line told : List ℕ) (outcome : Result (Unit {0}) Fault) : Type 0 where
+  no_memory : outcome ≡ Err fault.Memory → told ≡ [] → holds ≡ held → LeavesServed machine name held holds c turns line told outcome
+  shut : (f : Fault) → ArentOpen machine name held holds c.ports f → outcome ≡ Err f → told ≡ [] →
+      LeavesServed machine name held holds c turns line told outcome
+  served : (log log_then : Option Log) (sockets sockets_then : Sockets) (output : Option (List ℕ)) →
+      AreOpen machine name held output c.ports log sockets → machine.Closes sockets_then log_then → OutputStays log output holds →
+      Serves c turns (ends (log_held machine.held log output) (machine.calls sockets))
+      (ends (log_held machine.held log_then holds) (machine.calls sockets_then)) outcome →
+      told ≡ line → LeavesServed machine name held holds c turns line told outcome
 
 -- What `run` leaves under the configuration that was read. Where there is none nothing is opened, and the outcome is why.
 abbrev pub LeavesRun : {Log Sockets : Type 0} → Machine Log Sockets → (held holds : Option (List ℕ)) → RunOptions
     → Result Configuration Fault → (told : List ℕ) → Result (Unit {0}) Fault → Type 0
 LeavesRun machine held holds options (Ok c) told outcome =
-    let log = option_map string_bytes options.log in
-    LeavesLogged machine log held holds c options.turns (told_text options.verbose c log) told outcome
+    let name = option_map string_bytes options.log in
+    LeavesServed machine name held holds c options.turns (told_text options.verbose c name) told outcome
 LeavesRun machine held holds options (Err f) told outcome = (outcome ≡ Err f) × (holds ≡ held) × (told ≡ [])

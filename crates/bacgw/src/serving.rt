@@ -1,9 +1,13 @@
 //! The gateway at work: what `run` opens, and a fresh gateway that serves it.
+//!
+//! What owns a configuration or a gateway has nothing behind it that can fail, and lends it to the
+//! functions that can: each way out of such a function drops a large value.
 
-ghost use Rattle.std.specs.Prelude.{◌≡◌, ◌≤◌, ◌<◌, ◌^◌, [], ℕ, List, Ok, Err, None, Some, option_map, string_bytes, IfErr, IfOk, OnErr, OnOk};
+ghost use Rattle.std.specs.Prelude.{◌≡◌, ◌≤◌, ◌<◌, ◌^◌, [], ℕ, List, Ok, Err, None, Some, MatchResult, length, option_map, string_bytes, IfErr, IfOk, OnErr, OnOk};
 ghost use Rattle.std.specs.Io.Buffered.{writer_buffer, writer_contents};
 ghost use Rattle.std.specs.Io.KnownBytes.{Appends, Keeps};
-ghost use Rattle.bacgw.specs.Serving.{LeavesRun, LeavesServed, Serves, ends, in_file, machine, on_output};
+ghost use Rattle.gw_core.specs.Serve.{scene};
+ghost use Rattle.bacgw.specs.Serving.{AreOpen, ArentOpen, LeavesRun, LogIsOpen, LogIsShut, Serves, ServesFrom, ends, log_held, machine, OutputStays};
 
 use crate::announcement::told_text;
 use crate::fault::Fault;
@@ -15,16 +19,35 @@ use gw_script::{OctetSink, write_whole};
 use std::alloc::Global;
 use std::io::{BufWriter, Write};
 
-/// What served sockets are, and how serving them ended.
+/// What is open: the log where it is a file, and the sockets.
 #[derive(Drop)]
-struct Ending<S> {
+struct Open<L, S> {
+    log: Option<L>,
     sockets: S,
-    outcome: Result<(), Fault>,
+}
+
+/// Serves sockets for so many turns. Faults: `Log`, `Memory` and `CountEnd`.
+fn serve_by<S: Wire, L: OctetSink>(
+    alloc: Global,
+    gateway: &mut Gateway,
+    sockets: &mut S,
+    log: &mut L,
+    turns: u64,
+) -> Result<(), Fault>
+    requires turns { turns < 2 ^ 63 }
+    requires failures { S.failure_count sockets.old < 2 ^ 127 }
+    ensures { let before = scene gateway.old (L.held log.old) (S.calls sockets.old) in
+        let after = scene gateway.new (L.held log.new) (S.calls sockets.new) in
+        ServesFrom turns before after result }
+{
+    match serve(alloc, gateway, sockets, log, turns) {
+        Ok(_) => Ok(()),
+        Err(stop) => Err(Fault::from(stop.fault)),
+    }
 }
 
 /// Serves sockets for so many turns, by a gateway of this configuration that nothing came to yet.
 /// Faults: `Log`, `Memory` and `CountEnd`.
-#[tactic(none)]
 fn serve_fresh<S: Wire, L: OctetSink>(
     alloc: Global,
     config: Config,
@@ -42,114 +65,111 @@ fn serve_fresh<S: Wire, L: OctetSink>(
         ticks: 0,
         denials: 0,
     };
-    let mut gateway = Gateway::new(alloc, config, counts)?;
-    match serve(alloc, &mut gateway, sockets, log, turns) {
-        Ok(_) => Ok(()),
-        Err(stop) => Err(Fault::from(stop.fault)),
+    let Ok(mut gateway) = Gateway::new(alloc, config, counts) else {
+        return Err(Fault::Memory);
+    };
+    let outcome = serve_by(alloc, &mut gateway, sockets, log, turns);
+    drop(gateway);
+    outcome
+}
+
+/// Opens the log: the file of this name, or standard output, whose buffer is flushed.
+fn open_log<H: Host, W: Write + Drop>(
+    log: &Option<String>,
+    host: &H,
+    output: &mut BufWriter<W>,
+) -> Result<Option<H::Log>, Fault>
+    ensures { let name = option_map string_bytes log.now in
+        let means = machine (H.LogOpens host.now) (H.SocketsOpen host.now) (H.Closes host.now)
+            H.Log.held H.Sockets.calls in
+        let held = writer_contents W.contents output.old in
+        let holds = writer_contents W.contents output.new in
+        MatchResult result (LogIsOpen means name held holds) (LogIsShut means name held holds) }
+{
+    match log {
+        Some(name) => match host.open_log(name) {
+            Ok(log) => Ok(Some(log)),
+            Err(fault) => Err(fault),
+        },
+        None => match output.flush() {
+            Ok(()) => Ok(None),
+            Err(_) => Err(Fault::Log),
+        },
     }
 }
 
-/// Opens the sockets of a configuration, tells this line, and serves them with this log. An `Err`
-/// where they can't be opened.
-#[tactic(none)]
-fn serve_with_log<H: Host, L: OctetSink, E: OctetSink>(
+/// Opens the log and then the sockets. Faults: `Log`, `Socket` and `Memory`.
+fn open<H: Host, W: Write + Drop>(
     alloc: Global,
-    config: Config,
-    turns: u64,
-    line: &[u8],
+    config: &Config,
+    log: &Option<String>,
     host: &H,
-    log: &mut L,
-    errors: &mut E,
-) -> Result<Ending<H::Sockets>, Fault>
-    requires turns { turns < 2 ^ 63 }
-    ensures err { IfErr result (λ f. H.SocketsOpen host.now config.ports (Err f)) }
-    ensures err_log { OnErr result (log.new ≡ log.old) }
-    ensures err_line { OnErr result (errors.new ≡ errors.old) }
-    ensures ok { IfOk result (λ ending. (sockets : H.Sockets)
-        × H.SocketsOpen host.now config.ports (Ok sockets)
-        × Serves config turns (ends (L.held log.old) (H.Sockets.calls sockets))
-        (ends (L.held log.new) (H.Sockets.calls ending.sockets)) ending.outcome) }
-    ensures told { E.NeverFails errors.old →
-        OnOk result (Appends (E.held errors.old) (E.held errors.new) line.now) }
-    ensures lasting { E.NeverFails errors.old → E.NeverFails errors.new }
+    output: &mut BufWriter<W>,
+) -> Result<Open<H::Log, H::Sockets>, Fault>
+    ensures open { let name = option_map string_bytes log.now in
+        let means = machine (H.LogOpens host.now) (H.SocketsOpen host.now) (H.Closes host.now)
+            H.Log.held H.Sockets.calls in
+        let held = writer_contents W.contents output.old in
+        let holds = writer_contents W.contents output.new in
+        let ports = config.now.ports in
+        MatchResult result
+        (λ open. AreOpen means name held holds ports open.log open.sockets)
+        (ArentOpen means name held holds ports) }
+    ensures fresh { IfOk result (λ open. H.Sockets.failure_count open.sockets ≡ 0) }
 {
-    let mut sockets = match host.open_sockets(alloc, config.ports()) {
-        Ok(sockets) => sockets,
-        Err(fault) => return Err(fault),
-    };
-    // Where standard error takes nothing the ports are served all the same.
-    let _ = write_whole(errors, line);
-    let outcome = serve_fresh(alloc, config, &mut sockets, log, turns);
-    Ok(Ending { sockets, outcome })
-}
-
-/// Serves a configuration with the log in the file of this name.
-#[tactic(none)]
-fn serve_to_file<H: Host, E: OctetSink>(
-    alloc: Global,
-    config: Config,
-    turns: u64,
-    line: &[u8],
-    host: &mut H,
-    name: &str,
-    errors: &mut E,
-) -> Result<(), Fault>
-    requires turns { turns < 2 ^ 63 }
-    ensures served { (told : List ℕ)
-        × LeavesServed (in_file (machine (H.LogOpens host.old) (H.SocketsOpen host.old)
-        (H.Closes host.new) H.Log.held H.Sockets.calls) name.now config.ports) config turns line.now
-        told result
-        × (E.NeverFails errors.old → Appends (E.held errors.old) (E.held errors.new) told) }
-    ensures lasting { E.NeverFails errors.old → E.NeverFails errors.new }
-{
-    let mut log = match host.open_log(name) {
+    let log = match open_log(log, host, output) {
         Ok(log) => log,
         Err(fault) => return Err(fault),
     };
-    match serve_with_log(alloc, config, turns, line, host, &mut log, errors) {
-        Ok(Ending { sockets, outcome }) => {
-            host.close(sockets, Some(log));
-            outcome
-        }
+    match host.open_sockets(alloc, config.ports()) {
+        Ok(sockets) => Ok(Open { log, sockets }),
         Err(fault) => Err(fault),
     }
 }
 
-/// Serves a configuration with the log on standard output, each line of which is written at once.
-#[tactic(none)]
-fn serve_to_output<H: Host, W: Write + Drop, E: OctetSink>(
+/// Makes the line that is told at the start, and opens the log and the sockets.
+fn prepare<H: Host, W: Write + Drop>(
+    alloc: Global,
+    config: &Config,
+    options: &RunOptions,
+    host: &H,
+    output: &mut BufWriter<W>,
+) -> Result<(Vec<u8>, Open<H::Log, H::Sockets>), Fault> {
+    let line = told_text(alloc, config, &options.log, options.verbose)?;
+    match open(alloc, config, &options.log, host, output) {
+        Ok(open) => Ok((line, open)),
+        Err(fault) => Err(fault),
+    }
+}
+
+/// Serves what is open. Each event's lines are written to standard output at once where the log is
+/// there.
+fn serve_open<L: OctetSink, S: Wire, W: Write + Drop>(
     alloc: Global,
     config: Config,
     turns: u64,
-    line: &[u8],
-    host: &mut H,
+    open: &mut Open<L, S>,
     output: &mut BufWriter<W>,
-    errors: &mut E,
 ) -> Result<(), Fault>
     requires turns { turns < 2 ^ 63 }
-    ensures served { (told : List ℕ)
-        × LeavesServed (on_output (machine (H.LogOpens host.old) (H.SocketsOpen host.old)
-        (H.Closes host.new) H.Log.held H.Sockets.calls) (writer_contents W.contents output.old)
-        (writer_contents W.contents output.new) config.ports) config turns line.now told result
-        × (E.NeverFails errors.old → Appends (E.held errors.old) (E.held errors.new) told) }
-    ensures lasting { E.NeverFails errors.old → E.NeverFails errors.new }
-    ensures flush { OnOk result (writer_buffer output.new ≡ []) }
+    requires failures { S.failure_count open.old.sockets < 2 ^ 127 }
+    ensures serves { let held = writer_contents W.contents output.old in
+        let holds = writer_contents W.contents output.new in
+        Serves config turns
+        (ends (log_held L.held open.old.log held) (S.calls open.old.sockets))
+        (ends (log_held L.held open.new.log holds) (S.calls open.new.sockets)) result }
+    ensures output { OutputStays open.old.log (writer_contents W.contents output.old)
+        (writer_contents W.contents output.new) }
+    ensures buffer { writer_buffer output.new ≡ writer_buffer output.old }
 {
-    if output.flush().is_err() {
-        return Err(Fault::Log);
-    }
-    match serve_with_log(alloc, config, turns, line, host, output.get_mut(), errors) {
-        Ok(Ending { sockets, outcome }) => {
-            host.close(sockets, None);
-            outcome
-        }
-        Err(fault) => Err(fault),
+    match &mut open.log {
+        Some(log) => serve_fresh(alloc, config, &mut open.sockets, log, turns),
+        None => serve_fresh(alloc, config, &mut open.sockets, output.get_mut(), turns),
     }
 }
 
 /// Serves the ports of a configuration as the options ask, and tells at the start what is served
 /// where they ask for that. Faults: `Log`, `Socket`, `Memory` and `CountEnd`.
-#[tactic(none)]
 pub fn serve_ports<H: Host, W: Write + Drop, E: OctetSink>(
     alloc: Global,
     config: Config,
@@ -166,10 +186,18 @@ pub fn serve_ports<H: Host, W: Write + Drop, E: OctetSink>(
     ensures lasting { E.NeverFails errors.old → E.NeverFails errors.new }
     ensures flush { OnOk result (writer_buffer output.new ≡ []) }
 {
-    let turns = options.turns;
-    let line = told_text(alloc, &config, &options.log, options.verbose)?;
-    match &options.log {
-        Some(name) => serve_to_file(alloc, config, turns, &line, host, name, errors),
-        None => serve_to_output(alloc, config, turns, &line, host, output, errors),
+    match prepare(alloc, &config, options, host, output) {
+        Ok((line, mut open)) => {
+            // Where standard error takes nothing the ports are served all the same.
+            let _ = write_whole(errors, &line);
+            let outcome = serve_open(alloc, config, options.turns, &mut open, output);
+            let Open { log, sockets } = open;
+            host.close(sockets, log);
+            outcome
+        }
+        Err(fault) => {
+            drop(config);
+            Err(fault)
+        }
     }
 }
