@@ -47,8 +47,8 @@ pub record Stay {S : Type 0} (from to : ℕ) (before after : List (SockPair S)) 
   pub upper : (place : ℕ) → to ≤ place → IsKept before after place
 
 -- These places were asked in turn, and nothing waited at any; or nothing waited at the first of them, and the next one answered.
-abbrev pub AreAsked : {S : Type 0} → (S → ℕ) → (S → Bool) → (S → Answer → List ℕ → Type 0) → ℕ → ℕ → List (SockPair S) → List (SockPair S)
-    → Option (ℕ × Result (ℕ × BipAddr) SockFault) → List ℕ → Type 0
+abbrev pub AreAsked : {S : Type 0} → (S → ℕ) → (S → Bool) → (S → Answer → List ℕ → Type 0)
+    → ℕ → ℕ → List (SockPair S) → List (SockPair S) → Option (ℕ × Result (ℕ × BipAddr) SockFault) → List ℕ → Type 0
 AreAsked looks empty Answered from to before after None buffer =
     Stay from to before after × ArePassedFrom looks empty from to before after
 AreAsked looks empty Answered from to before after (Some (place, said)) buffer =
@@ -80,8 +80,8 @@ failed_of (Err fault) = 1
 
 -- All ports were asked in turn, and nothing waited at any; or nothing waited at those whose turn comes sooner than that of one, which
 -- answered, and those whose turn comes later weren't asked.
-abbrev pub AreAskedInTurn : {S : Type 0} → (S → ℕ) → (S → Bool) → (S → Answer → List ℕ → Type 0) → List (SockPair S) → ℕ → List (SockPair S)
-    → Option (ℕ × Result (ℕ × BipAddr) SockFault) → List ℕ → Type 0
+abbrev pub AreAskedInTurn : {S : Type 0} → (S → ℕ) → (S → Bool) → (S → Answer → List ℕ → Type 0)
+    → List (SockPair S) → ℕ → List (SockPair S) → Option (ℕ × Result (ℕ × BipAddr) SockFault) → List ℕ → Type 0
 AreAskedInTurn looks empty Answered before last after None buffer =
     (length after ≡ length before) × ArePassedFrom looks empty 0 (length before) before after
 AreAskedInTurn looks empty Answered before last after (Some (place, said)) buffer =
