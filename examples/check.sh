@@ -60,6 +60,9 @@ refused check
 refused check site.toml
 refused check --config
 refused check --config a --config a
+refused run --config a --turns 0
+refused run --config a --turns 9223372036854775808
+refused run --config a --explain
 refused replay --config
 refused replay --config a --config a
 refused --config file replay
@@ -80,6 +83,7 @@ helped -h
 helped help
 helped replay --help
 helped help check
+helped run --help
 
 checked() {
     "$program" check --config "$1" < /dev/null > "$work/out" 2> "$work/err"
@@ -110,6 +114,19 @@ faulty 'format = ' NotToml
 faulty '\xff' NotToml
 faulty 'colour = 1' UnknownKey
 faulty 'format = 1\nport = []\n[device]\n' Range
+
+# unserved STATUS LINE WORDS..: `run` tells this line and ends
+unserved() {
+    "$program" run "${@:3}" < /dev/null > "$work/out" 2> "$work/err"
+    status=$?
+    tells "a run: ${*:3}" "$1" "$2"
+}
+printf 'format = ' > "$work/faulty.toml"
+sed 's/10\.1\.0/192.0.2/; s/10\.2\.0/198.51.100/' "$here/two_subnets.toml" > "$work/elsewhere.toml"
+unserved 1 'bacgw: cannot read configuration' --config "$work/nowhere.toml" --log "$work/nowhere/log"
+unserved 2 'bacgw: configuration: NotToml' --config "$work/faulty.toml" --log "$work/nowhere/log"
+unserved 1 'bacgw: log failed' --config "$work/elsewhere.toml" --log "$work/nowhere/log"
+unserved 1 'bacgw: socket failed on port 1' --config "$work/elsewhere.toml" --log "$work/log" --verbose
 
 # explained TEXT NAME LINE: `check --explain` tells the fault as before, and says where it is
 explained() {

@@ -1,12 +1,12 @@
 -- Lists of pairs of which one after the other is asked.
-use Rattle.std.proofs.Common.{◌≡◌, ◌≢◌, ◌∙◌, ◌+◌, ◌<◌, ◌≤◌, ℕ, Bool, List, length, get_or, arith, sym, subst, inl, inr}
+use Rattle.std.proofs.Common.{◌≡◌, ◌∙◌, ◌+◌, ◌<◌, ◌≤◌, ℕ, Bool, List, length, get_or, arith, sym, subst, inl, inr}
 use Rattle.std.proofs.Math.ListN.{set}
 use Rattle.std.proofs.lemmas.Bool.{cases_lt}
 use Rattle.std.proofs.Math.Nat.{ne_of_lt}
 use Rattle.std.proofs.lemmas.List.{get_or-set_same, get_or-set_other, length-set}
 use Rattle.bacgw.specs.declared.sock_pair.SockPair.{SockPair}
 use Rattle.bacgw.specs.SockPair.{ArePassed}
-use Rattle.bacgw.specs.Ports.{ArePassedFrom, AtPlace, Stay}
+use Rattle.bacgw.specs.Ports.{ArePassedFrom, Stay}
 
 -- the pair at the next place changes
 pub stay_set : {S : Type 0} (from place : ℕ) (before now : List (SockPair S)) (new : SockPair S) → Stay from place before now →

@@ -6,6 +6,8 @@ use Rattle.gw_policy_text.specs.declared.fault.ConfigFault.{ConfigFault}
 use Rattle.gw_policy_text.specs.declared.fault.ConfigFault.TheVariants as config
 use Rattle.gw_core.specs.declared.replaying.RunFault.{RunFault}
 use Rattle.gw_core.specs.declared.replaying.RunFault.TheVariants as run
+use Rattle.gw_core.specs.declared.serving.ServeFault.{ServeFault}
+use Rattle.gw_core.specs.declared.serving.ServeFault.TheVariants as serving
 
 -- the name of a fault of a configuration
 abbrev pub name_of : ConfigFault → List ℕ
@@ -26,6 +28,8 @@ text_of (fault.Configuration f) = codes "bacgw: configuration: " ++ name_of f
 text_of (fault.Line n) = codes "bacgw: line " ++ decimal n
 text_of fault.Read = codes "bacgw: read failed"
 text_of fault.Write = codes "bacgw: write failed"
+text_of fault.Log = codes "bacgw: log failed"
+text_of (fault.Socket port) = codes "bacgw: socket failed on port " ++ decimal port
 text_of fault.Memory = codes "bacgw: out of memory"
 text_of fault.CountEnd = codes "bacgw: count at its end"
 
@@ -37,6 +41,8 @@ status_of (fault.Configuration f) = 2
 status_of (fault.Line n) = 2
 status_of fault.Read = 1
 status_of fault.Write = 1
+status_of fault.Log = 1
+status_of (fault.Socket port) = 1
 status_of fault.Memory = 1
 status_of fault.CountEnd = 1
 
@@ -52,6 +58,12 @@ fault_of (run.Line n) = fault.Line n
 fault_of run.Write = fault.Write
 fault_of run.Memory = fault.Memory
 fault_of run.CountEnd = fault.CountEnd
+
+-- the fault of serving, as the program tells it
+abbrev pub fault_of_serving : ServeFault → Fault
+fault_of_serving serving.Log = fault.Log
+fault_of_serving serving.Memory = fault.Memory
+fault_of_serving serving.CountEnd = fault.CountEnd
 
 -- the first fault of a run and of the flush behind it
 abbrev pub first_fault : Result (Unit {0}) RunFault → Bool → Result (Unit {0}) Fault

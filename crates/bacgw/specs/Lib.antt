@@ -1,9 +1,13 @@
+pub mod Announcement
 pub mod CommandLine
 pub mod Configured
 pub mod Ending
 pub mod Files
+pub mod Host
 pub mod Ports
 pub mod Program
 pub mod Replay
+pub mod Serving
 pub mod SockPair
 pub mod Socket
+pub mod Timed

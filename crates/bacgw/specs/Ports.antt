@@ -1,6 +1,6 @@
 -- Whose turn it is: due ticks first, then the ports behind the last that answered, one after the other around to itself, and of each
 -- port its two sockets.
-use Rattle.std.specs.Prelude.{◌≡◌, ◌≢◌, ℕ, ◌+◌, ◌-◌, ◌≤◌, ◌<◌, Bool, true, false, nat_lt, if◌then◌else◌, List, length, slice_index_or, Option, Some, None, Result, Ok, Err, unwrap_or}
+use Rattle.std.specs.Prelude.{◌≡◌, ℕ, ◌+◌, ◌-◌, ◌≤◌, ◌<◌, Bool, true, false, nat_lt, if◌then◌else◌, List, length, slice_index_or, Option, Some, None, Result, Ok, Err, unwrap_or}
 use Rattle.gw_addr.specs.declared.bip.BipAddr.{BipAddr}
 use Rattle.bacgw.specs.declared.sock_pair.SockPair.{SockPair}
 use Rattle.bacgw.specs.declared.socket.SockFault.{SockFault}

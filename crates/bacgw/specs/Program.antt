@@ -1,5 +1,5 @@
 -- The program as a whole: what the words chose, what stands on standard output then, the line on standard error and the exit status.
-use Rattle.std.specs.Prelude.{◌≡◌, ◌⊎◌, Bool, true, IsTrue, ℕ, List, [], ◌∷◌, ◌++◌, Option, Some, Result, Ok, Err, OnOk, option_map, string_bytes}
+use Rattle.std.specs.Prelude.{◌≡◌, ◌⊎◌, ⊤, Bool, true, IsTrue, ℕ, List, [], ◌∷◌, ◌++◌, Option, Some, Result, Ok, Err, OnOk, option_map, string_bytes}
 use Rattle.std.specs.List.{list_all}
 use Rattle.std.specs.Io.KnownBytes.{Appends}
 use Rattle.gw_core.specs.Replay.{OnKnown}
@@ -12,6 +12,7 @@ use Rattle.bacgw.specs.declared.fault.Fault.TheVariants as fault
 use Rattle.bacgw.specs.Configured.{IsConfigurationOf, IsConfigured, summary}
 use Rattle.bacgw.specs.Ending.{error_text, status_after}
 use Rattle.bacgw.specs.Replay.{Plays}
+use Rattle.bacgw.specs.Serving.{IsFlushedFor, LeavesRun, Machine}
 
 -- known octets grow by a front of a text
 pub record AppendsFront (held holds : Option (List ℕ)) (text : List ℕ) : Type 0 where
@@ -57,27 +58,54 @@ abbrev pub LeavesPlayed : Option (List ℕ) → Option (List ℕ) → Option (Li
 LeavesPlayed input held holds (Ok c) outcome = OnKnown input held holds (λ script before. Plays c script before outcome)
 LeavesPlayed input held holds (Err f) outcome = (outcome ≡ Err f) × (holds ≡ held)
 
--- What stands on standard output, which held `held` before, where files give what `Reads` says: at `check` and `replay` what they leave
--- of some configuration that is the one they name, and at help its text, of which a failed write may leave a front. Words that choose
--- nothing leave it as it was, and their fault is the outcome.
-abbrev pub LeavesOutput : (Reads : List ℕ → Result (List ℕ) Fault → Type 0)
-    → Option (List ℕ) → Option (List ℕ) → Option (List ℕ) → Result Choice Fault → Result (Unit {0}) Fault → Type 0
-LeavesOutput Reads input held holds (Ok (choice.Check file explains)) outcome =
+-- What stands on standard output, which held `held` before, where files give what `Reads` says and `run` opens what the machine says: at
+-- `check` and `replay` what they leave of some configuration that is the one they name, at `run` also what was told at the start, and at
+-- help its text, of which a failed write may leave a front. Words that choose nothing leave it as it was, and their fault is the outcome.
+abbrev pub LeavesOutput : {Log Sockets : Type 0} → (Reads : List ℕ → Result (List ℕ) Fault → Type 0) → Machine Log Sockets
+    → Option (List ℕ) → Option (List ℕ) → Option (List ℕ) → List ℕ → Result Choice Fault → Result (Unit {0}) Fault → Type 0
+LeavesOutput Reads machine input held holds told (Ok (choice.Check file explains)) outcome =
     (c : Result Configuration Fault) × IsConfigured Reads (Some (string_bytes file)) c × LeavesChecked explains held holds c outcome
-LeavesOutput Reads input held holds (Ok (choice.Replay file)) outcome =
+LeavesOutput Reads machine input held holds told (Ok (choice.Replay file)) outcome =
     (c : Result Configuration Fault) × IsConfigured Reads (option_map string_bytes file) c × LeavesPlayed input held holds c outcome
-LeavesOutput Reads input held holds (Ok (choice.Help text)) (Ok done) = Appends held holds (string_bytes text)
-LeavesOutput Reads input held holds (Ok (choice.Help text)) (Err f) = (f ≡ fault.Write) × AppendsFront held holds (string_bytes text)
-LeavesOutput Reads input held holds (Err f) outcome = (outcome ≡ Err f) × (holds ≡ held)
+LeavesOutput Reads machine input held holds told (Ok (choice.Run options)) outcome =
+    (c : Result Configuration Fault) × IsConfigured Reads (Some (string_bytes options.config)) c
+    × LeavesRun machine held holds options c told outcome
+LeavesOutput Reads machine input held holds told (Ok (choice.Help text)) (Ok done) = Appends held holds (string_bytes text)
+LeavesOutput Reads machine input held holds told (Ok (choice.Help text)) (Err f) =
+    (f ≡ fault.Write) × AppendsFront held holds (string_bytes text)
+LeavesOutput Reads machine input held holds told (Err f) outcome = (outcome ≡ Err f) × (holds ≡ held)
 
--- One run of the program. `Chooses` is what the words ask for, `Leaves` what stands on standard output at a choice and an outcome,
--- `buffer` what of it isn't flushed, and `Adds` which line standard error is given.
-pub record IsRun (Chooses : Result Choice Fault → Type 0) (Leaves : Result Choice Fault → Result (Unit {0}) Fault → Type 0)
-    (buffer : List ℕ) (Adds : List ℕ → Type 0) (exit : ℕ) : Type 0 where
+-- Only `run` tells something at the start.
+abbrev pub IsQuiet : Result Choice Fault → List ℕ → Type 0
+IsQuiet (Ok (choice.Run options)) told = ⊤
+IsQuiet _ told = told ≡ []
+
+-- What of standard output isn't flushed after a choice that was done: nothing, but that `run` leaves what was so before where its log is
+-- in a file.
+abbrev pub IsFlushed : Result Choice Fault → (was is : List ℕ) → Type 0
+IsFlushed (Ok (choice.Run options)) was is = IsFlushedFor (option_map string_bytes options.log) was is
+IsFlushed _ was is = is ≡ []
+
+-- What was done by a choice. `Leaves` is what stands on standard output, with what was told at the start, and `Adds` what standard error
+-- is given.
+pub record IsFollowed (Leaves : List ℕ → Result Choice Fault → Result (Unit {0}) Fault → Type 0) (Adds : List ℕ → Type 0)
+    (choice : Result Choice Fault) (outcome : Result (Unit {0}) Fault) : Type 0 where
+  pub told : List ℕ
+  pub output : Leaves told choice outcome
+  pub quiet : IsQuiet choice told
+  pub errors : Adds told
+
+-- One run of the program. `Chooses` is what the words ask for, `Leaves` what stands on standard output at a choice and an outcome, with
+-- what was told at the start, `was` and `is` what of it wasn't flushed before and isn't then, and `Adds` what standard error is given.
+pub record IsRun (Chooses : Result Choice Fault → Type 0)
+    (Leaves : List ℕ → Result Choice Fault → Result (Unit {0}) Fault → Type 0) (was is : List ℕ) (Adds : List ℕ → Type 0)
+    (exit : ℕ) : Type 0 where
   pub choice : Result Choice Fault
   pub outcome : Result (Unit {0}) Fault
+  pub told : List ℕ
   pub words : Chooses choice
-  pub output : Leaves choice outcome
-  pub flush : OnOk outcome (buffer ≡ [])
-  pub errors : Adds (error_text outcome)
+  pub output : Leaves told choice outcome
+  pub quiet : IsQuiet choice told
+  pub flush : OnOk outcome (IsFlushed choice was is)
+  pub errors : Adds (told ++ error_text outcome)
   pub status : exit ≡ status_after outcome

@@ -14,5 +14,7 @@ Plays c script before (Err (fault.Configuration f)) after = ⊥
 Plays c script before (Err (fault.Line n)) after = RunsToLine n c script before after
 Plays c script before (Err fault.Read) after = RunsPart c script before after
 Plays c script before (Err fault.Write) after = RunsFront c script before after
+Plays c script before (Err fault.Log) after = ⊥
+Plays c script before (Err (fault.Socket port)) after = ⊥
 Plays c script before (Err fault.Memory) after = RunsToMemory c script before after
 Plays c script before (Err fault.CountEnd) after = RunsToEnd c script before after

@@ -25,7 +25,11 @@ pub fn configuration_of(alloc: Global, text: &Result<Vec<u8>, Fault>) -> Result<
 }
 
 /// The configuration of the file of this name. Faults: `Unreadable`, `Configuration` and `Memory`.
-fn configuration_in<F: ConfigFiles>(alloc: Global, files: &F, name: &str) -> Result<Config, Fault>
+pub fn configuration_in<F: ConfigFiles>(
+    alloc: Global,
+    files: &F,
+    name: &str,
+) -> Result<Config, Fault>
     ensures { IsConfigured (F.Reads files.now) (Some name.now) result }
 {
     let text = files.read(alloc, name);

@@ -11,12 +11,13 @@ use gw_script::{OctetSink, WriteFailed, write_whole};
 use itoa::Buffer;
 use std::process::ExitCode;
 
-/// Writes `bacgw: line ` and this number, and a line feed.
-fn write_line_number<E: OctetSink>(number: u64, errors: &mut E) -> Result<(), WriteFailed>
-    ensures ok { OnOk result (Appends (E.held errors.old) (E.held errors.new) (codes "bacgw: line " ++ decimal number ++ 10 ∷ [])) }
+/// Writes a text, this number, and a line feed.
+fn write_number<E: OctetSink>(text: &str, number: u64, errors: &mut E) -> Result<(), WriteFailed>
+    ensures ok { OnOk result (Appends (E.held errors.old) (E.held errors.new)
+        (text.now ++ (decimal number ++ 10 ∷ []))) }
     ensures sure { E.NeverFails errors.old → IsOk result }
 {
-    match write_whole(errors, b"bacgw: line ") {
+    match write_whole(errors, text.as_bytes()) {
         Ok(()) => {}
         Err(failed) => return Err(failed),
     }
@@ -56,9 +57,13 @@ fn write_fault<E: OctetSink>(fault: Fault, errors: &mut E) -> Result<(), WriteFa
         Fault::CommandLine => write_whole(errors, b"bacgw: bad command line\n"),
         Fault::Unreadable => write_whole(errors, b"bacgw: cannot read configuration\n"),
         Fault::Configuration(fault) => write_configuration_fault(fault, errors),
-        Fault::Line(number) => write_line_number(number, errors),
+        Fault::Line(number) => write_number("bacgw: line ", number, errors),
         Fault::Read => write_whole(errors, b"bacgw: read failed\n"),
         Fault::Write => write_whole(errors, b"bacgw: write failed\n"),
+        Fault::Log => write_whole(errors, b"bacgw: log failed\n"),
+        Fault::Socket(port) => {
+            write_number("bacgw: socket failed on port ", u64::from(port), errors)
+        }
         Fault::Memory => write_whole(errors, b"bacgw: out of memory\n"),
         Fault::CountEnd => write_whole(errors, b"bacgw: count at its end\n"),
     }

@@ -1,10 +1,10 @@
 //! Why the program ends without success: its line on standard error, and its exit status.
 
 ghost use Rattle.std.specs.Prelude.{◌≡◌, ◌≢◌, Some};
-ghost use Rattle.bacgw.specs.Ending.{fault_of, fault_of_configuration, name_of, status_of, text_of};
+ghost use Rattle.bacgw.specs.Ending.{fault_of, fault_of_configuration, fault_of_serving, name_of, status_of, text_of};
 ghost use Rattle.bacgw.specs.declared.fault.Fault.TheVariants.{CommandLine, Memory};
 
-use gw_core::RunFault;
+use gw_core::{RunFault, ServeFault};
 use gw_policy_text::ConfigFault;
 use std::alloc::AllocError;
 use std::fmt;
@@ -26,6 +26,10 @@ pub enum Fault {
     Read,
     /// A write to standard output failed.
     Write,
+    /// The log can't be opened, or a write to it failed.
+    Log,
+    /// A socket of the port of this number can't be opened; with 1 also what waits, or the clock.
+    Socket(u8),
     /// A growth was refused.
     Memory,
     /// The count of ticks or the number of the last denial is at its end.
@@ -50,7 +54,13 @@ impl Fault {
     {
         match self {
             Fault::CommandLine | Fault::Configuration(_) | Fault::Line(_) => 2,
-            Fault::Unreadable | Fault::Read | Fault::Write | Fault::Memory | Fault::CountEnd => 1,
+            Fault::Unreadable
+            | Fault::Read
+            | Fault::Write
+            | Fault::Log
+            | Fault::Socket(_)
+            | Fault::Memory
+            | Fault::CountEnd => 1,
         }
     }
 }
@@ -69,6 +79,8 @@ impl fmt::Display for Fault {
             Fault::Line(number) => write!(f, "bacgw: line {number}"),
             Fault::Read => f.write_str("bacgw: read failed"),
             Fault::Write => f.write_str("bacgw: write failed"),
+            Fault::Log => f.write_str("bacgw: log failed"),
+            Fault::Socket(port) => write!(f, "bacgw: socket failed on port {port}"),
             Fault::Memory => f.write_str("bacgw: out of memory"),
             Fault::CountEnd => f.write_str("bacgw: count at its end"),
         }
@@ -112,6 +124,18 @@ impl From<RunFault> for Fault {
             RunFault::Write => Fault::Write,
             RunFault::Memory => Fault::Memory,
             RunFault::CountEnd => Fault::CountEnd,
+        }
+    }
+}
+
+impl From<ServeFault> for Fault {
+    ghost from_gives = { λ serving fault. fault ≡ fault_of_serving serving };
+
+    fn from(serving: ServeFault) -> Fault {
+        match serving {
+            ServeFault::Log => Fault::Log,
+            ServeFault::Memory => Fault::Memory,
+            ServeFault::CountEnd => Fault::CountEnd,
         }
     }
 }

@@ -1,29 +1,39 @@
 //! The program `bacgw`: a gateway of BACnet/IP, run from the command line.
 //!
-//! `bacgw check` says what the configuration in a file has, and `bacgw replay` reads events from
-//! standard input and writes what the gateway gives for each to standard output. A fault is one line
-//! on standard error, and the exit status says of which kind it is.
+//! `bacgw check` says what the configuration in a file has, `bacgw replay` reads events from standard
+//! input and writes what the gateway gives for each to standard output, and `bacgw run` serves the
+//! ports of a configuration over UDP. A fault is one line on standard error, and the exit status says
+//! of which kind it is.
 #![tactic(auto)]
 
+mod announcement;
 mod command_line;
 mod configured;
 mod ending;
 mod fault;
 mod files;
+mod host;
+mod options;
 mod ports;
 mod program;
+#[cfg(test)]
+mod run_tests;
 mod script;
+mod serving;
 mod sock_pair;
 mod socket;
 #[cfg(test)]
 mod tests;
+mod timed;
 #[cfg(test)]
 mod turn_tests;
 mod turns;
 mod udp;
+mod waiter;
 
 use fault::Fault;
 use files::SystemFiles;
+use host::SystemHost;
 use std::io::BufWriter;
 use std::process::ExitCode;
 use std::rt::Env;
@@ -50,6 +60,7 @@ fn main(rt: HostRuntime) -> ExitCode {
         alloc,
         words(&rt),
         &SystemFiles { rt: &rt },
+        &mut SystemHost { rt: &rt },
         &mut rt.reader(),
         &mut output,
         &mut errors,

@@ -1,6 +1,6 @@
 //! The whole program, over any words, reader and writers.
 
-ghost use Rattle.std.specs.Prelude.{◌≡◌, ◌++◌, [], Bool, List, ℕ, Ok, map, string_bytes, MatchResult, IfErr, IfOk, IfSome, OnOk, OnErr};
+ghost use Rattle.std.specs.Prelude.{◌≡◌, ◌++◌, [], Bool, List, ℕ, Ok, map, option_map, string_bytes, MatchResult, IfErr, IfOk, IfSome, OnOk, OnErr};
 ghost use Rattle.std.specs.Io.Buffered.{writer_buffer, writer_contents};
 ghost use Rattle.std.specs.Io.KnownBytes.{Appends};
 ghost use Rattle.std.specs.Process.{exit_status};
@@ -8,16 +8,20 @@ ghost use Rattle.gw_policy_text.specs.Configuration.{Configuration};
 ghost use Rattle.bacgw.specs.CommandLine.{IsAnswer};
 ghost use Rattle.bacgw.specs.Configured.{IsConfigured};
 ghost use Rattle.bacgw.specs.Files.{result_map};
-ghost use Rattle.bacgw.specs.Program.{AppendsFront, IsLine, IsRun, LeavesChecked, LeavesFault, LeavesLine, LeavesOfText, LeavesOutput, LeavesPlayed};
+ghost use Rattle.bacgw.specs.Program.{AppendsFront, IsFlushed, IsFollowed, IsLine, IsRun, LeavesChecked, LeavesFault, LeavesLine, LeavesOfText, LeavesOutput, LeavesPlayed};
+ghost use Rattle.bacgw.specs.Serving.{IsFlushedFor, LeavesRun, machine};
 ghost use Rattle.bacgw.specs.declared.fault.Fault.{Fault};
 ghost use Rattle.bacgw.specs.declared.fault.Fault.TheVariants as fault;
 
 use crate::command_line::{Choice, choice_of};
-use crate::configured::{configuration, configuration_of, summary};
+use crate::configured::{configuration, configuration_in, configuration_of, summary};
 use crate::ending::end;
 use crate::fault::Fault;
 use crate::files::ConfigFiles;
+use crate::host::Host;
+use crate::options::RunOptions;
 use crate::script::replay;
+use crate::serving::serve_ports;
 use gw_policy_text::{Config, ConfigFault, Explanation, explain};
 use gw_script::{OctetSink, OctetSource, write_whole};
 use std::alloc::{AllocError, Global};
@@ -165,18 +169,49 @@ fn play<R: OctetSource, W: Write + Drop>(
     }
 }
 
+/// Serves the ports of the configuration that was read.
+fn serve<H: Host, W: Write + Drop, E: OctetSink>(
+    alloc: Global,
+    config: Result<Config, Fault>,
+    options: &RunOptions,
+    host: &mut H,
+    output: &mut BufWriter<W>,
+    errors: &mut E,
+) -> Result<(), Fault>
+    ensures served { (told : List ℕ)
+        × LeavesRun (machine (H.LogOpens host.old) (H.SocketsOpen host.old) (H.Closes host.new)
+        H.Log.held H.Sockets.calls) (writer_contents W.contents output.old)
+        (writer_contents W.contents output.new) options.now config told result
+        × (E.NeverFails errors.old → Appends (E.held errors.old) (E.held errors.new) told) }
+    ensures lasting { E.NeverFails errors.old → E.NeverFails errors.new }
+    ensures flush { OnOk result (IsFlushedFor (option_map string_bytes options.now.log)
+        (writer_buffer output.old) (writer_buffer output.new)) }
+{
+    match config {
+        Ok(config) => serve_ports(alloc, config, options, host, output, errors),
+        Err(fault) => Err(fault),
+    }
+}
+
 /// Does what was chosen.
-fn follow<F: ConfigFiles, R: OctetSource, W: Write + Drop>(
+fn follow<F: ConfigFiles, H: Host, R: OctetSource, W: Write + Drop, E: OctetSink>(
     alloc: Global,
     choice: Result<Choice, Fault>,
     files: &F,
+    host: &mut H,
     input: &mut R,
     output: &mut BufWriter<W>,
+    errors: &mut E,
 ) -> Result<(), Fault>
-    ensures output { LeavesOutput (F.Reads files.now) (R.left input.old)
-        (writer_contents W.contents output.old) (writer_contents W.contents output.new) choice
-        result }
-    ensures flush { OnOk result (writer_buffer output.new ≡ []) }
+    ensures followed { IsFollowed
+        (LeavesOutput (F.Reads files.now) (machine (H.LogOpens host.old) (H.SocketsOpen host.old)
+        (H.Closes host.new) H.Log.held H.Sockets.calls) (R.left input.old)
+        (writer_contents W.contents output.old) (writer_contents W.contents output.new))
+        (λ told. E.NeverFails errors.old → Appends (E.held errors.old) (E.held errors.new) told)
+        choice result }
+    ensures lasting { E.NeverFails errors.old → E.NeverFails errors.new }
+    ensures flush { OnOk result
+        (IsFlushed choice (writer_buffer output.old) (writer_buffer output.new)) }
 {
     match choice {
         Ok(Choice::Check { file, explains }) => {
@@ -187,6 +222,10 @@ fn follow<F: ConfigFiles, R: OctetSource, W: Write + Drop>(
             let config = configuration(alloc, files, &file);
             play(alloc, config, input, output)
         }
+        Ok(Choice::Run(options)) => {
+            let config = configuration_in(alloc, files, &options.config);
+            serve(alloc, config, &options, host, output, errors)
+        }
         Ok(Choice::Help(text)) => print(text.as_bytes(), output),
         Err(fault) => Err(fault),
     }
@@ -194,12 +233,14 @@ fn follow<F: ConfigFiles, R: OctetSource, W: Write + Drop>(
 
 /// Runs the program on these words, or on the fault for which there are none: the configuration that
 /// they name is read from `files`, what it has is printed to `output`, or the script of `input` is
-/// replayed there, or help is printed; a fault is one line on `errors`, and the exit status says of
-/// which kind it is. The words begin with the program's name.
-pub fn run<F: ConfigFiles, R: OctetSource, W: Write + Drop, E: OctetSink>(
+/// replayed there, or what `host` opens is served, or help is printed; what is served may be told on
+/// `errors`, a fault is one line there, and the exit status says of which kind it is. The words begin
+/// with the program's name.
+pub fn run<F: ConfigFiles, H: Host, R: OctetSource, W: Write + Drop, E: OctetSink>(
     alloc: Global,
     words: Result<Vec<String>, Fault>,
     files: &F,
+    host: &mut H,
     input: &mut R,
     output: &mut BufWriter<W>,
     errors: &mut E,
@@ -208,13 +249,14 @@ pub fn run<F: ConfigFiles, R: OctetSource, W: Write + Drop, E: OctetSink>(
         (λ choice. MatchResult words
         (λ w. IsAnswer (map string_bytes w.items) choice)
         (λ f. choice ≡ Err f))
-        (LeavesOutput (F.Reads files.now) (R.left input.old)
+        (LeavesOutput (F.Reads files.now) (machine (H.LogOpens host.old) (H.SocketsOpen host.old)
+        (H.Closes host.new) H.Log.held H.Sockets.calls) (R.left input.old)
         (writer_contents W.contents output.old) (writer_contents W.contents output.new))
-        (writer_buffer output.new)
+        (writer_buffer output.old) (writer_buffer output.new)
         (λ line. E.NeverFails errors.old → Appends (E.held errors.old) (E.held errors.new) line)
         (exit_status result) }
 {
     let choice = choice_from(alloc, words);
-    let outcome = follow(alloc, choice, files, input, output);
+    let outcome = follow(alloc, choice, files, host, input, output, errors);
     end(outcome, errors)
 }

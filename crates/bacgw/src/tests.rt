@@ -5,6 +5,7 @@ use crate::ending::end;
 use crate::fault::Fault;
 use crate::files::ConfigFiles;
 use crate::program::run;
+use crate::run_tests::MemHost;
 use crate::script::replay;
 use gw_core::setting_s;
 use gw_policy_text::{ConfigFault, SETTING};
@@ -15,7 +16,7 @@ use std::process::ExitCode;
 use std::test::*;
 
 /// The words of a call, the program's name first.
-fn call(alloc: Global, words: &[&str]) -> Result<Vec<String>, AllocError> {
+pub fn call(alloc: Global, words: &[&str]) -> Result<Vec<String>, AllocError> {
     let mut call = Vec::new(alloc);
     call.push(String::from_str(alloc, "bacgw")?)?;
     for word in words {
@@ -37,13 +38,14 @@ fn file_of<'a>(choice: &'a Choice, name: &str) -> Option<Option<&'a str>> {
         } if name == "explain" => Some(Some(file.as_str())),
         Choice::Replay(None) if name == "replay" => Some(None),
         Choice::Replay(Some(file)) if name == "replay" => Some(Some(file.as_str())),
+        Choice::Run(options) if name == "run" => Some(Some(options.config.as_str())),
         _ => None,
     }
 }
 
 #[test]
 fn takes_commands(rt: HostRuntime) -> Result<(), Fail> {
-    let cases: [(&[&str], &str, Option<&str>); 9] = [
+    let cases: [(&[&str], &str, Option<&str>); 11] = [
         (&["replay"], "replay", None),
         (
             &["replay", "--config", "site.toml"],
@@ -65,6 +67,21 @@ fn takes_commands(rt: HostRuntime) -> Result<(), Fail> {
             Some("a"),
         ),
         (&["check", "--explain", "--config=a"], "explain", Some("a")),
+        (&["run", "--turns=+7", "--config=a b"], "run", Some("a b")),
+        (
+            &[
+                "run",
+                "--verbose",
+                "--log",
+                "-",
+                "--config",
+                "a",
+                "--turns",
+                "9223372036854775807",
+            ],
+            "run",
+            Some("a"),
+        ),
     ];
     for (words, name, file) in cases {
         let call = call(rt.alloc(), words)?;
@@ -78,9 +95,17 @@ fn takes_commands(rt: HostRuntime) -> Result<(), Fail> {
 
 #[test]
 fn refuses_other_words(rt: HostRuntime) -> Result<(), Fail> {
-    let cases: [&[&str]; 22] = [
+    let cases: [&[&str]; 30] = [
         &[],
         &["run"],
+        &["run", "--config", "a", "b"],
+        &["run", "--config", "a", "--turns", "0"],
+        &["run", "--config", "a", "--turns", "9223372036854775808"],
+        &["run", "--config", "a", "--turns=-1"],
+        &["run", "--config", "a", "--turns", ""],
+        &["run", "--config", "a", "--log"],
+        &["run", "--config", "a", "--log", "b", "--log", "b"],
+        &["run", "--config", "a", "--explain"],
         &["check"],
         &["check", "site.toml"],
         &["check", "--config"],
@@ -118,6 +143,7 @@ Usage: bacgw <COMMAND>
 Commands:
   check   Says what a configuration has, or its first fault
   replay  Plays the events of standard input and prints what the gateway gives for each
+  run     Serves the ports of a configuration over UDP
   help    Print this message or the help of the given subcommand(s)
 
 Options:
@@ -135,6 +161,22 @@ Options:
   -h, --help           Print help
 ";
 
+/// The text that is printed for help on `run`.
+const RUN_HELP: &str = "Serves the ports of a configuration over UDP
+
+Usage: bacgw run [OPTIONS] --config <FILE>
+
+Options:
+      --config <FILE>  The configuration, in TOML
+      --log <FILE>     What the log is appended to; without it standard output
+      --turns <N>      How many turns are served, from 1 to 9223372036854775807, the default
+      --verbose        Tells at the start what is served
+  -h, --help           Print help
+
+Example:
+  bacgw run --config site.toml --log /var/log/bacgw.log --verbose
+";
+
 /// The text that is printed for help on `check`.
 const CHECK_HELP: &str = "Says what a configuration has, or its first fault
 
@@ -148,12 +190,13 @@ Options:
 
 #[test]
 fn helps(rt: HostRuntime) -> Result<(), Fail> {
-    let cases: [(&[&str], &str); 5] = [
+    let cases: [(&[&str], &str); 6] = [
         (&["--help"], HELP),
         (&["-h"], HELP),
         (&["help"], HELP),
         (&["replay", "--help"], REPLAY_HELP),
         (&["help", "replay"], REPLAY_HELP),
+        (&["run", "--help"], RUN_HELP),
     ];
     for (words, text) in cases {
         let call = call(rt.alloc(), words)?;
@@ -167,7 +210,7 @@ fn helps(rt: HostRuntime) -> Result<(), Fail> {
 
 #[test]
 fn tells_faults(rt: HostRuntime) -> Result<(), Fail> {
-    let cases: [(Result<(), Fault>, &[u8], u8); 11] = [
+    let cases: [(Result<(), Fault>, &[u8], u8); 13] = [
         (Ok(()), b"", 0),
         (
             Err(Fault::of_words(ErrorKind::InvalidData)),
@@ -203,6 +246,12 @@ fn tells_faults(rt: HostRuntime) -> Result<(), Fail> {
             1,
         ),
         (Err(Fault::CountEnd), b"bacgw: count at its end\n", 1),
+        (Err(Fault::Log), b"bacgw: log failed\n", 1),
+        (
+            Err(Fault::Socket(8)),
+            b"bacgw: socket failed on port 8\n",
+            1,
+        ),
     ];
     for (outcome, text, status) in cases {
         let mut errors = Vec::new(rt.alloc());
@@ -223,10 +272,10 @@ const TEXT: &[u8] =
 
 /// Takes so many octets and then fails, and may fail at a flush.
 #[derive(Drop)]
-struct Narrow {
-    held: Vec<u8>,
-    left: usize,
-    flushes: bool,
+pub struct Narrow {
+    pub held: Vec<u8>,
+    pub left: usize,
+    pub flushes: bool,
 }
 
 impl Write for Narrow {
@@ -330,16 +379,16 @@ fn tells_of_a_failed_read(rt: HostRuntime) -> Result<(), Fail> {
 
 /// What one run of the program leaves: its exit status, standard output and standard error.
 #[derive(Drop)]
-struct Run {
-    code: ExitCode,
-    output: Vec<u8>,
-    errors: Vec<u8>,
+pub struct Run {
+    pub code: ExitCode,
+    pub output: Vec<u8>,
+    pub errors: Vec<u8>,
 }
 
 /// A file in memory, whatever its name: its text, or why it can't be read.
 #[derive(Drop)]
-struct Held<'a> {
-    text: Result<&'a str, Fault>,
+pub struct Held<'a> {
+    pub text: Result<&'a str, Fault>,
 }
 
 impl ConfigFiles for Held<'_> {
@@ -366,6 +415,7 @@ fn run_on(
         alloc,
         Ok(call),
         &Held { text },
+        &mut MemHost::unplugged(alloc),
         &mut script,
         &mut output,
         &mut errors,
@@ -508,6 +558,7 @@ fn runs_without_words(rt: HostRuntime) -> Result<(), Fail> {
         rt.alloc(),
         words,
         &held,
+        &mut MemHost::unplugged(rt.alloc()),
         &mut script,
         &mut output,
         &mut errors,
@@ -543,6 +594,7 @@ fn ends_where_help_or_a_fault_cannot_be_written(rt: HostRuntime) -> Result<(), F
             rt.alloc(),
             Ok(call),
             &held,
+            &mut MemHost::unplugged(rt.alloc()),
             &mut script,
             &mut output,
             &mut errors,

@@ -1,4 +1,4 @@
-//! Whose turn it is, over sockets in memory.
+//! Whose turn it is, and how time passes, over sockets in memory.
 
 ghost use Rattle.std.specs.Prelude.{◌≡◌, ⊤};
 ghost use Rattle.bacgw.specs.Socket.{FitsBuffer};
@@ -6,10 +6,16 @@ ghost use Rattle.bacgw.specs.Socket.{FitsBuffer};
 use crate::ports::Ports;
 use crate::sock_pair::SockPair;
 use crate::socket::{Sock, SockFault};
+use crate::timed::TimedPorts;
+use crate::waiter::Waiter;
 use gw_addr::BipAddr;
-use gw_core::{Got, RECEIVE_ROOM, WireFault};
+use gw_core::{Got, RECEIVE_ROOM, Wire, WireFault};
 use std::alloc::{AllocError, Global};
+use std::cell::Cell;
+use std::io;
+use std::io::ErrorKind;
 use std::test::*;
+use std::time::{Clock, Duration};
 
 /// Whom all datagrams come from.
 const SENDER: BipAddr = BipAddr {
@@ -81,28 +87,37 @@ impl Sock for MemSock {
     }
 }
 
-/// Two ports with so many datagrams at their own sockets and none at the others. The own socket of port 1 may fail once.
+/// Two ports with so many datagrams at their own sockets and none at the others. The socket of this
+/// place, from 0, may fail at one of its calls.
 fn two_ports(
     alloc: Global,
     waiting: u64,
-    failing: Option<u64>,
+    failing: Option<(u64, u64)>,
 ) -> Result<Ports<MemSock>, AllocError> {
+    let call_of = |place: u64| match failing {
+        Some((failing, call)) if failing == place => Some(call),
+        _ => None,
+    };
     let mut pairs = Vec::with_capacity(alloc, 2)?;
-    pairs.push(SockPair::new(MemSock::with(waiting, failing), MemSock::with(0, None)))?;
-    pairs.push(SockPair::new(MemSock::with(waiting, None), MemSock::with(0, None)))?;
+    for port in 0..2 {
+        let own = MemSock::with(waiting, call_of(2 * port));
+        let broadcast = MemSock::with(0, call_of(2 * port + 1));
+        pairs.push(SockPair::new(own, broadcast))?;
+    }
     if pairs.len() > 2 {
         return Err(AllocError);
     }
     Ok(Ports::new(pairs))
 }
 
-/// What comes next, by a letter: the port of a datagram, `t` for a tick, `f` for a fault and `-` for nothing.
-fn next_of(ports: &mut Ports<MemSock>) -> char {
+/// What comes next, by a letter: the port of a datagram, `t` for a tick, `f` for a fault and `-` for
+/// nothing.
+fn next_of(wire: &mut impl Wire) -> char {
     let mut buf = [0; RECEIVE_ROOM];
-    if ports.failure_total() > 9 {
+    if wire.failures() > 9 {
         return '?';
     }
-    match ports.next(&mut buf) {
+    match wire.recv(&mut buf) {
         Ok(Got::Datagram { port: 1, .. }) => '1',
         Ok(Got::Datagram { .. }) => '2',
         Ok(Got::Tick) => 't',
@@ -112,10 +127,10 @@ fn next_of(ports: &mut Ports<MemSock>) -> char {
 }
 
 /// What comes in so many calls.
-fn course(alloc: Global, ports: &mut Ports<MemSock>, calls: u64) -> Result<String, Fail> {
+fn course(alloc: Global, wire: &mut impl Wire, calls: u64) -> Result<String, Fail> {
     let mut course = String::new(alloc);
     for _ in 0..calls {
-        course.push(next_of(ports))?;
+        course.push(next_of(wire))?;
     }
     Ok(course)
 }
@@ -131,9 +146,88 @@ fn ports_take_turns(rt: HostRuntime) -> Result<(), Fail> {
 
 #[test]
 fn ticks_come_first_and_faults_go_on(rt: HostRuntime) -> Result<(), Fail> {
-    let mut ports = two_ports(rt.alloc(), 2, Some(1))?;
+    let mut ports = two_ports(rt.alloc(), 2, Some((0, 1)))?;
     ports.due(2);
-    let course = course(rt.alloc(), &mut ports, 9)?;
-    assert_eq!(rt; course.as_str(), "tt12f21--");
+    let ticks_first = course(rt.alloc(), &mut ports, 9)?;
+    assert_eq!(rt; ticks_first.as_str(), "tt12f21--");
+    // Each socket fails at each of its calls: one fault more comes, and every datagram.
+    for place in 0..4 {
+        for call in 0..4 {
+            let mut ports = two_ports(rt.alloc(), 2, Some((place, call)))?;
+            let course = course(rt.alloc(), &mut ports, 9)?;
+            for (letter, count) in [('1', 2), ('2', 2), ('f', 1), ('-', 4)] {
+                let found = course.chars().filter(|c| *c == letter).count();
+                assert!(rt; found == count, "{course} at {place}, {call}");
+            }
+        }
+    }
+    Ok(())
+}
+
+/// A clock on which 0.3 seconds pass from each look to the next, and which fails at one of them.
+#[derive(Drop)]
+struct SlowClock {
+    looks: Cell<u64>,
+    failing: u64,
+}
+
+impl Clock for SlowClock {
+    fn monotonic(&self) -> io::Result<Duration> {
+        let look = self.looks.get();
+        self.looks.set(look.wrapping_add(1));
+        if look == self.failing {
+            return Err(ErrorKind::Other.into());
+        }
+        Ok(Duration::from_millis(look.wrapping_mul(300)))
+    }
+
+    fn since_1970(&self) -> io::Result<Duration> {
+        Err(ErrorKind::Other.into())
+    }
+}
+
+/// Waits for nothing, and fails at one of its calls.
+#[derive(Drop)]
+struct MemWaiter {
+    waits: u64,
+    failing: u64,
+}
+
+impl Waiter for MemWaiter {
+    fn wait(&mut self, most: Duration) -> io::Result<()> {
+        self.waits = self.waits.wrapping_add(1);
+        if self.waits == self.failing || most > Duration::from_secs(1) {
+            return Err(ErrorKind::Other.into());
+        }
+        Ok(())
+    }
+}
+
+/// The looks are at 0.0, 0.3, 0.6, .. seconds; a receive looks once, and where nothing waits again.
+#[test]
+fn seconds_that_pass_are_ticks(rt: HostRuntime) -> Result<(), Fail> {
+    let cases = [
+        (99, 99, "121t2t-t"),
+        (5, 99, "121tf2t-"),
+        (7, 99, "121t2ftt"),
+        (99, 1, "121t2ft-"),
+        (0, 99, ""),
+    ];
+    for (looks, waits, wanted) in cases {
+        let clock = SlowClock {
+            looks: Cell::new(0),
+            failing: looks,
+        };
+        let waiter = MemWaiter {
+            waits: 0,
+            failing: waits,
+        };
+        let ports = two_ports(rt.alloc(), 2, None)?;
+        let course = match TimedPorts::start(ports, &clock, waiter) {
+            Ok(mut timed) => course(rt.alloc(), &mut timed, 8)?,
+            Err(_) => String::new(rt.alloc()),
+        };
+        assert_eq!(rt; course.as_str(), wanted);
+    }
     Ok(())
 }

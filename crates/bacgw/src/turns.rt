@@ -1,10 +1,10 @@
 //! Whose turn it is among the sockets of the ports.
 
-ghost use Rattle.std.specs.Prelude.{◌≡◌, ◌+◌, ◌-◌, ◌≤◌, ◌<◌, ◌^◌, length, min, slice_index_or, IfOk, IfSome, None};
+ghost use Rattle.std.specs.Prelude.{◌≡◌, ◌∷◌, [], ◌+◌, ◌-◌, ◌≤◌, ◌<◌, ◌^◌, length, min, slice_index_or, IfOk, IfSome, None};
 ghost use Rattle.bacgw.specs.declared.sock_pair.SockPair.{SockPair};
 ghost use Rattle.bacgw.specs.Socket.{FitsBuffer};
 ghost use Rattle.bacgw.specs.declared.turns.TheConstants.{MAX_DUE};
-ghost use Rattle.gw_core.specs.Wire.{IsHandedIn, failures_of};
+ghost use Rattle.gw_core.specs.Wire.{IsHandedIn, Tells, failures_of, receive_answer, receive_call};
 ghost use Rattle.bacgw.specs.Ports.{AreAsked, AreAskedInTurn, IsNext, asked, got_of, handed_in, last_number, some_answer};
 
 use crate::ports::Ports;
@@ -132,6 +132,15 @@ impl<S: Sock> Ports<S> {
         self.failures
     }
 
+    /// Counts a failed call, and answers its fault.
+    pub fn fail(&mut self) -> WireFault
+        requires { self.old.failures < 2 ^ 128 - 1 }
+        ensures { self.new ≡ record self.old { failures = self.old.failures + 1 } }
+    {
+        self.failures += 1;
+        WireFault::Failed
+    }
+
     /// How many ports there are.
     pub fn count(&self) -> usize
         ensures count { result ≡ length self.now.pairs }
@@ -156,10 +165,7 @@ impl<S: Sock> Ports<S> {
         self.last = Some(port);
         match answer {
             Ok((len, from)) => Ok(Got::Datagram { port, from, len }),
-            Err(_) => {
-                self.failures += 1;
-                Err(WireFault::Failed)
-            }
+            Err(_) => Err(self.fail()),
         }
     }
 
@@ -199,17 +205,22 @@ impl<S: Sock> Wire for Ports<S> {
         self.failures
     }
 
-    fn recv(&mut self, buf: &mut [u8; RECEIVE_ROOM]) -> Result<Got, WireFault> {
+    fn recv(&mut self, buf: &mut [u8; RECEIVE_ROOM]) -> Result<Got, WireFault>
+        requires { self.old.failures < 2 ^ 128 - 1 }
+        ensures next { IsNext S.look_count S.is_empty S.Answered self.old self.new buf.new result }
+        ensures ports { length self.new.pairs ≡ length self.old.pairs }
+        ensures handed_in { IfOk result (IsHandedIn (length self.new.pairs)) }
+        ensures calls { let call = receive_call (receive_answer result buf.new) in
+            Tells None None (call ∷ []) }
+        ensures failures { self.new.failures ≡ self.old.failures + failures_of result }
+    {
         self.next(buf)
     }
 
     fn send(&mut self, port: u8, to: BipAddr, octets: &[u8]) -> Result<(), WireFault> {
         match self.send_on(port, to, octets) {
             Ok(()) => Ok(()),
-            Err(_) => {
-                self.failures += 1;
-                Err(WireFault::Failed)
-            }
+            Err(_) => Err(self.fail()),
         }
     }
 }

@@ -1,15 +1,24 @@
 //! The UDP sockets of the system.
 
-ghost use Rattle.std.specs.Prelude.{⊤};
+ghost use Rattle.std.specs.Prelude.{◌≡◌, ◌≤◌, ℕ, ⊤, length, IfErr, IfOk};
+ghost use Rattle.bacgw.specs.Host.{IsSocketFault};
 ghost use Rattle.bacgw.specs.Socket.{FitsBuffer};
 
+use crate::fault::Fault;
+use crate::sock_pair::SockPair;
 use crate::socket::{Sock, SockFault};
 use gw_addr::BipAddr;
 use gw_core::RECEIVE_ROOM;
+use gw_policy_text::Port;
 use mio::net::UdpSocket;
+use mio::{Interest, Registry, Token};
+use std::alloc::Global;
 use std::io;
 use std::io::ErrorKind;
 use std::net::{Ipv4Addr, Net, SocketAddr, SocketAddrV4};
+
+/// The token of each socket. All are asked after a wait, so none is told from another by it.
+const TOKEN: Token = Token(0);
 
 /// A UDP socket of the system, which never waits.
 #[derive(Drop)]
@@ -35,6 +44,11 @@ impl UdpSock {
         self.socket.set_broadcast(true)
     }
 
+    /// Lets those be told who wait at the registry that a datagram has come.
+    pub fn register(&mut self, registry: &Registry) -> io::Result<()> {
+        registry.register(&mut self.socket, TOKEN, Interest::READABLE)
+    }
+
     /// What waits at it.
     fn take(&self, buf: &mut [u8; RECEIVE_ROOM]) -> Result<Option<(usize, BipAddr)>, SockFault>
         ensures { FitsBuffer result }
@@ -47,6 +61,49 @@ impl UdpSock {
                 _ => Err(SockFault::Failed),
             },
         }
+    }
+}
+
+/// Opens the sockets of a port: that of its own address, which may send broadcasts, and then that of
+/// its broadcast address.
+fn open_pair(net: &impl Net, port: &Port) -> io::Result<SockPair<UdpSock>> {
+    let own = UdpSock::open(net, port.address)?;
+    own.allow_broadcasts()?;
+    let broadcast = UdpSock::open(net, port.broadcast)?;
+    Ok(SockPair::new(own, broadcast))
+}
+
+/// Opens the sockets of these ports, at most 8, in their order. Faults: `Socket` with the number of
+/// the port, and `Memory`.
+pub fn open_pairs(
+    alloc: Global,
+    net: &impl Net,
+    ports: &[Port],
+) -> Result<Vec<SockPair<UdpSock>>, Fault>
+    requires { length ports.now ≤ 8 }
+    ensures count { IfOk result (λ pairs. length pairs.items ≡ length ports.now) }
+    ensures fault { IfErr result (IsSocketFault (length ports.now)) }
+{
+    let mut pairs = Vec::new(alloc);
+    for place in 0..ports.len() {
+        let pair = match open_pair(net, &ports[place]) {
+            Ok(pair) => pair,
+            Err(error) => return Err(socket_fault(place as u8 + 1, &error)),
+        };
+        if pairs.push(pair).is_err() {
+            return Err(Fault::Memory);
+        }
+    }
+    Ok(pairs)
+}
+
+/// The fault where a socket of the port of this number can't be opened.
+pub fn socket_fault(port: u8, error: &io::Error) -> Fault
+    ensures { (ports : ℕ) → 1 ≤ port → port ≤ ports → IsSocketFault ports result }
+{
+    match error.kind() {
+        ErrorKind::OutOfMemory => Fault::Memory,
+        _ => Fault::Socket(port),
     }
 }
 

@@ -2,7 +2,7 @@ use Rattle.std.proofs.Common.{◌≡◌, ◌∙◌, ◌⊎◌, sym, ap, subst, m
 use Rattle.clap.specs.Words.{App, IsAmong, Kinds, Row, Text, app_of, fault_of, is_simple, is_simple_and_free, kind_of, subcommand_of}
 use Rattle.clap.specs.declared.error.kind.ErrorKind.TheVariants as parse
 use Rattle.bacgw.specs.CommandLine.{call_of, commands, IsChosen}
-use Rattle.bacgw.proofs.WordsLemmas.{commands_are_simple, parse_is_simple, refusal_answers, check_is_taken, explain_is_taken, replay_is_taken, taken_answers}
+use Rattle.bacgw.proofs.WordsLemmas.{commands_are_simple, parse_is_simple, refusal_answers, check_is_taken, explain_is_taken, replay_is_taken, run_is_taken, run_whole_is_taken, taken_answers}
 use Rattle.bacgw.proofs.command_line.choice_of.Goals as goal
 
 pub returns-in-Ok-clause-answers : goal.returns-in-Ok-clause-answers
@@ -40,3 +40,15 @@ returns-in-Ok-clause-explain c = explain_is_taken (map string_bytes c.args.words
 
 pub returns-in-Err-clause-explain : goal.returns-in-Err-clause-explain
 returns-in-Err-clause-explain c = explain_is_taken (map string_bytes c.args.words.now) c.refusal_of.result (returns-in-Err-clause-answers c)
+
+pub returns-in-Ok-clause-run : goal.returns-in-Ok-clause-run
+returns-in-Ok-clause-run c = run_is_taken (map string_bytes c.args.words.now) c.choice_among.result (returns-in-Ok-clause-answers c)
+
+pub returns-in-Err-clause-run : goal.returns-in-Err-clause-run
+returns-in-Err-clause-run c = run_is_taken (map string_bytes c.args.words.now) c.refusal_of.result (returns-in-Err-clause-answers c)
+
+pub returns-in-Ok-clause-run_whole : goal.returns-in-Ok-clause-run_whole
+returns-in-Ok-clause-run_whole c = run_whole_is_taken (map string_bytes c.args.words.now) c.choice_among.result (returns-in-Ok-clause-answers c)
+
+pub returns-in-Err-clause-run_whole : goal.returns-in-Err-clause-run_whole
+returns-in-Err-clause-run_whole c = run_whole_is_taken (map string_bytes c.args.words.now) c.refusal_of.result (returns-in-Err-clause-answers c)

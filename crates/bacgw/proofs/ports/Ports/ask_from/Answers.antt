@@ -1,4 +1,4 @@
-use Rattle.std.proofs.Common.{Ok, ap, arith, get_or, length, ◌≡◌, ◌<◌, subst, sym, ◌∙◌}
+use Rattle.std.proofs.Common.{Ok, ap, arith, get_or, length, ◌≡◌, ◌<◌, subst, ◌∙◌}
 use Rattle.std.proofs.lemmas.List.{get_or_default}
 use Rattle.bacgw.specs.SockPair.{ArePassed}
 use Rattle.bacgw.specs.Socket.{is_nothing}

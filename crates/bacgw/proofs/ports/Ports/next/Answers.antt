@@ -1,4 +1,4 @@
-use Rattle.std.proofs.Common.{ap, arith, refl, subst, ◌≡◌, ◌∙◌, ◌≤◌, Some, Result, ℕ}
+use Rattle.std.proofs.Common.{ap, arith, refl, subst, ◌∙◌, ◌≤◌}
 use Rattle.bacgw.specs.Ports.{AreAskedInTurn, Ports, answered, handed_in, idle, last_number, tick, ticked}
 use Rattle.bacgw.proofs.ports.Ports.next.Goals as goal
 
