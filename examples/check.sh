@@ -115,18 +115,22 @@ faulty '\xff' NotToml
 faulty 'colour = 1' UnknownKey
 faulty 'format = 1\nport = []\n[device]\n' Range
 
-# unserved STATUS LINE WORDS..: `run` tells this line and ends
-unserved() {
+# ran STATUS LINE WORDS..: `run` tells this line and ends with this status
+ran() {
     "$program" run "${@:3}" < /dev/null > "$work/out" 2> "$work/err"
     status=$?
     tells "a run: ${*:3}" "$1" "$2"
 }
 printf 'format = ' > "$work/faulty.toml"
-sed 's/10\.1\.0/192.0.2/; s/10\.2\.0/198.51.100/' "$here/two_subnets.toml" > "$work/elsewhere.toml"
-unserved 1 'bacgw: cannot read configuration' --config "$work/nowhere.toml" --log "$work/nowhere/log"
-unserved 2 'bacgw: configuration: NotToml' --config "$work/faulty.toml" --log "$work/nowhere/log"
-unserved 1 'bacgw: log failed' --config "$work/elsewhere.toml" --log "$work/nowhere/log"
-unserved 1 'bacgw: socket failed on port 1' --config "$work/elsewhere.toml" --log "$work/log" --verbose
+sed 's/10\.1\.0/203.0.113/; s/10\.2\.0/198.51.100/' "$here/two_subnets.toml" > "$work/elsewhere.toml"
+ran 1 'bacgw: cannot read configuration' --config "$work/nowhere.toml" --log "$work/nowhere/log"
+ran 2 'bacgw: configuration: NotToml' --config "$work/faulty.toml" --log "$work/nowhere/log"
+ran 1 'bacgw: log failed' --config "$work/elsewhere.toml" --log "$work/nowhere/log"
+ran 1 'bacgw: socket failed on port 1' --config "$work/elsewhere.toml" --log "$work/log" --verbose
+sed 's/10\.1\.0/127.1.0/; s/10\.2\.0/127.2.0/' "$here/two_subnets.toml" > "$work/loopback.toml"
+ran 0 "bacgw: serving port 1 at 127.1.0.2:47808, broadcast 127.1.0.255:47808; port 2 at 127.2.0.2:47808, broadcast \
+127.2.0.255:47808; device 1234 on network 100 with 1 objects; 3 rules; log to $work/log" --config "$work/loopback.toml" --log "$work/log" \
+    --turns 2 --verbose
 
 # explained TEXT NAME LINE: `check --explain` tells the fault as before, and says where it is
 explained() {

@@ -10,7 +10,7 @@
 set -euo pipefail
 
 here=$(cd "$(dirname "$0")" && pwd)
-program=${BACGW:-$here/../../crates/bacgw/out/bacgw}
+program=$(realpath -m "${BACGW:-$here/../../crates/bacgw/out/bacgw}")
 work=$(mktemp -d)
 gateway=
 
@@ -44,22 +44,23 @@ ip netns add bacgw-gateway
 subnet first 1 5
 subnet second 2 9
 
-ip netns exec bacgw-gateway "$program" run --config "$here/site.toml" --log "$work/log" --verbose 2> "$work/told" &
+cd "$work"
+ip netns exec bacgw-gateway "$program" run --config "$here/site.toml" --log denials.log --verbose 2> told &
 gateway=$!
 for _ in $(seq 50); do
-    [ -s "$work/told" ] && break
+    [ -s told ] && break
     sleep 0.1
 done
-cat "$work/told"
+cat told
 
 echo "the workstation, 10.2.0.9 on the second subnet:"
-ip netns exec bacgw-second python3 "$here/client.py" workstation 10.1.0.2 > "$work/workstation" &
+ip netns exec bacgw-second python3 "$here/client.py" workstation 10.1.0.2 > workstation &
 workstation=$!
 sleep 0.5
-echo "the panel, 10.1.0.5 on the first subnet:" > "$work/panel"
-ip netns exec bacgw-first python3 "$here/client.py" panel 10.1.0.255 >> "$work/panel"
+echo "the panel, 10.1.0.5 on the first subnet:" > panel
+ip netns exec bacgw-first python3 "$here/client.py" panel 10.1.0.255 >> panel
 wait "$workstation"
-cat "$work/workstation" "$work/panel"
+cat workstation panel
 
 echo "the log:"
-sed 's/^/  /' "$work/log"
+sed 's/^/  /' denials.log
