@@ -295,21 +295,21 @@ const ANSWER: [u8; 24] = [
     0x00, 0x01, 0x19, 0x55, 0x3E, 0x91, 0x00, 0x3F,
 ];
 
-/// Why the ports can't be opened while a socket stands at one of their addresses.
-fn fault_where_taken(rt: &HostRuntime, ports: &[Port], taken: BipAddr) -> Option<Fault> {
+/// Why the ports of a configuration can't be opened while a socket stands at one of their addresses.
+fn fault_where_taken(rt: &HostRuntime, config: &Config, taken: BipAddr) -> Option<Fault> {
     match UdpSock::open(rt, taken) {
-        Ok(_taken) => open_pairs(rt.alloc(), rt, ports).err(),
+        Ok(_taken) => open_pairs(rt.alloc(), rt, config.ports()).err(),
         Err(_) => None,
     }
 }
 
-/// The ports, with a read of the client on its way to the first.
+/// The ports of a configuration, with a read of the client on its way to the first.
 fn ports_with_read(
     rt: &HostRuntime,
-    ports: &[Port],
+    config: &Config,
     client: &mut UdpSock,
 ) -> Result<Ports<UdpSock>, Fault> {
-    let pairs = open_pairs(rt.alloc(), rt, ports)?;
+    let pairs = open_pairs(rt.alloc(), rt, config.ports())?;
     match client.send_to(PORT_1, &READ) {
         Ok(()) => Ok(Ports::new(pairs)),
         Err(_) => Err(Fault::Socket(1)),
@@ -319,7 +319,7 @@ fn ports_with_read(
 /// Serves the read of the client, and nothing else that comes.
 fn serve_read(rt: &HostRuntime, config: Config, client: &mut UdpSock) -> Result<(), Fault> {
     let mut log = Vec::new(rt.alloc());
-    match ports_with_read(rt, config.ports(), client) {
+    match ports_with_read(rt, &config, client) {
         Ok(mut ports) => serve_fresh(rt.alloc(), config, &mut ports, &mut log, 100),
         Err(fault) => Err(fault),
     }
@@ -334,7 +334,7 @@ fn answers_over_sockets(rt: HostRuntime) -> Result<(), Fail> {
             ip: [127, 0, 0, address],
             udp: 47808,
         };
-        let fault = fault_where_taken(&rt, config.ports(), taken);
+        let fault = fault_where_taken(&rt, &config, taken);
         assert!(rt; fault == Some(Fault::Socket(port)));
     }
     let outcome = serve_read(&rt, config, &mut client);
