@@ -1,9 +1,11 @@
 -- A broadcast by the gateway, by the length of its NPDU.
-use Rattle.std.proofs.Common.{◌≡◌, refl, ℕ, ◌<◌, ◌≤◌, List, [], ◌∷◌, ◌++◌, length}
+use Rattle.std.proofs.Common.{◌≡◌, ◌∙◌, sym, ap, refl, ℕ, ◌<◌, ◌≤◌, List, [], ◌∷◌, ◌++◌, length, arith, Option}
+use Rattle.std.specs.Option.{option_map_or}
 use Rattle.std.proofs.lemmas.Bool.{le-leb, lt-leb}
-use Rattle.gw_bvll.specs.Bvll.{forwarded, original_broadcast}
+use Rattle.gw_addr.specs.declared.bip.BipAddr.{BipAddr}
+use Rattle.gw_bvll.specs.Bvll.{encoding, forwarded, original_broadcast}
 use Rattle.gw_relay.specs.Cast.{devices, managers, spread}
-use Rattle.gw_relay.specs.Sends.{sent}
+use Rattle.gw_relay.specs.Sends.{Batch, Sending, sendings, sendings_of, sent}
 use Rattle.gw_relay.specs.declared.port.Link.{Link}
 
 pub spread_long : (link : Link) (npdu : List ℕ) → 1497 < length npdu → spread link npdu ≡ []
@@ -15,3 +17,22 @@ pub spread_short : (link : Link) (npdu : List ℕ) → length npdu ≤ 1497
     ++ sent link.port.number (managers link ++ devices link) (forwarded link.port.address npdu)
 unfolding spread
 spread_short link npdu short = rw (le-leb (length npdu) 1497 short) refl
+
+-- a broadcast on the subnet is short enough
+sent_short : (port : ℕ) (to : BipAddr) (npdu : List ℕ) → length npdu ≤ 1497
+    → sendings port (to ∷ []) (encoding (original_broadcast npdu)) ≡ sent port (to ∷ []) (original_broadcast npdu)
+sent_short port to npdu short = rw (le-leb (length (encoding (original_broadcast npdu))) 1507 (omega (arith, short))) refl
+
+-- the message on the subnet, and behind it the one to peers and foreign devices, whose octets are lent by the first
+pub spread_both : (link : Link) (npdu octets lent : List ℕ) (first : Batch) (second : Option Batch) → length npdu ≤ 1497
+    → first.port ≡ link.port.number → first.targets ≡ link.port.broadcast ∷ [] → first.octets ≡ octets
+    → octets ≡ encoding (original_broadcast npdu) → lent ≡ npdu
+    → option_map_or sendings_of second [] ≡ sent link.port.number (managers link ++ devices link) (forwarded link.port.address lent)
+    → sendings_of first ++ option_map_or sendings_of second [] ≡ spread link npdu
+spread_both link npdu octets lent first second short port targets held made same others =
+    let all = managers link ++ devices link in
+    let elsewhere = sent link.port.number all (forwarded link.port.address npdu) in
+    let moved = others ∙ ap (λ (n : List ℕ). sent link.port.number all (forwarded link.port.address n)) same in
+    rw (port, targets, held, made, moved)
+    (ap (λ (subnet : List Sending). subnet ++ elsewhere) (sent_short link.port.number link.port.broadcast npdu short)
+    ∙ sym (spread_short link npdu short))

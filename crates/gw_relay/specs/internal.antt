@@ -5,4 +5,5 @@ pub mod Grants
 pub mod Ticks
 pub mod Serving
 pub mod Passing
+pub mod Outgoing
 pub mod Counts

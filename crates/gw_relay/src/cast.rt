@@ -1,20 +1,22 @@
 //! Broadcasts, and whom they are distributed to (Annex J.4, J.5).
 
-ghost use Rattle.std.specs.Prelude.{◌≡◌, ◌++◌, ◌∷◌, [], false, List, map, IfOk, IsOk, OnOk, None};
+ghost use Rattle.std.specs.Prelude.{◌≡◌, ◌++◌, [], false, List, map, IfOk, IsOk, OnOk, None};
 ghost use Rattle.std.specs.List.{list_any};
+ghost use Rattle.std.specs.Option.{option_map_or};
 ghost use Rattle.gw_bdt_fdt.specs.Peers.{is_of, peers};
-ghost use Rattle.gw_bvll.specs.Bvll.{forwarded, original_broadcast};
+ghost use Rattle.gw_bvll.specs.Bvll.{forwarded};
 ghost use Rattle.gw_bvll.specs.Bvll.{view as frame_view};
 ghost use Rattle.gw_npdu.specs.Npdu.{view as npdu_view};
 ghost use Rattle.gw_rules.specs.Authorizer.{denied_of};
 ghost use Rattle.gw_rules.specs.declared.rule.Rule.{Rule};
 ghost use Rattle.gw_relay.specs.Cast.{cast_asks, cast_sends, devices, devices_but, directed, goes_on, is_broadcast, is_heard, is_strange, managers, passed_on, spread, subnet, targets};
 ghost use Rattle.gw_relay.specs.Link.{answer_to, refused};
-ghost use Rattle.gw_relay.specs.Sends.{sent};
+ghost use Rattle.gw_relay.specs.Sends.{sendings_of, sent};
 ghost use Rattle.gw_relay.specs.internal.Serving.{judged};
 
 use crate::ask::cast_ask;
 use crate::octets::message_octets;
+use crate::outgoing::Outgoing;
 use crate::port::Link;
 use crate::relayed::Relayed;
 use crate::sends::{Batch, Sends};
@@ -218,10 +220,11 @@ impl Link {
         let mut targets = Vec::with_capacity(alloc, self.most_targets(frame))?;
         self.put_targets(from, frame, &mut targets)?;
         let message = passed_on(from, frame);
-        let mut sends = Sends::new(alloc);
         let len = forwarded_len(frame);
-        put_message(alloc, self.port.number, targets, &message, len, &mut sends)?;
-        Ok(sends)
+        match batch_of(alloc, self.port.number, targets, &message, len)? {
+            Some(batch) => Sends::of(alloc, batch),
+            None => Ok(Sends::new(alloc)),
+        }
     }
 
     /// How many addresses a broadcast goes to at most.
@@ -321,31 +324,35 @@ impl Link {
         if npdu.len() > gw_npdu::MAX_LEN {
             return Ok(sends);
         }
-        self.put_on_subnet(alloc, npdu, &mut sends)?;
-        self.put_elsewhere(alloc, npdu, &mut sends)?;
+        self.put_spread(alloc, Outgoing::copied(alloc, npdu)?, &mut sends)?;
         Ok(sends)
     }
 
-    /// Adds the broadcast of an NPDU on the subnet.
-    fn put_on_subnet(&self, alloc: Global, npdu: &[u8], sends: &mut Sends) -> Result<(), AllocError>
-        ensures { let subnet = self.now.port.broadcast ∷ [] in
-            let sent = sent self.now.port.number subnet (original_broadcast npdu.now) in
-            OnOk result (sends.new ≡ sends.old ++ sent) }
+    /// Adds the broadcast of an NPDU by the gateway. The message to peers and foreign devices takes
+    /// its octets from the buffer of the one on the subnet.
+    pub(crate) fn put_spread(
+        &self,
+        alloc: Global,
+        npdu: Outgoing,
+        sends: &mut Sends,
+    ) -> Result<(), AllocError>
+        ensures { OnOk result (sends.new ≡ sends.old ++ spread self.now npdu) }
     {
-        let message = Bvll::OriginalBroadcast(npdu);
-        match message_octets(alloc, &message, FORWARDED_HEADER_LEN + npdu.len())? {
-            Some(octets) => {
-                sends.push(Batch::to_one(self.port.number, self.port.broadcast, octets))
-            }
+        let port = self.port.number;
+        let elsewhere = self.elsewhere(alloc, npdu.npdu())?;
+        sends.push(Batch::to_one(port, self.port.broadcast, npdu.into_broadcast()))?;
+        match elsewhere {
+            Some(forwarded) => sends.push(forwarded),
             None => Ok(()),
         }
     }
 
-    /// Adds the port's own Forwarded-NPDU to all peers and foreign devices.
-    fn put_elsewhere(&self, alloc: Global, npdu: &[u8], sends: &mut Sends) -> Result<(), AllocError>
+    /// The port's own Forwarded-NPDU to all peers and foreign devices, where there are any.
+    fn elsewhere(&self, alloc: Global, npdu: &[u8]) -> Result<Option<Batch>, AllocError>
         ensures { let all = managers self.now ++ devices self.now in
             let message = forwarded self.now.port.address npdu.now in
-            OnOk result (sends.new ≡ sends.old ++ sent self.now.port.number all message) }
+            IfOk result (λ batch. option_map_or sendings_of batch []
+            ≡ sent self.now.port.number all message) }
     {
         let others = self.bdt.entries().len() + self.fdt.count();
         let mut targets = Vec::with_capacity(alloc, others)?;
@@ -355,28 +362,27 @@ impl Link {
             npdu,
         };
         let len = FORWARDED_HEADER_LEN + npdu.len();
-        put_message(alloc, self.port.number, targets, &message, len, sends)
+        batch_of(alloc, self.port.number, targets, &message, len)
     }
 }
 
-/// Adds a message, of about so many octets, to each of the addresses. One that is too long isn't
-/// sent. Where there is no address it takes no memory.
-fn put_message(
+/// A message, of about so many octets, to each of the addresses. None where it is too long, or
+/// where there is no address, which takes no memory.
+fn batch_of(
     alloc: Global,
     port: u8,
     targets: Vec<BipAddr>,
     message: &Bvll<'_>,
     len: usize,
-    sends: &mut Sends,
-) -> Result<(), AllocError>
-    ensures { let more = sent port targets.items (frame_view message.now) in
-        OnOk result (sends.new ≡ sends.old ++ more) }
+) -> Result<Option<Batch>, AllocError>
+    ensures { let all = sent port targets.items (frame_view message.now) in
+        IfOk result (λ batch. option_map_or sendings_of batch [] ≡ all) }
 {
     if targets.is_empty() {
-        return Ok(());
+        return Ok(None);
     }
     match message_octets(alloc, message, len)? {
-        Some(octets) => sends.push(Batch::to_each(port, targets, octets)),
-        None => Ok(()),
+        Some(octets) => Ok(Some(Batch::to_each(port, targets, octets))),
+        None => Ok(None),
     }
 }

@@ -16,6 +16,7 @@ mod links;
 mod manage;
 mod npdu;
 mod octets;
+mod outgoing;
 mod port;
 mod relay;
 mod relayed;

@@ -2,24 +2,24 @@
 //! 6.4.20).
 
 ghost use Rattle.std.specs.Prelude.{◌≡◌, ◌++◌, [], List, map, nat_le, true, false, None, IfOk, IsOk, OnOk};
-ghost use Rattle.std.specs.Option.{option_map};
 ghost use Rattle.gw_npdu.specs.Npdu.{view as npdu_view, payload_octets};
 ghost use Rattle.gw_rules.specs.Authorizer.{denied_of};
 ghost use Rattle.gw_rules.specs.declared.rule.Rule.{Rule};
 ghost use Rattle.gw_relay.specs.Manage.{answer_steps, are_networks, is_for_all, is_learned, is_number_question, is_question, i_am_router, learn_ask, learned, manage_asks, manage_change, manage_sends, message_ask_of, network_number_is, network_octets, networks_in, number_step, question_of, question_of_all, question_steps, told};
 ghost use Rattle.gw_relay.specs.Route.{made};
-ghost use Rattle.gw_relay.specs.Steps.{allowed_sends, asks_of, broadcast, npdu_octets, sends_of};
+ghost use Rattle.gw_relay.specs.Steps.{allowed_sends, asks_of, broadcast, sends_of};
 ghost use Rattle.gw_npdu.specs.Kind.{kind_number};
 
 use crate::ask::message_ask;
 use crate::change::Change;
-use crate::npdu::{is_kind, octets_made, put_broadcast};
+use crate::npdu::{is_kind, message_of, put_broadcast};
+use crate::outgoing::Outgoing;
 use crate::port::Link;
 use crate::relayed::Relayed;
-use crate::route::{put_on_others, who_is_router_octets};
+use crate::route::put_who_is_router;
 use crate::sends::Sends;
 use gw_addr::{BipAddr, NetNum, Sequence, put_number};
-use gw_npdu::{AddressRef, Destination, MessageKind, NetMessage, Npdu, Payload, Priority};
+use gw_npdu::{AddressRef, Destination, MessageKind, Npdu};
 use gw_routes::{Routes, Way};
 use gw_rules::{Ask, Authorizer, Judge, Operation};
 use std::alloc::{AllocError, Global};
@@ -107,28 +107,20 @@ fn put_networks(networks: &[NetNum], out: &mut Vec<u8>) -> Result<(), AllocError
     put_networks(rest, out)
 }
 
-/// The octets of a message of a type that the gateway makes; none where they would be over 1497.
-fn message_made(
+/// Broadcasts a message of a type that the gateway makes.
+fn put_message(
     alloc: Global,
+    here: &Link,
     kind: MessageKind,
     octets: &[u8],
-) -> Result<Option<Vec<u8>>, AllocError>
+    sends: &mut Sends,
+) -> Result<(), AllocError>
     requires { nat_le 128 (kind_number kind) ≡ false }
-    ensures { IfOk result (λ message. option_map (λ v. v.items) message
-        ≡ npdu_octets (made None None kind octets.now)) }
+    ensures { let sent = broadcast (made None None kind octets.now) here.now in
+        OnOk result (sends.new ≡ sends.old ++ sent) }
 {
-    let message = Npdu {
-        destination: None,
-        source: None,
-        reply_expected: false,
-        priority: Priority::Normal,
-        payload: Payload::Message(NetMessage {
-            kind: kind.number(),
-            vendor: None,
-            octets,
-        }),
-    };
-    octets_made(alloc, &message)
+    let message = message_of(kind, octets);
+    put_broadcast(alloc, here, Outgoing::made(alloc, &message)?, sends)
 }
 
 /// Broadcasts an I-Am-Router-To-Network for these networks (clause 6.4.2).
@@ -143,8 +135,8 @@ fn put_i_am_router(
 {
     let mut octets = Vec::new(alloc);
     put_networks(networks, &mut octets)?;
-    let made = message_made(alloc, MessageKind::IAmRouterToNetwork, octets.as_slice())?;
-    put_broadcast(alloc, here, &made, sends)
+    let kind = MessageKind::IAmRouterToNetwork;
+    put_message(alloc, here, kind, octets.as_slice(), sends)
 }
 
 /// Broadcasts a Network-Number-Is (clause 6.4.20).
@@ -153,12 +145,8 @@ fn put_number_is(alloc: Global, here: &Link, sends: &mut Sends) -> Result<(), Al
         OnOk result (sends.new ≡ sends.old ++ sent) }
 {
     let [high, low] = here.port.network.get().to_be_bytes();
-    let made = message_made(
-        alloc,
-        MessageKind::NetworkNumberIs,
-        &[high, low, CONFIGURED],
-    )?;
-    put_broadcast(alloc, here, &made, sends)
+    let kind = MessageKind::NetworkNumberIs;
+    put_message(alloc, here, kind, &[high, low, CONFIGURED], sends)
 }
 
 /// Passes a question for a network on to the other ports' routers, with who asked.
@@ -179,8 +167,14 @@ fn put_question_on(
         network: here.port.network.get(),
         mac: &node,
     });
-    let asked = who_is_router_octets(alloc, &Some(asker), network.get())?;
-    put_on_others(alloc, here.port.number, &asked, links, sends)
+    put_who_is_router(
+        alloc,
+        here.port.number,
+        &Some(asker),
+        network.get(),
+        links,
+        sends,
+    )
 }
 
 /// Answers a question for a network, by its way.

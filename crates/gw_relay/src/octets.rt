@@ -1,20 +1,22 @@
 //! The octets of the messages that are sent, each in a buffer of its own.
 
-ghost use Rattle.std.specs.Prelude.{◌≡◌, ◌≤◌, ◌<◌, ◌^◌, ◌++◌, [], length, map, take, drop, IfOk, OnOk};
+ghost use Rattle.std.specs.Prelude.{◌≡◌, ◌≤◌, ◌<◌, ◌^◌, ◌++◌, ◌∷◌, [], length, map, take, drop, IfOk, OnOk};
 ghost use Rattle.std.specs.Int.{w16, to_be_bytes};
 ghost use Rattle.std.specs.Option.{option_map};
 ghost use Rattle.gw_addr.specs.Entry.{bdt_entry, fdt_entry};
 ghost use Rattle.gw_bdt_fdt.specs.Registrations.{shown};
-ghost use Rattle.gw_bvll.specs.Bvll.{encoding, read_bdt_ack, read_fdt_ack, view};
+ghost use Rattle.gw_bvll.specs.Bvll.{encoding, octet_of, read_bdt_ack, read_fdt_ack, view};
 ghost use Rattle.gw_bvll.specs.Entries.{lent};
 ghost use Rattle.gw_relay.specs.internal.Octets.{within};
 
 use gw_bdt_fdt::{Bdt, Fdt};
-use gw_bvll::{BdtEntries, Bvll, EncodeFault, FdtEntries};
+use gw_bvll::{BdtEntries, Bvll, EncodeFault, FdtEntries, Function};
 use std::alloc::{AllocError, Global};
 
+/// The first octet of every message: BACnet/IP (Annex J.2).
+const BACNET_IP: u8 = 0x81;
 /// How many octets of a message stand before its body (Annex J.2).
-const HEADER_LEN: usize = 4;
+pub(crate) const HEADER_LEN: usize = 4;
 /// How many octets the entry of a table has (Annex J.2.2, J.2.8).
 const ENTRY_LEN: usize = 10;
 
@@ -42,6 +44,18 @@ fn put_empty(message: &Bvll<'_>, octets: &mut Vec<u8>) -> Result<(), AllocError>
         Ok(()) => Ok(()),
         Err(_) => Err(AllocError),
     }
+}
+
+/// Writes the header of a message with this function over its first four octets (Annex J.2).
+pub(crate) fn put_header(message: &mut [u8], function: Function)
+    requires least { HEADER_LEN ≤ length message.old }
+    requires most { length message.old < 2 ^ 16 }
+    ensures { let len = to_be_bytes w16 (length message.old) in
+        message.new ≡ 0x81 ∷ octet_of function ∷ len ++ drop 4 message.old }
+{
+    let [high, low] = (message.len() as u16).to_be_bytes();
+    let header = [BACNET_IP, function.octet(), high, low];
+    message[..HEADER_LEN].copy_from_slice(&header);
 }
 
 /// Writes the length of a message into its header (Annex J.2).

@@ -7,17 +7,17 @@ ghost use Rattle.gw_npdu.specs.Npdu.{view as npdu_view, address_view, destinatio
 ghost use Rattle.gw_rules.specs.Authorizer.{denied_of};
 ghost use Rattle.gw_rules.specs.declared.rule.Rule.{Rule};
 ghost use Rattle.gw_relay.specs.Route.{copy, delivered, has_hops, hop, is_local, last_hop, leaves, on_way, others, reject, route_ask, route_asks, route_sends, sent_on, sought, steps_by, who_is_router};
-ghost use Rattle.gw_relay.specs.Steps.{allowed_sends, asks_of, npdu_octets, sends_of, unicast};
+ghost use Rattle.gw_relay.specs.Steps.{allowed_sends, asks_of, broadcast, npdu_octets, sends_of, unicast};
 ghost use Rattle.gw_relay.specs.State.{link_at};
-ghost use Rattle.gw_relay.specs.internal.Passing.{broadcast_of};
 
 use crate::ask::{bound_for, message_ask};
-use crate::npdu::{is_kind, octets_made, octets_onward, put_broadcast, put_unicast};
+use crate::npdu::{is_kind, message_of, put_broadcast, put_unicast};
+use crate::outgoing::Outgoing;
 use crate::port::{Link, Port};
 use crate::relayed::Relayed;
 use crate::sends::Sends;
 use gw_addr::BipAddr;
-use gw_npdu::{AddressRef, Destination, MessageKind, NetMessage, Npdu, Onward, Payload, Priority};
+use gw_npdu::{AddressRef, Destination, MessageKind, Npdu, Onward, Payload};
 use gw_routes::{Route, Routes, Way};
 use gw_rules::{Ask, Authorizer, Judge, Operation};
 use std::alloc::{AllocError, Global};
@@ -61,17 +61,17 @@ pub(crate) fn route_ask(here: &Link, from: BipAddr, npdu: &Npdu<'_>, network: Op
     message_ask(Operation::Route, &here.port, from, network, npdu)
 }
 
-/// The octets of a message for its next hop, whose destination stays or goes; the node that it came
-/// from is added where it names no source. None where they would be over 1497.
-fn octets_from(
+/// A message for its next hop, whose destination stays or goes; the node that it came from is added
+/// where it names no source. None where it would be over 1497 octets.
+fn outgoing_from(
     alloc: Global,
     port: &Port,
     from: BipAddr,
     npdu: &Npdu<'_>,
     keeps_destination: bool,
-) -> Result<Option<Vec<u8>>, AllocError>
+) -> Result<Option<Outgoing>, AllocError>
     ensures { let next = hop keeps_destination port.now from (npdu_view npdu.now) in
-        IfOk result (λ made. option_map (λ v. v.items) made ≡ npdu_octets next) }
+        IfOk result (λ made. made ≡ npdu_octets next) }
 {
     let node = from.to_octets();
     let source = AddressRef {
@@ -82,7 +82,7 @@ fn octets_from(
         keeps_destination,
         source,
     };
-    octets_onward(alloc, npdu, &how)
+    Outgoing::onward(alloc, npdu, &how)
 }
 
 /// Adds a message on the destination's own network.
@@ -99,13 +99,13 @@ fn put_delivered(
         OnOk result (sends.new ≡ sends.old ++ delivered mac.now npdu link.now) }
 {
     if mac.is_empty() {
-        let octets = octets_from(alloc, &here.port, from, npdu, false)?;
-        return put_broadcast(alloc, link, &octets, sends);
+        let next = outgoing_from(alloc, &here.port, from, npdu, false)?;
+        return put_broadcast(alloc, link, next, sends);
     }
     match gw_addr::bip_from_slice(mac) {
         Ok(to) => {
-            let octets = octets_from(alloc, &here.port, from, npdu, false)?;
-            put_unicast(alloc, link.port.number, to, &octets, sends)
+            let next = outgoing_from(alloc, &here.port, from, npdu, false)?;
+            put_unicast(link.port.number, to, next, sends)
         }
         Err(_) => Ok(()),
     }
@@ -128,8 +128,8 @@ fn put_routed(
     if !has_hops(destination) {
         return Ok(());
     }
-    let octets = octets_from(alloc, &here.port, from, npdu, true)?;
-    put_unicast(alloc, route.port, route.next, &octets, sends)
+    let next = outgoing_from(alloc, &here.port, from, npdu, true)?;
+    put_unicast(route.port, route.next, next, sends)
 }
 
 /// Adds a copy of a global broadcast for another port.
@@ -149,8 +149,8 @@ fn put_copied(
     if !has_hops(destination) {
         return Ok(());
     }
-    let octets = octets_from(alloc, &here.port, from, npdu, true)?;
-    put_broadcast(alloc, link, &octets, sends)
+    let next = outgoing_from(alloc, &here.port, from, npdu, true)?;
+    put_broadcast(alloc, link, next, sends)
 }
 
 /// Adds the Reject-Message-To-Network for a message (clause 6.4.4).
@@ -177,54 +177,43 @@ fn put_reject(
     };
     let rejected = Npdu {
         destination,
-        source: None,
-        reply_expected: false,
-        priority: Priority::Normal,
-        payload: Payload::Message(NetMessage {
-            kind: MessageKind::RejectMessageToNetwork.number(),
-            vendor: None,
-            octets: &octets,
-        }),
+        ..message_of(MessageKind::RejectMessageToNetwork, &octets)
     };
-    let made = octets_made(alloc, &rejected)?;
-    put_unicast(alloc, here.port.number, from, &made, sends)
+    let made = Outgoing::made(alloc, &rejected)?;
+    put_unicast(here.port.number, from, made, sends)
 }
 
-/// The octets of a Who-Is-Router-To-Network for a network (clause 6.4.1), from this source.
-pub(crate) fn who_is_router_octets(
-    alloc: Global,
-    source: &Option<AddressRef<'_>>,
-    network: u16,
-) -> Result<Option<Vec<u8>>, AllocError>
-    ensures { let source = option_map address_view source.now in
-        IfOk result (λ made. option_map (λ v. v.items) made
-        ≡ npdu_octets (who_is_router source network)) }
-{
-    let octets = network.to_be_bytes();
-    let asked = Npdu {
-        destination: None,
-        source: *source,
-        reply_expected: false,
-        priority: Priority::Normal,
-        payload: Payload::Message(NetMessage {
-            kind: MessageKind::WhoIsRouterToNetwork.number(),
-            vendor: None,
-            octets: &octets,
-        }),
-    };
-    octets_made(alloc, &asked)
-}
-
-/// Adds a broadcast by the gateway on each port but that of this number.
-pub(crate) fn put_on_others(
+/// Adds a Who-Is-Router-To-Network for a network, from this source, as a broadcast by the gateway on
+/// each port but that of this number (clause 6.4.1).
+pub(crate) fn put_who_is_router(
     alloc: Global,
     number: u8,
-    npdu: &Option<Vec<u8>>,
+    source: &Option<AddressRef<'_>>,
+    network: u16,
     links: &[Link],
     sends: &mut Sends,
 ) -> Result<(), AllocError>
-    ensures { let octets = option_map (λ v. v.items) npdu.now in
-        let sent = flat_map (broadcast_of octets) (others number links.now) in
+    ensures { let asked = who_is_router (option_map address_view source.now) network in
+        let sent = flat_map (broadcast asked) (others number links.now) in
+        OnOk result (sends.new ≡ sends.old ++ sent) }
+{
+    let octets = network.to_be_bytes();
+    let asked = Npdu {
+        source: *source,
+        ..message_of(MessageKind::WhoIsRouterToNetwork, &octets)
+    };
+    put_on_others(alloc, number, &asked, links, sends)
+}
+
+/// Adds a message that the gateway makes as a broadcast on each port but that of this number.
+fn put_on_others(
+    alloc: Global,
+    number: u8,
+    npdu: &Npdu<'_>,
+    links: &[Link],
+    sends: &mut Sends,
+) -> Result<(), AllocError>
+    ensures { let sent = flat_map (broadcast (npdu_view npdu.now)) (others number links.now) in
         OnOk result (sends.new ≡ sends.old ++ sent) }
 {
     let Some((link, rest)) = links.split_first() else {
@@ -233,7 +222,7 @@ pub(crate) fn put_on_others(
     if link.port.number == number {
         return put_on_others(alloc, number, npdu, rest, sends);
     }
-    put_broadcast(alloc, link, npdu, sends)?;
+    put_broadcast(alloc, link, Outgoing::made(alloc, npdu)?, sends)?;
     put_on_others(alloc, number, npdu, rest, sends)
 }
 
@@ -254,8 +243,7 @@ fn put_sought(
         return Ok(());
     }
     put_reject(alloc, here, from, npdu, network, sends)?;
-    let asked = who_is_router_octets(alloc, &None, network)?;
-    put_on_others(alloc, here.port.number, &asked, links, sends)
+    put_who_is_router(alloc, here.port.number, &None, network, links, sends)
 }
 
 /// Adds what is sent by a way that is one.

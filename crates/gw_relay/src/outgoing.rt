@@ -1,0 +1,127 @@
+//! The messages that the gateway sends for an NPDU, each written once, into one buffer.
+
+ghost use Rattle.std.specs.Prelude.{◌≡◌, ◌≤◌, ◌∷◌, [], length, IfOk};
+ghost use Rattle.gw_bvll.specs.Bvll.{encoding, original_broadcast, original_unicast};
+ghost use Rattle.gw_npdu.specs.Npdu.{view as npdu_view};
+ghost use Rattle.gw_npdu.specs.Numbers.{max_len};
+ghost use Rattle.gw_npdu.specs.Onward.{onward, onward_view};
+ghost use Rattle.gw_relay.specs.Steps.{npdu_octets};
+ghost use Rattle.gw_relay.specs.internal.Outgoing.{framed};
+
+use crate::octets::{HEADER_LEN, put_header};
+use gw_bvll::Function;
+use gw_npdu::{EncodeFault, Npdu, Onward};
+use std::alloc::{AllocError, Global};
+use std::marker::Model;
+
+/// The most octets that stand before a payload: the four of the BVLL header (Annex J.2), and of the
+/// NPDU version and control, two addresses of 255 octets, the hop count, the message type and the
+/// vendor (clause 6.2.2).
+const MOST_HEADERS: usize = HEADER_LEN + 2 + (3 + 255) + (3 + 255) + 1 + 3;
+
+/// An NPDU of at most 1497 octets, in the buffer of the message that brings it: behind four octets
+/// that are kept for the BVLL header, which is written once the length is known. Contracts see the
+/// octets of the NPDU.
+#[derive(Drop)]
+pub(crate) struct Outgoing {
+    octets: Vec<u8>,
+}
+
+impl Model for Outgoing {
+    ghost use Rattle.std.specs.Prelude.{ℕ, ◌≤◌, List, length, drop};
+
+    ghost Value = { List ℕ };
+
+    ghost view = { λ o. drop 4 o.octets.items };
+
+    ghost invariant = { λ o. (4 ≤ length o.octets.items) × (length o.octets.items ≤ 1501) };
+}
+
+impl Outgoing {
+    /// A message for its next hop; none where it would be over 1497 octets.
+    pub(crate) fn onward(
+        alloc: Global,
+        npdu: &Npdu<'_>,
+        how: &Onward<'_>,
+    ) -> Result<Option<Self>, AllocError>
+        ensures { let next = onward (onward_view how.now) (npdu_view npdu.now) in
+            IfOk result (λ made. made ≡ npdu_octets next) }
+    {
+        let payload = npdu.payload.octets();
+        let mut octets = buffer(alloc, payload)?;
+        match gw_npdu::relay_header(npdu, how, payload.len(), &mut octets) {
+            Ok(()) => {
+                octets.extend_from_slice(payload)?;
+                Ok(Some(Outgoing { octets }))
+            }
+            Err(EncodeFault::TooLong) => Ok(None),
+            Err(EncodeFault::Memory) => Err(AllocError),
+        }
+    }
+
+    /// A message that the gateway makes; none where it would be over 1497 octets.
+    pub(crate) fn made(alloc: Global, npdu: &Npdu<'_>) -> Result<Option<Self>, AllocError>
+        ensures { IfOk result (λ made. made ≡ npdu_octets (npdu_view npdu.now)) }
+    {
+        let mut octets = buffer(alloc, npdu.payload.octets())?;
+        match gw_npdu::encode(npdu, &mut octets) {
+            Ok(()) => Ok(Some(Outgoing { octets })),
+            Err(EncodeFault::TooLong) => Ok(None),
+            Err(EncodeFault::Memory) => Err(AllocError),
+        }
+    }
+
+    /// An NPDU of these octets.
+    pub(crate) fn copied(alloc: Global, npdu: &[u8]) -> Result<Self, AllocError>
+        requires { length npdu.now ≤ max_len }
+        ensures { IfOk result (λ copied. copied ≡ npdu.now) }
+    {
+        let mut octets = buffer(alloc, npdu)?;
+        octets.extend_from_slice(npdu)?;
+        Ok(Outgoing { octets })
+    }
+
+    /// The octets of the NPDU.
+    pub(crate) fn npdu(&self) -> &[u8]
+        ensures npdu { result.now ≡ self.now }
+        ensures most { length self.now ≤ max_len }
+    {
+        &self.octets[HEADER_LEN..]
+    }
+
+    /// The octets of the Original-Unicast-NPDU that brings it (Annex J.2.11).
+    pub(crate) fn into_unicast(self) -> Vec<u8>
+        ensures octets { result.items ≡ encoding (original_unicast self) }
+        ensures most { length self ≤ max_len }
+    {
+        self.into_frame(Function::OriginalUnicast)
+    }
+
+    /// The octets of the Original-Broadcast-NPDU that brings it (Annex J.2.12).
+    pub(crate) fn into_broadcast(self) -> Vec<u8>
+        ensures octets { result.items ≡ encoding (original_broadcast self) }
+        ensures most { length self ≤ max_len }
+    {
+        self.into_frame(Function::OriginalBroadcast)
+    }
+
+    /// The octets of the message with this function that brings it.
+    fn into_frame(self, function: Function) -> Vec<u8>
+        ensures octets { result.items ≡ framed function self }
+        ensures most { length self ≤ max_len }
+    {
+        let mut octets = self.octets;
+        put_header(octets.as_mut_slice(), function);
+        octets
+    }
+}
+
+/// A buffer that keeps four octets for the BVLL header, and has room for any headers before this
+/// payload.
+fn buffer(alloc: Global, payload: &[u8]) -> Result<Vec<u8>, AllocError>
+    ensures { IfOk result (λ octets. octets.items ≡ 0 ∷ 0 ∷ 0 ∷ 0 ∷ []) }
+{
+    let mut octets = Vec::with_capacity(alloc, MOST_HEADERS + payload.len())?;
+    octets.extend_from_slice(&[0; HEADER_LEN])?;
+    Ok(octets)
+}
