@@ -46,16 +46,16 @@ const NO_MASKS: &str = "\
 255.255.255.0.
 255.255.255.00";
 
-/// The text of octets, by its display and by `put_text`.
-fn address_text(alloc: Global, octets: &[u8]) -> Result<String, Fail> {
-    let address = bip_from_slice(octets)?;
-    let text = address.to_string(alloc)?;
+/// Whether an address is shown as this text.
+fn is_shown(alloc: Global, address: BipAddr, text: &str) -> Result<bool, Fail> {
+    Ok(address.to_string(alloc)?.as_str() == text)
+}
+
+/// Whether it is written so by `put_text`.
+fn is_written(alloc: Global, address: BipAddr, text: &str) -> Result<bool, Fail> {
     let mut out = Vec::new(alloc);
     address.put_text(&mut out)?;
-    if out.as_slice() != text.as_bytes() {
-        return Err("two texts".into());
-    }
-    Ok(text)
+    Ok(out.as_slice() == text.as_bytes())
 }
 
 /// Whether an address has these octets, as a station too, and this key.
@@ -67,14 +67,20 @@ fn has_octets(address: BipAddr, octets: &[u8]) -> bool {
 }
 
 /// Whether octets and a text are the same address, and five octets are none.
-fn is_address(alloc: Global, line: &str) -> Result<bool, Fail> {
-    let (octets, text) = parts(alloc, line)?;
+fn are_same(alloc: Global, octets: &[u8], text: &str) -> Result<bool, Fail> {
+    let address = bip_from_slice(octets)?;
     let five = octets.get(1..).ok_or("six octets")?;
     Ok(
-        has_octets(BipAddr::parse(text)?, &octets)
-            && address_text(alloc, &octets)?.as_str() == text
+        has_octets(BipAddr::parse(text)?, octets)
+            && is_shown(alloc, address, text)?
+            && is_written(alloc, address, text)?
             && bip_from_slice(five).is_err(),
     )
+}
+
+fn is_address(alloc: Global, line: &str) -> Result<bool, Fail> {
+    let (octets, text) = parts(alloc, line)?;
+    are_same(alloc, &octets, text)
 }
 
 /// Whether a text is no address.
