@@ -90,17 +90,22 @@ fn read_fault(word: &str) -> Result<Option<ServeFault>, Fail> {
     }
 }
 
+/// A count of a row.
+fn count(word: Option<&str>) -> Result<u64, Fail> {
+    Ok(word.ok_or("a count")?.parse()?)
+}
+
 /// The end of a row, and its calls and log.
 fn read_end(end: &'static str) -> Result<(End, &'static str), Fail> {
     let mut words = end.splitn(8, ' ');
     let fault = read_fault(words.next().ok_or("a fault")?)?;
     let served = Served {
-        turns: words.next().ok_or("turns")?.parse()?,
-        taken: words.next().ok_or("taken")?.parse()?,
-        memory_drops: words.next().ok_or("drops")?.parse()?,
-        recv_failures: words.next().ok_or("receives")?.parse()?,
-        sends: words.next().ok_or("sends")?.parse()?,
-        send_failures: words.next().ok_or("sends that fail")?.parse()?,
+        turns: count(words.next())?,
+        taken: count(words.next())?,
+        memory_drops: count(words.next())?,
+        recv_failures: count(words.next())?,
+        sends: count(words.next())?.into(),
+        send_failures: count(words.next())?.into(),
     };
     Ok((End { fault, served }, words.next().unwrap_or("")))
 }
