@@ -79,6 +79,19 @@ const ACTS: &str = "\
 9/10 ~5 9/5 ~34: 9/5/1
 9/10 ~5 9/5 ~35: none";
 
+/// A registration, as `9/60`.
+fn register(fdt: &mut Fdt, act: &str) -> Result<(), Fail> {
+    let (last, time_to_live) = act.split_once('/').ok_or("a registration")?;
+    let (last, time_to_live) = (last.parse()?, time_to_live.parse()?);
+    fdt.register(device(last), time_to_live)?;
+    Ok(())
+}
+
+/// Whether a device is deleted.
+fn is_deleted(fdt: &mut Fdt, last: &str) -> Result<bool, Fail> {
+    Ok(fdt.delete(device(last.parse()?)).is_ok())
+}
+
 /// What one act answers.
 fn act(fdt: &mut Fdt, act: &str) -> Result<&'static str, Fail> {
     if let Some(seconds) = act.strip_prefix('~') {
@@ -86,11 +99,13 @@ fn act(fdt: &mut Fdt, act: &str) -> Result<&'static str, Fail> {
         return Ok("");
     }
     if let Some(last) = act.strip_prefix('-') {
-        let deleted = fdt.delete(device(last.parse()?));
-        return Ok(if deleted.is_err() { " absent" } else { "" });
+        return Ok(if is_deleted(fdt, last)? {
+            ""
+        } else {
+            " absent"
+        });
     }
-    let (last, time_to_live) = act.split_once('/').ok_or("a registration")?;
-    fdt.register(device(last.parse()?), time_to_live.parse()?)?;
+    register(fdt, act)?;
     Ok("")
 }
 
