@@ -91,14 +91,21 @@ value is out of range; value is out of range; value is out of range; 2101
 40/1 85 8 7200FF; 5/1 85 8 7200FF; 5/1 85 8 7200FF.00; 40/1 85 8 75FE010100.61*255.FF: value is out of range; value is out of range; \
 value is out of range; value is out of range";
 
+/// Appends the octets of digits, so many times.
+fn put_octets(alloc: Global, digits: &str, times: u16, octets: &mut Vec<u8>) -> Result<(), Fail> {
+    let part = hex::decode(alloc, digits)?;
+    for _ in 0..times {
+        octets.extend_from_slice(&part)?;
+    }
+    Ok(())
+}
+
 /// The octets that a word writes.
 fn value_of(alloc: Global, word: &str) -> Result<Vec<u8>, Fail> {
     let mut octets = Vec::new(alloc);
     for part in word.split('.') {
         let (digits, times) = part.split_once('*').unwrap_or((part, "1"));
-        for _ in 0..times.parse::<u16>()? {
-            octets.extend_from_slice(&hex::decode(alloc, digits)?)?;
-        }
+        put_octets(alloc, digits, times.parse()?, &mut octets)?;
     }
     Ok(octets)
 }
