@@ -131,22 +131,40 @@ fn count(alloc: Global, routes: &Routes, port: u8) -> Result<String, Fail> {
     Ok(format!(in alloc; " {}", nets.len())?)
 }
 
+/// The router that a message names, behind its networks.
+fn route_of(text: &str) -> Result<Route, Fail> {
+    let (port, last) = text.split_once('/').ok_or("a port and a router")?;
+    let (port, last) = (port.parse()?, last.parse()?);
+    Ok(Route {
+        port,
+        next: router(last),
+    })
+}
+
+/// So many networks from a first one on are learned in one message.
+fn learn_run(
+    alloc: Global,
+    routes: &mut Routes,
+    first: u16,
+    count: u16,
+    route: Route,
+) -> Result<(), Fail> {
+    let nets = run_of(alloc, first, count)?;
+    routes.learn_all(&nets, route.port, route.next)?;
+    Ok(())
+}
+
 /// What a message of one learning or of many answers.
-fn message(alloc: Global, routes: &mut Routes, act: &str) -> Result<String, Fail> {
-    let mut words = act.split('/');
-    let what = words.next().ok_or("networks")?;
-    let port = words.next().ok_or("a port")?.parse()?;
-    let next = router(words.next().ok_or("a router")?.parse()?);
-    match what.split_once('+') {
+fn message(alloc: Global, routes: &mut Routes, act: &str) -> Result<&'static str, Fail> {
+    let (nets, route) = act.split_once('/').ok_or("networks and a route")?;
+    let route = route_of(route)?;
+    match nets.split_once('+') {
         Some((first, count)) => {
-            let nets = run_of(alloc, first.parse()?, count.parse()?)?;
-            routes.learn_all(&nets, port, next)?;
-            Ok(String::new(alloc))
+            let (first, count) = (first.parse()?, count.parse()?);
+            learn_run(alloc, routes, first, count, route)?;
+            Ok("")
         },
-        None => {
-            let answer = learn(routes, net(what.parse()?)?, Route { port, next })?;
-            Ok(String::from_str(alloc, answer)?)
-        },
+        None => learn(routes, net(nets.parse()?)?, route),
     }
 }
 
@@ -161,7 +179,7 @@ fn act(alloc: Global, routes: &mut Routes, act: &str) -> Result<String, Fail> {
             Ok(String::from_str(alloc, answer)?)
         },
         Some(_) => named(alloc, routes.direct()),
-        None => message(alloc, routes, act),
+        None => Ok(String::from_str(alloc, message(alloc, routes, act)?)?),
     }
 }
 
