@@ -97,19 +97,32 @@ const NARROW: &str = "\
 0005070C 0C01400002 1955: 50070C9102911B; read 5 2 85 by 1
 0005070E 0C01400002 1E 0955 1F: 710704; read 5 2 85 by 1";
 
-/// What is denied, in words.
-fn denied(alloc: Global, refusal: &Refusal) -> Result<String, Fail> {
-    let ask = &refusal.ask;
-    let number = ask.operation.ok_or("an operation")?;
+/// Appends a number that a denial has.
+fn put_number(alloc: Global, number: Option<u64>, words: &mut String) -> Result<(), Fail> {
+    let number = number.ok_or("a number")?;
+    words.push_str(&format!(in alloc; " {number}")?)?;
+    Ok(())
+}
+
+/// Appends the name of an operation.
+fn put_operation(number: Option<u64>, words: &mut String) -> Result<(), Fail> {
+    let number = number.ok_or("an operation")?;
     let operation = Operation::from_number(number).ok_or("an operation")?;
-    let kind = ask.object_type.ok_or("a type")?;
-    let instance = ask.instance.ok_or("an instance")?;
-    let property = ask.property.ok_or("a property")?;
-    let by = refusal.by.ok_or("a rule")?;
-    Ok(format!(in alloc;
-        "; {} {kind} {instance} {property} by {by}",
-        operation.name()
-    )?)
+    words.push_str("; ")?;
+    words.push_str(operation.name())?;
+    Ok(())
+}
+
+/// Appends what is denied.
+fn put_denied(alloc: Global, refusal: &Refusal, words: &mut String) -> Result<(), Fail> {
+    let ask = &refusal.ask;
+    put_operation(ask.operation, words)?;
+    put_number(alloc, ask.object_type, words)?;
+    put_number(alloc, ask.instance, words)?;
+    put_number(alloc, ask.property, words)?;
+    words.push_str(" by")?;
+    let rule = refusal.by.ok_or("a rule")?;
+    put_number(alloc, Some(u64::from(rule)), words)
 }
 
 /// What is given, in words.
@@ -123,7 +136,7 @@ fn words_of(alloc: Global, reply: &Reply) -> Result<String, Fail> {
         }
     }
     for refusal in reply.refusals.as_slice() {
-        words.push_str(denied(alloc, refusal)?.as_str())?;
+        put_denied(alloc, refusal, &mut words)?;
     }
     Ok(words)
 }
@@ -241,19 +254,35 @@ fn commands(
     Ok(values)
 }
 
-fn commands_of(alloc: Global, config: &Config, line: &str) -> Result<String, Fail> {
-    let mut device = Device::new(alloc, config)?;
-    commands(alloc, &mut device, config.rules(), line)
+/// What a new device answers to a line of one of the tables of lines: commands, a request by its name, or an APDU.
+fn line_answer(
+    alloc: Global,
+    device: &mut Device,
+    rules: &RuleList,
+    line: &str,
+) -> Result<String, Fail> {
+    if line.contains('/') {
+        return commands(alloc, device, rules, line);
+    }
+    if line.starts_with('0') {
+        return again_shown(alloc, device, rules, line);
+    }
+    request(alloc, device, rules, line)
 }
 
-fn commands_first(alloc: Global, line: &str) -> Result<String, Fail> {
+fn answer_of(alloc: Global, config: &Config, line: &str) -> Result<String, Fail> {
+    let mut device = Device::new(alloc, config)?;
+    line_answer(alloc, &mut device, config.rules(), line)
+}
+
+fn answer(alloc: Global, line: &str) -> Result<String, Fail> {
     let config = built_in(alloc)?;
-    commands_of(alloc, &config, line)
+    answer_of(alloc, &config, line)
 }
 
 #[test]
 fn commands_of_each_type(rt: HostRuntime) -> Result<(), Fail> {
-    compare(rt.alloc(), COMMANDS, commands_first)
+    compare(rt.alloc(), COMMANDS, answer)
 }
 
 /// What is given to an APDU, where a growth may be refused first: then nothing changed.
@@ -286,21 +315,11 @@ fn again_shown(
     with_change(alloc, &reply)
 }
 
-fn again_of(alloc: Global, config: &Config, line: &str) -> Result<String, Fail> {
-    let device = Device::new(alloc, config)?;
-    again_shown(alloc, &device, config.rules(), line)
-}
-
-fn again_first(alloc: Global, line: &str) -> Result<String, Fail> {
-    let config = built_in(alloc)?;
-    again_of(alloc, &config, line)
-}
-
 /// With each growth refused in turn (`rt try --test --fail-alloc N`) a refused call changes nothing, and the same APDU then has its
 /// answer.
 #[test]
 fn a_refused_growth_leaves_the_device(rt: HostRuntime) -> Result<(), Fail> {
-    compare(rt.alloc(), TWICE, again_first)
+    compare(rt.alloc(), TWICE, answer)
 }
 
 /// Present_Value of Binary Value 1 is read.
@@ -372,22 +391,13 @@ fn request(alloc: Global, device: &Device, rules: &RuleList, name: &str) -> Resu
         "write" => write(alloc, device, rules, fan),
         "who-is" => who_is(alloc, device, rules),
         "who-has" => who_has(alloc, device, rules, fan),
-        _ => Ok(format!(in alloc; "{}", device.configured().objects.as_slice().len())?),
+        "objects" => Ok(format!(in alloc; "{}", device.configured().objects.as_slice().len())?),
+        _ => Err("a request".into()),
     }
-}
-
-fn request_of(alloc: Global, config: &Config, name: &str) -> Result<String, Fail> {
-    let device = Device::new(alloc, config)?;
-    request(alloc, &device, config.rules(), name)
-}
-
-fn request_first(alloc: Global, name: &str) -> Result<String, Fail> {
-    let config = built_in(alloc)?;
-    request_of(alloc, &config, name)
 }
 
 #[test]
 fn requests_one_by_one(rt: HostRuntime) -> Result<(), Fail> {
     laws::unread_object();
-    compare(rt.alloc(), REQUESTS, request_first)
+    compare(rt.alloc(), REQUESTS, answer)
 }

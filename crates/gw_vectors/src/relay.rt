@@ -1,7 +1,6 @@
 //! Broadcast management, distribution, routing and network layer messages through the calls of a relay: worked cases on the
 //! built-in configuration.
 
-use crate::policy_text::built_in;
 use crate::table::{compare, octets_of};
 use gw_addr::BipAddr;
 use gw_bvll::Bvll;
@@ -18,8 +17,9 @@ const PORT: u8 = 1;
 const SENDER: &str = "1.5";
 
 /// Acts on a fresh relay, and what is answered in turn. `3.9 8105..` is a datagram from 192.168.3.9; `~5` lets five seconds pass;
-/// `#128` registers 192.168.3.1 and so on for 60 seconds, so many; `@65` writes a table of so many peers; `+ 0100..` is a broadcast
-/// by the gateway. A line that begins with `!cast` has a first rule that denies that operation. In the answer `3.9=8100..` is sent
+/// `#128` registers 192.168.3.1 and so on for 60 seconds, so many, and `%3` does so again where a growth is refused; `@65` writes
+/// a table of so many peers; `+ 0100..` is a broadcast by the gateway. A line that begins with `!cast` has a first rule that denies
+/// that operation. In the answer `3.9=8100..` is sent
 /// to 192.168.3.9, `-264` is a denied ask of that service, and `on` says that the frame goes on to the network layer.
 const ACTS: &str = "\
 3.9 81050006 003C, ~89, 1.5 81060004: 3.9=810000060000 1.5=8107000EC0A80309BAC0003C0001
@@ -302,6 +302,10 @@ fn is_silent(alloc: Global, relay: &mut Relay, rules: &RuleList, act: &str) -> R
         register(alloc, relay, rules, count.parse()?)?;
         return Ok(true);
     }
+    if let Some(count) = act.strip_prefix('%') {
+        register_again(alloc, relay, rules, count.parse()?)?;
+        return Ok(true);
+    }
     Ok(false)
 }
 
@@ -316,13 +320,26 @@ fn act(alloc: Global, relay: &mut Relay, rules: &RuleList, act: &str) -> Result<
     datagram(alloc, relay, rules, act)
 }
 
+/// Whether an act is an NPDU on a port or an I-Am-Router-To-Network: its first word is one digit, or it begins with `^`.
+fn is_npdu(act: &str) -> bool {
+    match act.split_once(' ') {
+        Some((first, _)) => first.len() == 1 && first != "+",
+        None => act.starts_with('^'),
+    }
+}
+
 /// What acts are answered in turn.
 fn answers(alloc: Global, relay: &mut Relay, rules: &RuleList, acts: &str) -> Result<String, Fail> {
     let mut shown = String::new(alloc);
     for one in acts.split(", ") {
-        if !is_silent(alloc, relay, rules, one)? {
+        if is_npdu(one) {
+            shown.push_str(&go(alloc, relay, rules, one)?)?;
+        } else if !is_silent(alloc, relay, rules, one)? {
             shown.push_str(&act(alloc, relay, rules, one)?)?;
         }
+    }
+    if shown.is_empty() {
+        shown.push_str("nothing")?;
     }
     Ok(shown)
 }
@@ -439,33 +456,9 @@ fn go(alloc: Global, relay: &mut Relay, rules: &RuleList, act: &str) -> Result<S
     pass_on(alloc, relay, rules, port.parse()?, node(from)?, &octets)
 }
 
-/// What NPDUs are answered in turn.
-fn ways(alloc: Global, relay: &mut Relay, rules: &RuleList, acts: &str) -> Result<String, Fail> {
-    let mut shown = String::new(alloc);
-    for one in acts.split(", ") {
-        shown.push_str(&go(alloc, relay, rules, one)?)?;
-    }
-    if shown.is_empty() {
-        shown.push_str("nothing")?;
-    }
-    Ok(shown)
-}
-
-fn ways_of(alloc: Global, config: &Config, acts: &str) -> Result<String, Fail> {
-    let mut relay = Relay::new(alloc, config)?;
-    ways(alloc, &mut relay, config.rules(), acts)
-}
-
-/// What NPDUs on a fresh relay are answered, where an operation may be denied.
-fn ways_first(alloc: Global, line: &str) -> Result<String, Fail> {
-    let (operation, acts) = denied_operation(line)?;
-    let config = configuration(alloc, operation)?;
-    ways_of(alloc, &config, acts)
-}
-
 #[test]
 fn routing_by_its_acts(rt: HostRuntime) -> Result<(), Fail> {
-    compare(rt.alloc(), WAYS, ways_first)
+    compare(rt.alloc(), WAYS, answer)
 }
 
 /// A foreign device of this number registers for 60 seconds.
@@ -484,31 +477,28 @@ fn registered(
     commit(relay, relayed)
 }
 
-/// Three register, and what is answered to a read of the table. Where a growth is refused, nothing changed, and the same registration
-/// is done when it comes again.
-fn three(alloc: Global, relay: &mut Relay, rules: &RuleList) -> Result<String, Fail> {
-    for host in 1..4 {
+/// So many register. Where a growth is refused, nothing changed, and the same registration is done when it comes again.
+fn register_again(
+    alloc: Global,
+    relay: &mut Relay,
+    rules: &RuleList,
+    count: u8,
+) -> Result<(), AllocError> {
+    for host in 0..count {
+        let host = host.wrapping_add(1);
         if registered(alloc, relay, rules, host).is_err() {
             registered(alloc, relay, rules, host)?;
         }
     }
-    act(alloc, relay, rules, "1.5 81060004")
+    Ok(())
 }
 
-fn three_of(alloc: Global, config: &Config) -> Result<String, Fail> {
-    let mut relay = Relay::new(alloc, config)?;
-    three(alloc, &mut relay, config.rules())
-}
-
-fn three_first(alloc: Global) -> Result<String, Fail> {
-    let config = built_in(alloc)?;
-    three_of(alloc, &config)
-}
+/// Three register, and the table is read.
+const THREE: &str = "\
+%3, 1.5 81060004: 1.5=81070022C0A80301BAC0003C005AC0A80302BAC0003C005AC0A80303BAC0003C005A";
 
 /// With each growth refused in turn.
 #[test]
 fn a_refused_growth_leaves_the_relay(rt: HostRuntime) -> Result<(), Fail> {
-    let wanted = " 1.5=81070022C0A80301BAC0003C005AC0A80302BAC0003C005AC0A80303BAC0003C005A";
-    assert_eq!(rt; three_first(rt.alloc())?.as_str(), wanted);
-    Ok(())
+    compare(rt.alloc(), THREE, answer)
 }
