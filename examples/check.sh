@@ -128,9 +128,16 @@ ran 2 'bacgw: configuration: NotToml' --config "$work/faulty.toml" --log "$work/
 ran 1 'bacgw: log failed' --config "$work/elsewhere.toml" --log "$work/nowhere/log"
 ran 1 'bacgw: socket failed on port 1' --config "$work/elsewhere.toml" --log "$work/log" --verbose
 sed 's/10\.1\.0/127.1.0/; s/10\.2\.0/127.2.0/' "$here/two_subnets.toml" > "$work/loopback.toml"
+echo 'a line of before' > "$work/log"
 ran 0 "bacgw: serving port 1 at 127.1.0.2:47808, broadcast 127.1.0.255:47808; port 2 at 127.2.0.2:47808, broadcast \
 127.2.0.255:47808; device 1234 on network 100 with 1 objects; 3 rules; log to $work/log" --config "$work/loopback.toml" --log "$work/log" \
     --turns 2 --verbose
+if [ "$(cat "$work/log")" = 'a line of before' ]; then
+    passed=$((passed + 1))
+else
+    failed=$((failed + 1))
+    echo "not as expected: what stood in the log before a run"
+fi
 
 # explained TEXT NAME LINE: `check --explain` tells the fault as before, and says where it is
 explained() {

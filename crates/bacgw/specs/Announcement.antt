@@ -39,7 +39,8 @@ log_text None = codes "standard output"
 
 -- the line
 abbrev pub announcement : Configuration → Option (List ℕ) → List ℕ
-announcement c log = codes "bacgw: serving " ++ ports_from 1 c.ports ++ device_text c.device ++ objects_text c ++ rules_text c ++ log_text log ++ 10 ∷ []
+announcement c log =
+    codes "bacgw: serving " ++ ports_from 1 c.ports ++ device_text c.device ++ objects_text c ++ rules_text c ++ log_text log ++ 10 ∷ []
 
 -- what is told at the start: the line where that is asked for, and else nothing
 abbrev pub told_text : Bool → Configuration → Option (List ℕ) → List ℕ

@@ -57,16 +57,20 @@ pub data ServesFrom (turns : ℕ) (before after : Scene) (outcome : Result (Unit
   stopped : (stop : ServeStop) → Stops turns before stop after → outcome ≡ Err (fault_of_serving stop.fault) →
       ServesFrom turns before after outcome
 
+-- what opening the log of a name may give
+abbrev pub LogOpening : Type 0 → Type 1
+LogOpening Log = List ℕ → Result Log Fault → Type 0
+
 -- What opening and closing may give: of a machine, the log of a name, the sockets of some ports, and both when they are closed, the log
 -- where one was opened; and what a log holds and sockets tell.
 pub record Machine (Log Sockets : Type 0) : Type 1 where
-  pub LogOpens : List ℕ → Result Log Fault → Type 0
+  pub LogOpens : LogOpening Log
   pub SocketsOpen : List Port → Result Sockets Fault → Type 0
   pub Closes : Sockets → Option Log → Type 0
   pub held : Log → Option (List ℕ)
   pub calls : Sockets → Option (List Call)
 
-abbrev pub machine : {Log Sockets : Type 0} → (List ℕ → Result Log Fault → Type 0) → (List Port → Result Sockets Fault → Type 0)
+abbrev pub machine : {Log Sockets : Type 0} → LogOpening Log → (List Port → Result Sockets Fault → Type 0)
     → (Sockets → Option Log → Type 0) → (Log → Option (List ℕ)) → (Sockets → Option (List Call)) → Machine Log Sockets
 machine LogOpens SocketsOpen Closes held calls = record {
   LogOpens = LogOpens;
@@ -77,13 +81,13 @@ machine LogOpens SocketsOpen Closes held calls = record {
 }
 
 -- The log is open: it is in the file of this name, and standard output is as it was; or it is standard output, whose buffer was flushed.
-abbrev pub LogIsOpen : {Log : Type 0} → (LogOpens : List ℕ → Result Log Fault → Type 0) → (name held holds : Option (List ℕ)) → Option Log → Type 0
+abbrev pub LogIsOpen : {Log : Type 0} → (LogOpens : LogOpening Log) → (name held holds : Option (List ℕ)) → Option Log → Type 0
 LogIsOpen LogOpens (Some name) held holds (Some log) = LogOpens name (Ok log) × (holds ≡ held)
 LogIsOpen LogOpens None held holds None = Keeps held holds
 LogIsOpen LogOpens _ held holds _ = ⊥
 
 -- The log can't be opened. On standard output that is where its buffer can't be flushed.
-abbrev pub LogIsShut : {Log : Type 0} → (LogOpens : List ℕ → Result Log Fault → Type 0) → (name held holds : Option (List ℕ)) → Fault → Type 0
+abbrev pub LogIsShut : {Log : Type 0} → (LogOpens : LogOpening Log) → (name held holds : Option (List ℕ)) → Fault → Type 0
 LogIsShut LogOpens (Some name) held holds f = LogOpens name (Err f) × (holds ≡ held)
 LogIsShut LogOpens None held holds f = (f ≡ fault.Log) × Keeps held holds
 
@@ -104,13 +108,13 @@ IsFlushedFor (Some name) was is = is ≡ was
 IsFlushedFor None was is = is ≡ []
 
 -- The log and the sockets are open.
-pub record AreOpen {Log Sockets : Type 0} (LogOpens : List ℕ → Result Log Fault → Type 0) (SocketsOpen : Result Sockets Fault → Type 0)
+pub record AreOpen {Log Sockets : Type 0} (LogOpens : LogOpening Log) (SocketsOpen : Result Sockets Fault → Type 0)
     (name held holds : Option (List ℕ)) (log : Option Log) (sockets : Sockets) : Type 0 where
   pub log_is : LogIsOpen LogOpens name held holds log
   pub sockets_are : SocketsOpen (Ok sockets)
 
 -- Why they aren't: memory ran out before either, or the log can't be opened, or the sockets can't, when the log is open.
-pub data ArentOpen {Log Sockets : Type 0} (LogOpens : List ℕ → Result Log Fault → Type 0) (SocketsOpen : Result Sockets Fault → Type 0)
+pub data ArentOpen {Log Sockets : Type 0} (LogOpens : LogOpening Log) (SocketsOpen : Result Sockets Fault → Type 0)
     (name held holds : Option (List ℕ)) (f : Fault) : Type 0 where
   no_memory : f ≡ fault.Memory → holds ≡ held → ArentOpen LogOpens SocketsOpen name held holds f
   no_log : LogIsShut LogOpens name held holds f → ArentOpen LogOpens SocketsOpen name held holds f
@@ -124,7 +128,8 @@ pub data LeavesServed {Log Sockets : Type 0} (machine : Machine Log Sockets) (na
   shut : (f : Fault) → ArentOpen machine.LogOpens (machine.SocketsOpen c.ports) name held holds f → outcome ≡ Err f → told ≡ [] →
       LeavesServed machine name held holds c turns line told outcome
   served : (log log_then : Option Log) (sockets sockets_then : Sockets) (output : Option (List ℕ)) →
-      AreOpen machine.LogOpens (machine.SocketsOpen c.ports) name held output log sockets → machine.Closes sockets_then log_then → LogStays log log_then output holds →
+      AreOpen machine.LogOpens (machine.SocketsOpen c.ports) name held output log sockets →
+      machine.Closes sockets_then log_then → LogStays log log_then output holds →
       Serves c turns (ends (log_held machine.held log output) (machine.calls sockets))
       (ends (log_held machine.held log_then holds) (machine.calls sockets_then)) outcome →
       told ≡ line → LeavesServed machine name held holds c turns line told outcome
