@@ -5,17 +5,14 @@ ghost use Rattle.std.specs.Prelude.{◌≡◌, ⊤, IfOk, None, Some};
 use crate::fault::Fault;
 use crate::host::Host;
 use crate::ports::Ports;
-use crate::program::run;
 use crate::serving::serve_fresh;
 use crate::socket::Sock;
-use crate::tests::{Held, Narrow, Run, call};
+use crate::tests::{BAD_WORDS, NOT_READ, NOT_TOML, Narrow, UNREADABLE, call, run_on};
 use crate::udp::{UdpSock, open_pairs};
 use gw_addr::BipAddr;
 use gw_core::{Got, RECEIVE_ROOM, Wire, WireFault, read_config};
 use gw_policy_text::{Config, Port, SETTING};
 use std::alloc::Global;
-use std::io::BufWriter;
-use std::process::ExitCode;
 use std::test::*;
 
 /// A read of Binary Value 2, which the built-in policy denies.
@@ -25,7 +22,7 @@ const DENIED_READ: [u8; 22] = [
 ];
 
 /// Its line in the log.
-const LINE: &[u8] = b"1 0 1 1:C0A80105BAC0 read dst=100 svc=12 obj=5,2 prop=85 prio=- rule=hide\n";
+const LINE: &str = "1 0 1 1:C0A80105BAC0 read dst=100 svc=12 obj=5,2 prop=85 prio=- rule=hide\n";
 
 /// A wire in memory: a denied read first, and then a tick at each receive.
 #[derive(Drop)]
@@ -114,11 +111,7 @@ impl Host for MemHost {
 
     fn open_log(&self, _name: &str) -> Result<Narrow, Fault> {
         match self.room {
-            Some(left) => Ok(Narrow {
-                held: Vec::new(self.alloc),
-                left,
-                flushes: true,
-            }),
+            Some(left) => Ok(Narrow::with(self.alloc, left)),
             None => Err(Fault::Log),
         }
     }
@@ -142,103 +135,69 @@ impl Host for MemHost {
     }
 }
 
-/// Runs the program on these words, this file and this machine.
-fn run_on(
-    alloc: Global,
-    words: &[&str],
-    text: Result<&str, Fault>,
-    host: &mut MemHost,
-) -> Result<Run, Fail> {
-    let call = call(alloc, words)?;
-    let mut script: &[u8] = b"";
-    let mut output = BufWriter::new(alloc, Vec::new(alloc))?;
-    let mut errors = Vec::new(alloc);
-    let files = Held { text };
-    let code = run(
-        alloc,
-        Ok(call),
-        &files,
-        host,
-        &mut script,
-        &mut output,
-        &mut errors,
-    );
-    let (output, _unwritten) = output.into_parts();
-    Ok(Run {
-        code,
-        output,
-        errors,
-    })
-}
-
 /// What `--verbose` tells of the built-in configuration.
-const TOLD: &[u8] = b"bacgw: serving port 1 at 192.168.1.10:47808, broadcast 192.168.1.255:47808; \
+const TOLD: &str = "bacgw: serving port 1 at 192.168.1.10:47808, broadcast 192.168.1.255:47808; \
 port 2 at 192.168.2.10:47808, broadcast 192.168.2.255:47808; device 1234 on network 100 with 6 objects; \
 3 rules; log to a?b\n";
 
-/// The words of a run with its log in a file whose name has a line feed.
-const LOGGED: &[&str] = &["run", "--config", "s", "--log", "a\nb", "--turns", "3"];
+/// Three turns with the log in a file whose name has a line feed, and with it on standard output.
+const LOGGED: &str = "run|--config|s|--log|a\nb|--turns|3";
+
+const VERBOSE: &str = "run|--config|s|--log|a\nb|--turns|3|--verbose";
+
+const UNLOGGED: &str = "run|--config|s|--turns|3";
+
+/// Lines on standard error.
+const LOG_FAILED: &str = "bacgw: log failed\n";
+
+const PORT_2_FAILED: &str = "bacgw: socket failed on port 2\n";
 
 /// The faults come in the order of their lines.
 #[test]
 fn tells_the_first_fault_of_a_run(rt: HostRuntime) -> Result<(), Fail> {
-    let cases: [(&[&str], Result<&str, Fault>, Option<usize>, u8, &[u8]); 6] = [
-        (
-            &["run", "--log", "a"],
-            Err(Fault::Unreadable),
-            None,
-            2,
-            b"bacgw: bad command line\n",
-        ),
-        (
-            LOGGED,
-            Err(Fault::Unreadable),
-            None,
-            2,
-            b"bacgw: cannot read configuration\n",
-        ),
-        (LOGGED, Ok("="), None, 2, b"bacgw: configuration: NotToml\n"),
-        (LOGGED, Ok(SETTING), None, 2, b"bacgw: log failed\n"),
-        (
-            LOGGED,
-            Ok(SETTING),
-            Some(9),
-            2,
-            b"bacgw: socket failed on port 2\n",
-        ),
-        (LOGGED, Ok(SETTING), Some(9), 0, b"bacgw: log failed\n"),
+    let cases = [
+        ("run|--log|a", UNREADABLE, None, 2, 2, BAD_WORDS),
+        (LOGGED, UNREADABLE, None, 2, 1, NOT_READ),
+        (LOGGED, "=", None, 2, 2, NOT_TOML),
+        (LOGGED, SETTING, None, 2, 1, LOG_FAILED),
+        (LOGGED, SETTING, Some(9), 2, 1, PORT_2_FAILED),
+        (LOGGED, SETTING, Some(9), 0, 1, LOG_FAILED),
     ];
-    for (words, text, room, failing, errors) in cases {
+    for (line, text, room, failing, status, errors) in cases {
         let mut host = MemHost::with(rt.alloc(), room, failing);
-        let run = run_on(rt.alloc(), words, text, &mut host)?;
-        assert_eq!(rt; run.errors.as_slice(), errors);
-        assert!(rt; run.output.is_empty());
-        assert!(rt; run.code != ExitCode::SUCCESS);
+        let words = Ok(call(rt.alloc(), line)?);
+        let run = run_on(rt.alloc(), words, text, "", &mut host)?;
+        assert!(rt; run.is(status, "", errors), "{line}");
     }
     Ok(())
 }
 
+/// Whether a run of three turns leaves these texts, with this log in a file, and closes what it opened.
+fn serves_so(
+    alloc: Global,
+    line: &str,
+    log: &[u8],
+    output: &str,
+    errors: &str,
+) -> Result<bool, Fail> {
+    let mut host = MemHost::with(alloc, Some(1000), 0);
+    let words = Ok(call(alloc, line)?);
+    let run = run_on(alloc, words, SETTING, "", &mut host)?;
+    let Some((sockets, held)) = host.closed else {
+        return Ok(false);
+    };
+    let logged = match &held {
+        Some(held) => held.held.as_slice() == log,
+        None => log.is_empty(),
+    };
+    Ok(run.is(0, output, errors) && (sockets.receives, sockets.sends) == (3, 1) && logged)
+}
+
 #[test]
 fn serves_with_a_log(rt: HostRuntime) -> Result<(), Fail> {
-    let mut verbose = Vec::from_slice(rt.alloc(), LOGGED)?;
-    verbose.push("--verbose")?;
-    let cases: [(&[&str], &[u8], &[u8], &[u8]); 3] = [
-        (LOGGED, LINE, b"", b""),
-        (verbose.as_slice(), LINE, b"", TOLD),
-        (&["run", "--config", "s", "--turns", "3"], b"", LINE, b""),
-    ];
-    for (words, log, output, errors) in cases {
-        let mut host = MemHost::with(rt.alloc(), Some(1000), 0);
-        let run = run_on(rt.alloc(), words, Ok(SETTING), &mut host)?;
-        assert!(rt; run.code == ExitCode::SUCCESS);
-        assert_eq!(rt; run.output.as_slice(), output);
-        assert_eq!(rt; run.errors.as_slice(), errors);
-        let Some((sockets, held)) = host.closed else {
-            panic!(rt; "not closed: {words:?}");
-        };
-        assert_eq!(rt; (sockets.receives, sockets.sends), (3, 1));
-        assert!(rt; held.is_some_and(|held: Narrow| held.held.as_slice() == log) || log.is_empty());
-    }
+    assert!(rt; serves_so(rt.alloc(), LOGGED, LINE.as_bytes(), "", "")?);
+    assert!(rt; serves_so(rt.alloc(), VERBOSE, LINE.as_bytes(), "", TOLD)?);
+    assert!(rt; serves_so(rt.alloc(), UNLOGGED, b"", LINE, "")?);
     Ok(())
 }
 

@@ -144,21 +144,29 @@ fn ports_take_turns(rt: HostRuntime) -> Result<(), Fail> {
     Ok(())
 }
 
+/// How often a letter stands in a course.
+fn count_of(course: &str, letter: char) -> usize {
+    course.chars().filter(|c| *c == letter).count()
+}
+
+/// Whether all datagrams and one fault come where the socket of this place fails at this call.
+fn goes_on(alloc: Global, place: u64, call: u64) -> Result<bool, Fail> {
+    let mut ports = two_ports(alloc, 2, Some((place, call)))?;
+    let course = course(alloc, &mut ports, 9)?;
+    let count = |letter| count_of(course.as_str(), letter);
+    Ok((count('1'), count('2'), count('f'), count('-')) == (2, 2, 1, 4))
+}
+
 #[test]
 fn ticks_come_first_and_faults_go_on(rt: HostRuntime) -> Result<(), Fail> {
     let mut ports = two_ports(rt.alloc(), 2, Some((0, 1)))?;
     ports.due(2);
     let ticks_first = course(rt.alloc(), &mut ports, 9)?;
     assert_eq!(rt; ticks_first.as_str(), "tt12f21--");
-    // Each socket fails at each of its calls: one fault more comes, and every datagram.
+    // Each socket fails at each of its calls.
     for place in 0..4 {
         for call in 0..4 {
-            let mut ports = two_ports(rt.alloc(), 2, Some((place, call)))?;
-            let course = course(rt.alloc(), &mut ports, 9)?;
-            for (letter, count) in [('1', 2), ('2', 2), ('f', 1), ('-', 4)] {
-                let found = course.chars().filter(|c| *c == letter).count();
-                assert!(rt; found == count, "{course} at {place}, {call}");
-            }
+            assert!(rt; goes_on(rt.alloc(), place, call)?, "{place}, {call}");
         }
     }
     Ok(())
@@ -203,6 +211,22 @@ impl Waiter for MemWaiter {
     }
 }
 
+/// What comes in eight calls where the clock fails at this look and the waiter at this wait; nothing where it can't start.
+fn timed_course(alloc: Global, look: u64, wait: u64) -> Result<String, Fail> {
+    let clock = SlowClock {
+        looks: Cell::new(0),
+        failing: look,
+    };
+    let waiter = MemWaiter {
+        waits: 0,
+        failing: wait,
+    };
+    match TimedPorts::start(two_ports(alloc, 2, None)?, &clock, waiter) {
+        Ok(mut timed) => course(alloc, &mut timed, 8),
+        Err(_) => Ok(String::new(alloc)),
+    }
+}
+
 /// The looks are at 0.0, 0.3, 0.6, .. seconds; a receive looks once, and where nothing waits again.
 #[test]
 fn seconds_that_pass_are_ticks(rt: HostRuntime) -> Result<(), Fail> {
@@ -213,20 +237,8 @@ fn seconds_that_pass_are_ticks(rt: HostRuntime) -> Result<(), Fail> {
         (99, 1, "121t2ft-"),
         (0, 99, ""),
     ];
-    for (looks, waits, wanted) in cases {
-        let clock = SlowClock {
-            looks: Cell::new(0),
-            failing: looks,
-        };
-        let waiter = MemWaiter {
-            waits: 0,
-            failing: waits,
-        };
-        let ports = two_ports(rt.alloc(), 2, None)?;
-        let course = match TimedPorts::start(ports, &clock, waiter) {
-            Ok(mut timed) => course(rt.alloc(), &mut timed, 8)?,
-            Err(_) => String::new(rt.alloc()),
-        };
+    for (look, wait, wanted) in cases {
+        let course = timed_course(rt.alloc(), look, wait)?;
         assert_eq!(rt; course.as_str(), wanted);
     }
     Ok(())
