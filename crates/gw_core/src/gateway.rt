@@ -87,13 +87,25 @@ fn commit_write(device: &mut Device, write: Option<Change>)
 
 /// A gateway. It takes one event in a call, whole: it answers what the event does, and is then in
 /// the next state.
-#[derive(Drop)]
 pub struct Gateway {
     ports: u8,
     policy: Policy,
     relay: Relay,
     device: Device,
     counts: Counts,
+}
+
+// By hand: a derived one is proved part by part wherever one is dropped (docs/ARCHITECTURE.md).
+impl Drop for Gateway {
+    fn drop(self) {
+        let Gateway {
+            ports: _,
+            policy: _,
+            relay: _,
+            device: _,
+            counts: _,
+        } = self;
+    }
 }
 
 impl Model for Gateway {

@@ -24,7 +24,7 @@ pub enum ObjectKind {
 }
 
 /// An object as it is configured.
-#[derive(Debug, Drop)]
+#[derive(Debug)]
 pub struct Object {
     /// Its instance.
     pub instance: Instance,
@@ -34,6 +34,18 @@ pub struct Object {
     pub description: Text,
     /// Its type, with what is configured of that type alone.
     pub value: ObjectValue,
+}
+
+// By hand: a derived one is proved part by part wherever one is dropped (docs/ARCHITECTURE.md).
+impl Drop for Object {
+    fn drop(self) {
+        let Object {
+            instance: _,
+            name: _,
+            description: _,
+            value: _,
+        } = self;
+    }
 }
 
 /// The type of an object with its Relinquish_Default, which is in the range of its Present_Value,

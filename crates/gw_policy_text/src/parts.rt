@@ -21,13 +21,26 @@ pub const MAX_ROUTES: usize = 512;
 pub const MAX_OBJECTS: usize = 256;
 
 /// The parts of a configuration, each in the order of the text. Contracts see them.
-#[derive(Debug, Drop)]
+#[derive(Debug)]
 pub(crate) struct Parts {
     device: Device,
     ports: Sequence<Port>,
     routes: Sequence<Route>,
     objects: Sequence<Object>,
     rules: RuleList,
+}
+
+// By hand: a derived one is proved part by part wherever one is dropped (docs/ARCHITECTURE.md).
+impl Drop for Parts {
+    fn drop(self) {
+        let Parts {
+            device: _,
+            ports: _,
+            routes: _,
+            objects: _,
+            rules: _,
+        } = self;
+    }
 }
 
 impl Model for Parts {
@@ -82,7 +95,14 @@ impl Parts {
     pub(crate) fn into_rules(self) -> RuleList
         ensures { result ≡ self.rules }
     {
-        self.rules
+        let Parts {
+            device: _,
+            ports: _,
+            routes: _,
+            objects: _,
+            rules,
+        } = self;
+        rules
     }
 
     /// The parts that the tables say, in their order.

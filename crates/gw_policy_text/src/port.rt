@@ -19,7 +19,7 @@ use toml::{Table, Value};
 pub const MAX_PEERS: usize = 64;
 
 /// A port: the BACnet/IP network on one UDP port of the gateway.
-#[derive(Debug, Drop)]
+#[derive(Debug)]
 pub struct Port {
     /// The number of the network.
     pub network: NetNum,
@@ -30,6 +30,18 @@ pub struct Port {
     /// The broadcast managers of the other subnets with which it starts, at most 64 of which no two
     /// have one address (Annex J.4).
     pub peers: Peers,
+}
+
+// By hand: a derived one is proved part by part wherever one is dropped (docs/ARCHITECTURE.md).
+impl Drop for Port {
+    fn drop(self) {
+        let Port {
+            network: _,
+            address: _,
+            broadcast: _,
+            peers: _,
+        } = self;
+    }
 }
 
 /// Peers in order, at most 64. Contracts see the list of them.

@@ -17,7 +17,6 @@ pub struct Port {
 }
 
 /// A port with the tables of its broadcast manager (Annex J.4, J.5).
-#[derive(Drop)]
 pub struct Link {
     /// The port.
     pub port: Port,
@@ -25,4 +24,15 @@ pub struct Link {
     pub bdt: Bdt,
     /// The foreign device table.
     pub fdt: Fdt,
+}
+
+// By hand: a derived one is proved part by part wherever one is dropped (docs/ARCHITECTURE.md).
+impl Drop for Link {
+    fn drop(self) {
+        let Link {
+            port: _,
+            bdt: _,
+            fdt: _,
+        } = self;
+    }
 }

@@ -40,11 +40,21 @@ use std::marker::Model;
 
 /// The ports of a gateway with their tables, and the routes. Contracts see the links in order of
 /// ports, the table of routes, and how many ticks have passed.
-#[derive(Drop)]
 pub struct Relay {
     links: Vec<Link>,
     routes: Routes,
     ticks: u64,
+}
+
+// By hand: a derived one is proved part by part wherever one is dropped (docs/ARCHITECTURE.md).
+impl Drop for Relay {
+    fn drop(self) {
+        let Relay {
+            links: _,
+            routes: _,
+            ticks: _,
+        } = self;
+    }
 }
 
 impl Model for Relay {

@@ -12,10 +12,16 @@ pub const LEAST_INDEXED: usize = 32;
 
 /// The rules of a gateway, and their index where they are many. It answers as the list of the rules,
 /// which contracts see.
-#[derive(Drop)]
 pub struct Policy {
     rules: RuleList,
     index: Option<RuleIndex>,
+}
+
+// By hand: a derived one is proved part by part wherever one is dropped (docs/ARCHITECTURE.md).
+impl Drop for Policy {
+    fn drop(self) {
+        let Policy { rules: _, index: _ } = self;
+    }
 }
 
 impl Model for Policy {

@@ -14,7 +14,7 @@ pub const MAX_RANGES: usize = 4;
 /// one of the rule's ranges holds the value. A field with no range isn't named.
 ///
 /// Build one by [`Rule::new`] and [`Rule::with`], or as a struct.
-#[derive(Debug, Drop)]
+#[derive(Debug)]
 pub struct Rule {
     /// The name that the log shows where the rule denies.
     pub name: RuleName,
@@ -22,6 +22,17 @@ pub struct Rule {
     pub allow: bool,
     /// The ranges for each field.
     pub ranges: Fields<Ranges>,
+}
+
+// By hand: a derived one is proved part by part wherever one is dropped (docs/ARCHITECTURE.md).
+impl Drop for Rule {
+    fn drop(self) {
+        let Rule {
+            name: _,
+            allow: _,
+            ranges: _,
+        } = self;
+    }
 }
 
 impl Rule {
