@@ -4,8 +4,8 @@
 #     bench/slips.sh [CRATE...]      # every crate that has some, unless told otherwise
 #
 # A slip has the form of the gate's own edits in must-fail/. Each is tried on a copy of the tree, over what `rt check` has kept in
-# out/, so that a try takes half a minute; what isn't kept yet is proved first. It prints a line for each, with the functions that
-# aren't proved, and last how many were refused. The status is 0 where all were.
+# out/, so that a try takes half a minute; what isn't kept yet is proved first. It prints a line for each, with the first function
+# that isn't proved, and last how many were refused. The status is 0 where all were.
 #
 # It wants python3 and rt on the path, and about 8 GB of free disk for the copy of a tree that is proved.
 set -euo pipefail
@@ -57,7 +57,8 @@ refused() {
         echo "NOT TRIED: $1/$2: $(tail -n 1 <<< "$said")"
         return 1
     fi
-    echo "refused: $1/$2: $(sed -En 's/^fn (.*): (not proved|no proof).*/\1/p' <<< "$said" | paste -s -d ' ')"
+    sed -En 's/^fn (.*): (not proved|no proof).*/\1/p' <<< "$said" |
+        awk -v name="$1/$2" 'NR == 1 { first = $0 } END { print "refused: " name ": " first (NR > 1 ? ", and " NR - 1 " that rest on it" : "") }'
 }
 
 count=0

@@ -7,22 +7,12 @@ use gw_relay::Sends;
 use std::alloc::Global;
 
 /// What an event does.
-#[derive(Debug)]
+#[derive(Debug, Drop)]
 pub struct Effects {
     /// The datagrams to send.
     pub sends: Sends,
     /// The policy's denials.
     pub denials: Denials,
-}
-
-// By hand: a derived one is proved part by part wherever one is dropped (docs/ARCHITECTURE.md).
-impl Drop for Effects {
-    fn drop(self) {
-        let Effects {
-            sends: _,
-            denials: _,
-        } = self;
-    }
 }
 
 impl Effects {
