@@ -152,11 +152,12 @@ allow = true | allow = true~operation = [[\"read\", \"write\"]]: Kind, rule 3: o
 allow = true | allow = true~operation = [\"read\", \"reed\"]: Range, rule 3: operation: item 2 must be the name of an operation
 allow = true | allow = true~source = [[\"1.1.1.2:1\", \"1.1.1.1:1\"]]: Range, rule 3: source: item 1 must be an address as \
 10.0.1.255:47808, or a list of two such, low and high
-allow = true | allow = true~source_network = [\"1\"]: Kind, rule 3: source_network: item 1 must be a number, or a list of two such, low \
-and high
+allow = true | allow = true~source_network = [\"1\"]: Kind, rule 3: source_network: item 1 must be a number, or a list of two such, \
+low and high
 allow = true | allow = true~source_network = [65535]: Range, rule 3: source_network: item 1 must be 1 to 65534, or a list of two such, \
 low and high
-allow = true | allow = true~destination = [\"1\"]: Kind, rule 3: destination: item 1 must be a number, or a list of two such, low and high
+allow = true | allow = true~destination = [\"1\"]: Kind, rule 3: destination: item 1 must be a number, or a list of two such, \
+low and high
 allow = true | allow = true~destination = [65535]: Range, rule 3: destination: item 1 must be 1 to 65534, or a list of two such, low \
 and high
 allow = true | allow = true~service = [\"1\"]: Kind, rule 3: service: item 1 must be a number, or a list of two such, low and high
