@@ -1,6 +1,7 @@
 -- The worked examples, computed.
 use Rattle.std.specs.Prelude.{⊤}
 use Rattle.std.proofs.Common.{refl}
+use Rattle.gw_rules.specs.Hides.{hides}
 use Rattle.gw_rules.specs.Rule.{matches}
 use Rattle.gw_rules.specs.RuleList.{first, allows}
 use Rattle.gw_objects.specs.Table.{read_of}
@@ -17,7 +18,7 @@ use Rattle.gw_core.specs.Effects.{change_at, move_at, sends, effects_at, passes_
 use Rattle.gw_core.specs.History.{acts_of, run_after, written}
 use Rattle.gw_core.specs.Receive.{npdu_of, receive_on, receive}
 use Rattle.gw_core.specs.Reply.{reply_sends}
-use Rattle.gw_core.specs.Examples.{ReadIsAnswered, HiddenReadIsDenied, LocalReadIsUnheard, HiddenObjectIsUntold, UnknownObjectIsTold, EachCutIsDropped, WrongLengthsAreDropped, RoutedReadIsAnswered, CountsEnd, DenialsAreCountedOn, WriteIsSeen, RelinquishIsSeen, DeniedWriteIsUnseen, AllArePlaced, WhoIsIsAnswered, RegistrationEnds, BroadcastIsDistributed, LearnedRouteIsTaken, UnknownNetworkIsSought, GlobalWhoIsGoesOn}
+use Rattle.gw_core.specs.Examples.{ReadIsAnswered, HiddenReadIsDenied, LocalReadIsUnheard, HiddenObjectIsUntold, UnknownObjectIsTold, EachCutIsDropped, WrongLengthsAreDropped, RoutedReadIsAnswered, CountsEnd, DenialsAreCountedOn, WriteIsSeen, RelinquishIsSeen, DeniedWriteIsUnseen, AllArePlaced, WhoIsIsAnswered, RegistrationEnds, BroadcastIsDistributed, LearnedRouteIsTaken, UnknownNetworkIsSought, GlobalWhoIsGoesOn, HiddenWriteIsUnseen, HidingIsSeen}
 
 -- all that a frame runs through
 unfoldable frames : ⊤
@@ -118,3 +119,11 @@ unknown_network_is_sought = refl
 pub global_who_is_goes_on : GlobalWhoIsGoesOn
 unfolding frames reads passes steps
 global_who_is_goes_on = refl
+
+pub hidden_write_is_unseen : HiddenWriteIsUnseen
+unfolding frames reads passes steps
+hidden_write_is_unseen = ((refl, tt), refl, refl)
+
+pub hiding_is_seen : HidingIsSeen
+unfolding hides
+hiding_is_seen = (refl, refl, refl, refl)

@@ -11,3 +11,6 @@ pub mod ReplayLemmas
 pub mod CallLemmas
 pub mod RespondLemmas
 pub mod TrafficLemmas
+pub mod QuietLemmas
+pub mod WriteLemmas
+pub mod BlindLemmas

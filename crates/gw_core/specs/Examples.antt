@@ -1,14 +1,18 @@
 -- Worked examples of the built-in configuration, frame by frame: what a reader can hold against the standard. Frames are written in
 -- hexadecimal. In each, a station at 192.168.1.5 on port 1 sends a datagram to a fresh gateway.
-use Rattle.std.specs.Prelude.{◌≡◌, ℕ, zero, suc, ◌+◌, ◌-◌, ◌*◌, ◌^◌, true, false, List, [], ◌∷◌, ◌++◌, take, map, replicate, codes, Some, None, nat_lt, if◌then◌else◌}
+use Rattle.std.specs.Prelude.{◌≡◌, Bool, ℕ, zero, suc, ◌+◌, ◌-◌, ◌*◌, ◌^◌, true, false, List, [], ◌∷◌, ◌++◌, take, map, replicate, codes, Some, None, nat_lt, if◌then◌else◌}
 use Rattle.gw_addr.specs.declared.bip.BipAddr.{BipAddr}
 use Rattle.gw_rules.specs.Ask.{Ask}
+use Rattle.gw_rules.specs.Hides.{hides, reading}
+use Rattle.gw_rules.specs.declared.rule.Rule.{Rule}
 use Rattle.gw_core.specs.declared.effects.Effects.{Effects}
 use Rattle.gw_script.specs.Event.{Event, Datagram, Tick}
 use Rattle.gw_core.specs.State.{State}
 use Rattle.gw_core.specs.Effects.{nothing, passes_end}
 use Rattle.gw_core.specs.History.{effects, run, state_after}
-use Rattle.gw_rules.specs.declared.field.FieldName.TheVariants.{Operation}
+use Rattle.gw_tags.specs.Object.{Object}
+use Rattle.gw_core.specs.NoLeak.{IsWriteOf, LeavesOut, kept}
+use Rattle.gw_rules.specs.declared.field.FieldName.TheVariants.{Instance, ObjectType, Operation, SourceKey, SourceNetwork}
 use Rattle.gw_rules.specs.Rule.{rule_without_fields, with_range}
 use Rattle.gw_policy_text.specs.Configuration.{Configuration}
 use Rattle.gw_relay.specs.Sends.{Sending}
@@ -281,3 +285,55 @@ GlobalWhoIsGoesOn =
     after_all [] (sent (hex (codes "810B000C0120FFFF00FF1008")))
     ≡ sends_all (sends_to 2 (node 2 255) (hex (codes "810B00150128FFFF00000106C0A80105BAC0FE1008"))
     ∷ sends_to 1 (node 1 255) (hex (codes "810B00190108006401011000C4020004D22205C491032203E7")) ∷ [])
+
+-- ---- what others don't learn of a write
+
+-- the built-in configuration, where a first rule denies the station all reads of Multi-state Value 1
+abbrev pub blinded : Configuration
+blinded = record setting {
+  rules = with_range Instance (only 1) (with_range ObjectType (only 19) (with_range SourceKey (only 0xC0A80105BAC0)
+      (with_range SourceNetwork (only 1) (with_range Operation (only 9) (rule_without_fields (codes "blind") false)))))
+      ∷ setting.rules;
+}
+
+abbrev pub multi_state : Object
+multi_state = record { kind = 19; instance = 1 }
+
+-- another station writes Multi-state Value 1, then this one reads it, and Binary Value 1
+abbrev pub acknowledged_to_6 : Effects
+acknowledged_to_6 = record {
+  sends = record { port = 1; to = node 1 6; octets = hex (codes "810A000D010800640101200A0F") } ∷ [];
+  denials = [];
+}
+
+abbrev pub write_unseen : List Event
+write_unseen =
+    Datagram 1 (node 1 6) (hex (codes "810A001C012400640101FF00050A0F0C04C0000119553E21033F4908"))
+    ∷ read_state ∷ sent read_frame ∷ []
+
+-- what a read of Multi-state Value 1 is then: denied, and logged
+abbrev pub blind_read : Effects
+blind_read = denies 1 0 (record (asks_for 1) { object_type = Some 19 }) (codes "blind") (hex (codes "810A0011010800640101500B0C9102911B"))
+
+abbrev pub other_read : Effects
+other_read = answers (hex (codes "810A001801080064010130070C0C0140000119553E91003F"))
+
+-- The write is one that may be left out; with it and without it both reads do the same: the one is denied, the other
+-- answered.
+abbrev pub HiddenWriteIsUnseen : Type 0
+HiddenWriteIsUnseen =
+    LeavesOut (IsWriteOf multi_state) blinded (record { ticks = 0; denials = 0 }) [] (true ∷ []) write_unseen
+    × (run blinded (record { ticks = 0; denials = 0 }) (kept (true ∷ []) write_unseen) ≡ blind_read ∷ other_read ∷ [])
+    × (run blinded (record { ticks = 0; denials = 0 }) write_unseen ≡ acknowledged_to_6 ∷ blind_read ∷ other_read ∷ [])
+
+-- whether a rule list hides an object of that type and instance from the station, and from one without a key
+abbrev pub hides_both : List Rule → ℕ → ℕ → Bool × Bool
+hides_both rules kind instance =
+    (hides rules (reading 1 (Some 0xC0A80105BAC0) kind instance), hides rules (reading 1 None kind instance))
+
+-- A rule for all sources hides from both, and one that names a source not from who has no key. A denial that names a
+-- property hides nothing. No rules hide all.
+abbrev pub HidingIsSeen : Type 0
+HidingIsSeen =
+    (hides_both setting.rules 5 2 ≡ (true, true)) × (hides_both setting.rules 5 1 ≡ (false, false))
+    × (hides_both blinded.rules 19 1 ≡ (true, false)) × (hides_both [] 19 1 ≡ (true, true))

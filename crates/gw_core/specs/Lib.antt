@@ -17,3 +17,4 @@ pub mod LineOutcome
 pub mod Wire
 pub mod Serve
 pub mod ServeTurn
+pub mod NoLeak

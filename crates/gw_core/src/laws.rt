@@ -1,6 +1,7 @@
 //! Laws of the definitions, and worked examples of them. The functions do nothing: their contracts are the laws.
 
-ghost use Rattle.gw_core.specs.Examples.{AllArePlaced, BroadcastIsDistributed, CountsEnd, DeniedWriteIsUnseen, DenialsAreCountedOn, EachCutIsDropped, GlobalWhoIsGoesOn, HiddenObjectIsUntold, HiddenReadIsDenied, LearnedRouteIsTaken, LocalReadIsUnheard, ReadIsAnswered, RegistrationEnds, RelinquishIsSeen, RoutedReadIsAnswered, UnknownNetworkIsSought, UnknownObjectIsTold, WhoIsIsAnswered, WriteIsSeen, WrongLengthsAreDropped};
+ghost use Rattle.gw_core.specs.Examples.{AllArePlaced, BroadcastIsDistributed, CountsEnd, DeniedWriteIsUnseen, DenialsAreCountedOn, EachCutIsDropped, GlobalWhoIsGoesOn, HiddenObjectIsUntold, HiddenReadIsDenied, HiddenWriteIsUnseen, HidingIsSeen, LearnedRouteIsTaken, LocalReadIsUnheard, ReadIsAnswered, RegistrationEnds, RelinquishIsSeen, RoutedReadIsAnswered, UnknownNetworkIsSought, UnknownObjectIsTold, WhoIsIsAnswered, WriteIsSeen, WrongLengthsAreDropped};
+ghost use Rattle.gw_core.specs.NoLeak.{QuietIsUnseen, WritesAreHidden, WritesAreUnread};
 ghost use Rattle.gw_core.specs.Laws.{AllowedTrafficIsSent, ConfigurationStays, DeniedAsksAreLogged, DeniedBroadcastsAreKept, DeniedReadsAreRefused, DeniedWritesAreRefused, DenialsAreCounted, DenialsHaveTheirTick, DroppedNeedsNoMemory, LogIsNumbered, NothingAskedIsChanged, NothingAskedIsLogged, NothingAskedIsWritten, RelayTicksAreCounted, RunsExtendHistories, StepsExtendHistories, TicksAreCounted, TicksOnlyCount};
 
 /// What holds after every history: each step extends it, and so does each list of events; and what is
@@ -58,4 +59,16 @@ pub fn worked_examples()
     ensures learned_route_is_taken { LearnedRouteIsTaken }
     ensures unknown_network_is_sought { UnknownNetworkIsSought }
     ensures global_who_is_goes_on { GlobalWhoIsGoesOn }
+    ensures hidden_write_is_unseen { HiddenWriteIsUnseen }
+    ensures hiding_is_seen { HidingIsSeen }
+{}
+
+/// What peers don't learn of one another. A write of an object that the policy hides from a source leaves nothing for
+/// that source to see, and nothing in any event that reads the object by no allowed ask. And a
+/// datagram that is allowed no change leaves nothing at all. What is seen of an event are its sends, and its denials but
+/// for their numbers.
+pub fn no_leak()
+    ensures hidden { WritesAreHidden }
+    ensures unread { WritesAreUnread }
+    ensures quiet { QuietIsUnseen }
 {}

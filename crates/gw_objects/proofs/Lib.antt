@@ -2,3 +2,4 @@ pub mod Elements
 pub mod Deciding
 pub mod Histories
 pub mod Places
+pub mod Others

@@ -7,3 +7,4 @@ pub mod Table
 pub mod Write
 pub mod History
 pub mod internal
+pub mod Laws

@@ -8,6 +8,7 @@ mod copying;
 mod database;
 mod fault;
 mod index;
+pub mod laws;
 mod property;
 mod table;
 mod value;

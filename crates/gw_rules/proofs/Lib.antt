@@ -2,6 +2,7 @@ pub mod Denials
 pub mod EachField
 pub mod Equality
 pub mod First
+pub mod Hiding
 pub mod Limits
 pub mod Matching
 pub mod Numbers

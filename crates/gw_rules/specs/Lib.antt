@@ -2,6 +2,7 @@ pub mod Ask
 pub mod Authorizer
 pub mod Field
 pub mod Fields
+pub mod Hides
 pub mod Operation
 pub mod Range
 pub mod Rule

@@ -1,5 +1,6 @@
 //! A rule: the ranges by which it picks asks, and what it says of those that it matches.
 ghost use Rattle.std.specs.Prelude.{◌≡◌, [], ◌∷◌, ◌++◌, IfOk, IsOkUnless, OnOk};
+ghost use Rattle.gw_rules.specs.Hides.{may_match, names_no_other, settles};
 ghost use Rattle.gw_rules.specs.Fields.{in_each, value_of, with_value};
 ghost use Rattle.gw_rules.specs.Rule.{has_few_ranges, has_ordered_ranges, matches, ranges_of, rule_without_fields, with_range};
 
@@ -85,6 +86,38 @@ impl Rule {
             && admit(ranges.instance.as_slice(), ask.instance)
             && admit(ranges.property.as_slice(), ask.property)
             && admit(ranges.priority.as_slice(), ask.priority)
+    }
+
+    /// Whether the rule may match an ask that has these five fields, whatever else that says: each of
+    /// them that the rule names holds what is there.
+    pub(crate) fn may_match(&self, ask: &Ask) -> bool
+        ensures { result ≡ may_match ask.now self.now }
+    {
+        let ranges = &self.ranges;
+        admit(ranges.operation.as_slice(), ask.operation)
+            && admit(ranges.source_network.as_slice(), ask.source_network)
+            && admit(self.ranges.source_key.as_slice(), ask.source_key)
+            && admit(ranges.object_type.as_slice(), ask.object_type)
+            && admit(ranges.instance.as_slice(), ask.instance)
+    }
+
+    /// Whether the rule names none of the other five fields.
+    pub(crate) fn names_no_other(&self) -> bool
+        ensures { result ≡ names_no_other self.now }
+    {
+        let ranges = &self.ranges;
+        ranges.port.as_slice().is_empty()
+            && ranges.destination_network.as_slice().is_empty()
+            && ranges.service.as_slice().is_empty()
+            && ranges.property.as_slice().is_empty()
+            && ranges.priority.as_slice().is_empty()
+    }
+
+    /// Whether the rule settles what such asks come to: it allows and may match, or it denies and must.
+    pub(crate) fn settles(&self, ask: &Ask) -> bool
+        ensures { result ≡ settles ask.now self.now }
+    {
+        self.may_match(ask) && (self.allow || self.names_no_other())
     }
 
     /// Whether the rule has at most four ranges for each field.

@@ -1,10 +1,11 @@
 //! A policy: rules in order, of which the first that matches an ask decides.
-ghost use Rattle.std.specs.Prelude.{◌≡◌, ◌<◌, ◌↔◌, ◌&&◌, IsTrue, IsFalse, IsOk, IfOk, IfSome, IsErrOf, [], false, length, position};
+ghost use Rattle.std.specs.Prelude.{◌≡◌, ◌<◌, ◌↔◌, ◌&&◌, IsTrue, true, find, option_copied, IsFalse, IsOk, IfOk, IfSome, IsErrOf, [], false, length, position};
 ghost use Rattle.std.specs.List.{list_all};
+ghost use Rattle.gw_rules.specs.Hides.{Hides, IsHidden, hides, may_match, reading, settles};
 ghost use Rattle.gw_rules.specs.Rule.{has_few_ranges, matches};
 ghost use Rattle.gw_rules.specs.RuleList.{IsNumberOf, KeepsCounts, KeepsOrder, allows, decide, first, keeps_counts, keeps_order};
 
-use crate::{Ask, Decision, Rule, RuleFault};
+use crate::{Ask, Decision, Operation, Rule, RuleFault};
 use std::marker::Model;
 
 /// How many rules a [`RuleList`] may have.
@@ -95,6 +96,42 @@ impl RuleList {
             by => Decision::Deny { by },
         }
     }
+
+    /// Whether no source of this network and key may read any property of this object, as far as the
+    /// rules' fields of operation, source and object tell: each allow rule that may match there
+    /// stands behind a deny rule that must match there. No key is one that a rule with source keys
+    /// doesn't match. A false says nothing.
+    pub fn hides(&self, net: u64, key: Option<u64>, kind: u64, instance: u64) -> bool
+        ensures hides { IsTrue result ↔ Hides self.now (reading net key kind instance) }
+        ensures hidden { result ≡ true → IsHidden self.now net key kind instance }
+    {
+        let ask = Ask {
+            source_network: Some(net),
+            source_key: key,
+            object_type: Some(kind),
+            instance: Some(instance),
+            ..Ask::new(Operation::Read)
+        };
+        self.hides_from(&ask)
+    }
+
+    /// Whether the first rule that settles what such asks come to denies, or no rule does.
+    #[tactic(auto, unfolding(crate::specs::Hides::hides))]
+    fn hides_from(&self, ask: &Ask) -> bool
+        ensures { result ≡ hides self.now ask.now }
+    {
+        match first_settling(&self.rules, ask) {
+            Some(rule) => !rule.allow,
+            None => true,
+        }
+    }
+}
+
+/// The first rule that settles what such asks come to, if there is one.
+fn first_settling<'a>(rules: &'a [Rule], ask: &Ask) -> Option<&'a Rule>
+    ensures { option_copied result ≡ find (settles ask.now) rules.now }
+{
+    rules.iter().find(|rule| rule.settles(ask))
 }
 
 fn place_of(rules: &[Rule], ask: &Ask) -> Option<usize>

@@ -1,4 +1,4 @@
-use Rattle.gw_core.proofs.ExampleRuns.{read_is_answered, hidden_read_is_denied, local_read_is_unheard, hidden_object_is_untold, unknown_object_is_told, each_cut_is_dropped, wrong_lengths_are_dropped, routed_read_is_answered, counts_end, denials_are_counted_on, write_is_seen, relinquish_is_seen, denied_write_is_unseen, all_are_placed, who_is_is_answered, registration_ends, broadcast_is_distributed, learned_route_is_taken, unknown_network_is_sought, global_who_is_goes_on}
+use Rattle.gw_core.proofs.ExampleRuns.{read_is_answered, hidden_read_is_denied, local_read_is_unheard, hidden_object_is_untold, unknown_object_is_told, each_cut_is_dropped, wrong_lengths_are_dropped, routed_read_is_answered, counts_end, denials_are_counted_on, write_is_seen, relinquish_is_seen, denied_write_is_unseen, all_are_placed, who_is_is_answered, registration_ends, broadcast_is_distributed, learned_route_is_taken, unknown_network_is_sought, global_who_is_goes_on, hidden_write_is_unseen, hiding_is_seen}
 use Rattle.gw_core.proofs.laws.worked_examples.Goals as goal
 
 pub returns-clause-read_is_answered : goal.returns-clause-read_is_answered
@@ -61,3 +61,9 @@ returns-clause-unknown_network_is_sought c = unknown_network_is_sought
 
 pub returns-clause-global_who_is_goes_on : goal.returns-clause-global_who_is_goes_on
 returns-clause-global_who_is_goes_on c = global_who_is_goes_on
+
+pub returns-clause-hidden_write_is_unseen : goal.returns-clause-hidden_write_is_unseen
+returns-clause-hidden_write_is_unseen c = hidden_write_is_unseen
+
+pub returns-clause-hiding_is_seen : goal.returns-clause-hiding_is_seen
+returns-clause-hiding_is_seen c = hiding_is_seen

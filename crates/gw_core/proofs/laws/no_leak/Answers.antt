@@ -1,0 +1,13 @@
+use Rattle.gw_core.proofs.QuietLemmas.{quiet_is_unseen}
+use Rattle.gw_core.proofs.WriteLemmas.{writes_are_unread}
+use Rattle.gw_core.proofs.BlindLemmas.{writes_are_hidden}
+use Rattle.gw_core.proofs.laws.no_leak.Goals as goal
+
+pub returns-clause-hidden : goal.returns-clause-hidden
+returns-clause-hidden c = writes_are_hidden
+
+pub returns-clause-unread : goal.returns-clause-unread
+returns-clause-unread c = writes_are_unread
+
+pub returns-clause-quiet : goal.returns-clause-quiet
+returns-clause-quiet c = quiet_is_unseen

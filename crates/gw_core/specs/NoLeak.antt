@@ -1,0 +1,166 @@
+-- What an event leaves to be seen of those before it: two lists of events, of which the second leaves some out.
+use Rattle.std.specs.Prelude.{◌≡◌, ℕ, Bool, true, false, List, [], ◌∷◌, map, take, Option, Some, None, IfSome, slice_get, ◌==◌, if◌then◌else◌}
+use Rattle.std.specs.List.{Contains}
+use Rattle.std.specs.Option.{option_map, option_and_then}
+use Rattle.gw_addr.specs.declared.station.Source.{Source}
+use Rattle.gw_addr.specs.Station.{key_of}
+use Rattle.gw_apdu.specs.declared.fault.ApduFault.{ApduFault}
+use Rattle.gw_apdu.specs.declared.header.Header.{Header}
+use Rattle.gw_apdu.specs.declared.header.Header.TheVariants as header
+use Rattle.gw_apdu.specs.Apdu.{Fields as Apdu}
+use Rattle.gw_apdu.specs.Reading.{apdu_at}
+use Rattle.gw_audit.specs.declared.denial.Denial.{Denial}
+use Rattle.gw_device.specs.Laws.{NoReadAllowed}
+use Rattle.gw_device.specs.Services.{write_property}
+use Rattle.gw_objects.specs.Objects.{Database}
+use Rattle.gw_policy_text.specs.Configuration.{Configuration}
+use Rattle.gw_relay.specs.Claim.{here}
+use Rattle.gw_rules.specs.Ask.{Ask}
+use Rattle.gw_rules.specs.declared.operation.Operation.{Operation}
+use Rattle.gw_rules.specs.declared.operation.Operation.TheVariants.{Register, Delete, WriteTable, Learn, Write as Writing}
+use Rattle.gw_rules.specs.declared.rule.Rule.{Rule}
+use Rattle.gw_rules.specs.Hides.{IsHidden}
+use Rattle.gw_rules.specs.Operation.{operation_number}
+use Rattle.gw_rules.specs.RuleList.{allows}
+use Rattle.gw_script.specs.Event.{Event, Datagram, Tick}
+use Rattle.gw_services.specs.declared.fault.BodyFault.{BodyFault}
+use Rattle.gw_services.specs.Write.{Write, write_at}
+use Rattle.std.specs.Prelude.{Result, Ok, Err}
+use Rattle.gw_tags.specs.Object.{Object}
+use Rattle.gw_core.specs.declared.effects.Effects.{Effects}
+use Rattle.gw_core.specs.declared.event.Counts.{Counts}
+use Rattle.gw_core.specs.Asks.{asks}
+use Rattle.gw_core.specs.History.{history_after, run, state_after}
+use Rattle.gw_core.specs.Receive.{Received, dropped, managed, stranger, message, receive}
+use Rattle.gw_core.specs.Reply.{apdu_for}
+use Rattle.gw_core.specs.State.{State, device_network}
+
+-- ---- two lists
+
+-- The items of a list but those that are marked. One without a mark stays.
+abbrev pub kept : {A : Type 0} → List Bool → List A → List A
+kept marks [] = []
+kept [] (x ∷ xs) = x ∷ kept [] xs
+kept (true ∷ marks) (x ∷ xs) = kept marks xs
+kept (false ∷ marks) (x ∷ xs) = x ∷ kept marks xs
+
+-- Each event of a list that is marked is such a one, after the events before it in that list.
+abbrev pub LeavesOut : (State → Event → Type 0) → Configuration → Counts → List Event → List Bool → List Event → Type 0
+LeavesOut Such c k h marks [] = Unit {0}
+LeavesOut Such c k h [] (e ∷ l) = Unit {0}
+LeavesOut Such c k h (true ∷ marks) (e ∷ l) =
+    Such (state_after c k h) e × LeavesOut Such c k (e ∷ h) marks l
+LeavesOut Such c k h (false ∷ marks) (e ∷ l) = LeavesOut Such c k (e ∷ h) marks l
+
+-- ---- what is seen of an event
+
+-- a denial but for its number
+abbrev pub unnumbered : Denial → Denial
+unnumbered d = record d { number = 0 }
+
+-- what an event does, but for the numbers of its denials
+abbrev pub seen : Effects → Effects
+seen x = record x { denials = map unnumbered x.denials }
+
+-- the state of a gateway before the event at a place of a list
+abbrev pub state_before : Configuration → Counts → List Event → ℕ → State
+state_before c k l place = state_after c k (history_after [] (take place l))
+
+-- The event at a place of the shorter list is seen to do what it does in the longer one.
+abbrev pub SeenAlike : Configuration → Counts → List Bool → List Event → ℕ → Type 0
+SeenAlike c k marks l place =
+    option_map seen (slice_get (run c k (kept marks l)) place)
+    ≡ option_map seen (slice_get (kept marks (run c k l)) place)
+
+-- ---- what is left out: writes of an object
+
+-- the object that a WriteProperty names, whose body can be read
+abbrev pub object_written : Result Write BodyFault → Option Object
+object_written (Ok write) = Some write.object
+object_written (Err fault) = None
+
+abbrev pub header_writes : Header → List ℕ → Option Object
+header_writes (header.ConfirmedRequest request) body =
+    if request.service == write_property then object_written (write_at body) else None
+header_writes _ body = None
+
+abbrev pub apdu_writes : Result Apdu ApduFault → Option Object
+apdu_writes (Ok apdu) = header_writes apdu.header apdu.rest
+apdu_writes (Err fault) = None
+
+-- the object of a WriteProperty that the device takes
+abbrev pub object_of : Database → Received → Option Object
+object_of d dropped = None
+object_of d (managed on from frame) = None
+object_of d (stranger m) = None
+object_of d (message m) =
+    option_and_then (λ octets. apdu_writes (apdu_at octets)) (apdu_for (device_network d) m.npdu)
+
+-- an event is a WriteProperty of the object that the device takes
+abbrev pub IsWriteOf : Object → State → Event → Type 0
+IsWriteOf o w e = object_of w.device (receive w e) ≡ Some o
+
+-- ---- what is left out: datagrams that may change nothing
+
+-- the operations that change something
+abbrev pub changes : Operation → Bool
+changes Register = true
+changes Delete = true
+changes WriteTable = true
+changes Learn = true
+changes Writing = true
+changes _ = false
+
+-- none of these asks is both for such an operation and allowed
+abbrev pub NoChangeAllowed : List Rule → List Ask → Type 0
+NoChangeAllowed rules [] = Unit {0}
+NoChangeAllowed rules (ask ∷ asks) =
+    ((operation : Operation) → changes operation ≡ true → ask.operation ≡ Some (operation_number operation) →
+    allows rules ask ≡ false) × NoChangeAllowed rules asks
+
+-- a datagram of whose asks none that would change something is allowed
+abbrev pub IsQuiet : State → Event → Type 0
+IsQuiet w Tick = ⊥
+IsQuiet w (Datagram port from octets) = NoChangeAllowed w.rules (asks w (Datagram port from octets))
+
+-- ---- who sees
+
+-- No ask of one of these sources to read the object is allowed, whatever else it says.
+abbrev pub AreBlind : List Rule → List Source → Object → Type 0
+AreBlind rules sources o =
+    (source : Source) → Contains sources source →
+    IsHidden rules source.net (key_of source.mac) o.kind o.instance
+
+-- whom an event claims to come from, where it isn't dropped (clause 6.2.2)
+abbrev pub claim : Received → Option Source
+claim dropped = None
+claim (managed on from frame) = Some (here on.port.network from)
+claim (stranger m) = Some m.claim
+claim (message m) = Some m.claim
+
+-- ---- the laws
+
+-- Where all that is left out are writes of an object, an event is seen to do the same if it claims to come from one of
+-- those that may not read the object, whatever it asks.
+abbrev pub WritesAreHidden : Type 0
+WritesAreHidden =
+    (c : Configuration) (k : Counts) (sources : List Source) (o : Object) (marks : List Bool) (l : List Event) →
+    AreBlind c.rules sources o → LeavesOut (IsWriteOf o) c k [] marks l →
+    (place : ℕ) (e : Event) → slice_get (kept marks l) place ≡ Some e →
+    IfSome (claim (receive (state_before c k (kept marks l) place) e)) (Contains sources) →
+    SeenAlike c k marks l place
+
+-- And so is each event, whoever claims it, that raises no ask to read the object that is allowed.
+abbrev pub WritesAreUnread : Type 0
+WritesAreUnread =
+    (c : Configuration) (k : Counts) (o : Object) (marks : List Bool) (l : List Event) →
+    LeavesOut (IsWriteOf o) c k [] marks l →
+    (place : ℕ) (e : Event) → slice_get (kept marks l) place ≡ Some e →
+    NoReadAllowed c.rules o (asks (state_before c k (kept marks l) place) e) →
+    SeenAlike c k marks l place
+
+-- Where all that is left out are datagrams that may change nothing, every event is seen to do the same.
+abbrev pub QuietIsUnseen : Type 0
+QuietIsUnseen =
+    (c : Configuration) (k : Counts) (marks : List Bool) (l : List Event) → LeavesOut IsQuiet c k [] marks l →
+    map seen (run c k (kept marks l)) ≡ map seen (kept marks (run c k l))
