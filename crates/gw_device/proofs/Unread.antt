@@ -17,6 +17,7 @@ use Rattle.gw_objects.specs.declared.property.ObjectType.TheVariants as types
 use Rattle.gw_objects.specs.declared.property.Property.{Property}
 use Rattle.gw_objects.specs.declared.property.PropertySet.{PropertySet}
 use Rattle.gw_objects.specs.Contents.{octets_of}
+use Rattle.gw_objects.specs.Laws.{standing}
 use Rattle.gw_objects.specs.Objects.{Slots, device_id, same, type_at, type_of}
 use Rattle.gw_objects.specs.Property.{properties, property_number}
 use Rattle.gw_objects.specs.Table.{device_line, known_line, object_line, read_of}
@@ -26,6 +27,7 @@ use Rattle.gw_rules.specs.declared.service.Service.{Service}
 use Rattle.gw_rules.specs.declared.service.Service.TheVariants.{Confirmed}
 use Rattle.gw_rules.specs.Ask.{Ask}
 use Rattle.gw_rules.specs.RuleList.{allows}
+use Rattle.gw_rules.proofs.EachAsk.{none_front, none_rest}
 use Rattle.gw_services.specs.declared.fault.BodyFault.{BodyFault}
 use Rattle.gw_services.specs.Multi.{Reference, list_ends}
 use Rattle.gw_services.specs.MultiReading.{multi_at}
@@ -35,7 +37,7 @@ use Rattle.gw_device.specs.declared.context.Context.{Context}
 use Rattle.gw_device.specs.Asks.{named_object, property_ask}
 use Rattle.gw_device.specs.Device.{apdu_response, confirmed_response, device_asks, device_response, header_response, or_reject, service_response}
 use Rattle.gw_device.specs.Errors.{read_denied}
-use Rattle.gw_device.specs.Laws.{AsksToRead, DifferIn, NoReadAllowed, standing}
+use Rattle.gw_device.specs.Laws.{AsksToRead, DifferIn, NoReadAllowed}
 use Rattle.gw_device.specs.Multi.{Part, asked, enclosed, item, joined, members_part, multi_ack, multi_ask, multi_part, multi_response, named_part, properties_part, property_part, reference_part, set_part}
 use Rattle.gw_device.specs.Read.{named_read, or_error, plain_read_response, read_answer, read_ask, read_response, read_value}
 use Rattle.gw_device.specs.Response.{Response, fitted, to_client, unchanged}
@@ -70,14 +72,6 @@ value_same rules o c s t service context object p index differ denied =
     let ask = property_ask operation.Read service c context object p in
     value_by (allows rules ask) (read_of (standing c s) object p index) (read_of (standing c t) object p index)
     (λ allowed. read_other o c s t object p index differ (apart_where_allowed (allows rules ask) o object allowed (λ e. denied (asks_it o service c context object p e))))
-
-front_denied : (rules : List Rule) (o : Object) (xs ys : List Ask) → NoReadAllowed rules o (xs ++ ys) → NoReadAllowed rules o xs
-front_denied rules o [] ys h = tt
-front_denied rules o (x ∷ xs) ys h = (h.0, front_denied rules o xs ys h.1)
-
-rest_denied : (rules : List Rule) (o : Object) (xs ys : List Ask) → NoReadAllowed rules o (xs ++ ys) → NoReadAllowed rules o ys
-rest_denied rules o [] ys h = h
-rest_denied rules o (x ∷ xs) ys h = rest_denied rules o xs ys h.1
 
 -- ---- ReadPropertyMultiple
 
@@ -136,7 +130,7 @@ multi_same rules o c s t context [] differ h = refl
 multi_same rules o c s t context (r ∷ rs) differ h =
     let first = (reference_part rules (standing c s) context r (list_ends rs)).asks in
     let others = (multi_part rules (standing c s) context rs).asks in
-    both _ _ _ _ (reference_same rules o c s t context r (list_ends rs) differ (front_denied rules o first others h)) (multi_same rules o c s t context rs differ (rest_denied rules o first others h))
+    both _ _ _ _ (reference_same rules o c s t context r (list_ends rs) differ (none_front (AsksToRead o) rules first others h)) (multi_same rules o c s t context rs differ (none_rest (AsksToRead o) rules first others h))
 
 -- ---- whole responses
 

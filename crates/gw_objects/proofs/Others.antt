@@ -50,7 +50,8 @@ found_same c s t None h = refl
 found_same c s t (Some i) h =
     ap (λ (x : Option Slots). ok_or (slice_get c.objects i) reading.UnknownObject >>= λ object. ok_or x reading.UnknownObject >>= λ slots. Ok (object, slots)) (h i refl)
 
-differ : (o : Object) (c : Configured) (s t : List Slots) → AgreeBut o c s t → ((other : Object) → other ≢ o → object_at (standing c s) other ≡ object_at (standing c t) other)
+-- so another object is found alike
+pub differ : (o : Object) (c : Configured) (s t : List Slots) → AgreeBut o c s t → ((other : Object) → other ≢ o → object_at (standing c s) other ≡ object_at (standing c t) other)
 differ o c s t agree other apart =
     found_same c s t (place_of c other) (λ i at. agree i (λ is. apart (one_place c.objects other o i at is)))
 
@@ -79,7 +80,7 @@ written_here : (write : Write) (states : List Slots) → slice_get (after_write 
 written_here write states = put_here states write.place (acted write.act) (slice_get states write.place) refl
 
 -- both standings are written
-agree_written : (o : Object) (c : Configured) (s t : List Slots) (write : Write) → AgreeBut o c s t → AgreeBut o c (after_write write s) (after_write write t)
+pub agree_written : (o : Object) (c : Configured) (s t : List Slots) (write : Write) → AgreeBut o c s t → AgreeBut o c (after_write write s) (after_write write t)
 agree_written o c s t write agree i apart = by (cases_eq i write.place)
   where
     by : (i ≡ write.place) ⊎ (i ≢ write.place) → slice_get (after_write write s) i ≡ slice_get (after_write write t) i
@@ -91,7 +92,7 @@ agree_written o c s t write agree i apart = by (cases_eq i write.place)
     by (inr ne) = put_other s write.place i _ ne ∙ agree i apart ∙ sym (put_other t write.place i _ ne)
 
 -- one of them is, at the object
-agree_put : (o : Object) (c : Configured) (s t : List Slots) (write : Write) → place_of c o ≡ Some write.place → AgreeBut o c s t
+pub agree_put : (o : Object) (c : Configured) (s t : List Slots) (write : Write) → place_of c o ≡ Some write.place → AgreeBut o c s t
     → AgreeBut o c (after_write write s) t
 agree_put o c s t write at agree i apart =
     put_other s write.place i _ (λ is. apart (at ∙ ap (λ (j : ℕ). Some j) (sym is))) ∙ agree i apart
@@ -124,7 +125,7 @@ at_place c (Some place) number index priority octets write e =
     ap (λ (i : ℕ). Some i) (object_at_place place (slice_get c.objects place) number index priority octets write e)
 
 -- a write that is made is made at the place of its object
-write_place : (c : Configured) (wanted : Object) (number : ℕ) (index : Option ℕ) (priority : ℕ) (octets : List ℕ) (write : Write)
+pub write_place : (c : Configured) (wanted : Object) (number : ℕ) (index : Option ℕ) (priority : ℕ) (octets : List ℕ) (write : Write)
     → write_of c wanted number index priority octets ≡ Ok write → place_of c wanted ≡ Some write.place
 unfolding write_of
 write_place c wanted number index priority octets write e = by (same wanted (device_id c.device)) e

@@ -22,7 +22,13 @@ OthersReadAlike =
     (other : Object) (number : ℕ) (index : Option ℕ) → other ≢ o →
     read_of (standing c s) other number index ≡ read_of (standing c t) other number index
 
--- A write leaves the slots and the default of every object but its own.
+-- A write is made at the place of the object that it names.
+abbrev pub WritesAreInPlace : Type 0
+WritesAreInPlace =
+    (c : Configured) (o : Object) (number : ℕ) (index : Option ℕ) (priority : ℕ) (octets : List ℕ) (write : Write) →
+    write_of c o number index priority octets ≡ Ok write → place_of c o ≡ Some write.place
+
+-- It leaves the slots and the default of every object but its own.
 abbrev pub WritesLeaveOthers : Type 0
 WritesLeaveOthers =
     (c : Configured) (o : Object) (number : ℕ) (index : Option ℕ) (priority : ℕ) (octets : List ℕ) (write : Write) →

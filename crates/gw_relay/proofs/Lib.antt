@@ -9,3 +9,4 @@ pub mod Left
 pub mod Peers
 pub mod Learning
 pub mod Going
+pub mod Claims

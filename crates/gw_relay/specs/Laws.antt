@@ -1,16 +1,30 @@
 -- What the definitions come to, in plain words.
-use Rattle.std.specs.Prelude.{◌≡◌, ℕ, false, List, map}
-use Rattle.std.specs.List.{list_any}
+use Rattle.std.specs.Prelude.{◌≡◌, ℕ, false, List, map, None}
+use Rattle.std.specs.List.{AllByRecursion, list_any}
+use Rattle.std.specs.Option.{option_map}
 use Rattle.gw_addr.specs.declared.bip.BipAddr.{BipAddr}
 use Rattle.gw_addr.specs.declared.entry.BdtEntry.{BdtEntry}
+use Rattle.gw_addr.specs.declared.station.Source.{Source}
 use Rattle.gw_addr.specs.Entry.{IsBdtEntry}
+use Rattle.gw_addr.specs.Station.{key_of}
 use Rattle.gw_bdt_fdt.specs.Peers.{all_ones, is_of, peers}
 use Rattle.gw_bdt_fdt.specs.Registrations.{same}
+use Rattle.gw_bvll.specs.Bvll.{Message as Frame}
+use Rattle.gw_npdu.specs.Npdu.{Fields}
 use Rattle.gw_policy_text.specs.declared.port.Port.{Port as ConfiguredPort}
-use Rattle.gw_relay.specs.Cast.{devices_but, directed}
+use Rattle.gw_rules.specs.declared.operation.Operation.TheVariants.{Learn}
+use Rattle.gw_rules.specs.declared.rule.Rule.{Rule}
+use Rattle.gw_rules.specs.Allowed.{NoChangeAllowed, NoneAllowed}
+use Rattle.gw_rules.specs.Ask.{Ask, IsFor, IsFrom}
+use Rattle.gw_relay.specs.Asks.{link_asks}
+use Rattle.gw_relay.specs.Cast.{cast_asks, devices_but, directed}
+use Rattle.gw_relay.specs.Claim.{claimed, link_source}
 use Rattle.gw_relay.specs.History.{Acts, acts_after, acts_later, initial_acts, ports_from, StandAfter}
 use Rattle.gw_relay.specs.Initial.{links_from}
-use Rattle.gw_relay.specs.State.{link_later, links_after}
+use Rattle.gw_relay.specs.Link.{link_change}
+use Rattle.gw_relay.specs.Manage.{manage_asks, manage_change}
+use Rattle.gw_relay.specs.Route.{route_asks}
+use Rattle.gw_relay.specs.State.{Commit, Relay, link_later, links_after, moved}
 use Rattle.gw_relay.specs.declared.change.Change.{Change}
 use Rattle.gw_relay.specs.declared.port.Link.{Link}
 use Rattle.gw_relay.specs.declared.port.Port.{Port}
@@ -42,3 +56,40 @@ AllOnesReachTheManager = (entry : BdtEntry) → IsBdtEntry entry → entry.mask 
 -- The own entry is not among the peers.
 abbrev pub OwnEntryIsLeftOut : Type 0
 OwnEntryIsLeftOut = (own : BipAddr) (entries : List BdtEntry) → list_any (is_of own) (peers own entries) ≡ false
+
+-- ---- what may change
+
+-- No table of a port changes where no ask of the frame that would change one is allowed.
+abbrev pub TablesAreKept : Type 0
+TablesAreKept =
+    (rules : List Rule) (on : Link) (from : BipAddr) (frame : Frame) →
+    NoChangeAllowed rules (link_asks on.port from frame) → link_change rules on from frame ≡ None
+
+-- Nothing is learned where no ask of the message to learn is allowed.
+abbrev pub RoutesAreKept : Type 0
+RoutesAreKept =
+    (rules : List Rule) (relay : Relay) (here : Link) (from : BipAddr) (npdu : Fields) →
+    NoneAllowed (IsFor Learn) rules (manage_asks relay.links relay.routes here from npdu) →
+    moved (option_map Commit (manage_change rules here from npdu)) relay ≡ relay
+
+-- ---- whose asks
+
+-- each ask is of this source
+abbrev pub AreFrom : Source → List Ask → Type 0
+AreFrom source asks = AllByRecursion (IsFrom source.net (key_of source.mac)) asks
+
+-- Every ask of a broadcast, of routing and of a network layer message is of the source that the message claims.
+abbrev pub BroadcastsCarryTheirClaim : Type 0
+BroadcastsCarryTheirClaim =
+    (here : Link) (from : BipAddr) (frame : Frame) (npdu : Fields) →
+    AreFrom (claimed here.port.network (link_source from frame) npdu) (cast_asks here from frame npdu)
+
+abbrev pub RoutingCarriesTheClaim : Type 0
+RoutingCarriesTheClaim =
+    (relay : Relay) (here : Link) (link : BipAddr) (npdu : Fields) →
+    AreFrom (claimed here.port.network link npdu) (route_asks relay.links relay.routes here link npdu)
+
+abbrev pub NetworkMessagesCarryTheirClaim : Type 0
+NetworkMessagesCarryTheirClaim =
+    (relay : Relay) (here : Link) (link : BipAddr) (npdu : Fields) →
+    AreFrom (claimed here.port.network link npdu) (manage_asks relay.links relay.routes here link npdu)

@@ -1,4 +1,5 @@
 pub mod Denials
+pub mod EachAsk
 pub mod EachField
 pub mod Equality
 pub mod First

@@ -1,6 +1,6 @@
--- Whether a policy hides an object from a source: no ask to read it is allowed there, whatever else
--- the ask says.
-use Rattle.std.specs.Prelude.{◌≡◌, ℕ, ◌<◌, ◌==◌, Bool, true, false, ◌&&◌, ◌||◌, not, IsTrue, IsFalse, List, length, find, Option, Some}
+-- Whether a policy hides an object from a source, or from every source of a network: no ask to read it is allowed there,
+-- whatever else the ask says.
+use Rattle.std.specs.Prelude.{◌≡◌, ℕ, ◌<◌, ◌==◌, Bool, true, false, ◌&&◌, not, if◌then◌else◌, IsTrue, IsFalse, List, length, find, Option, Some, None}
 use Rattle.std.specs.Option.{option_map_or}
 use Rattle.gw_rules.specs.Ask.{Ask, ask_of}
 use Rattle.gw_rules.specs.declared.operation.Operation.TheVariants.{Read}
@@ -32,18 +32,22 @@ abbrev pub IsHidden : List Rule → ℕ → Option ℕ → ℕ → ℕ → Type 
 IsHidden rules net key kind instance =
     (ask : Ask) → Reads net key kind instance ask → allows rules ask ≡ false
 
--- the rule may match where each of these five fields that it names holds what is said there
-abbrev pub may_match : Ask → Rule → Bool
-may_match ask rule =
-    admits rule.ranges.operation ask.operation
-    && admits rule.ranges.source_network ask.source_network
-    && admits rule.ranges.source_key ask.source_key
-    && admits rule.ranges.object_type ask.object_type
-    && admits rule.ranges.instance ask.instance
-
 -- a field that a rule has no range for
 abbrev pub is_unnamed : List Range → Bool
 is_unnamed ranges = length ranges == 0
+
+-- ---- from a source
+
+-- The rule may match an ask of some source, whatever else that says: each of these fields that it names holds what is
+-- said there.
+abbrev pub may_match_some : Ask → Rule → Bool
+may_match_some ask rule =
+    admits rule.ranges.operation ask.operation && admits rule.ranges.source_network ask.source_network
+    && admits rule.ranges.object_type ask.object_type && admits rule.ranges.instance ask.instance
+
+-- and so does the source key
+abbrev pub may_match : Ask → Rule → Bool
+may_match ask rule = may_match_some ask rule && admits rule.ranges.source_key ask.source_key
 
 -- the rule names none of the other five fields
 abbrev pub names_no_other : Rule → Bool
@@ -56,25 +60,49 @@ names_no_other rule =
 abbrev pub must_match : Ask → Rule → Bool
 must_match ask rule = may_match ask rule && names_no_other rule
 
--- a rule that settles it: an allow rule that may match, or a deny rule that must match
-abbrev pub settles : Ask → Rule → Bool
-settles ask rule = may_match ask rule && (rule.allow || names_no_other rule)
+-- it must match every source where it also names no source key
+abbrev pub must_match_all : Ask → Rule → Bool
+must_match_all ask rule = may_match_some ask rule && is_unnamed rule.ranges.source_key && names_no_other rule
+
+-- ---- which rule settles it
+
+-- a rule that settles it: an allow rule that may match, or a deny rule that must
+abbrev pub settles : (Rule → Bool) → (Rule → Bool) → Rule → Bool
+settles may must rule = if rule.allow then may rule else must rule
 
 -- it is hidden where the first rule that settles it denies, or there is none
-unfoldable pub hides : List Rule → Ask → Bool
-hides rules ask = option_map_or (λ rule. not rule.allow) (find (settles ask) rules) true
+unfoldable pub hides : (Rule → Bool) → (Rule → Bool) → List Rule → Bool
+hides may must rules = option_map_or (λ rule. not rule.allow) (find (settles may must) rules) true
 
 -- a deny rule of a lower number that must match
-pub record IsDeniedBefore (rules : List Rule) (ask : Ask) (number : ℕ) : Type 0 where
+pub record IsDeniedBefore (must : Rule → Bool) (rules : List Rule) (number : ℕ) : Type 0 where
   pub lower : ℕ
   pub rule : Rule
   pub before : lower < number
   pub numbered : HasNumber rules lower rule
   pub denies : IsFalse rule.allow
-  pub must : IsTrue (must_match ask rule)
+  pub certain : IsTrue (must rule)
 
 -- Each allow rule that may match stands behind a deny rule that must match: what `hides` computes, in words.
-abbrev pub Hides : List Rule → Ask → Type 0
-Hides rules ask =
-    (number : ℕ) (rule : Rule) → HasNumber rules number rule → IsTrue rule.allow →
-    IsTrue (may_match ask rule) → IsDeniedBefore rules ask number
+abbrev pub Hides : (Rule → Bool) → (Rule → Bool) → List Rule → Type 0
+Hides may must rules =
+    (number : ℕ) (rule : Rule) → HasNumber rules number rule → IsTrue rule.allow → IsTrue (may rule) →
+    IsDeniedBefore must rules number
+
+-- from a source of this network and key, or of none
+abbrev pub hides_from : List Rule → ℕ → Option ℕ → ℕ → ℕ → Bool
+hides_from rules net key kind instance =
+    let ask = reading net key kind instance in hides (may_match ask) (must_match ask) rules
+
+abbrev pub HidesFrom : List Rule → ℕ → Option ℕ → ℕ → ℕ → Type 0
+HidesFrom rules net key kind instance =
+    let ask = reading net key kind instance in Hides (may_match ask) (must_match ask) rules
+
+-- from every source of the network
+abbrev pub hides_from_network : List Rule → ℕ → ℕ → ℕ → Bool
+hides_from_network rules net kind instance =
+    let ask = reading net None kind instance in hides (may_match_some ask) (must_match_all ask) rules
+
+abbrev pub HidesFromNetwork : List Rule → ℕ → ℕ → ℕ → Type 0
+HidesFromNetwork rules net kind instance =
+    let ask = reading net None kind instance in Hides (may_match_some ask) (must_match_all ask) rules

@@ -1,3 +1,4 @@
+pub mod Allowed
 pub mod Ask
 pub mod Authorizer
 pub mod Field

@@ -1,5 +1,5 @@
 -- The eleven operations, each with its number and its name, which are this project's own.
-use Rattle.std.specs.Prelude.{ℕ, List, codes}
+use Rattle.std.specs.Prelude.{ℕ, Bool, true, false, List, codes}
 use Rattle.gw_rules.specs.declared.operation.Operation.{Operation}
 use Rattle.gw_rules.specs.declared.operation.Operation.TheVariants.{Cast, Route, Register, Delete, ReadTable, WriteTable, Learn, Network, Read, Write, List as Listing}
 
@@ -24,3 +24,12 @@ operation_number operation = (row operation).0
 -- the name of an operation
 abbrev pub operation_name : Operation → List ℕ
 operation_name operation = (row operation).1
+
+-- the operations that change a table, a route or a value
+abbrev pub changes : Operation → Bool
+changes Register = true
+changes Delete = true
+changes WriteTable = true
+changes Learn = true
+changes Write = true
+changes _ = false

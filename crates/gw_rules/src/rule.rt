@@ -1,6 +1,6 @@
 //! A rule: the ranges by which it picks asks, and what it says of those that it matches.
 ghost use Rattle.std.specs.Prelude.{◌≡◌, [], ◌∷◌, ◌++◌, IfOk, IsOkUnless, OnOk};
-ghost use Rattle.gw_rules.specs.Hides.{may_match, names_no_other, settles};
+ghost use Rattle.gw_rules.specs.Hides.{may_match, may_match_some, must_match, must_match_all, names_no_other, settles};
 ghost use Rattle.gw_rules.specs.Fields.{in_each, value_of, with_value};
 ghost use Rattle.gw_rules.specs.Rule.{has_few_ranges, has_ordered_ranges, matches, ranges_of, rule_without_fields, with_range};
 
@@ -88,21 +88,27 @@ impl Rule {
             && admit(ranges.priority.as_slice(), ask.priority)
     }
 
-    /// Whether the rule may match an ask that has these five fields, whatever else that says: each of
-    /// them that the rule names holds what is there.
-    pub(crate) fn may_match(&self, ask: &Ask) -> bool
-        ensures { result ≡ may_match ask.now self.now }
+    /// Whether the rule may match an ask of some source that has these four fields, whatever else that
+    /// says: each of them that the rule names holds what is there.
+    fn may_match_some(&self, ask: &Ask) -> bool
+        ensures { result ≡ may_match_some ask.now self.now }
     {
         let ranges = &self.ranges;
         admit(ranges.operation.as_slice(), ask.operation)
             && admit(ranges.source_network.as_slice(), ask.source_network)
-            && admit(self.ranges.source_key.as_slice(), ask.source_key)
             && admit(ranges.object_type.as_slice(), ask.object_type)
             && admit(ranges.instance.as_slice(), ask.instance)
     }
 
+    /// Whether it may match one of this source key, too.
+    fn may_match(&self, ask: &Ask) -> bool
+        ensures { result ≡ may_match ask.now self.now }
+    {
+        self.may_match_some(ask) && admit(self.ranges.source_key.as_slice(), ask.source_key)
+    }
+
     /// Whether the rule names none of the other five fields.
-    pub(crate) fn names_no_other(&self) -> bool
+    fn names_no_other(&self) -> bool
         ensures { result ≡ names_no_other self.now }
     {
         let ranges = &self.ranges;
@@ -113,11 +119,29 @@ impl Rule {
             && ranges.priority.as_slice().is_empty()
     }
 
-    /// Whether the rule settles what such asks come to: it allows and may match, or it denies and must.
+    /// Whether the rule settles what asks of a source come to: it allows and may match, or it denies
+    /// and must.
     pub(crate) fn settles(&self, ask: &Ask) -> bool
-        ensures { result ≡ settles ask.now self.now }
+        ensures { result ≡ settles (may_match ask.now) (must_match ask.now) self.now }
     {
-        self.may_match(ask) && (self.allow || self.names_no_other())
+        if self.allow {
+            self.may_match(ask)
+        } else {
+            self.may_match(ask) && self.names_no_other()
+        }
+    }
+
+    /// The same for asks of every source of the network.
+    pub(crate) fn settles_all(&self, ask: &Ask) -> bool
+        ensures { result ≡ settles (may_match_some ask.now) (must_match_all ask.now) self.now }
+    {
+        if self.allow {
+            self.may_match_some(ask)
+        } else {
+            self.may_match_some(ask)
+                && self.ranges.source_key.as_slice().is_empty()
+                && self.names_no_other()
+        }
     }
 
     /// Whether the rule has at most four ranges for each field.

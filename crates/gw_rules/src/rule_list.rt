@@ -1,7 +1,8 @@
 //! A policy: rules in order, of which the first that matches an ask decides.
-ghost use Rattle.std.specs.Prelude.{◌≡◌, ◌<◌, ◌↔◌, ◌&&◌, IsTrue, true, find, option_copied, IsFalse, IsOk, IfOk, IfSome, IsErrOf, [], false, length, position};
+ghost use Rattle.std.specs.Prelude.{◌≡◌, ◌<◌, ◌↔◌, ◌&&◌, IsTrue, true, find, not, ℕ, Option, option_copied, IsFalse, IsOk, IfOk, IfSome, IsErrOf, [], false, length, position};
 ghost use Rattle.std.specs.List.{list_all};
-ghost use Rattle.gw_rules.specs.Hides.{Hides, IsHidden, hides, may_match, reading, settles};
+ghost use Rattle.std.specs.Option.{option_map_or};
+ghost use Rattle.gw_rules.specs.Hides.{HidesFrom, HidesFromNetwork, IsHidden, hides, may_match, may_match_some, must_match, must_match_all, reading, settles};
 ghost use Rattle.gw_rules.specs.Rule.{has_few_ranges, matches};
 ghost use Rattle.gw_rules.specs.RuleList.{IsNumberOf, KeepsCounts, KeepsOrder, allows, decide, first, keeps_counts, keeps_order};
 
@@ -97,41 +98,77 @@ impl RuleList {
         }
     }
 
-    /// Whether no source of this network and key may read any property of this object, as far as the
-    /// rules' fields of operation, source and object tell: each allow rule that may match there
-    /// stands behind a deny rule that must match there. No key is one that a rule with source keys
-    /// doesn't match. A false says nothing.
+    /// Whether the policy hides an object, of this type and instance, from a source of this network and
+    /// source key, or of none, as far as the rules' fields of operation, source and object tell: each
+    /// allow rule that may match there stands behind a deny rule that must match there. Then no ask of
+    /// that source to read the object is allowed. A false says nothing.
     pub fn hides(&self, net: u64, key: Option<u64>, kind: u64, instance: u64) -> bool
-        ensures hides { IsTrue result ↔ Hides self.now (reading net key kind instance) }
+        ensures hides { IsTrue result ↔ HidesFrom self.now net key kind instance }
         ensures hidden { result ≡ true → IsHidden self.now net key kind instance }
     {
-        let ask = Ask {
-            source_network: Some(net),
-            source_key: key,
-            object_type: Some(kind),
-            instance: Some(instance),
-            ..Ask::new(Operation::Read)
-        };
-        self.hides_from(&ask)
+        let ask = reading(net, key, kind, instance);
+        self.hides_by(&ask)
     }
 
-    /// Whether the first rule that settles what such asks come to denies, or no rule does.
     #[tactic(auto, unfolding(crate::specs::Hides::hides))]
-    fn hides_from(&self, ask: &Ask) -> bool
-        ensures { result ≡ hides self.now ask.now }
+    fn hides_by(&self, ask: &Ask) -> bool
+        ensures { result ≡ hides (may_match ask.now) (must_match ask.now) self.now }
     {
-        match first_settling(&self.rules, ask) {
-            Some(rule) => !rule.allow,
-            None => true,
-        }
+        denies(first_settling(&self.rules, ask))
+    }
+
+    /// The same for every source of a network, whatever its key.
+    pub fn hides_from_network(&self, net: u64, kind: u64, instance: u64) -> bool
+        ensures hides { IsTrue result ↔ HidesFromNetwork self.now net kind instance }
+        ensures hidden { result ≡ true → (key : Option ℕ) → IsHidden self.now net key kind instance }
+    {
+        let ask = reading(net, None, kind, instance);
+        self.hides_all_by(&ask)
+    }
+
+    #[tactic(auto, unfolding(crate::specs::Hides::hides))]
+    fn hides_all_by(&self, ask: &Ask) -> bool
+        ensures { result ≡ hides (may_match_some ask.now) (must_match_all ask.now) self.now }
+    {
+        denies(first_settling_all(&self.rules, ask))
     }
 }
 
-/// The first rule that settles what such asks come to, if there is one.
+/// What each ask of a source says that would read an object.
+fn reading(net: u64, key: Option<u64>, kind: u64, instance: u64) -> Ask
+    ensures { result ≡ reading net key kind instance }
+{
+    Ask {
+        source_network: Some(net),
+        source_key: key,
+        object_type: Some(kind),
+        instance: Some(instance),
+        ..Ask::new(Operation::Read)
+    }
+}
+
+/// The first rule that settles what such asks of a source come to, if there is one.
 fn first_settling<'a>(rules: &'a [Rule], ask: &Ask) -> Option<&'a Rule>
-    ensures { option_copied result ≡ find (settles ask.now) rules.now }
+    ensures { option_copied result ≡ find (settles (may_match ask.now) (must_match ask.now)) rules.now }
 {
     rules.iter().find(|rule| rule.settles(ask))
+}
+
+/// The same for such asks of every source of the network.
+fn first_settling_all<'a>(rules: &'a [Rule], ask: &Ask) -> Option<&'a Rule>
+    ensures { option_copied result ≡ find (settles (may_match_some ask.now) (must_match_all ask.now)) rules.now }
+{
+    rules.iter().find(|rule| rule.settles_all(ask))
+}
+
+/// Whether a rule denies, or there is none.
+fn denies(rule: Option<&Rule>) -> bool
+    ensures { result ≡ option_map_or (λ rule. not rule.allow) (option_copied rule.entry) true }
+{
+    match rule {
+        Some(rule) => !rule.allow,
+        None => true,
+    }
 }
 
 fn place_of(rules: &[Rule], ask: &Ask) -> Option<usize>
