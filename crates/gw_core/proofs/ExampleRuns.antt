@@ -126,4 +126,4 @@ hidden_write_is_unseen = ((refl, tt), refl, refl)
 
 pub hiding_is_seen : HidingIsSeen
 unfolding hides
-hiding_is_seen = (refl, refl, refl, refl)
+hiding_is_seen = (refl, refl, refl, refl, refl, refl, refl, refl)

@@ -2,56 +2,28 @@
 use Rattle.std.proofs.Common.{◌≡◌, ◌∙◌, sym, ap, refl, subst, ℕ, ◌+◌, add-zero, Bool, true, false, List, [], ◌∷◌, ◌++◌, map, length, Option, Some, None, Result, Ok, Err}
 use Rattle.std.specs.Prelude.{◌==◌, if◌then◌else◌, is_some}
 use Rattle.std.specs.Option.{option_map}
-use Rattle.gw_addr.specs.declared.bip.BipAddr.{BipAddr}
-use Rattle.gw_apdu.specs.declared.fault.ApduFault.{ApduFault}
-use Rattle.gw_apdu.specs.declared.header.ConfirmedRequest.{ConfirmedRequest}
-use Rattle.gw_apdu.specs.declared.header.Header.{Header}
-use Rattle.gw_apdu.specs.declared.header.Header.TheVariants as header
-use Rattle.gw_apdu.specs.Apdu.{Fields as Apdu}
-use Rattle.gw_apdu.specs.Reading.{apdu_at}
 use Rattle.gw_audit.specs.declared.denial.Denial.{Denial}
-use Rattle.gw_bvll.specs.Bvll.{Message as Frame}
-use Rattle.gw_bvll.specs.Bvll as bvll
 use Rattle.gw_device.specs.declared.context.Context.{Context}
-use Rattle.gw_device.specs.Device.{apdu_response, device_response, header_response, or_reject, or_silence, service_response}
-use Rattle.gw_device.specs.Multi.{multi_response}
-use Rattle.gw_device.specs.Read.{read_response}
-use Rattle.gw_device.specs.Response.{Response}
-use Rattle.gw_device.specs.Services.{read_property, read_property_multiple, write_property, who_has, who_is}
-use Rattle.gw_device.specs.WhoHas.{object_response, sought_object, who_has_response}
-use Rattle.gw_device.specs.WhoIs.{is_within, who_is_response}
-use Rattle.gw_device.specs.Write.{write_ask, write_response}
-use Rattle.gw_npdu.specs.Npdu.{Fields, payload_octets}
 use Rattle.gw_objects.specs.Objects.{Database}
 use Rattle.gw_policy_text.specs.Configuration.{Configuration}
-use Rattle.gw_relay.specs.Asks.{link_ask, link_asks}
-use Rattle.gw_relay.specs.Link.{link_change}
-use Rattle.gw_relay.specs.Manage.{is_learned, learn_ask, learned, manage_asks, networks_in}
-use Rattle.gw_relay.specs.State.{Commit, Relay, after, moved}
+use Rattle.gw_device.proofs.Changes.{changes_are_allowed}
+use Rattle.gw_relay.specs.State.{Commit, Relay, moved}
+use Rattle.gw_relay.proofs.Claims.{routes_are_kept, tables_are_kept}
 use Rattle.gw_relay.specs.declared.change.Change.{Change}
-use Rattle.gw_relay.specs.declared.change.Change.TheVariants.{Learnings}
-use Rattle.gw_relay.specs.declared.port.Link.{Link}
-use Rattle.gw_relay.proofs.Learning.{learned_asks}
-use Rattle.gw_rules.specs.Ask.{Ask}
-use Rattle.gw_rules.specs.RuleList.{allows}
+use Rattle.gw_rules.specs.Allowed.{NoChangeAllowed}
+use Rattle.gw_rules.specs.Ask.{Ask, IsFor}
+use Rattle.gw_rules.proofs.EachAsk.{none_front, none_rest}
 use Rattle.gw_rules.specs.declared.operation.Operation.TheVariants as operations
 use Rattle.gw_rules.specs.declared.refusal.Refusal.{Refusal}
 use Rattle.gw_rules.specs.declared.rule.Rule.{Rule}
-use Rattle.gw_services.specs.declared.fault.BodyFault.{BodyFault}
-use Rattle.gw_services.specs.MultiReading.{multi_at}
-use Rattle.gw_services.specs.Read.{read_at}
-use Rattle.gw_services.specs.WhoHas.{who_has_at}
-use Rattle.gw_services.specs.WhoIs.{who_is_at}
-use Rattle.gw_services.specs.Write.{Write, write_at}
 use Rattle.gw_script.specs.Event.{Event, Datagram, Tick}
-use Rattle.gw_tags.specs.Object.{Object}
 use Rattle.gw_core.specs.declared.effects.Effects.{Effects}
 use Rattle.gw_core.specs.declared.event.Counts.{Counts}
 use Rattle.gw_core.specs.Asks.{apdu_asks, asks, asks_for, cast_asks, link_asks as received_asks, manage_asks as asks_managed, message_asks, route_asks}
 use Rattle.gw_core.specs.Denials.{denials_at, denials_from, denials_of, rule_name}
 use Rattle.gw_core.specs.Effects.{apdu_change, change_at, change_for, changed, effects_at, move_at, relay_change_for}
 use Rattle.gw_core.specs.History.{next, run_from, state_after}
-use Rattle.gw_core.specs.NoLeak.{IsQuiet, LeavesOut, NoChangeAllowed, QuietIsUnseen, kept, seen, unnumbered}
+use Rattle.gw_core.specs.NoLeak.{IsQuiet, LeavesOut, QuietIsUnseen, kept, seen, unnumbered}
 use Rattle.gw_core.specs.Receive.{Origin, Received, dropped, managed, stranger, message, origin, receive}
 use Rattle.gw_core.specs.Reply.{apdu_for, context_of}
 use Rattle.gw_core.specs.State.{State, device_network}
@@ -95,145 +67,20 @@ unfolding next move_at change_at denials_at receive
 next_numbered w n (Datagram port from octets) = refl
 next_numbered w n Tick = refl
 
--- ---- the device
-
--- where no change is allowed there is none
-abbrev Still : List Rule → Response → Type 0
-Still rules due = NoChangeAllowed rules due.asks → due.change ≡ None
-
-still_if : (rules : List Rule) (b : Bool) (x y : Response) → Still rules x → Still rules y → Still rules (if b then x else y)
-still_if rules true x y f g = f
-still_if rules false x y f g = g
-
-still_reject : {B : Type 0} (rules : List Rule) (invoke : ℕ) (respond : B → Response) (body : Result B BodyFault)
-    → ((b : B) → Still rules (respond b)) → Still rules (or_reject invoke respond body)
-still_reject rules invoke respond (Ok b) each = each b
-still_reject rules invoke respond (Err fault) each = (λ h. refl)
-
-still_silenced : {B : Type 0} (rules : List Rule) (respond : B → Response) (body : Result B BodyFault)
-    → ((b : B) → Still rules (respond b)) → Still rules (or_silence respond body)
-still_silenced rules respond (Ok b) each = each b
-still_silenced rules respond (Err fault) each = (λ h. refl)
-
-still_write : (rules : List Rule) (d : Database) (context : Context) (invoke : ℕ) (write : Write)
-    → Still rules (write_response rules d context invoke write)
-still_write rules d context invoke write h =
-    let denied : allows rules (write_ask d context write) ≡ false = h.0 operations.Write refl refl in
-    rw denied refl
-
-still_object : (rules : List Rule) (d : Database) (context : Context) (sought : Option Object)
-    → Still rules (object_response rules d context sought)
-still_object rules d context None = (λ h. refl)
-still_object rules d context (Some object) = (λ h. refl)
-
-still_service : (rules : List Rule) (d : Database) (context : Context) (request : ConfirmedRequest) (body : List ℕ)
-    → Still rules (service_response rules d context request body)
-still_service rules d context request body =
-    still_if rules (request.service == read_property) _ _
-    (still_reject rules request.invoke (read_response rules d context request) (read_at body) (λ read. (λ h. refl)))
-    (still_if rules (request.service == read_property_multiple) _ _
-    (still_reject rules request.invoke (multi_response rules d context request) (multi_at body) (λ rs. (λ h. refl)))
-    (still_if rules (request.service == write_property) _ _
-    (still_reject rules request.invoke (write_response rules d context request.invoke) (write_at body)
-    (still_write rules d context request.invoke))
-    ((λ h. refl))))
-
-still_header : (rules : List Rule) (d : Database) (context : Context) (by : Header) (body : List ℕ)
-    → Still rules (header_response rules d context by body)
-still_header rules d context (header.ConfirmedRequest request) body =
-    still_if rules context.broadcast _ _ ((λ h. refl))
-    (still_if rules (is_some request.segment) _ _ ((λ h. refl)) (still_service rules d context request body))
-still_header rules d context (header.UnconfirmedRequest service) body =
-    still_if rules (service == who_has) _ _ (still_silenced rules (who_has_response rules d context) (who_has_at body)
-    (λ request. still_if rules (is_within request.limits d.configured.device.instance) _ _
-    (still_object rules d context (sought_object d.configured request.sought)) ((λ h. refl))))
-    (still_if rules (service == who_is) _ _ (still_silenced rules (who_is_response rules d context) (who_is_at body)
-    (λ request. still_if rules (is_within request.limits d.configured.device.instance) _ _ ((λ h. refl))
-    ((λ h. refl))))
-    ((λ h. refl)))
-still_header rules d context (header.SimpleAck invoke service) body = (λ h. refl)
-still_header rules d context (header.ComplexAck segment invoke service) body = (λ h. refl)
-still_header rules d context (header.SegmentAck invoke sequence window) body = (λ h. refl)
-still_header rules d context (header.Error invoke service) body = (λ h. refl)
-still_header rules d context (header.Reject invoke reason) body = (λ h. refl)
-still_header rules d context (header.Abort invoke reason) body = (λ h. refl)
-
-still_apdu : (rules : List Rule) (d : Database) (context : Context) (apdu : Result Apdu ApduFault)
-    → Still rules (apdu_response rules d context apdu)
-still_apdu rules d context (Ok apdu) = still_header rules d context apdu.header apdu.rest
-still_apdu rules d context (Err fault) = (λ h. refl)
-
-still_device : (rules : List Rule) (d : Database) (context : Context) (octets : List ℕ)
-    → Still rules (device_response rules d context octets)
-unfolding device_response
-still_device rules d context octets = still_apdu rules d context (apdu_at octets)
-
-still_by : (rules : List Rule) (d : Database) (context : Context) (apdu : Option (List ℕ))
-    → NoChangeAllowed rules (apdu_asks rules d context apdu) → apdu_change rules d context apdu ≡ None
-still_by rules d context None h = refl
-still_by rules d context (Some octets) h = still_device rules d context octets h
-
--- ---- parts of the asks
-
-pub front_quiet : (rules : List Rule) (xs ys : List Ask) → NoChangeAllowed rules (xs ++ ys) → NoChangeAllowed rules xs
-front_quiet rules [] ys h = tt
-front_quiet rules (x ∷ xs) ys h = (h.0, front_quiet rules xs ys h.1)
-
-pub rest_quiet : (rules : List Rule) (xs ys : List Ask) → NoChangeAllowed rules (xs ++ ys) → NoChangeAllowed rules ys
-rest_quiet rules [] ys h = h
-rest_quiet rules (x ∷ xs) ys h = rest_quiet rules xs ys h.1
-
--- ---- the tables of a port
-
-quiet_link : (rules : List Rule) (on : Link) (from : BipAddr) (frame : Frame) → NoChangeAllowed rules (link_asks on.port from frame)
-    → link_change rules on from frame ≡ None
-unfolding link_change
-quiet_link rules on from (bvll.write_bdt entries) h =
-    let denied : allows rules (link_ask on.port from (bvll.write_bdt entries) operations.WriteTable) ≡ false = h.0 operations.WriteTable refl refl in
-    rw denied refl
-quiet_link rules on from (bvll.register time_to_live) h =
-    let denied : allows rules (link_ask on.port from (bvll.register time_to_live) operations.Register) ≡ false = h.0 operations.Register refl refl in
-    rw denied refl
-quiet_link rules on from (bvll.delete address) h =
-    let denied : allows rules (link_ask on.port from (bvll.delete address) operations.Delete) ≡ false = h.0 operations.Delete refl refl in
-    rw denied refl
-quiet_link rules on from bvll.read_bdt h = none_either _
-  where
-    none_either : (b : Bool) → ◌≡◌ {A = Option Change} (if b then None else None) None
-    none_either true = refl
-    none_either false = refl
-quiet_link rules on from bvll.read_fdt h = none_either _
-  where
-    none_either : (b : Bool) → ◌≡◌ {A = Option Change} (if b then None else None) None
-    none_either true = refl
-    none_either false = refl
-quiet_link rules on from (bvll.result_code code) h = refl
-quiet_link rules on from (bvll.read_bdt_ack entries) h = refl
-quiet_link rules on from (bvll.forwarded originator npdu) h = refl
-quiet_link rules on from (bvll.read_fdt_ack entries) h = refl
-quiet_link rules on from (bvll.distribute npdu) h = refl
-quiet_link rules on from (bvll.original_unicast npdu) h = refl
-quiet_link rules on from (bvll.original_broadcast npdu) h = refl
-
--- ---- the routes
-
-none_learned : (rules : List Rule) (here : Link) (from : BipAddr) (npdu : Fields) (networks : List ℕ)
-    → NoChangeAllowed rules (map (learn_ask here from npdu) networks) → learned rules here from npdu networks ≡ []
-none_learned rules here from npdu [] h = refl
-none_learned rules here from npdu (n ∷ networks) h =
-    let denied : allows rules (learn_ask here from npdu n) ≡ false = h.0 operations.Learn refl refl in
-    rw denied (none_learned rules here from npdu networks h.1)
-
-quiet_moved : (b : Bool) (rules : List Rule) (relay : Relay) (here : Link) (from : BipAddr) (npdu : Fields) → is_learned npdu ≡ b
-    → NoChangeAllowed rules (manage_asks relay.links relay.routes here from npdu)
-    → moved (option_map Commit (if b then Some (Learnings here.port.number from (learned rules here from npdu (networks_in (payload_octets npdu.payload)))) else None)) relay ≡ relay
-quiet_moved true rules relay here from npdu is h =
-    ap (λ (networks : List ℕ). after (Learnings here.port.number from networks) relay)
-    (none_learned rules here from npdu (networks_in (payload_octets npdu.payload))
-    (subst (NoChangeAllowed rules) (learned_asks relay.links relay.routes here from npdu is) h))
-quiet_moved false rules relay here from npdu is h = refl
-
 -- ---- one event
+
+-- the asks of a part of the whole
+part_quiet : (rules : List Rule) (xs ys zs : List Ask) → NoChangeAllowed rules (xs ++ ys ++ zs) → NoChangeAllowed rules ys
+part_quiet rules xs ys zs h operation changes_it =
+    none_rest (IsFor operation) rules xs ys (none_front (IsFor operation) rules (xs ++ ys) zs (h operation changes_it))
+
+last_quiet : (rules : List Rule) (xs ys : List Ask) → NoChangeAllowed rules (xs ++ ys) → NoChangeAllowed rules ys
+last_quiet rules xs ys h operation changes_it = none_rest (IsFor operation) rules xs ys (h operation changes_it)
+
+quiet_apdu : (rules : List Rule) (d : Database) (context : Context) (apdu : Option (List ℕ))
+    → NoChangeAllowed rules (apdu_asks rules d context apdu) → apdu_change rules d context apdu ≡ None
+quiet_apdu rules d context None h = refl
+quiet_apdu rules d context (Some octets) h = changes_are_allowed rules d context octets (h operations.Write refl)
 
 quiet_relay : (rules : List Rule) (relay : Relay) (d : Database) (received : Received)
     → NoChangeAllowed rules (asks_for rules relay d received)
@@ -241,13 +88,12 @@ quiet_relay : (rules : List Rule) (relay : Relay) (d : Database) (received : Rec
 quiet_relay rules relay d dropped h = refl
 quiet_relay rules relay d (stranger m) h = refl
 quiet_relay rules relay d (managed on from frame) h =
-    let asked = received_asks (managed on from frame) in
     ap (λ (change : Option Change). moved (option_map Commit change) relay)
-    (quiet_link rules on from frame (front_quiet rules asked [] (front_quiet rules (asked ++ []) [] (front_quiet rules (asked ++ [] ++ []) [] (front_quiet rules (asked ++ [] ++ [] ++ []) [] h)))))
+    (tables_are_kept rules on from frame (part_quiet rules [] (received_asks (managed on from frame)) [] h))
 quiet_relay rules relay d (message m) h =
-    quiet_moved (is_learned m.npdu) rules relay m.here m.link m.npdu refl
-    (rest_quiet rules (cast_asks (message m) ++ route_asks relay (message m)) (asks_managed relay (message m))
-    (front_quiet rules (cast_asks (message m) ++ route_asks relay (message m) ++ asks_managed relay (message m)) (message_asks rules d m) h))
+    routes_are_kept rules relay m.here m.link m.npdu
+    (part_quiet rules (cast_asks (message m) ++ route_asks relay (message m)) (asks_managed relay (message m)) (message_asks rules d m) h
+    operations.Learn refl)
 
 quiet_device : (rules : List Rule) (relay : Relay) (d : Database) (received : Received)
     → NoChangeAllowed rules (asks_for rules relay d received) → change_for rules d received ≡ None
@@ -255,8 +101,8 @@ quiet_device rules relay d dropped h = refl
 quiet_device rules relay d (stranger m) h = refl
 quiet_device rules relay d (managed on from frame) h = refl
 quiet_device rules relay d (message m) h =
-    still_by rules d (context_of (device_network d) m) (apdu_for (device_network d) m.npdu)
-    (rest_quiet rules (cast_asks (message m) ++ route_asks relay (message m) ++ asks_managed relay (message m)) (message_asks rules d m) h)
+    quiet_apdu rules d (context_of (device_network d) m) (apdu_for (device_network d) m.npdu)
+    (last_quiet rules (cast_asks (message m) ++ route_asks relay (message m) ++ asks_managed relay (message m)) (message_asks rules d m) h)
 
 abbrev standing_so : State → Relay → Database → ℕ → ℕ → State
 standing_so w relay device ticks denials = record w { relay = relay; device = device; ticks = ticks; denials = denials }

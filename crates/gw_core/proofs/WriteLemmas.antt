@@ -1,47 +1,21 @@
 -- A write of an object changes the slots and the default of that object alone, and nothing rests on those but a read of it.
 use Rattle.std.proofs.Common.{◌≡◌, ◌≢◌, ◌∙◌, sym, ap, refl, subst, ℕ, zero, suc, ◌+◌, ◌<◌, add-zero, arith, Bool, true, false, List, [], ◌∷◌, ◌++◌, map, length, take, set, Option, Some, None, Result, Ok, Err, ◌⊎◌, inl, inr, get_or}
 use Rattle.std.specs.Prelude.{◌==◌, if◌then◌else◌, is_some, slice_get}
-use Rattle.std.specs.List.{position}
 use Rattle.std.specs.Option.{ok_or, option_map, option_and_then}
-use Rattle.std.proofs.lemmas.Bool.{and_parts, cases_eq}
-use Rattle.std.proofs.lemmas.Bool.{eqb-true}
-use Rattle.std.proofs.lemmas.List.{length-set, get_or-set_same}
-use Rattle.std.proofs.lemmas.List.Quantifiers.{position-Some}
-use Rattle.std.proofs.lemmas.Option.{slice_get-get_or, slice_get_within}
 use Rattle.gw_addr.specs.declared.bip.BipAddr.{BipAddr}
-use Rattle.gw_addr.specs.Reading.{◌>>=◌}
-use Rattle.gw_apdu.specs.declared.fault.ApduFault.{ApduFault}
-use Rattle.gw_apdu.specs.declared.header.ConfirmedRequest.{ConfirmedRequest}
-use Rattle.gw_apdu.specs.declared.header.Header.{Header}
-use Rattle.gw_apdu.specs.declared.header.Header.TheVariants as header
-use Rattle.gw_apdu.specs.Apdu.{Fields as Apdu}
-use Rattle.gw_apdu.specs.Reading.{apdu_at}
 use Rattle.gw_audit.specs.declared.denial.Denial.{Denial}
 use Rattle.gw_device.specs.declared.context.Context.{Context}
-use Rattle.gw_device.specs.Device.{apdu_response, confirmed_response, device_response, header_response, or_reject, service_response}
-use Rattle.gw_device.specs.Laws.{DifferIn, NoReadAllowed, standing}
-use Rattle.gw_device.specs.Multi.{multi_response}
-use Rattle.gw_device.specs.Read.{read_response}
+use Rattle.gw_device.specs.Laws.{AsksToRead, NoReadAllowed, object_written}
+use Rattle.gw_device.proofs.Changes.{changes_are_in_place, changes_rest_on_requests}
 use Rattle.gw_device.specs.Response.{Answer, Response}
-use Rattle.gw_device.specs.Services.{read_property, read_property_multiple, write_property}
-use Rattle.gw_device.specs.Write.{or_error, priority_of, write_ask, write_response}
-use Rattle.gw_device.specs.Write.{change_of}
-use Rattle.gw_device.specs.Errors.{write_denied}
 use Rattle.gw_device.proofs.Unread.{unread}
 use Rattle.gw_npdu.specs.Npdu.{Destination, Fields, Payload, apdu, message as network_message}
 use Rattle.gw_objects.specs.declared.configured.Configured.{Configured}
-use Rattle.gw_objects.specs.declared.configured.ConfiguredObject.{ConfiguredObject}
-use Rattle.gw_objects.specs.declared.fault.ReadFault.TheVariants as reading
-use Rattle.gw_objects.specs.declared.fault.WriteFault.{WriteFault}
-use Rattle.gw_objects.specs.declared.fault.WriteFault.TheVariants.{NotWritable, UnknownObject, UnknownProperty}
-use Rattle.gw_objects.specs.declared.property.Property.{Property}
-use Rattle.gw_objects.specs.declared.property.ObjectType.TheVariants as types
-use Rattle.gw_objects.specs.declared.value.PropertyValue.{PropertyValue}
-use Rattle.gw_objects.specs.History.{acted, after_write, put_at}
-use Rattle.gw_objects.specs.Objects.{Database, Slots, device_id, object_id_of, place_of, same}
-use Rattle.gw_objects.specs.Property.{property_of}
-use Rattle.gw_objects.specs.Write.{Write, act_of, device_write, object_write, write_of}
-use Rattle.gw_priority.specs.History.{Act}
+use Rattle.gw_objects.specs.History.{after_write}
+use Rattle.gw_objects.specs.Laws.{AgreeBut, standing}
+use Rattle.gw_objects.specs.Objects.{Database, Slots, place_of}
+use Rattle.gw_objects.specs.Write.{Write}
+use Rattle.gw_objects.proofs.Others.{agree_put, agree_written, differ}
 use Rattle.gw_relay.specs.Manage.{manage_change}
 use Rattle.gw_relay.specs.Sends.{Sending}
 use Rattle.gw_relay.specs.State.{Commit, Relay, moved}
@@ -49,12 +23,8 @@ use Rattle.gw_relay.specs.declared.change.Change.{Change}
 use Rattle.gw_relay.specs.declared.port.Link.{Link}
 use Rattle.gw_rules.specs.Ask.{Ask}
 use Rattle.gw_rules.specs.Authorizer.{denied_of}
-use Rattle.gw_rules.specs.RuleList.{allows}
+use Rattle.gw_rules.proofs.EachAsk.{none_rest}
 use Rattle.gw_rules.specs.declared.rule.Rule.{Rule}
-use Rattle.gw_services.specs.declared.fault.BodyFault.{BodyFault}
-use Rattle.gw_services.specs.MultiReading.{multi_at}
-use Rattle.gw_services.specs.Read.{read_at}
-use Rattle.gw_services.specs.Write.{Write as Request, write_at}
 use Rattle.gw_script.specs.Event.{Event, Datagram, Tick}
 use Rattle.gw_tags.specs.Object.{Object}
 use Rattle.gw_core.specs.declared.effects.Effects.{Effects}
@@ -62,243 +32,23 @@ use Rattle.gw_core.specs.Asks.{apdu_asks, asks, asks_for, cast_asks, manage_asks
 use Rattle.gw_core.specs.Denials.{denials_at, denials_of}
 use Rattle.gw_core.specs.Effects.{answer_sends, apdu_answer, apdu_change, cast_sends, change_at, change_for, changed, effects_at, effects_for, manage_sends, message_change, move_at, relay_change_for, route_sends, sends_for}
 use Rattle.gw_core.specs.History.{next, run_from, state_after, state_from}
-use Rattle.gw_core.specs.NoLeak.{IsWriteOf, WritesAreUnread, apdu_writes, header_writes, kept, object_of, object_written, seen, unnumbered}
+use Rattle.gw_core.specs.NoLeak.{IsWriteOf, WritesAreUnread, kept, object_of, seen, unnumbered}
 use Rattle.gw_core.specs.Receive.{Received, dropped, managed, stranger, message, origin, receive}
 use Rattle.gw_core.specs.Reply.{apdu_for, apdu_towards, context_of}
 use Rattle.gw_core.specs.State.{State}
 use Rattle.gw_core.proofs.HistoryLemmas.{run_from-after, state_from-after}
 use Rattle.gw_core.proofs.QuietLemmas.{LeavesOutFrom, left_from, unnumbered_of}
 
--- ---- two standings of the objects
-
--- The value objects but that one have the same slots and default in both.
-abbrev pub AgreeBut : Object → Configured → List Slots → List Slots → Type 0
-AgreeBut o c s t = (i : ℕ) → (place_of c o ≡ Some i → ⊥) → slice_get s i ≡ slice_get t i
-
-numbers_same : (a b : Object) → same a b ≡ true → a ≡ b
-numbers_same a b e =
-    let parts = and_parts (a.kind == b.kind) (a.instance == b.instance) e in
-    ap (λ (kind : ℕ). record { kind = kind; instance = a.instance }) (eqb-true a.kind b.kind parts.0)
-    ∙ ap (λ (instance : ℕ). record { kind = b.kind; instance = instance }) (eqb-true a.instance b.instance parts.1)
-
--- no two identifiers have one place
-one_place : (objects : List ConfiguredObject) (a b : Object) (i : ℕ) → position (λ object. same a (object_id_of object)) objects ≡ Some i
-    → position (λ object. same b (object_id_of object)) objects ≡ Some i → a ≡ b
-one_place [] a b i p q = absurd cc
-one_place (d ∷ objects) a b i p q =
-    let at = get_or (d ∷ objects) i d in
-    numbers_same a (object_id_of at) (position-Some (λ object. same a (object_id_of object)) (d ∷ objects) i d p).1
-    ∙ sym (numbers_same b (object_id_of at) (position-Some (λ object. same b (object_id_of object)) (d ∷ objects) i d q).1)
-
-found_same : (c : Configured) (s t : List Slots) (place : Option ℕ) → ((i : ℕ) → place ≡ Some i → slice_get s i ≡ slice_get t i)
-    → ◌≡◌ {A = Result (ConfiguredObject × Slots) _}
-    (ok_or place reading.UnknownObject >>= λ place. ok_or (slice_get c.objects place) reading.UnknownObject >>= λ object. ok_or (slice_get s place) reading.UnknownObject >>= λ slots. Ok (object, slots))
-    (ok_or place reading.UnknownObject >>= λ place. ok_or (slice_get c.objects place) reading.UnknownObject >>= λ object. ok_or (slice_get t place) reading.UnknownObject >>= λ slots. Ok (object, slots))
-found_same c s t None h = refl
-found_same c s t (Some i) h =
-    ap (λ (x : Option Slots). ok_or (slice_get c.objects i) reading.UnknownObject >>= λ object. ok_or x reading.UnknownObject >>= λ slots. Ok (object, slots)) (h i refl)
-
-pub differ : (o : Object) (c : Configured) (s t : List Slots) → AgreeBut o c s t → DifferIn o c s t
-differ o c s t agree other apart =
-    found_same c s t (place_of c other) (λ i at. agree i (λ is. apart (one_place c.objects other o i at is)))
-
--- ---- one write
-
-put_other : (states : List Slots) (i j : ℕ) (x : Option Slots) → j ≢ i → slice_get (put_at i x states) j ≡ slice_get states j
-put_other states i j None ne = refl
-put_other states i j (Some x) ne = set_other states i j x ne
-  where
-    set_other : (states : List Slots) (i j : ℕ) (x : Slots) → j ≢ i → slice_get (set states i x) j ≡ slice_get states j
-    set_other [] i j x ne = refl
-    set_other (y ∷ ys) zero zero x ne = absurd (ne refl)
-    set_other (y ∷ ys) zero (suc j) x ne = refl
-    set_other (y ∷ ys) (suc i) zero x ne = refl
-    set_other (y ∷ ys) (suc i) (suc j) x ne = set_other ys i j x (λ e. ne (ap suc e))
-
-put_here : (states : List Slots) (i : ℕ) (f : Slots → Slots) (x : Option Slots) → slice_get states i ≡ x
-    → slice_get (put_at i (option_map f x) states) i ≡ option_map f x
-put_here states i f None is = is
-put_here states i f (Some x) is =
-    let lt : i < length states = slice_get_within states i x is in
-    slice_get-get_or (set states i (f x)) i (f x) (omega (arith, lt, length-set states i (f x)))
-    ∙ ap (λ (y : Slots). Some y) (get_or-set_same states i (f x) (f x) lt)
-
-written_here : (write : Write) (states : List Slots) → slice_get (after_write write states) write.place ≡ option_map (acted write.act) (slice_get states write.place)
-written_here write states = put_here states write.place (acted write.act) (slice_get states write.place) refl
-
--- both standings are written
-agree_written : (o : Object) (c : Configured) (s t : List Slots) (write : Write) → AgreeBut o c s t → AgreeBut o c (after_write write s) (after_write write t)
-agree_written o c s t write agree i apart = by (cases_eq i write.place)
-  where
-    by : (i ≡ write.place) ⊎ (i ≢ write.place) → slice_get (after_write write s) i ≡ slice_get (after_write write t) i
-    by (inl is) =
-        subst (λ (j : ℕ). slice_get (after_write write s) j ≡ slice_get (after_write write t) j) (sym is)
-        (written_here write s
-        ∙ ap (option_map (acted write.act)) (subst (λ (j : ℕ). slice_get s j ≡ slice_get t j) is (agree i apart))
-        ∙ sym (written_here write t))
-    by (inr ne) = put_other s write.place i _ ne ∙ agree i apart ∙ sym (put_other t write.place i _ ne)
-
--- one of them is, at the object
-agree_put : (o : Object) (c : Configured) (s t : List Slots) (write : Write) → place_of c o ≡ Some write.place → AgreeBut o c s t
-    → AgreeBut o c (after_write write s) t
-agree_put o c s t write at agree i apart =
-    put_other s write.place i _ (λ is. apart (at ∙ ap (λ (j : ℕ). Some j) (sym is))) ∙ agree i apart
-
--- ---- where a write is made
-
-ok_is : {A E : Type 0} (x y : A) → ◌≡◌ {A = Result A E} (Ok x) (Ok y) → x ≡ y
-ok_is x y e = cc
-
-no_device_write : (p : Option Property) (write : Write) → ◌≡◌ {A = Result Write WriteFault} (ok_or p UnknownProperty >>= λ property. Err NotWritable) (Ok write) → ⊥
-no_device_write None write e = absurd cc
-no_device_write (Some p) write e = absurd cc
-
-made_at : (place : ℕ) (act : Result (Act PropertyValue) WriteFault) (write : Write)
-    → ◌≡◌ {A = Result Write WriteFault} (act >>= λ act. Ok (record { place = place; act = act })) (Ok write) → place ≡ write.place
-made_at place (Ok act) write e = ap (λ (w : Write). w.place) (ok_is _ write e)
-made_at place (Err fault) write e = absurd cc
-
-object_at_place : (place : ℕ) (object : Option ConfiguredObject) (number : ℕ) (index : Option ℕ) (priority : ℕ) (octets : List ℕ) (write : Write)
-    → ◌≡◌ {A = Result Write WriteFault} (ok_or object UnknownObject >>= λ object. object_write place object number index priority octets) (Ok write)
-    → place ≡ write.place
-object_at_place place None number index priority octets write e = absurd cc
-object_at_place place (Some object) number index priority octets write e = made_at place (act_of object number index priority octets) write e
-
-at_place : (c : Configured) (place : Option ℕ) (number : ℕ) (index : Option ℕ) (priority : ℕ) (octets : List ℕ) (write : Write)
-    → ◌≡◌ {A = Result Write WriteFault} (ok_or place UnknownObject >>= λ place. ok_or (slice_get c.objects place) UnknownObject >>= λ object. object_write place object number index priority octets) (Ok write)
-    → place ≡ Some write.place
-at_place c None number index priority octets write e = absurd cc
-at_place c (Some place) number index priority octets write e =
-    ap (λ (i : ℕ). Some i) (object_at_place place (slice_get c.objects place) number index priority octets write e)
-
--- a write that is made is made at the place of its object
-write_place : (c : Configured) (wanted : Object) (number : ℕ) (index : Option ℕ) (priority : ℕ) (octets : List ℕ) (write : Write)
-    → write_of c wanted number index priority octets ≡ Ok write → place_of c wanted ≡ Some write.place
-unfolding write_of
-write_place c wanted number index priority octets write e = by (same wanted (device_id c.device)) e
-  where
-    by : (b : Bool) → (if b then device_write number else (ok_or (place_of c wanted) UnknownObject >>= λ place. ok_or (slice_get c.objects place) UnknownObject >>= λ object. object_write place object number index priority octets)) ≡ Ok write
-        → place_of c wanted ≡ Some write.place
-    by true e = absurd (no_device_write (property_of types.Device number) write e)
-    by false e = at_place c (place_of c wanted) number index priority octets write e
-
--- a change is one of the object
-abbrev Puts : Object → Configured → Response → Type 0
-Puts o c due = (write : Write) → due.change ≡ Some write → place_of c o ≡ Some write.place
-
 no_some : {A : Type 0} (x : A) → ◌≡◌ {A = Option A} None (Some x) → ⊥
 no_some x e = cc
-
-puts_if : (o : Object) (c : Configured) (b : Bool) (x y : Response) → Puts o c x → Puts o c y → Puts o c (if b then x else y)
-puts_if o c true x y f g = f
-puts_if o c false x y f g = g
-
-puts_reject : {B : Type 0} (o : Object) (c : Configured) (invoke : ℕ) (respond : B → Response) (body : Result B BodyFault)
-    → ((b : B) → body ≡ Ok b → Puts o c (respond b)) → Puts o c (or_reject invoke respond body)
-puts_reject o c invoke respond (Ok b) each = each b refl
-puts_reject o c invoke respond (Err fault) each = λ write e. absurd (no_some write e)
-
-changed_by : (b : Bool) (due : Result Write WriteFault) (write : Write) → change_of (if b then or_error due else Err write_denied) ≡ Some write → due ≡ Ok write
-changed_by true (Ok made) write e = ap (λ (w : Write). Ok w) (let is : made ≡ write = cc in is)
-changed_by true (Err fault) write e = absurd (no_some write e)
-changed_by false due write e = absurd (no_some write e)
-
-puts_write : (o : Object) (rules : List Rule) (d : Database) (context : Context) (invoke : ℕ) (request : Request) → request.object ≡ o
-    → Puts o d.configured (write_response rules d context invoke request)
-puts_write o rules d context invoke request is write e =
-    subst (λ (x : Object). place_of d.configured x ≡ Some write.place) is
-    (write_place d.configured request.object request.property request.index (priority_of request.priority) request.value write
-    (changed_by (allows rules (write_ask d context request)) _ write e))
-
-written_is : (body : Result Request BodyFault) (o : Object) (request : Request) → object_written body ≡ Some o → body ≡ Ok request → request.object ≡ o
-written_is body o request names is =
-    let some : Some request.object ≡ Some o = ap object_written (sym is) ∙ names in cc
-
-puts_service : (o : Object) (rules : List Rule) (d : Database) (context : Context) (request : ConfirmedRequest) (body : List ℕ)
-    → object_written (write_at body) ≡ Some o → Puts o d.configured (service_response rules d context request body)
-puts_service o rules d context request body names =
-    puts_if o d.configured (request.service == read_property) _ _
-    (puts_reject o d.configured request.invoke (read_response rules d context request) (read_at body) (λ read is write e. absurd (no_some write e)))
-    (puts_if o d.configured (request.service == read_property_multiple) _ _
-    (puts_reject o d.configured request.invoke (multi_response rules d context request) (multi_at body) (λ rs is write e. absurd (no_some write e)))
-    (puts_if o d.configured (request.service == write_property) _ _
-    (puts_reject o d.configured request.invoke (write_response rules d context request.invoke) (write_at body)
-    (λ asked is. puts_write o rules d context request.invoke asked (written_is (write_at body) o asked names is)))
-    (λ write e. absurd (no_some write e))))
-
-puts_header : (o : Object) (rules : List Rule) (d : Database) (context : Context) (by : Header) (body : List ℕ)
-    → header_writes by body ≡ Some o → Puts o d.configured (header_response rules d context by body)
-puts_header o rules d context (header.ConfirmedRequest request) body names = by (request.service == write_property) names
-  where
-    by : (b : Bool) → (if b then object_written (write_at body) else None) ≡ Some o → Puts o d.configured (confirmed_response rules d context request body)
-    by true names =
-        puts_if o d.configured context.broadcast _ _ (λ write e. absurd (no_some write e))
-        (puts_if o d.configured (is_some request.segment) _ _ (λ write e. absurd (no_some write e)) (puts_service o rules d context request body names))
-    by false names = absurd (no_some o names)
-puts_header o rules d context (header.UnconfirmedRequest service) body names = absurd (no_some o names)
-puts_header o rules d context (header.SimpleAck invoke service) body names = absurd (no_some o names)
-puts_header o rules d context (header.ComplexAck segment invoke service) body names = absurd (no_some o names)
-puts_header o rules d context (header.SegmentAck invoke sequence window) body names = absurd (no_some o names)
-puts_header o rules d context (header.Error invoke service) body names = absurd (no_some o names)
-puts_header o rules d context (header.Reject invoke reason) body names = absurd (no_some o names)
-puts_header o rules d context (header.Abort invoke reason) body names = absurd (no_some o names)
-
-puts_apdu : (o : Object) (rules : List Rule) (d : Database) (context : Context) (x : Result Apdu ApduFault) → apdu_writes x ≡ Some o
-    → Puts o d.configured (apdu_response rules d context x)
-puts_apdu o rules d context (Ok x) names = puts_header o rules d context x.header x.rest names
-puts_apdu o rules d context (Err fault) names = absurd (no_some o names)
-
-puts_device : (o : Object) (rules : List Rule) (d : Database) (context : Context) (octets : List ℕ) → apdu_writes (apdu_at octets) ≡ Some o
-    → Puts o d.configured (device_response rules d context octets)
-unfolding device_response
-puts_device o rules d context octets names = puts_apdu o rules d context (apdu_at octets) names
 
 -- ---- what doesn't rest on the slots and the defaults
 
 -- the change never does
-abbrev AlikeChange : Response → Response → Type 0
-AlikeChange x y = x.change ≡ y.change
-
-alike_if : (b : Bool) (x y v w : Response) → AlikeChange x v → AlikeChange y w → AlikeChange (if b then x else y) (if b then v else w)
-alike_if true x y v w f g = f
-alike_if false x y v w f g = g
-
-alike_reject : {B : Type 0} (invoke : ℕ) (f g : B → Response) (body : Result B BodyFault) → ((b : B) → AlikeChange (f b) (g b))
-    → AlikeChange (or_reject invoke f body) (or_reject invoke g body)
-alike_reject invoke f g (Ok b) each = each b
-alike_reject invoke f g (Err fault) each = refl
-
-alike_service : (rules : List Rule) (c : Configured) (s t : List Slots) (context : Context) (request : ConfirmedRequest) (body : List ℕ)
-    → AlikeChange (service_response rules (standing c s) context request body) (service_response rules (standing c t) context request body)
-alike_service rules c s t context request body =
-    alike_if (request.service == read_property) _ _ _ _
-    (alike_reject request.invoke (read_response rules (standing c s) context request) (read_response rules (standing c t) context request) (read_at body) (λ read. refl))
-    (alike_if (request.service == read_property_multiple) _ _ _ _
-    (alike_reject request.invoke (multi_response rules (standing c s) context request) (multi_response rules (standing c t) context request) (multi_at body) (λ rs. refl))
-    refl)
-
-alike_header : (rules : List Rule) (c : Configured) (s t : List Slots) (context : Context) (by : Header) (body : List ℕ)
-    → AlikeChange (header_response rules (standing c s) context by body) (header_response rules (standing c t) context by body)
-alike_header rules c s t context (header.ConfirmedRequest request) body =
-    alike_if context.broadcast _ _ _ _ refl (alike_if (is_some request.segment) _ _ _ _ refl (alike_service rules c s t context request body))
-alike_header rules c s t context (header.UnconfirmedRequest service) body = refl
-alike_header rules c s t context (header.SimpleAck invoke service) body = refl
-alike_header rules c s t context (header.ComplexAck segment invoke service) body = refl
-alike_header rules c s t context (header.SegmentAck invoke sequence window) body = refl
-alike_header rules c s t context (header.Error invoke service) body = refl
-alike_header rules c s t context (header.Reject invoke reason) body = refl
-alike_header rules c s t context (header.Abort invoke reason) body = refl
-
-alike_apdu : (rules : List Rule) (c : Configured) (s t : List Slots) (context : Context) (x : Result Apdu ApduFault)
-    → AlikeChange (apdu_response rules (standing c s) context x) (apdu_response rules (standing c t) context x)
-alike_apdu rules c s t context (Ok x) = alike_header rules c s t context x.header x.rest
-alike_apdu rules c s t context (Err fault) = refl
-
 alike_change : (rules : List Rule) (c : Configured) (s t : List Slots) (context : Context) (x : Option (List ℕ))
     → apdu_change rules (standing c s) context x ≡ apdu_change rules (standing c t) context x
-unfolding device_response
 alike_change rules c s t context None = refl
-alike_change rules c s t context (Some octets) = alike_apdu rules c s t context (apdu_at octets)
+alike_change rules c s t context (Some octets) = changes_rest_on_requests rules c s t context octets
 
 change_alike : (rules : List Rule) (c : Configured) (s t : List Slots) (received : Received)
     → change_for rules (standing c s) received ≡ change_for rules (standing c t) received
@@ -309,10 +59,6 @@ change_alike rules c s t (message m) =
     alike_change rules c s t (context_of c.device.network m) (apdu_for c.device.network m.npdu)
 
 -- the answer and the asks don't, where no ask to read the object is allowed
-rest_unread : (rules : List Rule) (o : Object) (xs ys : List Ask) → NoReadAllowed rules o (xs ++ ys) → NoReadAllowed rules o ys
-rest_unread rules o [] ys h = h
-rest_unread rules o (x ∷ xs) ys h = rest_unread rules o xs ys h.1
-
 answer_alike : (rules : List Rule) (o : Object) (c : Configured) (s t : List Slots) (context : Context) (x : Option (List ℕ)) → AgreeBut o c s t
     → NoReadAllowed rules o (apdu_asks rules (standing c t) context x)
     → (apdu_asks rules (standing c t) context x ≡ apdu_asks rules (standing c s) context x)
@@ -334,7 +80,7 @@ received_alike rules o relay c s t (message m) agree h =
     let asked = cast_asks (message m) ++ route_asks relay (message m) ++ asks_managed relay (message m) in
     let sent = cast_sends rules (message m) ++ route_sends rules relay (message m) ++ manage_sends rules relay (message m) in
     let same = answer_alike rules o c s t (context_of network m) (apdu_for network m.npdu) agree
-    (rest_unread rules o asked (message_asks rules (standing c t) m) h) in
+    (none_rest (AsksToRead o) rules asked (message_asks rules (standing c t) m) h) in
     (ap (λ (xs : List Ask). asked ++ xs) same.0, ap (λ (x : Option Answer). sent ++ answer_sends network m x) same.1)
 
 -- ---- one event
@@ -428,30 +174,24 @@ none_towards m (Some d) network = either _
     either true = refl
     either false = refl
 
-taken : Option (List ℕ) → Option Object
-taken x = option_and_then (λ octets. apdu_writes (apdu_at octets)) x
-
-no_learning : (rules : List Rule) (on : Link) (from : BipAddr) (network : ℕ) (f : Fields) (o : Object) → taken (apdu_for network f) ≡ Some o
+no_learning : (rules : List Rule) (on : Link) (from : BipAddr) (network : ℕ) (f : Fields) (o : Object) → option_and_then object_written (apdu_for network f) ≡ Some o
     → manage_change rules on from f ≡ None
-unfolding taken
 no_learning rules on from network f o names = by f.payload refl
   where
     by : (payload : Payload) → f.payload ≡ payload → manage_change rules on from f ≡ None
     by (apdu octets) is = rw is refl
     by (network_message m) is =
-        absurd (no_some o (sym (ap taken (ap (λ (p : Payload). apdu_towards network p f.destination) is ∙ none_towards m f.destination network)) ∙ names))
+        absurd (no_some o (sym (ap (option_and_then object_written) (ap (λ (p : Payload). apdu_towards network p f.destination) is ∙ none_towards m f.destination network)) ∙ names))
 
-puts_by : (o : Object) (rules : List Rule) (d : Database) (context : Context) (x : Option (List ℕ)) → taken x ≡ Some o
+puts_by : (o : Object) (rules : List Rule) (d : Database) (context : Context) (x : Option (List ℕ)) → option_and_then object_written x ≡ Some o
     → (write : Write) → apdu_change rules d context x ≡ Some write → place_of d.configured o ≡ Some write.place
-unfolding taken
 puts_by o rules d context None names write e = absurd (no_some o names)
-puts_by o rules d context (Some octets) names write e = puts_device o rules d context octets names write e
+puts_by o rules d context (Some octets) names write e = changes_are_in_place rules d context octets o names write e
 
 left_by : (w : State) (t : List Slots) (n : ℕ) (o : Object) (received : Received) (denials : ℕ) → object_of w.device received ≡ Some o
     → AgreeBut o w.device.configured w.device.states t
     → Alike o (stands w (moved (option_map Commit (relay_change_for w.rules received)) w.relay) (changed (change_for w.rules w.device received) w.device) (w.ticks + 0) denials)
     (with_slots w t n)
-unfolding taken
 left_by w t n o dropped denials names agree = absurd (no_some o names)
 left_by w t n o (managed on from frame) denials names agree = absurd (no_some o names)
 left_by w t n o (stranger m) denials names agree = absurd (no_some o names)

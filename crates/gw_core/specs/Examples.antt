@@ -3,7 +3,7 @@
 use Rattle.std.specs.Prelude.{◌≡◌, Bool, ℕ, zero, suc, ◌+◌, ◌-◌, ◌*◌, ◌^◌, true, false, List, [], ◌∷◌, ◌++◌, take, map, replicate, codes, Some, None, nat_lt, if◌then◌else◌}
 use Rattle.gw_addr.specs.declared.bip.BipAddr.{BipAddr}
 use Rattle.gw_rules.specs.Ask.{Ask}
-use Rattle.gw_rules.specs.Hides.{hides, reading}
+use Rattle.gw_rules.specs.Hides.{hides_from, hides_from_network}
 use Rattle.gw_rules.specs.declared.rule.Rule.{Rule}
 use Rattle.gw_core.specs.declared.effects.Effects.{Effects}
 use Rattle.gw_script.specs.Event.{Event, Datagram, Tick}
@@ -329,11 +329,13 @@ HiddenWriteIsUnseen =
 -- whether a rule list hides an object of that type and instance from the station, and from one without a key
 abbrev pub hides_both : List Rule → ℕ → ℕ → Bool × Bool
 hides_both rules kind instance =
-    (hides rules (reading 1 (Some 0xC0A80105BAC0) kind instance), hides rules (reading 1 None kind instance))
+    (hides_from rules 1 (Some 0xC0A80105BAC0) kind instance, hides_from rules 1 None kind instance)
 
--- A rule for all sources hides from both, and one that names a source not from who has no key. A denial that names a
--- property hides nothing. No rules hide all.
+-- A rule for all sources hides from both, and from the whole network; one that names a source hides not from who has no
+-- key, nor from the network. A denial that names a property hides nothing. No rules hide all.
 abbrev pub HidingIsSeen : Type 0
 HidingIsSeen =
     (hides_both setting.rules 5 2 ≡ (true, true)) × (hides_both setting.rules 5 1 ≡ (false, false))
     × (hides_both blinded.rules 19 1 ≡ (true, false)) × (hides_both [] 19 1 ≡ (true, true))
+    × (hides_from_network setting.rules 1 5 2 ≡ true) × (hides_from_network blinded.rules 1 19 1 ≡ false)
+    × (hides_from_network blinded.rules 1 5 2 ≡ true) × (hides_from_network [] 1 19 1 ≡ true)

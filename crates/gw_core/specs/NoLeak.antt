@@ -1,37 +1,25 @@
 -- What an event leaves to be seen of those before it: two lists of events, of which the second leaves some out.
-use Rattle.std.specs.Prelude.{◌≡◌, ℕ, Bool, true, false, List, [], ◌∷◌, map, take, Option, Some, None, IfSome, slice_get, ◌==◌, if◌then◌else◌}
+use Rattle.std.specs.Prelude.{◌≡◌, ℕ, Bool, true, false, List, [], ◌∷◌, map, take, Option, Some, None, IfSome, slice_get}
 use Rattle.std.specs.List.{Contains}
 use Rattle.std.specs.Option.{option_map, option_and_then}
 use Rattle.gw_addr.specs.declared.station.Source.{Source}
 use Rattle.gw_addr.specs.Station.{key_of}
-use Rattle.gw_apdu.specs.declared.fault.ApduFault.{ApduFault}
-use Rattle.gw_apdu.specs.declared.header.Header.{Header}
-use Rattle.gw_apdu.specs.declared.header.Header.TheVariants as header
-use Rattle.gw_apdu.specs.Apdu.{Fields as Apdu}
-use Rattle.gw_apdu.specs.Reading.{apdu_at}
 use Rattle.gw_audit.specs.declared.denial.Denial.{Denial}
-use Rattle.gw_device.specs.Laws.{NoReadAllowed}
-use Rattle.gw_device.specs.Services.{write_property}
+use Rattle.gw_device.specs.Laws.{NoReadAllowed, object_written}
 use Rattle.gw_objects.specs.Objects.{Database}
 use Rattle.gw_policy_text.specs.Configuration.{Configuration}
-use Rattle.gw_relay.specs.Claim.{here}
-use Rattle.gw_rules.specs.Ask.{Ask}
-use Rattle.gw_rules.specs.declared.operation.Operation.{Operation}
-use Rattle.gw_rules.specs.declared.operation.Operation.TheVariants.{Register, Delete, WriteTable, Learn, Write as Writing}
+use Rattle.gw_relay.specs.Claim.{claimed, here, link_source}
+use Rattle.gw_relay.specs.Laws.{AreFrom}
+use Rattle.gw_rules.specs.Allowed.{NoChangeAllowed}
 use Rattle.gw_rules.specs.declared.rule.Rule.{Rule}
 use Rattle.gw_rules.specs.Hides.{IsHidden}
-use Rattle.gw_rules.specs.Operation.{operation_number}
-use Rattle.gw_rules.specs.RuleList.{allows}
 use Rattle.gw_script.specs.Event.{Event, Datagram, Tick}
-use Rattle.gw_services.specs.declared.fault.BodyFault.{BodyFault}
-use Rattle.gw_services.specs.Write.{Write, write_at}
-use Rattle.std.specs.Prelude.{Result, Ok, Err}
 use Rattle.gw_tags.specs.Object.{Object}
 use Rattle.gw_core.specs.declared.effects.Effects.{Effects}
 use Rattle.gw_core.specs.declared.event.Counts.{Counts}
 use Rattle.gw_core.specs.Asks.{asks}
 use Rattle.gw_core.specs.History.{history_after, run, state_after}
-use Rattle.gw_core.specs.Receive.{Received, dropped, managed, stranger, message, receive}
+use Rattle.gw_core.specs.Receive.{Message, Received, dropped, managed, stranger, message, receive}
 use Rattle.gw_core.specs.Reply.{apdu_for}
 use Rattle.gw_core.specs.State.{State, device_network}
 
@@ -74,49 +62,18 @@ SeenAlike c k marks l place =
 
 -- ---- what is left out: writes of an object
 
--- the object that a WriteProperty names, whose body can be read
-abbrev pub object_written : Result Write BodyFault → Option Object
-object_written (Ok write) = Some write.object
-object_written (Err fault) = None
-
-abbrev pub header_writes : Header → List ℕ → Option Object
-header_writes (header.ConfirmedRequest request) body =
-    if request.service == write_property then object_written (write_at body) else None
-header_writes _ body = None
-
-abbrev pub apdu_writes : Result Apdu ApduFault → Option Object
-apdu_writes (Ok apdu) = header_writes apdu.header apdu.rest
-apdu_writes (Err fault) = None
-
 -- the object of a WriteProperty that the device takes
 abbrev pub object_of : Database → Received → Option Object
 object_of d dropped = None
 object_of d (managed on from frame) = None
 object_of d (stranger m) = None
-object_of d (message m) =
-    option_and_then (λ octets. apdu_writes (apdu_at octets)) (apdu_for (device_network d) m.npdu)
+object_of d (message m) = option_and_then object_written (apdu_for (device_network d) m.npdu)
 
 -- an event is a WriteProperty of the object that the device takes
 abbrev pub IsWriteOf : Object → State → Event → Type 0
 IsWriteOf o w e = object_of w.device (receive w e) ≡ Some o
 
 -- ---- what is left out: datagrams that may change nothing
-
--- the operations that change something
-abbrev pub changes : Operation → Bool
-changes Register = true
-changes Delete = true
-changes WriteTable = true
-changes Learn = true
-changes Writing = true
-changes _ = false
-
--- none of these asks is both for such an operation and allowed
-abbrev pub NoChangeAllowed : List Rule → List Ask → Type 0
-NoChangeAllowed rules [] = Unit {0}
-NoChangeAllowed rules (ask ∷ asks) =
-    ((operation : Operation) → changes operation ≡ true → ask.operation ≡ Some (operation_number operation) →
-    allows rules ask ≡ false) × NoChangeAllowed rules asks
 
 -- a datagram of whose asks none that would change something is allowed
 abbrev pub IsQuiet : State → Event → Type 0
@@ -139,6 +96,12 @@ claim (stranger m) = Some m.claim
 claim (message m) = Some m.claim
 
 -- ---- the laws
+
+-- A message claims what its NPDU and its frame say, and each ask that it raises is of that source.
+abbrev pub AsksCarryTheirClaim : Type 0
+AsksCarryTheirClaim =
+    (w : State) (e : Event) (m : Message) → receive w e ≡ message m →
+    (m.claim ≡ claimed m.here.port.network (link_source m.from m.frame) m.npdu) × AreFrom m.claim (asks w e)
 
 -- Where all that is left out are writes of an object, an event is seen to do the same if it claims to come from one of
 -- those that may not read the object, whatever it asks.

@@ -1,7 +1,7 @@
 //! Laws of the definitions, and worked examples of them. The functions do nothing: their contracts are the laws.
 
 ghost use Rattle.gw_core.specs.Examples.{AllArePlaced, BroadcastIsDistributed, CountsEnd, DeniedWriteIsUnseen, DenialsAreCountedOn, EachCutIsDropped, GlobalWhoIsGoesOn, HiddenObjectIsUntold, HiddenReadIsDenied, HiddenWriteIsUnseen, HidingIsSeen, LearnedRouteIsTaken, LocalReadIsUnheard, ReadIsAnswered, RegistrationEnds, RelinquishIsSeen, RoutedReadIsAnswered, UnknownNetworkIsSought, UnknownObjectIsTold, WhoIsIsAnswered, WriteIsSeen, WrongLengthsAreDropped};
-ghost use Rattle.gw_core.specs.NoLeak.{QuietIsUnseen, WritesAreHidden, WritesAreUnread};
+ghost use Rattle.gw_core.specs.NoLeak.{AsksCarryTheirClaim, QuietIsUnseen, WritesAreHidden, WritesAreUnread};
 ghost use Rattle.gw_core.specs.Laws.{AllowedTrafficIsSent, ConfigurationStays, DeniedAsksAreLogged, DeniedBroadcastsAreKept, DeniedReadsAreRefused, DeniedWritesAreRefused, DenialsAreCounted, DenialsHaveTheirTick, DroppedNeedsNoMemory, LogIsNumbered, NothingAskedIsChanged, NothingAskedIsLogged, NothingAskedIsWritten, RelayTicksAreCounted, RunsExtendHistories, StepsExtendHistories, TicksAreCounted, TicksOnlyCount};
 
 /// What holds after every history: each step extends it, and so does each list of events; and what is
@@ -71,4 +71,5 @@ pub fn no_leak()
     ensures hidden { WritesAreHidden }
     ensures unread { WritesAreUnread }
     ensures quiet { QuietIsUnseen }
+    ensures claims { AsksCarryTheirClaim }
 {}

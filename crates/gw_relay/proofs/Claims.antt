@@ -21,7 +21,7 @@ use Rattle.gw_rules.specs.declared.rule.Rule.{Rule}
 use Rattle.gw_relay.specs.Asks.{link_ask, link_asks}
 use Rattle.gw_relay.specs.Cast.{cast_asks, goes_on, is_broadcast}
 use Rattle.gw_relay.specs.Claim.{claimed, link_source}
-use Rattle.gw_relay.specs.Laws.{AreFrom, BroadcastsCarryTheirClaim, NetworkMessagesCarryTheirClaim, RoutesAreKept, RoutingCarriesTheClaim, TablesAreKept}
+use Rattle.gw_relay.specs.Laws.{AreFrom, BroadcastsCarryTheirClaim, NetworkMessagesCarryTheirClaim, RoutesAreKept, RoutingCarriesTheClaim, TableAsksReadNothing, TablesAreKept}
 use Rattle.gw_relay.specs.Link.{link_change}
 use Rattle.gw_relay.specs.Manage.{is_learned, is_number_question, is_question, learn_ask, learn_steps, learned, manage_asks, networks_in, question_of, question_steps}
 use Rattle.gw_relay.specs.Route.{copy, is_local, leaves, others, route_asks, steps_by}
@@ -62,6 +62,21 @@ tables_are_kept rules on from (bvll.read_fdt_ack entries) h = refl
 tables_are_kept rules on from (bvll.distribute npdu) h = refl
 tables_are_kept rules on from (bvll.original_unicast npdu) h = refl
 tables_are_kept rules on from (bvll.original_broadcast npdu) h = refl
+
+-- and no ask about one is to read a property
+pub table_asks_read_nothing : TableAsksReadNothing
+table_asks_read_nothing port from (bvll.write_bdt entries) = (λ e. absurd cc, tt)
+table_asks_read_nothing port from (bvll.register time_to_live) = (λ e. absurd cc, tt)
+table_asks_read_nothing port from (bvll.delete address) = (λ e. absurd cc, tt)
+table_asks_read_nothing port from bvll.read_bdt = (λ e. absurd cc, tt)
+table_asks_read_nothing port from bvll.read_fdt = (λ e. absurd cc, tt)
+table_asks_read_nothing port from (bvll.result_code code) = tt
+table_asks_read_nothing port from (bvll.read_bdt_ack entries) = tt
+table_asks_read_nothing port from (bvll.forwarded originator npdu) = tt
+table_asks_read_nothing port from (bvll.read_fdt_ack entries) = tt
+table_asks_read_nothing port from (bvll.distribute npdu) = tt
+table_asks_read_nothing port from (bvll.original_unicast npdu) = tt
+table_asks_read_nothing port from (bvll.original_broadcast npdu) = tt
 
 -- ---- the routes
 

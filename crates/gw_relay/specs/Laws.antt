@@ -12,7 +12,7 @@ use Rattle.gw_bdt_fdt.specs.Registrations.{same}
 use Rattle.gw_bvll.specs.Bvll.{Message as Frame}
 use Rattle.gw_npdu.specs.Npdu.{Fields}
 use Rattle.gw_policy_text.specs.declared.port.Port.{Port as ConfiguredPort}
-use Rattle.gw_rules.specs.declared.operation.Operation.TheVariants.{Learn}
+use Rattle.gw_rules.specs.declared.operation.Operation.TheVariants.{Learn, Read}
 use Rattle.gw_rules.specs.declared.rule.Rule.{Rule}
 use Rattle.gw_rules.specs.Allowed.{NoChangeAllowed, NoneAllowed}
 use Rattle.gw_rules.specs.Ask.{Ask, IsFor, IsFrom}
@@ -64,6 +64,12 @@ abbrev pub TablesAreKept : Type 0
 TablesAreKept =
     (rules : List Rule) (on : Link) (from : BipAddr) (frame : Frame) →
     NoChangeAllowed rules (link_asks on.port from frame) → link_change rules on from frame ≡ None
+
+-- An ask about a table is for no property.
+abbrev pub TableAsksReadNothing : Type 0
+TableAsksReadNothing =
+    (port : Port) (from : BipAddr) (frame : Frame) →
+    AllByRecursion (λ ask. IsFor Read ask → ⊥) (link_asks port from frame)
 
 -- Nothing is learned where no ask of the message to learn is allowed.
 abbrev pub RoutesAreKept : Type 0

@@ -1,7 +1,7 @@
 //! What the words of the relay mean, proved of every change, every history and every table, for a
 //! reader of the definitions that contracts here and in the crates above cite. The functions do
 //! nothing.
-ghost use Rattle.gw_relay.specs.Laws.{AllOnesReachTheManager, BroadcastsCarryTheirClaim, ChangesExtendHistories, ConfiguredLinksStand, NetworkMessagesCarryTheirClaim, OwnEntryIsLeftOut, RoutesAreKept, RoutingCarriesTheClaim, SenderIsLeftOut, TablesAreKept, TicksExtendHistories};
+ghost use Rattle.gw_relay.specs.Laws.{AllOnesReachTheManager, BroadcastsCarryTheirClaim, ChangesExtendHistories, ConfiguredLinksStand, NetworkMessagesCarryTheirClaim, OwnEntryIsLeftOut, RoutesAreKept, RoutingCarriesTheClaim, SenderIsLeftOut, TableAsksReadNothing, TablesAreKept, TicksExtendHistories};
 
 /// The ports' tables are those of the last granted entries, and of the granted registrations and
 /// deletions and the ticks: so they begin, and each change and each tick extends that.
@@ -20,9 +20,11 @@ pub fn distribution()
     ensures all_ones { AllOnesReachTheManager }
 {}
 
-/// No table changes and nothing is learned without an ask for it that is allowed.
+/// No table changes and nothing is learned without an ask for it that is allowed; and no ask about a
+/// table is to read a property.
 pub fn changes()
     ensures tables { TablesAreKept }
+    ensures asks { TableAsksReadNothing }
     ensures routes { RoutesAreKept }
 {}
 

@@ -1,6 +1,6 @@
 use Rattle.gw_core.proofs.QuietLemmas.{quiet_is_unseen}
 use Rattle.gw_core.proofs.WriteLemmas.{writes_are_unread}
-use Rattle.gw_core.proofs.BlindLemmas.{writes_are_hidden}
+use Rattle.gw_core.proofs.BlindLemmas.{asks_carry_their_claim, writes_are_hidden}
 use Rattle.gw_core.proofs.laws.no_leak.Goals as goal
 
 pub returns-clause-hidden : goal.returns-clause-hidden
@@ -11,3 +11,6 @@ returns-clause-unread c = writes_are_unread
 
 pub returns-clause-quiet : goal.returns-clause-quiet
 returns-clause-quiet c = quiet_is_unseen
+
+pub returns-clause-claims : goal.returns-clause-claims
+returns-clause-claims c = asks_carry_their_claim
