@@ -20,5 +20,5 @@ pub fn changes()
 
 /// Every ask has the source of the APDU's context.
 pub fn asks()
-    ensures source { AsksHaveTheirSource }
+    ensures { AsksHaveTheirSource }
 {}

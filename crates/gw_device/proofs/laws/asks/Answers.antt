@@ -1,5 +1,5 @@
 use Rattle.gw_device.proofs.Changes.{asks_have_their_source}
 use Rattle.gw_device.proofs.laws.asks.Goals as goal
 
-pub returns-clause-source : goal.returns-clause-source
-returns-clause-source c = asks_have_their_source
+pub returns : goal.returns
+returns c = asks_have_their_source
