@@ -75,11 +75,13 @@ def try_crate(name):
         (room / "crates").mkdir()
         for part in ["crates.txt", "HANDLES"]:
             shutil.copy(top / part, room)
-        for other in (top / "crates").iterdir():
-            if other.name != name:
-                (room / "crates" / other.name).symlink_to(other)
         crate = room / "crates" / name
-        subprocess.run(["cp", "-a", "--reflink=auto", top / "crates" / name, crate], check=True)
+        for it in (top / "crates").iterdir():
+            # The others stay as they are: their files are linked, where the folder for temporary files is on the same disk.
+            how = ["cp", "-a", "--reflink=auto"] if it.name == name else ["cp", "-al"]
+            if subprocess.run([*how, it, room / "crates"], stderr=subprocess.DEVNULL).returncode != 0:
+                shutil.rmtree(room / "crates" / it.name, ignore_errors=True)
+                subprocess.run(["cp", "-a", it, room / "crates"], check=True)
         status, said = check(crate, 2)
         if status != 0:
             print(f"NOT TRIED: {name} isn't proved itself: {said.splitlines()[-1]}", flush=True)

@@ -70,6 +70,9 @@ next_numbered w n Tick = refl
 -- ---- one event
 
 -- the asks of a part of the whole
+front_quiet : (rules : List Rule) (xs ys : List Ask) → NoChangeAllowed rules (xs ++ ys) → NoChangeAllowed rules xs
+front_quiet rules xs ys h operation changes_it = none_front (IsFor operation) rules xs ys (h operation changes_it)
+
 part_quiet : (rules : List Rule) (xs ys zs : List Ask) → NoChangeAllowed rules (xs ++ ys ++ zs) → NoChangeAllowed rules ys
 part_quiet rules xs ys zs h operation changes_it =
     none_rest (IsFor operation) rules xs ys (none_front (IsFor operation) rules (xs ++ ys) zs (h operation changes_it))
@@ -88,8 +91,11 @@ quiet_relay : (rules : List Rule) (relay : Relay) (d : Database) (received : Rec
 quiet_relay rules relay d dropped h = refl
 quiet_relay rules relay d (stranger m) h = refl
 quiet_relay rules relay d (managed on from frame) h =
+    let asked = received_asks (managed on from frame) in
     ap (λ (change : Option Change). moved (option_map Commit change) relay)
-    (tables_are_kept rules on from frame (part_quiet rules [] (received_asks (managed on from frame)) [] h))
+    (tables_are_kept rules on from frame
+    (front_quiet rules asked [] (front_quiet rules (asked ++ []) [] (front_quiet rules (asked ++ [] ++ []) []
+    (front_quiet rules (asked ++ [] ++ [] ++ []) [] h)))))
 quiet_relay rules relay d (message m) h =
     routes_are_kept rules relay m.here m.link m.npdu
     (part_quiet rules (cast_asks (message m) ++ route_asks relay (message m)) (asks_managed relay (message m)) (message_asks rules d m) h
