@@ -141,9 +141,11 @@ claimed_so w e m is = subst IfMessage is (message_at w e)
 pub asks_carry_their_claim : AsksCarryTheirClaim
 unfolding asks
 asks_carry_their_claim w e m is =
-    let so = claimed_so w e m is in
-    (so.claim, subst (λ (received : Received). AreFrom m.claim (asks_for w.rules w.relay w.device received)) (sym is)
-    (from_message w.rules w.relay w.device m so))
+    let so = claimed_so w e m is in (
+      so.claim,
+      subst (λ (received : Received). AreFrom m.claim (asks_for w.rules w.relay w.device received)) (sym is)
+          (from_message w.rules w.relay w.device m so),
+    )
 
 -- ---- who is blind
 
