@@ -1,7 +1,7 @@
 -- Turns one after the other, and what one turn comes to.
 use Rattle.std.proofs.Common.{◌≡◌, ℕ, ◌+◌, ◌-◌, ◌*◌, ◌^◌, ◌<◌, ◌≤◌, List, [], ◌∷◌, ◌++◌, length, map, Option, Some, None, Bool, true}
 use Rattle.std.proofs.Common.{false, not, cond, refl, sym, ap, ap₂, subst, ◌∙◌, append_assoc, add_assoc, add-zero, arith}
-use Rattle.std.specs.Prelude.{◌↔◌, Ok, Err, IsErrOf}
+use Rattle.std.specs.Prelude.{Ok, Err}
 use Rattle.std.specs.List.{flat_map}
 use Rattle.std.specs.Option.{option_map}
 use Rattle.std.specs.Io.KnownBytes.{Appends}
@@ -15,8 +15,6 @@ use Rattle.gw_script.specs.declared.event.Event.{Event as LentEvent}
 use Rattle.gw_script.specs.Event.{Event, event_view}
 use Rattle.gw_core.specs.declared.effects.Effects.{Effects}
 use Rattle.gw_relay.specs.Sends.{Sending}
-use Rattle.gw_core.specs.declared.fault.StepFault.{StepFault}
-use Rattle.gw_core.specs.declared.fault.StepFault.TheVariants as step
 use Rattle.gw_core.specs.declared.serving.Served.{Served}
 use Rattle.gw_core.specs.declared.serving.ServeFault.{ServeFault}
 use Rattle.gw_core.specs.declared.serving.ServeFault.TheVariants.{Log, Memory, CountEnd}
@@ -28,7 +26,6 @@ use Rattle.gw_core.specs.Serve.{count_turn, counts_after, turn_events, events_of
 use Rattle.gw_core.specs.Serve.{empty_turn, failed_turn, lost_event, taken_event, try_call, turn_calls}
 use Rattle.gw_core.specs.ServeTurn.{AreTried, HasRoom, LogEnd, TurnEnd, event_answer, wire_counts}
 use Rattle.gw_core.specs.State.{State}
-use Rattle.gw_core.proofs.HistoryLemmas.{fault_is}
 use Rattle.gw_core.specs.Wire.{Call, Tells, arrival, arrival_of, receive_call}
 
 -- ---- what a wire tells
@@ -252,29 +249,11 @@ tried_failures sendings told tells s t n m p =
 
 -- ---- the end of a turn
 
-not_true : (b : Bool) → (b ≡ true → ⊥) → b ≡ false
-not_true true never = absurd (never refl)
-not_true false never = refl
-
 -- a receive whose event is known
 pub arrives : (told tells : Option (List Call)) (event known : Option LentEvent) → event ≡ known
     → Tells told tells (receive_call (event_answer (Ok event)) ∷ []) → Tells told tells (arrival_of (option_map event_view known) ∷ [])
 arrives told tells event known is calls =
     subst (λ (x : Option LentEvent). Tells told tells (arrival_of (option_map event_view x) ∷ [])) is calls
-
--- an event that was taken passes the end of no count
-pub within_counts : {T : Type 0} (passes : Bool) (given : T)
-    → (IsErrOf {T = T} {E = StepFault} (Ok given) step.CountEnd ↔ (passes ≡ true)) → passes ≡ false
-within_counts {T} passes given ends = not_true passes (λ does.
-    let said : IsErrOf {T = T} {E = StepFault} (Ok given) step.CountEnd = ends.1 does in
-    absurd cc)
-
--- nor does one for which memory was wanted
-pub wanted_within_counts : {T : Type 0} (passes : Bool) (fault : StepFault) → fault ≡ step.Memory
-    → (IsErrOf {T = T} {E = StepFault} (Err fault) step.CountEnd ↔ (passes ≡ true)) → passes ≡ false
-wanted_within_counts {T} passes fault is ends = not_true passes (λ does.
-    let said : fault ≡ step.CountEnd = fault_is {T = T} fault step.CountEnd (ends.1 does) in
-    absurd cc)
 
 -- the last event of a stop, and the counts then
 pub ends_by : (fault : ServeFault) (a b : Scene) (event : Event) (x : Effects) (s : Served) → x ≡ effects_at a.gateway event

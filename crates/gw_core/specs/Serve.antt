@@ -38,7 +38,7 @@ pub data Turn : Type 0 where
 abbrev pub IsTurn : State → Turn → Type 0
 IsTurn w empty_turn = ⊤
 IsTurn w failed_turn = ⊤
-IsTurn w (lost_event event) = (passes_end w event ≡ false) × ¬ (NeedsNoMemory w event)
+IsTurn w (lost_event event) = ¬ (NeedsNoMemory w event)
 IsTurn w (taken_event event tries) =
     (passes_end w event ≡ false) × (map (λ t. t.sending) tries ≡ (effects_at w event).sends)
 

@@ -1,5 +1,8 @@
 //! Why an event isn't taken.
 
+ghost use Rattle.std.specs.Prelude.{◌≡◌};
+
+use std::alloc::AllocError;
 use thiserror::Error;
 
 /// Why an event isn't taken. The gateway is then as it was.
@@ -11,4 +14,12 @@ pub enum StepFault {
     /// 2: the count of ticks or the number of the last denial would pass 2^63.
     #[error("count at its end")]
     CountEnd,
+}
+
+impl From<AllocError> for StepFault {
+    ghost from_gives = { λ _ fault. fault ≡ Memory };
+
+    fn from(_: AllocError) -> Self {
+        StepFault::Memory
+    }
 }

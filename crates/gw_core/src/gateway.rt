@@ -20,7 +20,6 @@ ghost use Rattle.gw_core.specs.Effects.{changed};
 ghost use Rattle.gw_core.specs.History.{with_granted};
 ghost use Rattle.gw_script.specs.Event.{Datagram, Tick};
 
-use crate::count::left_by;
 use crate::denial::denials_of;
 use crate::effects::Effects;
 use crate::event::Counts;
@@ -46,11 +45,6 @@ struct Outcome {
     change: Option<RelayChange>,
     write: Option<Change>,
 }
-
-/// A datagram isn't taken: a growth was refused, or the number of the last denial would pass its
-/// end.
-#[derive(Clone, Copy, Debug)]
-struct NotTaken;
 
 /// Makes a change of the relay, where there is one. The only fault is want of memory; then nothing
 /// changed.
@@ -172,8 +166,9 @@ impl Gateway {
         LAST_COUNT - self.counts.denials
     }
 
-    /// What is done about what is received, while the gateway stays as it is.
-    fn outcome(&self, alloc: Global, received: &Received<'_>) -> Result<Outcome, NotTaken>
+    /// What is done about what is received, while the gateway stays as it is. The faults are those of
+    /// [`Gateway::step`].
+    fn outcome(&self, alloc: Global, received: &Received<'_>) -> Result<Outcome, StepFault>
         requires { self.now.denials ≤ 2 ^ 63 }
         ensures effects { let received = received_view received.now in
             IfOk result (λ outcome. outcome.effects ≡ effects_for self.now received) }
@@ -186,33 +181,26 @@ impl Gateway {
         ensures place { IfOk result (λ outcome. HasPlace self.now.device outcome.write) }
         ensures room { let received = received_view received.now in IsOk result →
             self.now.denials + length (denials_for self.now received) ≤ 2 ^ 63 }
+        ensures count_end { IsErrOf result StepFault.CountEnd →
+            2 ^ 63 < self.now.denials + length (denials_for self.now (received_view received.now)) }
         ensures silent { let received = received_view received.now in
             asks_for self.now.rules self.now.relay self.now.device received ≡ [] →
             sends_for self.now.rules self.now.relay self.now.device received ≡ [] → IsOk result }
     {
         let rules = self.policy.rules();
-        let Ok(Response { relayed, write }) = respond(
-            alloc,
-            &self.policy,
-            &self.relay,
-            &self.device,
-            received,
-        ) else {
-            return Err(NotTaken);
-        };
+        let Response { relayed, write } =
+            respond(alloc, &self.policy, &self.relay, &self.device, received)?;
         if relayed.refusals.len() as u64 > self.left() {
-            return Err(NotTaken);
+            return Err(StepFault::CountEnd);
         }
-        let Ok(denials) = denials_of(
+        let denials = denials_of(
             alloc,
             rules,
             self.counts.denials + 1,
             self.counts.ticks,
             received,
             relayed.refusals.as_slice(),
-        ) else {
-            return Err(NotTaken);
-        };
+        )?;
         Ok(Outcome {
             effects: Effects {
                 sends: relayed.sends,
@@ -221,23 +209,6 @@ impl Gateway {
             change: relayed.change,
             write,
         })
-    }
-
-    /// Why what is received isn't taken: the end of the count comes before any want of memory.
-    fn fault(&self, received: &Received<'_>) -> StepFault
-        ensures { let received = received_view received.now in result ≡ StepFault.CountEnd
-            ↔ (2 ^ 63 < self.now.denials + length (denials_for self.now received)) }
-    {
-        match left_by(
-            &self.policy,
-            &self.relay,
-            &self.device,
-            received,
-            self.left(),
-        ) {
-            Some(_) => StepFault::Memory,
-            None => StepFault::CountEnd,
-        }
     }
 
     /// Moves on by a datagram: makes its change of the relay and its write to the device, where there
@@ -278,8 +249,8 @@ impl Gateway {
     ///
     /// # Errors
     ///
-    /// 1 `Memory` where a growth was refused, and 2 `CountEnd` where the number of the last denial
-    /// would pass 2^63. Then nothing changed, and the datagram isn't taken.
+    /// 1 `Memory` where a growth was refused, whatever would come after it, and 2 `CountEnd` where the
+    /// number of the last denial would pass 2^63. Then nothing changed, and the datagram isn't taken.
     pub fn step(
         &mut self,
         alloc: Global,
@@ -299,9 +270,9 @@ impl Gateway {
         // and the routes what the networks left that were granted to be learned.
         ensures routes { OnOk result
             (RoutesGoOn self.old (Datagram port from octets.now) self.new) }
-        // The end of a count comes before any want of memory.
+        // Only an event that passes the end of a count; none that does is taken.
         ensures count_end { IsErrOf result StepFault.CountEnd
-            ↔ (passes_end self.old (Datagram port from octets.now) ≡ true) }
+            → passes_end self.old (Datagram port from octets.now) ≡ true }
         // Memory only where something is asked or sent.
         ensures silent { NeedsNoMemory self.old (Datagram port from octets.now) → IsOk result }
         ensures err { OnErr result (self.new ≡ self.old) }
@@ -309,20 +280,13 @@ impl Gateway {
         let now = &*self;
         let network = network_of(&now.device);
         let received = receive_on(now.relay.links(), network, port, from, octets);
-        let Ok(
-            Outcome {
-                effects,
-                change,
-                write,
-            },
-        ) = now.outcome(alloc, &received)
-        else {
-            return Err(now.fault(&received));
-        };
-        match self.move_on(change, write, effects.denials.len() as u64) {
-            Ok(()) => Ok(effects),
-            Err(_) => Err(StepFault::Memory),
-        }
+        let Outcome {
+            effects,
+            change,
+            write,
+        } = now.outcome(alloc, &received)?;
+        self.move_on(change, write, effects.denials.len() as u64)?;
+        Ok(effects)
     }
 
     /// Takes a tick. `CountEnd` where the count of ticks would pass 2^63; then nothing changed.

@@ -3,7 +3,6 @@
 //! What an event does is defined in `specs/`, and each answer of a [`Gateway`] is proved to be that, for every history of events.
 #![tactic(auto)]
 
-mod count;
 mod denial;
 mod effects;
 mod event;

@@ -1,6 +1,6 @@
 //! A run: what a gateway answers to a list of events.
 
-ghost use Rattle.std.specs.Prelude.{◌≡◌, ◌↔◌, ℕ, IfOk, IsErrOf, OnOk, OnErr, map, true};
+ghost use Rattle.std.specs.Prelude.{◌≡◌, ℕ, IfOk, IsOk, IsErrOf, OnOk, OnErr, map, false, true};
 ghost use Rattle.gw_script.specs.Event.{event_view};
 ghost use Rattle.gw_core.specs.Effects.{NeedsNoMemory, effects_at, passes_end};
 ghost use Rattle.gw_core.specs.History.{HasTaken, StopsAtEnd, next, run_from, state_from};
@@ -19,7 +19,8 @@ pub(crate) fn take_event(
 ) -> Result<Effects, StepFault>
     ensures given { IfOk result (λ given. given ≡ effects_at gateway.old (event_view event.now)) }
     ensures moved { OnOk result (gateway.new ≡ next gateway.old (event_view event.now)) }
-    ensures count_end { IsErrOf result StepFault.CountEnd ↔ (passes_end gateway.old (event_view event.now) ≡ true) }
+    ensures within { IsOk result → passes_end gateway.old (event_view event.now) ≡ false }
+    ensures count_end { IsErrOf result StepFault.CountEnd → passes_end gateway.old (event_view event.now) ≡ true }
     ensures memory { IsErrOf result StepFault.Memory → ¬ (NeedsNoMemory gateway.old (event_view event.now)) }
     ensures err { OnErr result (gateway.new ≡ gateway.old) }
 {

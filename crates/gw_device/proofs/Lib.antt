@@ -2,4 +2,3 @@ pub mod Changes
 pub mod Found
 pub mod Unread
 pub mod Speaks
-pub mod Counting

@@ -19,7 +19,7 @@ ghost use Rattle.gw_device.specs.WhoHas.{who_has_response};
 ghost use Rattle.gw_device.specs.WhoIs.{who_is_response};
 ghost use Rattle.gw_device.specs.Write.{write_response};
 
-use crate::{Change, Context, Reply, count, dispatch, read, who_has, who_is, write};
+use crate::{Change, Context, Reply, dispatch, read, who_has, who_is, write};
 use gw_apdu::ConfirmedRequest;
 use gw_objects::{Configured, ObjectDb};
 use gw_policy_text::Config;
@@ -90,14 +90,6 @@ impl Device {
             device_answer rules self.now context.now apdu.now ≡ None → IsOk result }
     {
         dispatch::answer(alloc, &self.objects, judge, context, apdu)
-    }
-
-    /// How many of the asks for an APDU the policy denies. It takes no memory.
-    pub fn count_denied<J: Judge>(&self, judge: &J, context: &Context, apdu: &[u8]) -> u64
-        ensures count { (rules : List Rule) → J.StandsFor judge.now rules →
-            result ≡ length (denied_of rules (device_asks rules self.now context.now apdu.now)) }
-    {
-        count::count_denied(&self.objects, judge, context, apdu)
     }
 
     /// What the device gives to a ReadProperty (clause 15.5), whose header says which client it is

@@ -4,7 +4,6 @@
 
 mod ask;
 mod context;
-mod count;
 mod device;
 mod dispatch;
 mod error;

@@ -29,7 +29,7 @@ use gw_tags::ObjectId;
 use std::alloc::{AllocError, Global};
 
 /// The ask for a property.
-pub(crate) fn multi_ask(
+fn multi_ask(
     objects: &ObjectDb,
     context: &Context,
     object: ObjectId,

@@ -21,7 +21,7 @@ use gw_services::{ReadReq, write_read_answer_head, write_read_answer_tail};
 use std::alloc::{AllocError, Global};
 
 /// The ask that a request raises.
-pub(crate) fn read_ask(objects: &ObjectDb, context: &Context, request: &ReadReq) -> Ask
+fn read_ask(objects: &ObjectDb, context: &Context, request: &ReadReq) -> Ask
     ensures { result ≡ read_ask objects.now context.now (read_view request.now) }
 {
     property_ask(
@@ -35,7 +35,7 @@ pub(crate) fn read_ask(objects: &ObjectDb, context: &Context, request: &ReadReq)
 }
 
 /// The request by the device's real instance.
-pub(crate) fn named_read(objects: &ObjectDb, request: &ReadReq) -> ReadReq
+fn named_read(objects: &ObjectDb, request: &ReadReq) -> ReadReq
     ensures { read_view result ≡ named_read objects.now (read_view request.now) }
 {
     ReadReq {

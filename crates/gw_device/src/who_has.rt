@@ -28,7 +28,7 @@ const UTF_8: u8 = 0;
 const MOST_OCTETS: usize = 16;
 
 /// The object that is sought, whether or not it is there; by a name, the one that has it.
-pub(crate) fn sought_object(objects: &ObjectDb, sought: &Sought<'_>) -> Option<ObjectId>
+fn sought_object(objects: &ObjectDb, sought: &Sought<'_>) -> Option<ObjectId>
     ensures { option_map object_view result ≡ sought_object objects.now.configured
         (sought_view sought.now) }
 {
@@ -39,7 +39,7 @@ pub(crate) fn sought_object(objects: &ObjectDb, sought: &Sought<'_>) -> Option<O
     }
 }
 
-pub(crate) fn who_has_ask(configured: &Configured, context: &Context, object: ObjectId) -> Ask
+fn who_has_ask(configured: &Configured, context: &Context, object: ObjectId) -> Ask
     ensures { result ≡ who_has_ask configured.now context.now (object_view object) }
 {
     property_ask(

@@ -42,7 +42,7 @@ pub(crate) fn put_unconfirmed(out: &mut Vec<u8>, service: u8) -> Result<(), Allo
     put_slice(out, &[UNCONFIRMED_REQUEST, service])
 }
 
-pub(crate) fn who_is_ask(configured: &Configured, context: &Context) -> Ask
+fn who_is_ask(configured: &Configured, context: &Context) -> Ask
     ensures { result ≡ who_is_ask configured.now context.now }
 {
     property_ask(

@@ -38,7 +38,7 @@ fn priority_of(request: &WriteReq<'_>) -> u8
 }
 
 /// The ask that a request raises.
-pub(crate) fn write_ask(objects: &ObjectDb, context: &Context, request: &WriteReq<'_>) -> Ask
+fn write_ask(objects: &ObjectDb, context: &Context, request: &WriteReq<'_>) -> Ask
     ensures { result ≡ write_ask objects.now context.now (write_view request.now) }
 {
     let ask = property_ask(

@@ -17,25 +17,12 @@ use Rattle.gw_relay.specs.Steps.{asks_of}
 use Rattle.gw_relay.specs.declared.change.Change.{Change}
 use Rattle.gw_relay.specs.declared.change.Change.TheVariants.{Learnings}
 use Rattle.gw_relay.specs.declared.port.Link.{Link}
-use Rattle.gw_relay.specs.internal.Counts.{copy_asks}
 
 -- each copy of a global broadcast is asked for
 pub each_copy_asks : (here : Link) (from : BipAddr) (npdu : Fields) (d : Destination) (links : List Link)
     → asks_of (map (copy here from npdu d) links) ≡ [] → links ≡ []
 each_copy_asks here from npdu d [] none = refl
 each_copy_asks here from npdu d (link ∷ links) none = absurd cc
-
--- what is asked for the copies
-pub copies_asked : (here : Link) (from : BipAddr) (npdu : Fields) (d : Destination) (links : List Link)
-    → asks_of (map (copy here from npdu d) links) ≡ map (λ link. route_ask here from npdu (Some link.port.network)) links
-copies_asked here from npdu d [] = refl
-copies_asked here from npdu d (link ∷ links) =
-    ap (λ (asks : List Ask). route_ask here from npdu (Some link.port.network) ∷ asks) (copies_asked here from npdu d links)
-
-pub everywhere_asks : (links : List Link) (here : Link) (from : BipAddr) (npdu : Fields) (d : Destination) (to : Way) → to ≡ Everywhere
-    → asks_of (steps_by links here from npdu d to) ≡ copy_asks here from npdu links
-everywhere_asks links here from npdu d to is =
-    ap (λ (w : Way). asks_of (steps_by links here from npdu d w)) is ∙ copies_asked here from npdu d (others here.port.number links)
 
 pub everywhere_silent : (links : List Link) (here : Link) (from : BipAddr) (npdu : Fields) (d : Destination) (to : Way) → to ≡ Everywhere
     → asks_of (steps_by links here from npdu d to) ≡ [] → others here.port.number links ≡ []

@@ -6,4 +6,3 @@ pub mod Ticks
 pub mod Serving
 pub mod Passing
 pub mod Outgoing
-pub mod Counts

@@ -45,7 +45,7 @@ fn directed(entry: &BdtEntry) -> BipAddr
 }
 
 /// Whether a frame is a broadcast.
-pub(crate) fn is_broadcast(frame: &Bvll<'_>) -> bool
+fn is_broadcast(frame: &Bvll<'_>) -> bool
     ensures { result ≡ is_broadcast (frame_view frame.now) }
 {
     matches!(

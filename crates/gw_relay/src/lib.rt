@@ -8,7 +8,6 @@
 mod ask;
 mod cast;
 mod change;
-mod count;
 mod initial;
 pub mod laws;
 mod link;

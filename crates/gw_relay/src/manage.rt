@@ -51,14 +51,14 @@ fn is_for_all(npdu: &Npdu<'_>) -> bool
 }
 
 /// Whether a message asks for routers.
-pub(crate) fn is_question(npdu: &Npdu<'_>) -> bool
+fn is_question(npdu: &Npdu<'_>) -> bool
     ensures { result ≡ is_question (npdu_view npdu.now) }
 {
     is_kind(&npdu.payload, MessageKind::WhoIsRouterToNetwork) && is_for_all(npdu)
 }
 
 /// Whether a router on the port's own network names the networks that it reaches.
-pub(crate) fn is_learned(npdu: &Npdu<'_>) -> bool
+fn is_learned(npdu: &Npdu<'_>) -> bool
     ensures { result ≡ is_learned (npdu_view npdu.now) }
 {
     let octets = npdu.payload.octets();
@@ -70,7 +70,7 @@ pub(crate) fn is_learned(npdu: &Npdu<'_>) -> bool
 }
 
 /// Whether a message asks for the number of the port's network.
-pub(crate) fn is_number_question(npdu: &Npdu<'_>) -> bool
+fn is_number_question(npdu: &Npdu<'_>) -> bool
     ensures { result ≡ is_number_question (npdu_view npdu.now) }
 {
     is_kind(&npdu.payload, MessageKind::WhatIsNetworkNumber)
@@ -80,7 +80,7 @@ pub(crate) fn is_number_question(npdu: &Npdu<'_>) -> bool
 }
 
 /// The ask of a network layer message, of a network where it names one.
-pub(crate) fn ask_of(
+fn ask_of(
     operation: Operation,
     here: &Link,
     from: BipAddr,

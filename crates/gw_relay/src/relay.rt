@@ -21,7 +21,6 @@ ghost use Rattle.gw_relay.specs.State.{after, at_port, later, link_at, wants_roo
 ghost use Rattle.gw_relay.specs.declared.port.Port.{Port};
 
 use crate::change::Change;
-use crate::count::{count_network, count_route};
 use crate::initial::{links_of, routes_of};
 use crate::links::{make, tick_each};
 use crate::manage::managed;
@@ -320,39 +319,6 @@ impl Relay {
     {
         let links = self.links.as_slice();
         managed(alloc, judge, links, &self.routes, here, from, npdu)
-    }
-
-    /// How many asks of the routing of a message are denied. It takes no memory.
-    pub fn count_route<J: Judge>(
-        &self,
-        judge: &J,
-        here: &Link,
-        from: BipAddr,
-        npdu: &Npdu<'_>,
-    ) -> u64
-        ensures { (rules : List Rule) → J.StandsFor judge.now rules →
-            let npdu = npdu_view npdu.now in
-            let asks = route_asks self.now.links self.now.routes here.now from npdu in
-            result ≡ length (denied_of rules asks) }
-    {
-        let links = self.links.as_slice();
-        count_route(judge, links, &self.routes, here, from, npdu)
-    }
-
-    /// How many asks of a network layer message are denied. It takes no memory.
-    pub fn count_manage<J: Judge>(
-        &self,
-        judge: &J,
-        here: &Link,
-        from: BipAddr,
-        npdu: &Npdu<'_>,
-    ) -> u64
-        ensures { (rules : List Rule) → J.StandsFor judge.now rules →
-            let npdu = npdu_view npdu.now in
-            let asks = manage_asks self.now.links self.now.routes here.now from npdu in
-            result ≡ length (denied_of rules asks) }
-    {
-        count_network(judge, here, from, npdu)
     }
 
     /// Makes a change whole. Where a registration finds no room, a deletion no registration, or

@@ -47,7 +47,7 @@ fn has_hops(destination: &Destination<'_>) -> bool
 }
 
 /// Whether a message is for one network, and isn't routed (clauses 6.4.19, 6.4.20).
-pub(crate) fn is_local(payload: &Payload<'_>) -> bool
+fn is_local(payload: &Payload<'_>) -> bool
     ensures { result ≡ is_local (payload_view payload.now) }
 {
     is_kind(payload, MessageKind::WhatIsNetworkNumber)
@@ -55,7 +55,7 @@ pub(crate) fn is_local(payload: &Payload<'_>) -> bool
 }
 
 /// The ask of a message that goes to a network.
-pub(crate) fn route_ask(here: &Link, from: BipAddr, npdu: &Npdu<'_>, network: Option<u64>) -> Ask
+fn route_ask(here: &Link, from: BipAddr, npdu: &Npdu<'_>, network: Option<u64>) -> Ask
     ensures { result ≡ route_ask here.now from (npdu_view npdu.now) network }
 {
     message_ask(Operation::Route, &here.port, from, network, npdu)

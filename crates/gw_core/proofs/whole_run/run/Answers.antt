@@ -16,7 +16,7 @@ returns-in-Err-clause-count_end c = λ ended.
     let split = first_split c.loop-rest.rest.now _ c.in-len1-up.len_at_least in
     run_stops c.args.gateway.now c.loop-rest.gateway c.take_event.new.gateway (map event_view c.args.events.now)
     (map event_view c.loop-rest.rest.now) _ c.loop-rest.given.items _ c.loop-rest.invariant split c.in-Err.ensures.err
-    (c.in-Err.ensures.count_end.0 (fault_as {S = Vec Effects Global} {T = Effects} c.in-Err.fault CountEnd ended))
+    (c.in-Err.ensures.count_end (fault_as {S = Vec Effects Global} {T = Effects} c.in-Err.fault CountEnd ended))
 
 pub returns-in-Err-clause-err : goal.returns-in-Err-clause-err
 returns-in-Err-clause-err c =

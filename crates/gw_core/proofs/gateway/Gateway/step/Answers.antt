@@ -14,8 +14,8 @@ use Rattle.gw_core.proofs.HistoryLemmas.{fault_is, moves_on, routes_go_on, table
 use Rattle.gw_core.proofs.SilenceLemmas.{unchanged}
 use Rattle.gw_core.proofs.gateway.Gateway.step.Goals as goal
 
-pub returns-in_default-clause-count_end : goal.returns-in_default-clause-count_end
-returns-in_default-clause-count_end c =
+pub returns-in_err-clause-count_end : goal.returns-in_err-clause-count_end
+returns-in_err-clause-count_end c =
     let w = c.args.self.now in
     let event = Datagram c.args.port c.args.from c.args.octets.now in
     let received : received_view c.receive_on-received.result ≡ receive w event =

@@ -1,9 +1,7 @@
 use Rattle.std.proofs.Common.{None, Some, Err, refl, ap, arith}
 use Rattle.gw_script.specs.Event.{event_view}
-use Rattle.gw_core.specs.declared.effects.Effects.{Effects}
-use Rattle.gw_core.specs.Effects.{passes_end}
 use Rattle.gw_core.specs.Serve.{empty_turn, failed_turn, lost_event, taken_event, scene}
-use Rattle.gw_core.proofs.ServeLemmas.{arrives, ends_by, wanted_within_counts, lead_with, lead_without, tried_counted, within_counts}
+use Rattle.gw_core.proofs.ServeLemmas.{arrives, ends_by, lead_with, lead_without, tried_counted}
 use Rattle.gw_core.proofs.serving.Desk.take_turn.Goals as goal
 
 pub returns-in-Ok-None-clause-end : goal.returns-in-Ok-None-clause-end
@@ -22,10 +20,8 @@ returns-in-Err-Memory-clause-end g c =
     let told = g.W.Wire.calls c.args.wire.now in
     let tells = g.W.Wire.calls c.receive.new.wire in
     let came_in = arrives told tells c.in-Ok-Some.field-0 (Some c.in-Ok-Some.event) c.in-Ok-Some.field-0-is c.in-Ok-Some.ensures.calls in
-    let within = wanted_within_counts {T = Effects} (passes_end c.args.gateway.now event) c.in-Err-Memory.field-0
-    c.in-Err-Memory.field-0-is c.in-Err-Memory.ensures.count_end in
     let wants = c.in-Err-Memory.ensures.memory (ap Err c.in-Err-Memory.field-0-is) in
-    (lost_event event, lead_without _ _ (lost_event event) refl (within, wants) c.in-Err-Memory.ensures.err refl came_in, refl)
+    (lost_event event, lead_without _ _ (lost_event event) refl wants c.in-Err-Memory.ensures.err refl came_in, refl)
 
 pub returns-in-Err-log_denials-clause-end : goal.returns-in-Err-log_denials-clause-end
 returns-in-Err-log_denials-clause-end g c =
@@ -33,7 +29,7 @@ returns-in-Err-log_denials-clause-end g c =
     let told = g.W.Wire.calls c.args.wire.now in
     let tells = g.W.Wire.calls c.receive.new.wire in
     let came_in = arrives told tells c.in-Ok-Some.field-0 (Some c.in-Ok-Some.event) c.in-Ok-Some.field-0-is c.in-Ok-Some.ensures.calls in
-    let within = within_counts {T = Effects} (passes_end c.args.gateway.now event) c.in-Ok.effects c.in-Ok.ensures.count_end in
+    let within = c.in-Ok.ensures.within refl in
     let before = scene c.args.gateway.now (g.L.OctetSink.held c.args.log.now) told in
     let after = scene c.take_event.new.gateway (g.L.OctetSink.held c.log_denials.new.log) tells in
     let last = ends_by c.in-Err-log_denials.fault before after event c.in-Ok.effects c.args.self.now.served
@@ -47,7 +43,7 @@ returns-clause-end g c =
     let told = g.W.Wire.calls c.args.wire.now in
     let tells = g.W.Wire.calls c.receive.new.wire in
     let came_in = arrives told tells c.in-Ok-Some.field-0 (Some c.in-Ok-Some.event) c.in-Ok-Some.field-0-is c.in-Ok-Some.ensures.calls in
-    let within = within_counts {T = Effects} (passes_end c.args.gateway.now event) c.in-Ok.effects c.in-Ok.ensures.count_end in
+    let within = c.in-Ok.ensures.within refl in
     let tried = c.try_sends.ensures.tried in (
       taken_event event tried.tries,
       lead_with _ _ tells event tried.tries c.in-Ok.effects c.in-Ok.ensures.given within tried.are c.in-Ok.ensures.moved
