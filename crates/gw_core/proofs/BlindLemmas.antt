@@ -13,11 +13,11 @@ use Rattle.gw_device.specs.Laws.{AsksToRead, NoReadAllowed}
 use Rattle.gw_device.proofs.Changes.{asks_have_their_source}
 use Rattle.gw_npdu.specs.Npdu.{Fields}
 use Rattle.gw_objects.specs.Objects.{Database}
-use Rattle.gw_relay.specs.Cast.{is_heard, is_strange}
+use Rattle.gw_relay.specs.Cast.{accepts, is_unregistered}
 use Rattle.gw_relay.specs.Claim.{claimed, link_source}
 use Rattle.gw_relay.specs.Laws.{AreFrom}
 use Rattle.gw_relay.specs.State.{Relay, link_at}
-use Rattle.gw_relay.specs.declared.port.Link.{Link}
+use Rattle.gw_relay.specs.declared.port.PortState.{PortState}
 use Rattle.gw_relay.proofs.Claims.{broadcasts_carry_their_claim, network_messages_carry_their_claim, routing_carries_the_claim, table_asks_read_nothing}
 use Rattle.gw_rules.specs.Ask.{Ask, IsFor, IsFrom}
 use Rattle.gw_rules.specs.declared.operation.Operation.TheVariants as operations
@@ -28,7 +28,7 @@ use Rattle.gw_script.specs.Event.{Event, Datagram, Tick}
 use Rattle.gw_tags.specs.Object.{Object}
 use Rattle.gw_core.specs.Asks.{apdu_asks, asks, asks_for, cast_asks, link_asks, manage_asks, message_asks, route_asks}
 use Rattle.gw_core.specs.NoLeak.{AreBlind, AsksCarryTheirClaim, WritesAreHidden, claim, kept, state_before}
-use Rattle.gw_core.specs.Receive.{Message, Received, comes_in, dropped, managed, stranger, manages, message, message_of, npdu_of, payload_of, receive, receive_datagram, receive_frame, receive_npdu, receive_on}
+use Rattle.gw_core.specs.Receive.{Message, Received, comes_in, dropped, managed, unregistered, manages, message, message_of, npdu_of, payload_of, receive, receive_datagram, receive_frame, receive_npdu, receive_on}
 use Rattle.gw_core.specs.Reply.{apdu_for, context_of}
 use Rattle.gw_core.specs.State.{State, device_network}
 use Rattle.gw_core.proofs.WriteLemmas.{writes_are_unread}
@@ -43,29 +43,29 @@ record IsClaimed (m : Message) : Type 0 where
 abbrev IfMessage : Received → Type 0
 IfMessage dropped = Unit {0}
 IfMessage (managed on from frame) = Unit {0}
-IfMessage (stranger m) = Unit {0}
+IfMessage (unregistered m) = Unit {0}
 IfMessage (message m) = IsClaimed m
 
-message_if : (b : Bool) (m : Message) → IsClaimed m → IfMessage (if b then stranger m else message m)
+message_if : (b : Bool) (m : Message) → IsClaimed m → IfMessage (if b then unregistered m else message m)
 message_if true m is = tt
 message_if false m is = is
 
-message_npdu : (links : List Link) (device : ℕ) (on : Link) (from : BipAddr) (frame : Frame) (octets : List ℕ)
+message_npdu : (links : List PortState) (device : ℕ) (on : PortState) (from : BipAddr) (frame : Frame) (octets : List ℕ)
     → IfMessage (receive_npdu links device on from frame octets)
 message_npdu links device on from frame octets = by (npdu_of links device octets)
   where
     by : (npdu : Option Fields) → IfMessage (elim npdu [
       | Some npdu ↦
-          if is_strange on from frame then stranger (message_of on from frame npdu)
+          if is_unregistered on from frame then unregistered (message_of on from frame npdu)
           else message (message_of on from frame npdu)
       | None ↦ dropped
     ])
     by None = tt
-    by (Some npdu) = message_if (is_strange on from frame) (message_of on from frame npdu) (record { link = refl; claim = refl })
+    by (Some npdu) = message_if (is_unregistered on from frame) (message_of on from frame npdu) (record { link = refl; claim = refl })
 
-message_frame : (links : List Link) (device : ℕ) (on : Link) (from : BipAddr) (frame : Frame)
+message_frame : (links : List PortState) (device : ℕ) (on : PortState) (from : BipAddr) (frame : Frame)
     → IfMessage (receive_frame links device on from frame)
-message_frame links device on from frame = by (manages frame) (is_heard on from frame) (payload_of frame)
+message_frame links device on from frame = by (manages frame) (accepts on from frame) (payload_of frame)
   where
     by : (manages heard : Bool) (payload : Option (List ℕ)) → IfMessage (if manages then managed on from frame
         else if not heard then dropped
@@ -78,7 +78,7 @@ message_frame links device on from frame = by (manages frame) (is_heard on from 
     by false true None = tt
     by false true (Some octets) = message_npdu links device on from frame octets
 
-message_datagram : (links : List Link) (device : ℕ) (on : Link) (from : BipAddr) (octets : List ℕ)
+message_datagram : (links : List PortState) (device : ℕ) (on : PortState) (from : BipAddr) (octets : List ℕ)
     → IfMessage (receive_datagram links device on from octets)
 message_datagram links device on from octets = by (comes_in on.port.address from octets) (bvll_at octets)
   where
@@ -90,12 +90,12 @@ message_datagram links device on from octets = by (comes_in on.port.address from
     by true (Err fault) = tt
     by true (Ok frame) = message_frame links device on from frame
 
-message_on : (links : List Link) (device number : ℕ) (from : BipAddr) (octets : List ℕ)
+message_on : (links : List PortState) (device number : ℕ) (from : BipAddr) (octets : List ℕ)
     → IfMessage (receive_on links device number from octets)
 unfolding receive_on
 message_on links device number from octets = by (link_at links number)
   where
-    by : (on : Option Link) → IfMessage (elim on [
+    by : (on : Option PortState) → IfMessage (elim on [
       | Some on ↦ receive_datagram links device on from octets
       | None ↦ dropped
     ])
@@ -162,7 +162,7 @@ blind_source rules sources o source xs blind is from =
       instance = reads.instance;
     })) xs from
 
-blind_table : (rules : List Rule) (o : Object) (on : Link) (from : BipAddr) (frame : Frame)
+blind_table : (rules : List Rule) (o : Object) (on : PortState) (from : BipAddr) (frame : Frame)
     → NoReadAllowed rules o (link_asks (managed on from frame))
 blind_table rules o on from frame =
     none_allowed (AsksToRead o) rules (link_asks (managed on from frame))
@@ -172,7 +172,7 @@ blind_table rules o on from frame =
 blind_asks : (rules : List Rule) (sources : List Source) (o : Object) (relay : Relay) (d : Database) (received : Received) → AreBlind rules sources o
     → IfMessage received → IfSome (claim received) (Contains sources) → NoReadAllowed rules o (asks_for rules relay d received)
 blind_asks rules sources o relay d dropped blind is claims = tt
-blind_asks rules sources o relay d (stranger m) blind is claims = tt
+blind_asks rules sources o relay d (unregistered m) blind is claims = tt
 blind_asks rules sources o relay d (managed on from frame) blind is claims =
     let asked = link_asks (managed on from frame) in
     let both = none_both (AsksToRead o) rules in

@@ -12,13 +12,13 @@ use Rattle.gw_script.specs.Event.{Event}
 use Rattle.gw_core.specs.Asks.{apdu_asks, asks, asks_for, message_asks}
 use Rattle.gw_core.specs.Effects.{apdu_answer, apdu_change}
 use Rattle.gw_core.specs.Denials.{denials_at, denials_from, denials_of, denials_for}
-use Rattle.gw_core.specs.Receive.{Message, Origin, Received, dropped, managed, stranger, message, message_origin, node_origin, origin, receive}
+use Rattle.gw_core.specs.Receive.{Message, Origin, Received, dropped, managed, unregistered, message, message_origin, node_origin, origin, receive}
 use Rattle.gw_core.specs.Reply.{apdu_for, context_of}
 use Rattle.gw_core.specs.State.{State, device_network}
 use Rattle.gw_core.specs.View.{judged, message_view, origin_of, received_view}
 use Rattle.gw_core.specs.declared.receive.Received.{Received as LentReceived}
 use Rattle.gw_core.specs.declared.receive.Received.TheVariants as lent
-use Rattle.gw_relay.specs.Cast.{is_heard, is_strange}
+use Rattle.gw_relay.specs.Cast.{accepts, is_unregistered}
 use Rattle.gw_relay.specs.State.{Relay}
 
 -- a denial for each refusal
@@ -89,14 +89,14 @@ pub counted_for : (w : State) (received : Received)
 counted_for w dropped = refl
 counted_for w (managed on from frame) = length_denials w.rules (w.denials + 1) w.ticks (node_origin on from)
     (denied_of w.rules (asks_for w.rules w.relay w.device (managed on from frame)))
-counted_for w (stranger m) = refl
+counted_for w (unregistered m) = refl
 counted_for w (message m) = length_denials w.rules (w.denials + 1) w.ticks (message_origin m)
     (denied_of w.rules (asks_for w.rules w.relay w.device (message m)))
 
 -- the record of what the code takes unjudged is that of what it is received as
 judged_denials : (rules : List Rule) (number tick : ℕ) (relay : Relay) (d : Database) (m : Message) (refusals : List Refusal)
     (heard strange : Bool)
-    → heard ≡ is_heard m.here m.from m.frame → strange ≡ is_strange m.here m.from m.frame
+    → heard ≡ accepts m.here m.from m.frame → strange ≡ is_unregistered m.here m.from m.frame
     → refusals ≡ denied_of rules (asks_for rules relay d (judged m))
     → denials_of rules number tick (Some (message_origin m)) refusals ≡ denials_of rules number tick (origin (judged m)) refusals
 judged_denials rules number tick relay d m refusals false strange h s are =
@@ -104,7 +104,7 @@ judged_denials rules number tick relay d m refusals false strange h s are =
     let none : refusals ≡ [] = are ∙ ap (λ (r : Received). denied_of rules (asks_for rules relay d r)) out in
     none_of rules number tick (Some (message_origin m)) refusals none ∙ sym (none_of rules number tick (origin (judged m)) refusals none)
 judged_denials rules number tick relay d m refusals true true h s are =
-    let out : judged m ≡ stranger m = rw (← h, ← s) refl in
+    let out : judged m ≡ unregistered m = rw (← h, ← s) refl in
     let none : refusals ≡ [] = are ∙ ap (λ (r : Received). denied_of rules (asks_for rules relay d r)) out in
     none_of rules number tick (Some (message_origin m)) refusals none ∙ sym (none_of rules number tick (origin (judged m)) refusals none)
 judged_denials rules number tick relay d m refusals true false h s are =
@@ -118,8 +118,8 @@ lent_denials rules number tick relay d lent.Dropped refusals are = refl
 lent_denials rules number tick relay d (lent.Managed on from frame) refusals are = refl
 lent_denials rules number tick relay d (lent.Message m) refusals are =
     let view = message_view m in
-    judged_denials rules number tick relay d view refusals (is_heard view.here view.from view.frame)
-    (is_strange view.here view.from view.frame) refl refl are
+    judged_denials rules number tick relay d view refusals (accepts view.here view.from view.frame)
+    (is_unregistered view.here view.from view.frame) refl refl are
 
 -- what is asked of what is received is what the event asks
 pub asks_received : (w : State) (e : Event) (received : Received) → received ≡ receive w e

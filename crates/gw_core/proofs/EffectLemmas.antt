@@ -9,7 +9,7 @@ use Rattle.gw_core.specs.declared.effects.Effects.{Effects}
 use Rattle.gw_relay.specs.Sends.{Sending}
 use Rattle.gw_relay.specs.State.{Commit}
 use Rattle.gw_relay.specs.declared.change.Change.{Change}
-use Rattle.gw_relay.specs.declared.port.Link.{Link}
+use Rattle.gw_relay.specs.declared.port.PortState.{PortState}
 use Rattle.gw_audit.specs.declared.denial.Denial.{Denial}
 use Rattle.gw_script.specs.Event.{Event}
 use Rattle.gw_script.specs.Event.{Datagram, Tick}
@@ -127,10 +127,10 @@ more_than m n not =
     ]
 
 -- what the code receives a datagram as, where its links and its network are those of the state
-pub received_as : (w : State) (links : List Link) (network port : ℕ) (from : BipAddr) (octets : List ℕ) (received : Received)
+pub received_as : (w : State) (links : List PortState) (network port : ℕ) (from : BipAddr) (octets : List ℕ) (received : Received)
     → received ≡ receive_on links network port from octets → links ≡ w.relay.links → network ≡ device_network w.device
     → received ≡ receive w (Datagram port from octets)
 received_as w links network port from octets received is same its =
     receive_datagram w port from octets received
-    (is ∙ ap (λ (l : List Link). receive_on l network port from octets) same
+    (is ∙ ap (λ (l : List PortState). receive_on l network port from octets) same
     ∙ ap (λ (n : ℕ). receive_on w.relay.links n port from octets) its)

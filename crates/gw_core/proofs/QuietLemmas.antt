@@ -24,7 +24,7 @@ use Rattle.gw_core.specs.Denials.{denials_at, denials_from, denials_of, rule_nam
 use Rattle.gw_core.specs.Effects.{apdu_change, change_at, change_for, changed, effects_at, move_at, relay_change_for}
 use Rattle.gw_core.specs.History.{next, run_from, state_after}
 use Rattle.gw_core.specs.NoLeak.{IsQuiet, LeavesOut, QuietIsUnseen, kept, seen, unnumbered}
-use Rattle.gw_core.specs.Receive.{Origin, Received, dropped, managed, stranger, message, origin, receive}
+use Rattle.gw_core.specs.Receive.{Origin, Received, dropped, managed, unregistered, message, origin, receive}
 use Rattle.gw_core.specs.Reply.{apdu_for, context_of}
 use Rattle.gw_core.specs.State.{State, device_network}
 use Rattle.gw_core.proofs.HistoryLemmas.{run_from-after, state_next}
@@ -89,7 +89,7 @@ quiet_relay : (rules : List Rule) (relay : Relay) (d : Database) (received : Rec
     → NoChangeAllowed rules (asks_for rules relay d received)
     → moved (option_map Commit (relay_change_for rules received)) relay ≡ relay
 quiet_relay rules relay d dropped h = refl
-quiet_relay rules relay d (stranger m) h = refl
+quiet_relay rules relay d (unregistered m) h = refl
 quiet_relay rules relay d (managed on from frame) h =
     let asked = received_asks (managed on from frame) in
     ap (λ (change : Option Change). moved (option_map Commit change) relay)
@@ -104,7 +104,7 @@ quiet_relay rules relay d (message m) h =
 quiet_device : (rules : List Rule) (relay : Relay) (d : Database) (received : Received)
     → NoChangeAllowed rules (asks_for rules relay d received) → change_for rules d received ≡ None
 quiet_device rules relay d dropped h = refl
-quiet_device rules relay d (stranger m) h = refl
+quiet_device rules relay d (unregistered m) h = refl
 quiet_device rules relay d (managed on from frame) h = refl
 quiet_device rules relay d (message m) h =
     quiet_apdu rules d (context_of (device_network d) m) (apdu_for (device_network d) m.npdu)

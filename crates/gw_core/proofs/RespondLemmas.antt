@@ -8,13 +8,13 @@ use Rattle.gw_bvll.specs.Bvll.{Message as Frame}
 use Rattle.gw_bvll.specs.Bvll as bvll
 use Rattle.gw_npdu.specs.Npdu.{Fields}
 use Rattle.gw_objects.specs.Objects.{Database}
-use Rattle.gw_relay.specs.Cast.{cast_asks, cast_sends, goes_on, is_heard, is_strange}
+use Rattle.gw_relay.specs.Cast.{cast_asks, cast_sends, goes_on, accepts, is_unregistered}
 use Rattle.gw_relay.specs.Manage.{manage_asks, manage_sends}
 use Rattle.gw_relay.specs.Route.{route_asks, route_sends}
 use Rattle.gw_relay.specs.Sends.{Sending}
 use Rattle.gw_relay.specs.State.{Relay}
 use Rattle.gw_relay.specs.declared.change.Change.{Change}
-use Rattle.gw_relay.specs.declared.port.Link.{Link}
+use Rattle.gw_relay.specs.declared.port.PortState.{PortState}
 use Rattle.gw_relay.proofs.Asking.{strange_asks, strange_sends, unheard_asks, unheard_sends}
 use Rattle.gw_rules.specs.Ask.{Ask}
 use Rattle.gw_rules.specs.Authorizer.{denied_of}
@@ -23,7 +23,7 @@ use Rattle.gw_rules.specs.declared.rule.Rule.{Rule}
 use Rattle.gw_rules.proofs.Denials.{denied_of-append}
 use Rattle.gw_core.specs.Asks.{asks_for, message_asks}
 use Rattle.gw_core.specs.Effects.{change_for, message_change, message_sends, relay_change_for, sends_for}
-use Rattle.gw_core.specs.Receive.{Message, dropped, stranger, message}
+use Rattle.gw_core.specs.Receive.{Message, dropped, unregistered, message}
 use Rattle.gw_core.specs.Respond.{passed_asks, passed_change, passed_sends}
 use Rattle.gw_core.specs.View.{judged}
 
@@ -78,8 +78,8 @@ denied_on rules relay m h =
     ap (denied_of rules) (asks_on relay m h) ∙ denied_of-append rules cast (route ++ manage)
     ∙ ap (λ (l : List Refusal). denied_of rules cast ++ l) (denied_of-append rules route manage)
 
--- a stranger is told so
-told_so : (rules : List Rule) (link : Link) (from : BipAddr) (frame : Frame) (npdu : Fields) → is_strange link from frame ≡ true
+-- an unregistered sender is told so
+told_so : (rules : List Rule) (link : PortState) (from : BipAddr) (frame : Frame) (npdu : Fields) → is_unregistered link from frame ≡ true
     → cast_sends rules link from frame npdu ≡ [] → ⊥
 told_so rules link from (bvll.result_code code) npdu s none = absurd cc
 told_so rules link from (bvll.write_bdt entries) npdu s none = absurd cc
@@ -96,18 +96,18 @@ told_so rules link from (bvll.distribute octets) npdu s none =
 told_so rules link from (bvll.original_unicast octets) npdu s none = absurd cc
 told_so rules link from (bvll.original_broadcast octets) npdu s none = absurd cc
 
-no_stranger : (rules : List Rule) (link : Link) (from : BipAddr) (frame : Frame) (npdu : Fields) (s : Bool) → is_strange link from frame ≡ s
+no_stranger : (rules : List Rule) (link : PortState) (from : BipAddr) (frame : Frame) (npdu : Fields) (s : Bool) → is_unregistered link from frame ≡ s
     → cast_sends rules link from frame npdu ≡ [] → s ≡ false
 no_stranger rules link from frame npdu true is none = absurd (told_so rules link from frame npdu is none)
 no_stranger rules link from frame npdu false is none = refl
 
 -- nothing is asked or sent of a distribution
 pub cast_silent : (rules : List Rule) (relay : Relay) (m : Message) → passed_asks relay m ≡ [] → passed_sends rules relay m ≡ []
-    → (cast_asks m.here m.from m.frame m.npdu ≡ []) × (is_strange m.here m.from m.frame ≡ false)
+    → (cast_asks m.here m.from m.frame m.npdu ≡ []) × (is_unregistered m.here m.from m.frame ≡ false)
 cast_silent rules relay m asks sends = (
   empty_left (cast_asks m.here m.from m.frame m.npdu) _ asks,
   no_stranger rules m.here m.from m.frame m.npdu
-      (is_strange m.here m.from m.frame) refl (empty_left (cast_sends rules m.here m.from m.frame m.npdu) _ sends),
+      (is_unregistered m.here m.from m.frame) refl (empty_left (cast_sends rules m.here m.from m.frame m.npdu) _ sends),
 )
 
 -- ---- what a message is received as
@@ -133,11 +133,11 @@ three_none : {A : Type 0} (xs : List A) → xs ++ [] ++ [] ++ [] ≡ xs
 three_none xs = append-nil (xs ++ [] ++ []) ∙ append-nil (xs ++ []) ∙ append-nil xs
 
 stranger_sends : (rules : List Rule) (relay : Relay) (d : Database) (m : Message)
-    → sends_for rules relay d (stranger m) ≡ cast_sends rules m.here m.from m.frame m.npdu
+    → sends_for rules relay d (unregistered m) ≡ cast_sends rules m.here m.from m.frame m.npdu
 stranger_sends rules relay d m = three_none (cast_sends rules m.here m.from m.frame m.npdu)
 
-stops_by : (rules : List Rule) (relay : Relay) (d : Database) (m : Message) (h s : Bool) → is_heard m.here m.from m.frame ≡ h
-    → is_strange m.here m.from m.frame ≡ s → on m ≡ false → Stops rules relay d m
+stops_by : (rules : List Rule) (relay : Relay) (d : Database) (m : Message) (h s : Bool) → accepts m.here m.from m.frame ≡ h
+    → is_unregistered m.here m.from m.frame ≡ s → on m ≡ false → Stops rules relay d m
 stops_by rules relay d m false s heard strange off =
     let is : judged m ≡ dropped = rw heard refl in record {
       sends = ap (sends_for rules relay d) is ∙ sym (unheard_sends rules m.here m.from m.frame m.npdu heard)
@@ -147,7 +147,7 @@ stops_by rules relay d m false s heard strange off =
       write = ap (change_for rules d) is;
     }
 stops_by rules relay d m true true heard strange off =
-    let is : judged m ≡ stranger m = rw (heard, strange) refl in record {
+    let is : judged m ≡ unregistered m = rw (heard, strange) refl in record {
       sends = ap (sends_for rules relay d) is ∙ stranger_sends rules relay d m ∙ sym (sends_off rules relay m off);
       asks = ap (asks_for rules relay d) is ∙ sym (strange_asks m.here m.from m.frame m.npdu heard strange) ∙ sym (asks_off relay m off);
       change = ap (relay_change_for rules) is ∙ no_change (on m) _ off;
@@ -158,14 +158,14 @@ stops_by rules relay d m true false heard strange off =
     absurd cc
 
 pub stops : (rules : List Rule) (relay : Relay) (d : Database) (m : Message) → on m ≡ false → Stops rules relay d m
-stops rules relay d m off = stops_by rules relay d m (is_heard m.here m.from m.frame) (is_strange m.here m.from m.frame) refl refl off
+stops rules relay d m off = stops_by rules relay d m (accepts m.here m.from m.frame) (is_unregistered m.here m.from m.frame) refl refl off
 
 yes_change : (b : Bool) (change : Option Change) → b ≡ true → change ≡ (if b then change else None)
 yes_change true change e = refl
 yes_change false change e = absurd cc
 
-goes_by : (rules : List Rule) (relay : Relay) (d : Database) (m : Message) (h s : Bool) → is_heard m.here m.from m.frame ≡ h
-    → is_strange m.here m.from m.frame ≡ s → on m ≡ true → Goes rules relay d m
+goes_by : (rules : List Rule) (relay : Relay) (d : Database) (m : Message) (h s : Bool) → accepts m.here m.from m.frame ≡ h
+    → is_unregistered m.here m.from m.frame ≡ s → on m ≡ true → Goes rules relay d m
 goes_by rules relay d m false s heard strange goes =
     let off : on m ≡ false = rw heard refl in
     absurd cc
@@ -189,7 +189,7 @@ goes_by rules relay d m true false heard strange goes =
     }
 
 pub goes : (rules : List Rule) (relay : Relay) (d : Database) (m : Message) → on m ≡ true → Goes rules relay d m
-goes rules relay d m is = goes_by rules relay d m (is_heard m.here m.from m.frame) (is_strange m.here m.from m.frame) refl refl is
+goes rules relay d m is = goes_by rules relay d m (accepts m.here m.from m.frame) (is_unregistered m.here m.from m.frame) refl refl is
 
 -- what is denied of a message that goes on
 pub goes_denied : (rules : List Rule) (relay : Relay) (d : Database) (m : Message) → on m ≡ true

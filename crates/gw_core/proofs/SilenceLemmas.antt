@@ -46,8 +46,8 @@ use Rattle.gw_script.specs.Event.{Datagram}
 use Rattle.gw_core.specs.Asks.{apdu_asks, asks, asks_for, cast_asks, link_asks, manage_asks, message_asks, route_asks}
 use Rattle.gw_core.specs.Effects.{answer_sends, apdu_change, change_at, change_for, message_sends, move_at, relay_change_for, sends, sends_for}
 use Rattle.gw_core.specs.Laws.{DroppedNeedsNoMemory, NothingAskedIsChanged, NothingAskedIsWritten}
-use Rattle.gw_core.specs.Receive.{Message, Received, dropped, managed, stranger, message, receive}
-use Rattle.gw_core.specs.Reply.{apdu_for, context_of, reply_npdu, reply_sends, room_back}
+use Rattle.gw_core.specs.Receive.{Message, Received, dropped, managed, unregistered, message, receive}
+use Rattle.gw_core.specs.Reply.{apdu_for, context_of, reply_npdu, reply_sends, max_reply_apdu}
 use Rattle.gw_core.specs.State.{device_network}
 use Rattle.gw_core.proofs.DenialLemmas.{answer_put, asks_put}
 use Rattle.gw_core.proofs.RespondLemmas.{empty_left, empty_right}
@@ -217,7 +217,7 @@ pub silent_message : (rules : List Rule) (d : Database) (m : Message) (network :
 silent_message rules d m network context octets its apdu told least asks sends =
     let put : device_asks rules d context octets ≡ [] = sym (asks_put rules d m network context octets its apdu told) ∙ asks in
     let due = answer_put rules d m network context octets its apdu told in
-    let room : 1497 ≤ room_back network m.npdu + 522 = subst (λ (x : Context). 1497 ≤ x.room + 522) told least in
+    let room : 1497 ≤ max_reply_apdu network m.npdu + 522 = subst (λ (x : Context). 1497 ≤ x.room + 522) told least in
     let header_fits : length (npdu.header (reply_npdu network m.npdu (alone_answer []))) ≤ 522 = omega (arith, room) in
     let sent : answer_sends network m (device_answer rules d context octets) ≡ [] =
     ap (λ (n : ℕ). answer_sends n m (device_answer rules d context octets)) its
@@ -254,7 +254,7 @@ unwritten : (rules : List Rule) (relay : Relay) (d : Database) (received : Recei
     → change_for rules d received ≡ None
 unwritten rules relay d dropped none = refl
 unwritten rules relay d (managed on from frame) none = refl
-unwritten rules relay d (stranger m) none = refl
+unwritten rules relay d (unregistered m) none = refl
 unwritten rules relay d (message m) none =
     let parts = five_empty [] (cast_asks (message m)) (route_asks relay (message m)) (manage_asks relay (message m))
     (message_asks rules d m) none in
@@ -271,7 +271,7 @@ unchanged rules relay d dropped none = refl
 unchanged rules relay d (managed on from frame) none =
     let parts = five_empty (link_asks (managed on from frame)) [] [] [] [] none in
     unasked_change rules on from frame parts.0
-unchanged rules relay d (stranger m) none = refl
+unchanged rules relay d (unregistered m) none = refl
 unchanged rules relay d (message m) none =
     let parts = five_empty [] (cast_asks (message m)) (route_asks relay (message m)) (manage_asks relay (message m))
     (message_asks rules d m) none in

@@ -2,7 +2,7 @@
 use Rattle.std.proofs.Common.{◌≡◌, ap, refl, Bool, true, false, List, [], ◌∷◌, ◌++◌}
 use Rattle.std.specs.Prelude.{filter, if◌then◌else◌, ◌||◌}
 use Rattle.std.specs.List.{flat_map, list_all}
-use Rattle.gw_relay.specs.Cast.{cast_sends, is_strange}
+use Rattle.gw_relay.specs.Cast.{cast_sends, is_unregistered}
 use Rattle.gw_relay.specs.Manage.{manage_steps}
 use Rattle.gw_relay.specs.Route.{route_steps}
 use Rattle.gw_relay.specs.Sends.{Sending}
@@ -35,4 +35,4 @@ or_true false = refl
 
 pub denied_broadcasts_are_kept : DeniedBroadcastsAreKept
 unfolding cast_sends
-denied_broadcasts_are_kept rules m denied heard = rw (heard, denied, or_true (is_strange m.here m.from m.frame)) refl
+denied_broadcasts_are_kept rules m denied heard = rw (heard, denied, or_true (is_unregistered m.here m.from m.frame)) refl

@@ -20,7 +20,7 @@ use Rattle.gw_relay.specs.Manage.{manage_change}
 use Rattle.gw_relay.specs.Sends.{Sending}
 use Rattle.gw_relay.specs.State.{Commit, Relay, moved}
 use Rattle.gw_relay.specs.declared.change.Change.{Change}
-use Rattle.gw_relay.specs.declared.port.Link.{Link}
+use Rattle.gw_relay.specs.declared.port.PortState.{PortState}
 use Rattle.gw_rules.specs.Ask.{Ask}
 use Rattle.gw_rules.specs.Authorizer.{denied_of}
 use Rattle.gw_rules.proofs.EachAsk.{none_rest}
@@ -33,7 +33,7 @@ use Rattle.gw_core.specs.Denials.{denials_at, denials_of}
 use Rattle.gw_core.specs.Effects.{answer_sends, apdu_answer, apdu_change, cast_sends, change_at, change_for, changed, effects_at, effects_for, manage_sends, message_change, move_at, relay_change_for, route_sends, sends_for}
 use Rattle.gw_core.specs.History.{next, run_from, state_after, state_from}
 use Rattle.gw_core.specs.NoLeak.{IsWriteOf, WritesAreUnread, kept, object_of, seen, unnumbered}
-use Rattle.gw_core.specs.Receive.{Received, dropped, managed, stranger, message, origin, receive}
+use Rattle.gw_core.specs.Receive.{Received, dropped, managed, unregistered, message, origin, receive}
 use Rattle.gw_core.specs.Reply.{apdu_for, apdu_towards, context_of}
 use Rattle.gw_core.specs.State.{State}
 use Rattle.gw_core.proofs.HistoryLemmas.{run_from-after, state_from-after}
@@ -54,7 +54,7 @@ change_alike : (rules : List Rule) (c : Configured) (s t : List Slots) (received
     → change_for rules (standing c s) received ≡ change_for rules (standing c t) received
 change_alike rules c s t dropped = refl
 change_alike rules c s t (managed on from frame) = refl
-change_alike rules c s t (stranger m) = refl
+change_alike rules c s t (unregistered m) = refl
 change_alike rules c s t (message m) =
     alike_change rules c s t (context_of c.device.network m) (apdu_for c.device.network m.npdu)
 
@@ -74,7 +74,7 @@ received_alike : (rules : List Rule) (o : Object) (relay : Relay) (c : Configure
     × (sends_for rules relay (standing c t) received ≡ sends_for rules relay (standing c s) received)
 received_alike rules o relay c s t dropped agree h = (refl, refl)
 received_alike rules o relay c s t (managed on from frame) agree h = (refl, refl)
-received_alike rules o relay c s t (stranger m) agree h = (refl, refl)
+received_alike rules o relay c s t (unregistered m) agree h = (refl, refl)
 received_alike rules o relay c s t (message m) agree h =
     let network = c.device.network in
     let asked = cast_asks (message m) ++ route_asks relay (message m) ++ asks_managed relay (message m) in
@@ -174,7 +174,7 @@ none_towards m (Some d) network = either _
     either true = refl
     either false = refl
 
-no_learning : (rules : List Rule) (on : Link) (from : BipAddr) (network : ℕ) (f : Fields) (o : Object) → option_and_then object_written (apdu_for network f) ≡ Some o
+no_learning : (rules : List Rule) (on : PortState) (from : BipAddr) (network : ℕ) (f : Fields) (o : Object) → option_and_then object_written (apdu_for network f) ≡ Some o
     → manage_change rules on from f ≡ None
 no_learning rules on from network f o names = by f.payload refl
   where
@@ -194,7 +194,7 @@ left_by : (w : State) (t : List Slots) (n : ℕ) (o : Object) (received : Receiv
     (with_slots w t n)
 left_by w t n o dropped denials names agree = absurd (no_some o names)
 left_by w t n o (managed on from frame) denials names agree = absurd (no_some o names)
-left_by w t n o (stranger m) denials names agree = absurd (no_some o names)
+left_by w t n o (unregistered m) denials names agree = absurd (no_some o names)
 left_by w t n o (message m) denials names agree =
     let c = w.device.configured in
     let s = w.device.states in

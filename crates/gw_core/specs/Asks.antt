@@ -11,7 +11,7 @@ use Rattle.gw_relay.specs.Manage as network
 use Rattle.gw_relay.specs.Route as routing
 use Rattle.gw_relay.specs.State.{Relay}
 use Rattle.gw_script.specs.Event.{Event}
-use Rattle.gw_core.specs.Receive.{Message, Received, dropped, managed, stranger, message, receive}
+use Rattle.gw_core.specs.Receive.{Message, Received, dropped, managed, unregistered, message, receive}
 use Rattle.gw_core.specs.Reply.{apdu_for, context_of}
 use Rattle.gw_core.specs.State.{State, device_network}
 
@@ -21,28 +21,28 @@ use Rattle.gw_core.specs.State.{State, device_network}
 abbrev pub link_asks : Received → List Ask
 link_asks dropped = []
 link_asks (managed on from frame) = table.link_asks on.port from frame
-link_asks (stranger m) = []
+link_asks (unregistered m) = []
 link_asks (message m) = []
 
 -- distribution to peers and foreign devices (Annex J.4, J.5)
 abbrev pub cast_asks : Received → List Ask
 cast_asks dropped = []
 cast_asks (managed on from frame) = []
-cast_asks (stranger m) = []
+cast_asks (unregistered m) = []
 cast_asks (message m) = broadcast.cast_asks m.here m.from m.frame m.npdu
 
 -- routing by the destination network (clause 6.5)
 abbrev pub route_asks : Relay → Received → List Ask
 route_asks relay dropped = []
 route_asks relay (managed on from frame) = []
-route_asks relay (stranger m) = []
+route_asks relay (unregistered m) = []
 route_asks relay (message m) = routing.route_asks relay.links relay.routes m.here m.link m.npdu
 
 -- network layer messages to the gateway (clause 6.4)
 abbrev pub manage_asks : Relay → Received → List Ask
 manage_asks relay dropped = []
 manage_asks relay (managed on from frame) = []
-manage_asks relay (stranger m) = []
+manage_asks relay (unregistered m) = []
 manage_asks relay (message m) = network.manage_asks relay.links relay.routes m.here m.link m.npdu
 
 -- the device, for an APDU where there is one
@@ -58,7 +58,7 @@ message_asks rules d m =
 abbrev pub serve_asks : List Rule → Database → Received → List Ask
 serve_asks rules d dropped = []
 serve_asks rules d (managed on from frame) = []
-serve_asks rules d (stranger m) = []
+serve_asks rules d (unregistered m) = []
 serve_asks rules d (message m) = message_asks rules d m
 
 -- all of them, in the order of the steps

@@ -21,7 +21,7 @@ use Rattle.gw_script.specs.Event.{Event}
 use Rattle.gw_script.specs.Event.{Datagram, Tick}
 use Rattle.gw_core.specs.Asks.{asks}
 use Rattle.gw_core.specs.Denials.{denials_at, denials_for}
-use Rattle.gw_core.specs.Receive.{Message, Received, dropped, managed, stranger, message, receive}
+use Rattle.gw_core.specs.Receive.{Message, Received, dropped, managed, unregistered, message, receive}
 use Rattle.gw_core.specs.Reply.{apdu_for, context_of, reply_sends}
 use Rattle.gw_core.specs.State.{State, device_network}
 
@@ -31,21 +31,21 @@ use Rattle.gw_core.specs.State.{State, device_network}
 abbrev pub link_sends : List Rule → Received → List Sending
 link_sends rules dropped = []
 link_sends rules (managed on from frame) = table.link_answer rules on from frame
-link_sends rules (stranger m) = []
+link_sends rules (unregistered m) = []
 link_sends rules (message m) = []
 
 -- distribution to peers and foreign devices, and its refusal (Annex J.4, J.5)
 abbrev pub cast_sends : List Rule → Received → List Sending
 cast_sends rules dropped = []
 cast_sends rules (managed on from frame) = []
-cast_sends rules (stranger m) = broadcast.cast_sends rules m.here m.from m.frame m.npdu
+cast_sends rules (unregistered m) = broadcast.cast_sends rules m.here m.from m.frame m.npdu
 cast_sends rules (message m) = broadcast.cast_sends rules m.here m.from m.frame m.npdu
 
 -- what goes onward to another network (clause 6.5)
 abbrev pub route_sends : List Rule → Relay → Received → List Sending
 route_sends rules relay dropped = []
 route_sends rules relay (managed on from frame) = []
-route_sends rules relay (stranger m) = []
+route_sends rules relay (unregistered m) = []
 route_sends rules relay (message m) =
     routing.route_sends rules relay.links relay.routes m.here m.link m.npdu
 
@@ -53,7 +53,7 @@ route_sends rules relay (message m) =
 abbrev pub manage_sends : List Rule → Relay → Received → List Sending
 manage_sends rules relay dropped = []
 manage_sends rules relay (managed on from frame) = []
-manage_sends rules relay (stranger m) = []
+manage_sends rules relay (unregistered m) = []
 manage_sends rules relay (message m) =
     network.manage_sends rules relay.links relay.routes m.here m.link m.npdu
 
@@ -76,7 +76,7 @@ message_sends rules d m =
 abbrev pub serve_sends : List Rule → Database → Received → List Sending
 serve_sends rules d dropped = []
 serve_sends rules d (managed on from frame) = []
-serve_sends rules d (stranger m) = []
+serve_sends rules d (unregistered m) = []
 serve_sends rules d (message m) = message_sends rules d m
 
 -- all of them, in the order of the steps
@@ -95,7 +95,7 @@ sends w e = sends_for w.rules w.relay w.device (receive w e)
 abbrev pub relay_change_for : List Rule → Received → Option Change
 relay_change_for rules dropped = None
 relay_change_for rules (managed on from frame) = table.link_change rules on from frame
-relay_change_for rules (stranger m) = None
+relay_change_for rules (unregistered m) = None
 relay_change_for rules (message m) = network.manage_change rules m.here m.link m.npdu
 
 -- what happens to the ports' tables and the routes at an event: the change that is granted, if there is
@@ -122,7 +122,7 @@ message_change rules d m =
 abbrev pub change_for : List Rule → Database → Received → Option Write
 change_for rules d dropped = None
 change_for rules d (managed on from frame) = None
-change_for rules d (stranger m) = None
+change_for rules d (unregistered m) = None
 change_for rules d (message m) = message_change rules d m
 
 -- the write that an event makes in this state, where it is granted one

@@ -2,7 +2,7 @@
 use Rattle.std.specs.Prelude.{◌≡◌, None, ℕ, zero, suc, ◌+◌, Bool, true, false, List, [], ◌∷◌, length, map, filter, not, replicate, count_by}
 use Rattle.std.specs.List.{AllByRecursion, flat_map, list_all}
 use Rattle.gw_addr.specs.declared.bip.BipAddr.{BipAddr}
-use Rattle.gw_relay.specs.Cast.{is_heard}
+use Rattle.gw_relay.specs.Cast.{accepts}
 use Rattle.gw_relay.specs.Link.{answer_to, refused}
 use Rattle.gw_relay.specs.Manage.{manage_steps}
 use Rattle.gw_relay.specs.Route.{route_steps}
@@ -147,7 +147,7 @@ AllowedTrafficIsSent = (rules : List Rule) (relay : Relay) (m : Message) →
 -- other frame nothing.
 abbrev pub DeniedBroadcastsAreKept : Type 0
 DeniedBroadcastsAreKept = (rules : List Rule) (m : Message) →
-    list_all (allows rules) (cast_asks (message m)) ≡ false → is_heard m.here m.from m.frame ≡ true →
+    list_all (allows rules) (cast_asks (message m)) ≡ false → accepts m.here m.from m.frame ≡ true →
     cast_sends rules (message m) ≡ map (answer_to m.here.port m.from) (refused m.frame)
 
 -- A datagram that is dropped asks nothing and sends nothing, so it needs no memory.

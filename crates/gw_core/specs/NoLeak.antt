@@ -8,7 +8,7 @@ use Rattle.gw_audit.specs.declared.denial.Denial.{Denial}
 use Rattle.gw_device.specs.Laws.{NoReadAllowed, object_written}
 use Rattle.gw_objects.specs.Objects.{Database}
 use Rattle.gw_policy_text.specs.Configuration.{Configuration}
-use Rattle.gw_relay.specs.Claim.{claimed, here, link_source}
+use Rattle.gw_relay.specs.Claim.{claimed, link_source, local_source}
 use Rattle.gw_relay.specs.Laws.{AreFrom}
 use Rattle.gw_rules.specs.Allowed.{NoChangeAllowed}
 use Rattle.gw_rules.specs.declared.rule.Rule.{Rule}
@@ -19,7 +19,7 @@ use Rattle.gw_core.specs.declared.effects.Effects.{Effects}
 use Rattle.gw_core.specs.declared.event.Counts.{Counts}
 use Rattle.gw_core.specs.Asks.{asks}
 use Rattle.gw_core.specs.History.{history_after, run, state_after}
-use Rattle.gw_core.specs.Receive.{Message, Received, dropped, managed, stranger, message, receive}
+use Rattle.gw_core.specs.Receive.{Message, Received, dropped, managed, unregistered, message, receive}
 use Rattle.gw_core.specs.Reply.{apdu_for}
 use Rattle.gw_core.specs.State.{State, device_network}
 
@@ -66,7 +66,7 @@ SeenAlike c k marks l place =
 abbrev pub object_of : Database → Received → Option Object
 object_of d dropped = None
 object_of d (managed on from frame) = None
-object_of d (stranger m) = None
+object_of d (unregistered m) = None
 object_of d (message m) = option_and_then object_written (apdu_for (device_network d) m.npdu)
 
 -- an event is a WriteProperty of the object that the device takes
@@ -91,8 +91,8 @@ AreBlind rules sources o =
 -- whom an event claims to come from, where it isn't dropped (clause 6.2.2)
 abbrev pub claim : Received → Option Source
 claim dropped = None
-claim (managed on from frame) = Some (here on.port.network from)
-claim (stranger m) = Some m.claim
+claim (managed on from frame) = Some (local_source on.port.network from)
+claim (unregistered m) = Some m.claim
 claim (message m) = Some m.claim
 
 -- ---- the laws

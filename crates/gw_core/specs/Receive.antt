@@ -9,10 +9,10 @@ use Rattle.gw_bvll.specs.Bvll.{write_bdt, read_bdt, forwarded, register, read_fd
 use Rattle.gw_bvll.specs.Bvll.{Message as Frame}
 use Rattle.gw_npdu.specs.Npdu.{Fields, Address}
 use Rattle.gw_npdu.specs.Reading.{npdu_at}
-use Rattle.gw_relay.specs.Cast.{is_heard, is_strange}
-use Rattle.gw_relay.specs.Claim.{link_source, here, claimed}
+use Rattle.gw_relay.specs.Cast.{accepts, is_unregistered}
+use Rattle.gw_relay.specs.Claim.{claimed, link_source, local_source}
 use Rattle.gw_relay.specs.State.{link_at}
-use Rattle.gw_relay.specs.declared.port.Link.{Link}
+use Rattle.gw_relay.specs.declared.port.PortState.{PortState}
 use Rattle.gw_script.specs.Event.{Event}
 use Rattle.gw_script.specs.Event.{Datagram, Tick}
 use Rattle.gw_core.specs.State.{State, device_network}
@@ -20,7 +20,7 @@ use Rattle.gw_core.specs.State.{State, device_network}
 -- A message of the network layer: the port that it came on with its tables, its sender and frame, the
 -- link source, the claim, and the NPDU.
 pub record Message : Type 0 where
-  pub here : Link
+  pub here : PortState
   pub from : BipAddr
   pub frame : Frame
   pub link : BipAddr
@@ -31,8 +31,8 @@ pub record Message : Type 0 where
 -- distributed, from someone who isn't registered; or a message of the network layer that is heard.
 pub data Received : Type 0 where
   dropped : Received
-  managed : (on : Link) (from : BipAddr) (frame : Frame) → Received
-  stranger : Message → Received
+  managed : (on : PortState) (from : BipAddr) (frame : Frame) → Received
+  unregistered : Message → Received
   message : Message → Received
 
 -- ---- the datagram (Annex J.1)
@@ -67,17 +67,17 @@ payload_of other = None
 -- ---- the NPDU (clause 6.2)
 
 -- the network of a port, or the device's
-abbrev pub is_direct : List Link → ℕ → ℕ → Bool
+abbrev pub is_direct : List PortState → ℕ → ℕ → Bool
 is_direct links device network =
     network == device || list_any (λ link. link.port.network == network) links
 
 -- whether a message names a source on a network that the gateway itself stands on
-abbrev pub claims_direct : List Link → ℕ → Option Address → Bool
+abbrev pub claims_direct : List PortState → ℕ → Option Address → Bool
 claims_direct links device None = false
 claims_direct links device (Some s) = is_direct links device s.network
 
 -- an NPDU of at most 1497 octets that claims no source on a network of the gateway's own
-unfoldable pub npdu_of : List Link → ℕ → List ℕ → Option Fields
+unfoldable pub npdu_of : List PortState → ℕ → List ℕ → Option Fields
 npdu_of links device octets =
     if nat_le (length octets) 1497 then (elim (npdu_at octets) [
       | Ok npdu ↦ if claims_direct links device npdu.source then None else Some npdu
@@ -87,7 +87,7 @@ npdu_of links device octets =
 -- ---- what is received
 
 -- a message that a frame brings on a port
-abbrev pub message_of : Link → BipAddr → Frame → Fields → Message
+abbrev pub message_of : PortState → BipAddr → Frame → Fields → Message
 message_of on from frame npdu = record {
   here = on;
   from = from;
@@ -97,33 +97,33 @@ message_of on from frame npdu = record {
   npdu = npdu;
 }
 
--- a message is heard, or a stranger's (Annex J.5)
-abbrev pub receive_npdu : List Link → ℕ → Link → BipAddr → Frame → List ℕ → Received
+-- a message is heard, or an unregistered sender's (Annex J.5)
+abbrev pub receive_npdu : List PortState → ℕ → PortState → BipAddr → Frame → List ℕ → Received
 receive_npdu links device on from frame octets = elim (npdu_of links device octets) [
   | Some npdu ↦
-      if is_strange on from frame then stranger (message_of on from frame npdu)
+      if is_unregistered on from frame then unregistered (message_of on from frame npdu)
       else message (message_of on from frame npdu)
   | None ↦ dropped
 ]
 
 -- a frame manages a table, or brings an NPDU where it is heard (Annex J.4)
-abbrev pub receive_frame : List Link → ℕ → Link → BipAddr → Frame → Received
+abbrev pub receive_frame : List PortState → ℕ → PortState → BipAddr → Frame → Received
 receive_frame links device on from frame =
     if manages frame then managed on from frame
-    else if not (is_heard on from frame) then dropped
+    else if not (accepts on from frame) then dropped
     else (elim (payload_of frame) [
       | Some octets ↦ receive_npdu links device on from frame octets
       | None ↦ dropped
     ])
 
-abbrev pub receive_datagram : List Link → ℕ → Link → BipAddr → List ℕ → Received
+abbrev pub receive_datagram : List PortState → ℕ → PortState → BipAddr → List ℕ → Received
 receive_datagram links device on from octets =
     if comes_in on.port.address from octets then (elim (bvll_at octets) [
       | Ok frame ↦ receive_frame links device on from frame
       | Err fault ↦ dropped
     ]) else dropped
 
-unfoldable pub receive_on : List Link → ℕ → ℕ → BipAddr → List ℕ → Received
+unfoldable pub receive_on : List PortState → ℕ → ℕ → BipAddr → List ℕ → Received
 receive_on links device number from octets = elim (link_at links number) [
   | Some on ↦ receive_datagram links device on from octets
   | None ↦ dropped
@@ -143,18 +143,18 @@ pub record Origin : Type 0 where
   pub source : Source
 
 -- a node of the port's network
-abbrev pub node_origin : Link → BipAddr → Origin
+abbrev pub node_origin : PortState → BipAddr → Origin
 node_origin on from =
-    record { port = on.port.number; source = here on.port.network from }
+    record { port = on.port.number; source = local_source on.port.network from }
 
 -- the origin of a message: who it claims to come from
 abbrev pub message_origin : Message → Origin
 message_origin m = record { port = m.here.port.number; source = m.claim }
 
--- The origin of what is received: a frame that manages a table, and a stranger's, claim to come from
+-- The origin of what is received: a frame that manages a table, and an unregistered sender's, claim to come from
 -- their sender.
 abbrev pub origin : Received → Option Origin
 origin dropped = None
 origin (managed on from frame) = Some (node_origin on from)
-origin (stranger m) = Some (node_origin m.here m.from)
+origin (unregistered m) = Some (node_origin m.here m.from)
 origin (message m) = Some (message_origin m)

@@ -58,8 +58,8 @@ abbrev pub mac_back : Bool → List ℕ → List ℕ
 mac_back false mac = mac
 mac_back true mac = []
 
-abbrev pub way_back : Bool → Address → Destination
-way_back broadcast a = record {
+abbrev pub reply_destination : Bool → Address → Destination
+reply_destination broadcast a = record {
   address = record { network = a.network; mac = mac_back broadcast a.mac };
   hops = whole_count;
 }
@@ -67,7 +67,7 @@ way_back broadcast a = record {
 -- the device is the one station of its network, and keeps the request's priority (clause 6.2.2)
 abbrev pub reply_npdu : ℕ → Fields → Answer → Fields
 reply_npdu network request answer = record {
-  destination = option_map (way_back answer.broadcast) request.source;
+  destination = option_map (reply_destination answer.broadcast) request.source;
   source = Some (record { network = network; mac = device_station ∷ [] });
   reply_expected = false;
   priority = request.priority;
@@ -81,8 +81,8 @@ abbrev pub most_octets : ℕ
 most_octets = 1497
 
 -- how many octets the APDU may have that goes back to the station that asked
-abbrev pub room_back : ℕ → Fields → ℕ
-room_back network request =
+abbrev pub max_reply_apdu : ℕ → Fields → ℕ
+max_reply_apdu network request =
     most_octets - length (npdu.header (reply_npdu network request (record { apdu = []; broadcast = false })))
 
 -- where a message came from, whether it goes to more than the device, and the room for the answer
@@ -92,7 +92,7 @@ context_of network m = record {
   source_network = m.claim.net;
   source_key = key_of m.claim.mac;
   broadcast = goes_to_all network m.npdu.destination;
-  room = room_back network m.npdu;
+  room = max_reply_apdu network m.npdu;
 }
 
 -- ---- what is sent

@@ -5,22 +5,22 @@ use Rattle.gw_bvll.specs.Bvll.{view as frame_view}
 use Rattle.gw_bvll.specs.Bvll.{Message as Frame}
 use Rattle.gw_npdu.specs.Npdu.{Fields}
 use Rattle.gw_npdu.specs.Npdu.{view as npdu_view}
-use Rattle.gw_relay.specs.Cast.{is_heard, is_strange}
-use Rattle.gw_relay.specs.declared.port.Link.{Link}
+use Rattle.gw_relay.specs.Cast.{accepts, is_unregistered}
+use Rattle.gw_relay.specs.declared.port.PortState.{PortState}
 use Rattle.gw_core.specs.declared.denial.Origin.{Origin as CodeOrigin}
 use Rattle.gw_core.specs.declared.message.Message.{Message as LentMessage}
 use Rattle.gw_core.specs.declared.receive.Received.{Received as LentReceived}
 use Rattle.gw_core.specs.declared.receive.Received.TheVariants as lent
-use Rattle.gw_core.specs.Receive.{Message, Origin, Received, message_of, message_origin, node_origin, dropped, managed, stranger, message}
+use Rattle.gw_core.specs.Receive.{Message, Origin, Received, message_of, message_origin, node_origin, dropped, managed, unregistered, message}
 
 abbrev pub message_view : LentMessage → Message
 message_view m = message_of m.here.now m.from (frame_view m.frame) (npdu_view m.npdu)
 
--- A message is judged once it is passed on: it may be unheard, or a stranger's.
+-- A message is judged once it is passed on: it may be unheard, or an unregistered sender's.
 abbrev pub judged : Message → Received
 judged m =
-    if not (is_heard m.here m.from m.frame) then dropped
-    else if is_strange m.here m.from m.frame then stranger m else message m
+    if not (accepts m.here m.from m.frame) then dropped
+    else if is_unregistered m.here m.from m.frame then unregistered m else message m
 
 abbrev pub received_view : LentReceived → Received
 received_view lent.Dropped = dropped
@@ -28,7 +28,7 @@ received_view (lent.Managed on from frame) = managed on.now from (frame_view fra
 received_view (lent.Message m) = judged (message_view m)
 
 -- what a message is received as, where there is one
-abbrev pub received_npdu : Link → BipAddr → Frame → Option Fields → Received
+abbrev pub received_npdu : PortState → BipAddr → Frame → Option Fields → Received
 received_npdu on from frame None = dropped
 received_npdu on from frame (Some npdu) = judged (message_of on from frame npdu)
 

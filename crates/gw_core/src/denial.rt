@@ -5,7 +5,7 @@ ghost use Rattle.std.specs.Option.{option_map};
 ghost use Rattle.gw_core.specs.Denials.{denials_from, denials_of, name_at, rule_name};
 ghost use Rattle.gw_core.specs.View.{origin_of, origin_view};
 
-use crate::message::here;
+use crate::message::local_source;
 use crate::receive::Received;
 use gw_addr::Source;
 use gw_audit::{Denial, Denials};
@@ -62,7 +62,7 @@ fn origin_of(received: &Received<'_>) -> Option<Origin>
         Received::Dropped => None,
         Received::Managed { on, from, .. } => Some(Origin {
             port: on.port.number,
-            source: here(on.port.network, *from),
+            source: local_source(on.port.network, *from),
         }),
         Received::Message(message) => Some(Origin {
             port: message.here.port.number,

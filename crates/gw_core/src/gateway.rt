@@ -188,8 +188,13 @@ impl Gateway {
             sends_for self.now.rules self.now.relay self.now.device received ≡ [] → IsOk result }
     {
         let rules = self.policy.rules();
-        let Response { relayed, write } =
-            respond(alloc, &self.policy, &self.relay, &self.device, received)?;
+        let Response { relayed, write } = respond(
+            alloc,
+            &self.policy,
+            &self.relay,
+            &self.device,
+            received,
+        )?;
         if relayed.refusals.len() as u64 > self.left() {
             return Err(StepFault::CountEnd);
         }

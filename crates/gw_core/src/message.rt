@@ -5,19 +5,19 @@ ghost use Rattle.std.specs.Option.{option_map};
 ghost use Rattle.gw_addr.specs.Station.{key_of};
 ghost use Rattle.gw_bvll.specs.Bvll.{view as frame_view};
 ghost use Rattle.gw_npdu.specs.Npdu.{view as npdu_view, address_view};
-ghost use Rattle.gw_relay.specs.Claim.{here, there, link_source};
+ghost use Rattle.gw_relay.specs.Claim.{link_source, local_source, remote_source};
 ghost use Rattle.gw_core.specs.View.{message_view};
 
 use gw_addr::{BipAddr, Mac, NetNum, Source};
 use gw_bvll::Bvll;
 use gw_npdu::{AddressRef, Npdu};
-use gw_relay::{Link, link_source};
+use gw_relay::{PortState, link_source};
 
 /// A message of the network layer.
 #[derive(Clone, Copy)]
 pub struct Message<'a> {
     /// The port that it came on, with its tables.
-    pub here: &'a Link,
+    pub here: &'a PortState,
     /// Whom its frame came from.
     pub from: BipAddr,
     /// The frame that brought it.
@@ -39,8 +39,8 @@ impl Message<'_> {
         ensures { result ≡ (message_view self.now).claim }
     {
         match &self.npdu.source {
-            None => here(self.here.port.network, self.link()),
-            Some(address) => there(address),
+            None => local_source(self.here.port.network, self.link()),
+            Some(address) => remote_source(address),
         }
     }
 
@@ -74,8 +74,8 @@ fn mac_of(octets: &[u8]) -> Mac
 }
 
 /// A node of a port's network.
-pub(crate) fn here(network: NetNum, address: BipAddr) -> Source
-    ensures { result ≡ here network address }
+pub(crate) fn local_source(network: NetNum, address: BipAddr) -> Source
+    ensures { result ≡ local_source network address }
 {
     Source {
         net: network,
@@ -84,8 +84,8 @@ pub(crate) fn here(network: NetNum, address: BipAddr) -> Source
 }
 
 /// A station by the network and the address that a message names.
-fn there(address: &AddressRef<'_>) -> Source
-    ensures { result ≡ there (address_view address.now) }
+fn remote_source(address: &AddressRef<'_>) -> Source
+    ensures { result ≡ remote_source (address_view address.now) }
 {
     Source {
         net: address.net(),

@@ -5,7 +5,7 @@ ghost use Rattle.std.specs.List.{list_any};
 ghost use Rattle.std.specs.Option.{option_map};
 ghost use Rattle.gw_bvll.specs.Bvll.{view as frame_view};
 ghost use Rattle.gw_npdu.specs.Npdu.{view as npdu_view, address_view};
-ghost use Rattle.gw_relay.specs.Claim.{here};
+ghost use Rattle.gw_relay.specs.Claim.{local_source};
 ghost use Rattle.gw_relay.specs.State.{link_at};
 ghost use Rattle.gw_core.specs.Receive.{claims_direct, comes_in, is_direct, manages, npdu_of, payload_of, receive_datagram, receive_frame, receive_on};
 ghost use Rattle.gw_core.specs.View.{received_npdu, received_view};
@@ -14,7 +14,7 @@ use crate::message::Message;
 use gw_addr::{BipAddr, NetNum};
 use gw_bvll::Bvll;
 use gw_npdu::{AddressRef, Npdu};
-use gw_relay::Link;
+use gw_relay::PortState;
 
 /// The longest datagram that is heard, in octets.
 const MAX_DATAGRAM: usize = gw_bvll::MAX_LEN;
@@ -29,13 +29,13 @@ pub enum Received<'a> {
     /// A frame that reads or changes a table of its port (Annex J.2.2, J.2.3, J.2.6 to J.2.8).
     Managed {
         /// The port that it came on, with its tables.
-        on: &'a Link,
+        on: &'a PortState,
         /// Whom it came from.
         from: BipAddr,
         /// The frame.
         frame: Bvll<'a>,
     },
-    /// A message of the network layer. Whether it is heard, and no stranger's, is judged when it is
+    /// A message of the network layer. Whether it is heard, and no unregistered sender's, is judged when it is
     /// passed on.
     Message(Message<'a>),
 }
@@ -70,19 +70,19 @@ fn payload_of<'a>(frame: &Bvll<'a>) -> Option<&'a [u8]>
     }
 }
 
-fn is_direct(links: &[Link], device: NetNum, network: u16) -> bool
+fn is_direct(links: &[PortState], device: NetNum, network: u16) -> bool
     ensures { result ≡ is_direct links.now device network }
 {
     network == device.get() || is_a_ports(links, network)
 }
 
-fn is_a_ports(links: &[Link], network: u16) -> bool
+fn is_a_ports(links: &[PortState], network: u16) -> bool
     ensures { result ≡ list_any (λ link. link.port.network == network) links.now }
 {
     links.iter().any(|link| link.port.network.get() == network)
 }
 
-fn claims_direct(links: &[Link], device: NetNum, source: &Option<AddressRef<'_>>) -> bool
+fn claims_direct(links: &[PortState], device: NetNum, source: &Option<AddressRef<'_>>) -> bool
     ensures { result ≡ claims_direct links.now device (option_map address_view source.now) }
 {
     match source {
@@ -94,7 +94,7 @@ fn claims_direct(links: &[Link], device: NetNum, source: &Option<AddressRef<'_>>
 /// The NPDU of these octets, where it is heard.
 #[inline(never)]
 #[tactic(auto, unfolding(crate::specs::Receive::npdu_of))]
-fn npdu_of<'a>(links: &[Link], device: NetNum, octets: &'a [u8]) -> Option<Npdu<'a>>
+fn npdu_of<'a>(links: &[PortState], device: NetNum, octets: &'a [u8]) -> Option<Npdu<'a>>
     ensures { option_map npdu_view result ≡ npdu_of links.now device octets.now }
 {
     if octets.len() > MAX_NPDU {
@@ -108,9 +108,9 @@ fn npdu_of<'a>(links: &[Link], device: NetNum, octets: &'a [u8]) -> Option<Npdu<
 }
 
 fn receive_npdu<'a>(
-    links: &[Link],
+    links: &[PortState],
     device: NetNum,
-    on: &'a Link,
+    on: &'a PortState,
     from: BipAddr,
     frame: &Bvll<'a>,
     octets: &'a [u8],
@@ -129,9 +129,9 @@ fn receive_npdu<'a>(
 }
 
 fn receive_frame<'a>(
-    links: &[Link],
+    links: &[PortState],
     device: NetNum,
-    on: &'a Link,
+    on: &'a PortState,
     from: BipAddr,
     frame: &Bvll<'a>,
 ) -> Received<'a>
@@ -151,9 +151,9 @@ fn receive_frame<'a>(
 }
 
 fn receive_datagram<'a>(
-    links: &[Link],
+    links: &[PortState],
     device: NetNum,
-    on: &'a Link,
+    on: &'a PortState,
     from: BipAddr,
     octets: &'a [u8],
 ) -> Received<'a>
@@ -169,7 +169,7 @@ fn receive_datagram<'a>(
 }
 
 /// The link of the port of a number, which is counted from 1.
-fn link_at(links: &[Link], number: u8) -> Option<&Link>
+fn link_at(links: &[PortState], number: u8) -> Option<&PortState>
     ensures { option_map (λ link. link.now) result ≡ link_at links.now number }
 {
     if number == 0 {
@@ -181,7 +181,7 @@ fn link_at(links: &[Link], number: u8) -> Option<&Link>
 /// What a datagram is received as on the port of this number.
 #[tactic(auto, unfolding(crate::specs::Receive::receive_on))]
 pub fn receive_on<'a>(
-    links: &'a [Link],
+    links: &'a [PortState],
     device: NetNum,
     number: u8,
     from: BipAddr,

@@ -11,7 +11,7 @@ ghost use Rattle.gw_core.specs.Effects.{answer_sends};
 ghost use Rattle.gw_bvll.specs.Bvll.{original_unicast};
 ghost use Rattle.gw_bvll.specs.Bvll.{encoding as bvll_encoding};
 ghost use Rattle.gw_relay.specs.Steps.{broadcast, npdu_octets, unicast};
-ghost use Rattle.gw_core.specs.Reply.{apdu_for, apdu_of, context_of, goes_to_all, is_broadcast, is_device, is_local_broadcast, most_octets, reply_npdu, reply_sends, room_back, way_back};
+ghost use Rattle.gw_core.specs.Reply.{apdu_for, apdu_of, context_of, goes_to_all, is_broadcast, is_device, is_local_broadcast, most_octets, reply_npdu, reply_sends, max_reply_apdu, reply_destination};
 ghost use Rattle.gw_core.specs.View.{message_view};
 
 use crate::message::Message;
@@ -78,9 +78,12 @@ fn goes_to_all(network: NetNum, destination: &Option<Destination<'_>>) -> bool
 }
 
 /// The way back to the station that asked, or to everyone on its network.
-fn way_back<'a>(broadcast: bool, source: &Option<AddressRef<'a>>) -> Option<Destination<'a>>
+fn reply_destination<'a>(
+    broadcast: bool,
+    source: &Option<AddressRef<'a>>,
+) -> Option<Destination<'a>>
     ensures { option_map destination_view result
-        ≡ option_map (way_back broadcast) (option_map address_view source.now) }
+        ≡ option_map (reply_destination broadcast) (option_map address_view source.now) }
 {
     match source {
         None => None,
@@ -98,7 +101,7 @@ fn reply_npdu<'a>(network: NetNum, request: &Npdu<'a>, apdu: &'a [u8], broadcast
         (record { apdu = apdu.now; broadcast = broadcast }) }
 {
     Npdu {
-        destination: way_back(broadcast, &request.source),
+        destination: reply_destination(broadcast, &request.source),
         source: Some(AddressRef {
             network: network.get(),
             mac: &[DEVICE_STATION],
@@ -110,8 +113,8 @@ fn reply_npdu<'a>(network: NetNum, request: &Npdu<'a>, apdu: &'a [u8], broadcast
 }
 
 /// How many octets the APDU may have that goes back to the station that asked.
-fn room_back(network: NetNum, request: &Npdu<'_>) -> usize
-    ensures room { result ≡ room_back network (npdu_view request.now) }
+fn max_reply_apdu(network: NetNum, request: &Npdu<'_>) -> usize
+    ensures room { result ≡ max_reply_apdu network (npdu_view request.now) }
     ensures least { most_octets ≤ result + max_header_len }
 {
     gw_npdu::MAX_LEN - reply_npdu(network, request, &[], false).header_len()
@@ -127,7 +130,7 @@ pub fn context_of(network: NetNum, message: &Message<'_>) -> Context
         source_network: message.source_network(),
         source_key: message.source_key(),
         broadcast: goes_to_all(network, &message.npdu.destination),
-        room: room_back(network, &message.npdu),
+        room: max_reply_apdu(network, &message.npdu),
     }
 }
 

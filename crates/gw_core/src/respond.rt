@@ -22,7 +22,7 @@ use crate::reply::{answer_sends, apdu_for, context_of};
 use gw_addr::{BipAddr, NetNum};
 use gw_bvll::Bvll;
 use gw_device::{Change, Device, Reply};
-use gw_relay::{Link, Relay, Relayed};
+use gw_relay::{PortState, Relay, RelayResponse};
 use gw_rules::Judge;
 use std::alloc::{AllocError, Global};
 
@@ -30,7 +30,7 @@ use std::alloc::{AllocError, Global};
 /// the device that is granted, if there is one.
 #[derive(Drop)]
 pub(crate) struct Response {
-    pub(crate) relayed: Relayed,
+    pub(crate) relayed: RelayResponse,
     pub(crate) write: Option<Change>,
 }
 
@@ -48,7 +48,7 @@ fn pass_on<J: Judge>(
     judge: &J,
     relay: &Relay,
     message: &Message<'_>,
-) -> Result<Relayed, AllocError>
+) -> Result<RelayResponse, AllocError>
     ensures sends { (rules : List Rule) → J.StandsFor judge.now rules →
         let due = passed_sends rules relay.now (message_view message.now) in
         IfOk result (λ given. given.sends ≡ due) }
@@ -77,11 +77,11 @@ fn pass_on<J: Judge>(
     let link = message.link();
     let routed = relay.route_from(alloc, judge, here, link, npdu)?;
     let told = relay.manage_from(alloc, judge, here, link, npdu)?;
-    given.and(routed.and(told)?)
+    given.append(routed.append(told)?)
 }
 
 /// What the device does about a message (step 10).
-fn serve<J: Judge>(
+fn answer_apdu<J: Judge>(
     alloc: Global,
     judge: &J,
     device: &Device,
@@ -105,7 +105,7 @@ fn serve<J: Judge>(
     let network = network_of(device);
     let Some(apdu) = apdu_for(network, &message.npdu) else {
         return Ok(Response {
-            relayed: Relayed::nothing(alloc),
+            relayed: RelayResponse::nothing(alloc),
             write: None,
         });
     };
@@ -116,10 +116,10 @@ fn serve<J: Judge>(
         change,
     } = device.answer(alloc, judge, &context, apdu)?;
     Ok(Response {
-        relayed: Relayed {
+        relayed: RelayResponse {
             sends: answer_sends(alloc, network, message, &answer)?,
             refusals,
-            ..Relayed::nothing(alloc)
+            ..RelayResponse::nothing(alloc)
         },
         write: change,
     })
@@ -148,9 +148,9 @@ fn respond_to_message<J: Judge>(
             write: None,
         });
     }
-    let served = serve(alloc, judge, device, message)?;
+    let served = answer_apdu(alloc, judge, device, message)?;
     Ok(Response {
-        relayed: given.and(served.relayed)?,
+        relayed: given.append(served.relayed)?,
         write: served.write,
     })
 }
@@ -159,7 +159,7 @@ fn respond_to_message<J: Judge>(
 fn respond_to_managed<J: Judge>(
     alloc: Global,
     judge: &J,
-    on: &Link,
+    on: &PortState,
     from: BipAddr,
     frame: &Bvll<'_>,
 ) -> Result<Response, AllocError>
@@ -172,7 +172,7 @@ fn respond_to_managed<J: Judge>(
         asks_for rules relay device due ≡ [] → IsOk result }
 {
     Ok(Response {
-        relayed: on.manage(alloc, judge, from, frame)?,
+        relayed: on.handle_table_message(alloc, judge, from, frame)?,
         write: None,
     })
 }
@@ -194,7 +194,7 @@ pub(crate) fn respond<J: Judge>(
 {
     match received {
         Received::Dropped => Ok(Response {
-            relayed: Relayed::nothing(alloc),
+            relayed: RelayResponse::nothing(alloc),
             write: None,
         }),
         Received::Managed { on, from, frame } => {

@@ -91,34 +91,34 @@ pub fn serve<W: Wire, L: OctetSink>(
     // A log that never fails doesn't end it.
     ensures sure_log { L.NeverFails log.old → IfErr result (λ stop. ¬ (stop.fault ≡ ServeFault.Log)) }
 {
-    let mut desk = Desk {
+    let mut state = ServeState {
         datagram: [0; RECEIVE_ROOM],
         lines: Vec::new(alloc),
         served: Served::default(),
     };
     for _ in 0..turns {
-        match desk.take_turn(alloc, gateway, wire, log) {
+        match state.take_turn(alloc, gateway, wire, log) {
             Ok(()) => {}
             Err(fault) => {
                 return Err(ServeStop {
                     fault,
-                    served: desk.served,
+                    served: state.served,
                 });
             }
         }
     }
-    Ok(desk.served)
+    Ok(state.served)
 }
 
 /// What is kept from turn to turn.
 #[derive(Drop)]
-struct Desk {
+struct ServeState {
     datagram: [u8; RECEIVE_ROOM],
     lines: Vec<u8>,
     served: Served,
 }
 
-impl Desk {
+impl ServeState {
     /// One turn: receives, has the gateway take what came, logs its denials and then sends.
     fn take_turn<W: Wire, L: OctetSink>(
         &mut self,

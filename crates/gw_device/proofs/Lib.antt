@@ -1,4 +1,4 @@
 pub mod Changes
-pub mod Found
+pub mod PropertyLemmas
 pub mod Unread
-pub mod Speaks
+pub mod RequestLemmas

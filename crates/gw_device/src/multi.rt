@@ -29,12 +29,7 @@ use gw_tags::ObjectId;
 use std::alloc::{AllocError, Global};
 
 /// The ask for a property.
-fn multi_ask(
-    objects: &ObjectDb,
-    context: &Context,
-    object: ObjectId,
-    property: u32,
-) -> Ask
+fn multi_ask(objects: &ObjectDb, context: &Context, object: ObjectId, property: u32) -> Ask
     ensures { result ≡ multi_ask objects.now context.now (object_view object) property }
 {
     property_ask(

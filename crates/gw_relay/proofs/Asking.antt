@@ -12,11 +12,11 @@ use Rattle.gw_rules.specs.RuleList.{allows}
 use Rattle.gw_rules.specs.declared.operation.Operation.{Operation}
 use Rattle.gw_rules.specs.declared.rule.Rule.{Rule}
 use Rattle.gw_relay.specs.Asks.{link_ask, link_asks, management_of}
-use Rattle.gw_relay.specs.Cast.{cast_ask, cast_asks, cast_sends, is_broadcast, is_heard, is_strange, passed_on, targets}
+use Rattle.gw_relay.specs.Cast.{cast_ask, cast_asks, cast_sends, is_broadcast, accepts, is_unregistered, passed_on, targets}
 use Rattle.gw_relay.specs.Link.{answer_to, change_of, is_granted, link_answer, link_change, link_grants, refused, told}
 use Rattle.gw_relay.specs.Sends.{max_message, sendings, sent}
 use Rattle.gw_relay.specs.internal.Serving.{judged, served, served_change}
-use Rattle.gw_relay.specs.declared.port.Link.{Link}
+use Rattle.gw_relay.specs.declared.port.PortState.{PortState}
 use Rattle.gw_relay.specs.declared.change.Change.{Change}
 
 and-true : (b : Bool) → (b && true) ≡ b
@@ -30,17 +30,17 @@ allowed_one rules ask = and-true (allows rules ask)
 -- ---- tables
 
 -- the asks of a frame that manages a table are one
-pub link_asked : (link : Link) (from : BipAddr) (frame : Frame) (op : Operation) → management_of frame ≡ Some op
+pub link_asked : (link : PortState) (from : BipAddr) (frame : Frame) (op : Operation) → management_of frame ≡ Some op
     → link_asks link.port from frame ≡ link_ask link.port from frame op ∷ []
 link_asked link from frame op managed = rw managed refl
 
-grants_so : (rules : List Rule) (link : Link) (from : BipAddr) (frame : Frame) (op : Operation) (b : Bool) → management_of frame ≡ Some op
+grants_so : (rules : List Rule) (link : PortState) (from : BipAddr) (frame : Frame) (op : Operation) (b : Bool) → management_of frame ≡ Some op
     → b ≡ allows rules (link_ask link.port from frame op) → link_grants rules link from frame ≡ (b && is_granted link from frame)
 grants_so rules link from frame op b managed judges =
     ap (λ (asks : List Ask). list_all (allows rules) asks && is_granted link from frame) (link_asked link from frame op managed)
     ∙ ap (λ (a : Bool). a && is_granted link from frame) (allowed_one rules (link_ask link.port from frame op) ∙ sym judges)
 
-pub link_served : (rules : List Rule) (link : Link) (from : BipAddr) (frame : Frame) (op : Operation) (b : Bool)
+pub link_served : (rules : List Rule) (link : PortState) (from : BipAddr) (frame : Frame) (op : Operation) (b : Bool)
     → management_of frame ≡ Some op
     → b ≡ allows rules (link_ask link.port from frame op) → link_answer rules link from frame ≡ served link from frame b
 unfolding link_answer
@@ -48,7 +48,7 @@ link_served rules link from frame op b managed judges =
     ap (λ (g : Bool). map (answer_to link.port from) (if g then told link frame else refused frame))
     (grants_so rules link from frame op b managed judges)
 
-pub link_changed : (rules : List Rule) (link : Link) (from : BipAddr) (frame : Frame) (op : Operation) (b : Bool)
+pub link_changed : (rules : List Rule) (link : PortState) (from : BipAddr) (frame : Frame) (op : Operation) (b : Bool)
     → management_of frame ≡ Some op
     → b ≡ allows rules (link_ask link.port from frame op) → link_change rules link from frame ≡ served_change link from frame b
 unfolding link_change
@@ -57,7 +57,7 @@ link_changed rules link from frame op b managed judges =
     ap (λ (g : Bool). if g then change_of link.port from frame else none) (grants_so rules link from frame op b managed judges)
 
 -- a frame that manages no table has no answer, no ask and no change
-pub unmanaged_answer : (rules : List Rule) (link : Link) (from : BipAddr) (frame : Frame) → management_of frame ≡ None
+pub unmanaged_answer : (rules : List Rule) (link : PortState) (from : BipAddr) (frame : Frame) → management_of frame ≡ None
     → link_answer rules link from frame ≡ []
 unfolding link_answer
 unmanaged_answer rules link from (bvll.result_code code) e = refl
@@ -73,7 +73,7 @@ unmanaged_answer rules link from (bvll.distribute npdu) e = refl
 unmanaged_answer rules link from (bvll.original_unicast npdu) e = refl
 unmanaged_answer rules link from (bvll.original_broadcast npdu) e = refl
 
-pub unmanaged_change : (rules : List Rule) (link : Link) (from : BipAddr) (frame : Frame) → management_of frame ≡ None
+pub unmanaged_change : (rules : List Rule) (link : PortState) (from : BipAddr) (frame : Frame) → management_of frame ≡ None
     → link_change rules link from frame ≡ None
 unfolding link_change
 unmanaged_change rules link from (bvll.result_code code) e = refl
@@ -90,18 +90,18 @@ unmanaged_change rules link from (bvll.original_unicast npdu) e = refl
 unmanaged_change rules link from (bvll.original_broadcast npdu) e = refl
 
 -- a frame that asks nothing changes nothing
-unasked_by : (rules : List Rule) (link : Link) (from : BipAddr) (frame : Frame) (op : Option Operation) → management_of frame ≡ op
+unasked_by : (rules : List Rule) (link : PortState) (from : BipAddr) (frame : Frame) (op : Option Operation) → management_of frame ≡ op
     → link_asks link.port from frame ≡ [] → link_change rules link from frame ≡ None
 unasked_by rules link from frame None is none = unmanaged_change rules link from frame is
 unasked_by rules link from frame (Some op) is none =
     let one : link_ask link.port from frame op ∷ [] ≡ [] = sym (link_asked link from frame op is) ∙ none in
     absurd cc
 
-pub unasked_change : (rules : List Rule) (link : Link) (from : BipAddr) (frame : Frame) → link_asks link.port from frame ≡ []
+pub unasked_change : (rules : List Rule) (link : PortState) (from : BipAddr) (frame : Frame) → link_asks link.port from frame ≡ []
     → link_change rules link from frame ≡ None
 unasked_change rules link from frame none = unasked_by rules link from frame (management_of frame) refl none
 
-pub unmanaged_asks : (link : Link) (from : BipAddr) (frame : Frame) → management_of frame ≡ None → link_asks link.port from frame ≡ []
+pub unmanaged_asks : (link : PortState) (from : BipAddr) (frame : Frame) → management_of frame ≡ None → link_asks link.port from frame ≡ []
 unmanaged_asks link from frame e = rw e refl
 
 -- ---- broadcasts
@@ -114,50 +114,50 @@ none_if false port octets = refl
 pub sent_nowhere : (port : ℕ) (message : Frame) → sent port [] message ≡ []
 sent_nowhere port message = none_if (nat_le (length (encoding message)) max_message) port (encoding message)
 
--- a broadcast that is heard, and no stranger's, asks once
-pub cast_asked : (link : Link) (from : BipAddr) (frame : Frame) (npdu : Fields) → is_heard link from frame ≡ true
-    → is_strange link from frame ≡ false
+-- a broadcast that is heard, and no unregistered sender's, asks once
+pub cast_asked : (link : PortState) (from : BipAddr) (frame : Frame) (npdu : Fields) → accepts link from frame ≡ true
+    → is_unregistered link from frame ≡ false
     → is_broadcast frame ≡ true → cast_asks link from frame npdu ≡ cast_ask link from frame npdu ∷ []
 unfolding cast_asks
 cast_asked link from frame npdu h s b = rw (h, s, b) refl
 
--- a frame that is not heard, or a stranger's, asks nothing
-pub unheard_asks : (link : Link) (from : BipAddr) (frame : Frame) (npdu : Fields) → is_heard link from frame ≡ false
+-- a frame that is not heard, or an unregistered sender's, asks nothing
+pub unheard_asks : (link : PortState) (from : BipAddr) (frame : Frame) (npdu : Fields) → accepts link from frame ≡ false
     → cast_asks link from frame npdu ≡ []
 unfolding cast_asks
 unheard_asks link from frame npdu h = rw h refl
 
-pub strange_asks : (link : Link) (from : BipAddr) (frame : Frame) (npdu : Fields) → is_heard link from frame ≡ true
-    → is_strange link from frame ≡ true → cast_asks link from frame npdu ≡ []
+pub strange_asks : (link : PortState) (from : BipAddr) (frame : Frame) (npdu : Fields) → accepts link from frame ≡ true
+    → is_unregistered link from frame ≡ true → cast_asks link from frame npdu ≡ []
 unfolding cast_asks
 strange_asks link from frame npdu h s = rw (h, s) refl
 
-pub quiet_asks : (link : Link) (from : BipAddr) (frame : Frame) (npdu : Fields) → is_heard link from frame ≡ true
-    → is_strange link from frame ≡ false
+pub quiet_asks : (link : PortState) (from : BipAddr) (frame : Frame) (npdu : Fields) → accepts link from frame ≡ true
+    → is_unregistered link from frame ≡ false
     → is_broadcast frame ≡ false → cast_asks link from frame npdu ≡ []
 unfolding cast_asks
 quiet_asks link from frame npdu h s b = rw (h, s, b) refl
 
 -- the sends of each
-pub unheard_sends : (rules : List Rule) (link : Link) (from : BipAddr) (frame : Frame) (npdu : Fields) → is_heard link from frame ≡ false
+pub unheard_sends : (rules : List Rule) (link : PortState) (from : BipAddr) (frame : Frame) (npdu : Fields) → accepts link from frame ≡ false
     → cast_sends rules link from frame npdu ≡ []
 unfolding cast_sends
 unheard_sends rules link from frame npdu h = rw h refl
 
-pub strange_sends : (rules : List Rule) (link : Link) (from : BipAddr) (frame : Frame) (npdu : Fields) → is_heard link from frame ≡ true
-    → is_strange link from frame ≡ true
+pub strange_sends : (rules : List Rule) (link : PortState) (from : BipAddr) (frame : Frame) (npdu : Fields) → accepts link from frame ≡ true
+    → is_unregistered link from frame ≡ true
     → cast_sends rules link from frame npdu ≡ map (answer_to link.port from) (refused frame)
 unfolding cast_sends
 strange_sends rules link from frame npdu h s = rw (h, s) refl
 
-by_answer : (b : Bool) (link : Link) (from : BipAddr) (frame : Frame)
+by_answer : (b : Bool) (link : PortState) (from : BipAddr) (frame : Frame)
     → (if not b then map (answer_to link.port from) (refused frame) else sent link.port.number (targets link from frame)
     (passed_on from frame)) ≡ judged link from frame b
 by_answer true link from frame = refl
 by_answer false link from frame = refl
 
-pub cast_judged : (rules : List Rule) (link : Link) (from : BipAddr) (frame : Frame) (npdu : Fields) (b : Bool)
-    → is_heard link from frame ≡ true → is_strange link from frame ≡ false
+pub cast_judged : (rules : List Rule) (link : PortState) (from : BipAddr) (frame : Frame) (npdu : Fields) (b : Bool)
+    → accepts link from frame ≡ true → is_unregistered link from frame ≡ false
     → is_broadcast frame ≡ true → b ≡ allows rules (cast_ask link from frame npdu)
     → cast_sends rules link from frame npdu ≡ judged link from frame b
 unfolding cast_sends
@@ -166,7 +166,7 @@ cast_judged rules link from frame npdu b h s broadcast judges =
     (by_answer b link from frame)
 
 -- a frame that is no broadcast goes to nobody
-no_targets : (link : Link) (from : BipAddr) (frame : Frame) → is_broadcast frame ≡ false → targets link from frame ≡ []
+no_targets : (link : PortState) (from : BipAddr) (frame : Frame) → is_broadcast frame ≡ false → targets link from frame ≡ []
 no_targets link from (bvll.result_code code) e = refl
 no_targets link from (bvll.write_bdt entries) e = refl
 no_targets link from bvll.read_bdt e = refl
@@ -180,16 +180,16 @@ no_targets link from (bvll.distribute npdu) e = cc
 no_targets link from (bvll.original_unicast npdu) e = refl
 no_targets link from (bvll.original_broadcast npdu) e = cc
 
-pub quiet_sends : (rules : List Rule) (link : Link) (from : BipAddr) (frame : Frame) (npdu : Fields) → is_heard link from frame ≡ true
-    → is_strange link from frame ≡ false
+pub quiet_sends : (rules : List Rule) (link : PortState) (from : BipAddr) (frame : Frame) (npdu : Fields) → accepts link from frame ≡ true
+    → is_unregistered link from frame ≡ false
     → is_broadcast frame ≡ false → cast_sends rules link from frame npdu ≡ []
 unfolding cast_sends
 quiet_sends rules link from frame npdu h s b =
     rw (h, s, quiet_asks link from frame npdu h s b, no_targets link from frame b) (sent_nowhere link.port.number (passed_on from frame))
 
 -- so it isn't silent
-pub cast_loud : (link : Link) (from : BipAddr) (frame : Frame) (npdu : Fields) → is_heard link from frame ≡ true
-    → is_strange link from frame ≡ false
+pub cast_loud : (link : PortState) (from : BipAddr) (frame : Frame) (npdu : Fields) → accepts link from frame ≡ true
+    → is_unregistered link from frame ≡ false
     → is_broadcast frame ≡ true → cast_asks link from frame npdu ≡ [] → ⊥
 cast_loud link from frame npdu h s b none =
     let both : cast_ask link from frame npdu ∷ [] ≡ [] = sym (cast_asked link from frame npdu h s b) ∙ none in

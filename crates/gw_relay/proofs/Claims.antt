@@ -23,13 +23,13 @@ use Rattle.gw_relay.specs.Cast.{cast_asks, goes_on, is_broadcast}
 use Rattle.gw_relay.specs.Claim.{claimed, link_source}
 use Rattle.gw_relay.specs.Laws.{AreFrom, BroadcastsCarryTheirClaim, NetworkMessagesCarryTheirClaim, RoutesAreKept, RoutingCarriesTheClaim, TableAsksReadNothing, TablesAreKept}
 use Rattle.gw_relay.specs.Link.{link_change}
-use Rattle.gw_relay.specs.Manage.{is_learned, is_number_question, is_question, learn_ask, learn_steps, learned, manage_asks, networks_in, question_of, question_steps}
+use Rattle.gw_relay.specs.Manage.{is_i_am_router, is_what_is_network_number, is_who_is_router, learn_ask, learn_steps, learned, manage_asks, networks_in, question_of, question_steps}
 use Rattle.gw_relay.specs.Route.{copy, is_local, leaves, others, route_asks, steps_by}
 use Rattle.gw_relay.specs.State.{Commit, Relay, after, moved}
 use Rattle.gw_relay.specs.Steps.{Step, asks_of}
 use Rattle.gw_relay.specs.declared.change.Change.{Change}
 use Rattle.gw_relay.specs.declared.change.Change.TheVariants.{Learnings}
-use Rattle.gw_relay.specs.declared.port.Link.{Link}
+use Rattle.gw_relay.specs.declared.port.PortState.{PortState}
 use Rattle.gw_relay.proofs.Learning.{learned_asks}
 
 -- ---- the tables of a port
@@ -80,14 +80,14 @@ table_asks_read_nothing port from (bvll.original_broadcast npdu) = tt
 
 -- ---- the routes
 
-none_learned : (rules : List Rule) (here : Link) (from : BipAddr) (npdu : Fields) (networks : List ℕ)
+none_learned : (rules : List Rule) (here : PortState) (from : BipAddr) (npdu : Fields) (networks : List ℕ)
     → NoneAllowed (IsFor operations.Learn) rules (map (learn_ask here from npdu) networks) → learned rules here from npdu networks ≡ []
 none_learned rules here from npdu [] h = refl
 none_learned rules here from npdu (n ∷ networks) h =
     let denied : allows rules (learn_ask here from npdu n) ≡ false = h.0 refl in
     rw denied (none_learned rules here from npdu networks h.1)
 
-moved_by : (b : Bool) (rules : List Rule) (relay : Relay) (here : Link) (from : BipAddr) (npdu : Fields) → is_learned npdu ≡ b
+moved_by : (b : Bool) (rules : List Rule) (relay : Relay) (here : PortState) (from : BipAddr) (npdu : Fields) → is_i_am_router npdu ≡ b
     → NoneAllowed (IsFor operations.Learn) rules (manage_asks relay.links relay.routes here from npdu)
     → moved (option_map Commit (if b then Some (Learnings here.port.number from (learned rules here from npdu (networks_in (payload_octets npdu.payload)))) else None)) relay ≡ relay
 moved_by true rules relay here from npdu is h =
@@ -97,7 +97,7 @@ moved_by true rules relay here from npdu is h =
 moved_by false rules relay here from npdu is h = refl
 
 pub routes_are_kept : RoutesAreKept
-routes_are_kept rules relay here from npdu h = moved_by (is_learned npdu) rules relay here from npdu refl h
+routes_are_kept rules relay here from npdu h = moved_by (is_i_am_router npdu) rules relay here from npdu refl h
 
 -- ---- whose asks
 
@@ -121,12 +121,12 @@ broadcasts_carry_their_claim here from frame npdu =
     let source = claimed here.port.network (link_source from frame) npdu in
     asks_if source (goes_on here from frame && is_broadcast frame) _ [] (said source _ refl refl, tt) tt
 
-from_copies : (on : Link) (from : BipAddr) (npdu : Fields) (d : Destination) (links : List Link)
+from_copies : (on : PortState) (from : BipAddr) (npdu : Fields) (d : Destination) (links : List PortState)
     → AreFrom (claimed on.port.network from npdu) (asks_of (map (copy on from npdu d) links))
 from_copies on from npdu d [] = tt
 from_copies on from npdu d (link ∷ links) = (said (claimed on.port.network from npdu) _ refl refl, from_copies on from npdu d links)
 
-from_way : (links : List Link) (on : Link) (from : BipAddr) (npdu : Fields) (d : Destination) (by : Way)
+from_way : (links : List PortState) (on : PortState) (from : BipAddr) (npdu : Fields) (d : Destination) (by : Way)
     → AreFrom (claimed on.port.network from npdu) (asks_of (steps_by links on from npdu d by))
 from_way links on from npdu d ways.Everywhere = from_copies on from npdu d (others on.port.number links)
 from_way links on from npdu d (ways.Port other) =
@@ -147,12 +147,12 @@ routing_carries_the_claim relay on from npdu =
     by None = tt
     by (Some d) = from_way relay.links on from npdu d (way relay.routes d.address.network)
 
-from_learning : (on : Link) (from : BipAddr) (npdu : Fields) (networks : List ℕ)
+from_learning : (on : PortState) (from : BipAddr) (npdu : Fields) (networks : List ℕ)
     → AreFrom (claimed on.port.network from npdu) (asks_of (map (λ n. record { asks = learn_ask on from npdu n ∷ []; sends = [] }) networks))
 from_learning on from npdu [] = tt
 from_learning on from npdu (n ∷ networks) = (said (claimed on.port.network from npdu) _ refl refl, from_learning on from npdu networks)
 
-from_question : (links : List Link) (routes : Table) (on : Link) (from : BipAddr) (npdu : Fields) (octets : List ℕ)
+from_question : (links : List PortState) (routes : Table) (on : PortState) (from : BipAddr) (npdu : Fields) (octets : List ℕ)
     → AreFrom (claimed on.port.network from npdu) (asks_of (question_steps links routes on from npdu octets))
 from_question links routes on from npdu [] = (said (claimed on.port.network from npdu) _ refl refl, tt)
 from_question links routes on from npdu (a ∷ []) = tt
@@ -167,7 +167,7 @@ from_question links routes on from npdu (a ∷ b ∷ c ∷ octets) = tt
 pub network_messages_carry_their_claim : NetworkMessagesCarryTheirClaim
 network_messages_carry_their_claim relay on from npdu =
     let source = claimed on.port.network from npdu in
-    steps_if source (is_learned npdu) (learn_steps on from npdu) _ (from_learning on from npdu (networks_in (payload_octets npdu.payload)))
-    (steps_if source (is_question npdu) (question_steps relay.links relay.routes on from npdu (payload_octets npdu.payload)) _
+    steps_if source (is_i_am_router npdu) (learn_steps on from npdu) _ (from_learning on from npdu (networks_in (payload_octets npdu.payload)))
+    (steps_if source (is_who_is_router npdu) (question_steps relay.links relay.routes on from npdu (payload_octets npdu.payload)) _
     (from_question relay.links relay.routes on from npdu (payload_octets npdu.payload))
-    (steps_if source (is_number_question npdu) _ [] (said source _ refl refl, tt) tt))
+    (steps_if source (is_what_is_network_number npdu) _ [] (said source _ refl refl, tt) tt))

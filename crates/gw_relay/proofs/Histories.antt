@@ -12,28 +12,28 @@ use Rattle.gw_relay.specs.Laws.{ChangesExtendHistories, ConfiguredLinksStand, Ti
 use Rattle.gw_relay.specs.State.{changed_at, changed_of, deleted, link_later, links_after, registered}
 use Rattle.gw_relay.specs.declared.change.Change.{Change}
 use Rattle.gw_relay.specs.declared.change.Change.TheVariants.{Entries, Registration, Deletion, Learnings}
-use Rattle.gw_relay.specs.declared.port.Link.{Link}
+use Rattle.gw_relay.specs.declared.port.PortState.{PortState}
 use Rattle.gw_relay.specs.declared.port.Port.{Port}
 
 -- a change of a link is one of its acts
-Agree : (Link → Link) → (Acts → Acts) → Type 0
+Agree : (PortState → PortState) → (Acts → Acts) → Type 0
 Agree f g = (port : Port) (acts : Acts) → f (link_after port acts) ≡ link_after port (g acts)
 
-at_agree : (f : Link → Link) (g : Acts → Acts) → Agree f g → (i : ℕ) (ports : List Port) (acts : List Acts)
+at_agree : (f : PortState → PortState) (g : Acts → Acts) → Agree f g → (i : ℕ) (ports : List Port) (acts : List Acts)
     → changed_at i f (all_after ports acts) ≡ all_after ports (changed_at i g acts)
 unfolding Agree
 at_agree f g agree i [] acts = refl
 at_agree f g agree i (port ∷ ports) [] = refl
-at_agree f g agree zero (port ∷ ports) (first ∷ acts) = ap (λ (link : Link). link ∷ all_after ports acts) (agree port first)
-at_agree f g agree (suc i) (port ∷ ports) (first ∷ acts) = ap (λ (links : List Link). link_after port first ∷ links)
+at_agree f g agree zero (port ∷ ports) (first ∷ acts) = ap (λ (link : PortState). link ∷ all_after ports acts) (agree port first)
+at_agree f g agree (suc i) (port ∷ ports) (first ∷ acts) = ap (λ (links : List PortState). link_after port first ∷ links)
     (at_agree f g agree i ports acts)
 
-either_agree : (b : Bool) (ports : List Port) (acts more : List Acts) (links : List Link) → links ≡ all_after ports more
+either_agree : (b : Bool) (ports : List Port) (acts more : List Acts) (links : List PortState) → links ≡ all_after ports more
     → (if b then all_after ports acts else links) ≡ all_after ports (if b then acts else more)
 either_agree true ports acts more links e = refl
 either_agree false ports acts more links e = e
 
-of_agree : (f : Link → Link) (g : Acts → Acts) → Agree f g → (number : ℕ) (ports : List Port) (acts : List Acts)
+of_agree : (f : PortState → PortState) (g : Acts → Acts) → Agree f g → (number : ℕ) (ports : List Port) (acts : List Acts)
     → changed_of number f (all_after ports acts) ≡ all_after ports (changed_of number g acts)
 of_agree f g agree number ports acts =
     either_agree (number == 0) ports acts (changed_at (number - 1) g acts) (changed_at (number - 1) f (all_after ports acts))
@@ -41,7 +41,7 @@ of_agree f g agree number ports acts =
 
 -- a granted act
 either_act : (b : Bool) (port : Port) (acts : Acts) (act : Act) (t : Registrations) → t ≡ table_after (act ∷ acts.history)
-    → ◌≡◌ {A = Link} (record { port = port; bdt = acts.entries; fdt = if b then t else table_after acts.history })
+    → ◌≡◌ {A = PortState} (record { port = port; bdt = acts.entries; fdt = if b then t else table_after acts.history })
     (link_after port (with_act b act acts))
 either_act true port acts act t e = ap (λ (fdt : Registrations). record { port = port; bdt = acts.entries; fdt = fdt }) e
 either_act false port acts act t e = refl
@@ -86,7 +86,7 @@ tick_extends : (ports : List Port) (acts : List Acts) → map link_later (all_af
 tick_extends [] acts = refl
 tick_extends (port ∷ ports) [] = refl
 tick_extends (port ∷ ports) (first ∷ acts) =
-    ap₂ (λ (fdt : Registrations) (links : List Link). record { port = port; bdt = first.entries; fdt = fdt } ∷ links)
+    ap₂ (λ (fdt : Registrations) (links : List PortState). record { port = port; bdt = first.entries; fdt = fdt } ∷ links)
     (table_later first.history) (tick_extends ports acts)
 
 pub ticks_extend : TicksExtendHistories
@@ -100,5 +100,5 @@ none_registered = refl
 pub configured_stand : ConfiguredLinksStand
 configured_stand number [] = refl
 configured_stand number (p ∷ ports) =
-    ap₂ (λ (fdt : Registrations) (links : List Link). record { port = (link_of number p).port; bdt = p.peers; fdt = fdt } ∷ links)
+    ap₂ (λ (fdt : Registrations) (links : List PortState). record { port = (link_of number p).port; bdt = p.peers; fdt = fdt } ∷ links)
     none_registered (configured_stand (number + 1) ports)

@@ -9,18 +9,18 @@ use Rattle.gw_routes.specs.Table.{Table}
 use Rattle.gw_rules.specs.Ask.{Ask}
 use Rattle.gw_rules.specs.RuleList.{allows}
 use Rattle.gw_rules.specs.declared.rule.Rule.{Rule}
-use Rattle.gw_relay.specs.Manage.{answer_steps, are_networks, is_for_all, is_learned, learn_ask, learn_steps, manage_asks, manage_change, manage_sends, networks_in}
+use Rattle.gw_relay.specs.Manage.{answer_steps, are_networks, is_for_all, is_i_am_router, learn_ask, learn_steps, manage_asks, manage_change, manage_sends, networks_in}
 use Rattle.gw_relay.specs.Route.{is_kind}
 use Rattle.gw_relay.specs.Sends.{Sending}
 use Rattle.gw_relay.specs.Steps.{Step, asks_of, sends_of, step}
-use Rattle.gw_relay.specs.declared.port.Link.{Link}
+use Rattle.gw_relay.specs.declared.port.PortState.{PortState}
 
 and_last : (a b : Bool) → (a && b) ≡ true → b ≡ true
 and_last true b e = e
 and_last false b e = cc
 
 -- what is learned is a list of networks
-pub whole_networks : (npdu : Fields) → is_learned npdu ≡ true → are_networks (payload_octets npdu.payload) ≡ true
+pub whole_networks : (npdu : Fields) → is_i_am_router npdu ≡ true → are_networks (payload_octets npdu.payload) ≡ true
 whole_networks npdu h =
     and_last (is_kind IAmRouterToNetwork npdu.payload && is_for_all npdu && not (is_some npdu.source) && not
     (length (payload_octets npdu.payload) == 0))
@@ -43,19 +43,19 @@ first_of : (b : Bool) (xs ys : List Step) → b ≡ true → (if b then xs else 
 first_of true xs ys e = refl
 first_of false xs ys e = cc
 
-pub learned_sends : (rules : List Rule) (links : List Link) (routes : Table) (here : Link) (from : BipAddr) (npdu : Fields)
-    → is_learned npdu ≡ true
+pub learned_sends : (rules : List Rule) (links : List PortState) (routes : Table) (here : PortState) (from : BipAddr) (npdu : Fields)
+    → is_i_am_router npdu ≡ true
     → manage_sends rules links routes here from npdu ≡ []
 learned_sends rules links routes here from npdu h =
     ap (λ (steps : List Step). sends_of rules steps)
-    (first_of (is_learned npdu) (learn_steps here from npdu) (answer_steps links routes here from npdu) h)
+    (first_of (is_i_am_router npdu) (learn_steps here from npdu) (answer_steps links routes here from npdu) h)
     ∙ no_sends rules (λ n. learn_ask here from npdu n) (networks_in (payload_octets npdu.payload))
 
-pub learned_asks : (links : List Link) (routes : Table) (here : Link) (from : BipAddr) (npdu : Fields) → is_learned npdu ≡ true
+pub learned_asks : (links : List PortState) (routes : Table) (here : PortState) (from : BipAddr) (npdu : Fields) → is_i_am_router npdu ≡ true
     → manage_asks links routes here from npdu ≡ map (learn_ask here from npdu) (networks_in (payload_octets npdu.payload))
 learned_asks links routes here from npdu h =
     ap (λ (steps : List Step). asks_of steps)
-    (first_of (is_learned npdu) (learn_steps here from npdu) (answer_steps links routes here from npdu) h)
+    (first_of (is_i_am_router npdu) (learn_steps here from npdu) (answer_steps links routes here from npdu) h)
     ∙ each_ask (λ n. learn_ask here from npdu n) (networks_in (payload_octets npdu.payload))
 
 -- a router's message names a network at least
@@ -68,7 +68,7 @@ and_before : (a b : Bool) → (a && b) ≡ true → a ≡ true
 and_before true b e = refl
 and_before false b e = cc
 
-some_octets : (npdu : Fields) → is_learned npdu ≡ true → not (length (payload_octets npdu.payload) == 0) ≡ true
+some_octets : (npdu : Fields) → is_i_am_router npdu ≡ true → not (length (payload_octets npdu.payload) == 0) ≡ true
 some_octets npdu h =
     and_last (is_kind IAmRouterToNetwork npdu.payload && is_for_all npdu && not (is_some npdu.source))
     (not (length (payload_octets npdu.payload) == 0))
@@ -81,20 +81,20 @@ no_map f [] none = refl
 no_map f (x ∷ xs) none = absurd cc
 
 -- so it asks
-pub learned_loud : (links : List Link) (routes : Table) (here : Link) (from : BipAddr) (npdu : Fields) → is_learned npdu ≡ true
+pub learned_loud : (links : List PortState) (routes : Table) (here : PortState) (from : BipAddr) (npdu : Fields) → is_i_am_router npdu ≡ true
     → manage_asks links routes here from npdu ≡ [] → ⊥
 learned_loud links routes here from npdu h none =
     some_networks (payload_octets npdu.payload) (whole_networks npdu h) (some_octets npdu h)
     (no_map (learn_ask here from npdu) (networks_in (payload_octets npdu.payload))
     (sym (learned_asks links routes here from npdu h) ∙ none))
 
-unasked_by : (b : Bool) (rules : List Rule) (links : List Link) (routes : Table) (here : Link) (from : BipAddr) (npdu : Fields)
-    → is_learned npdu ≡ b
+unasked_by : (b : Bool) (rules : List Rule) (links : List PortState) (routes : Table) (here : PortState) (from : BipAddr) (npdu : Fields)
+    → is_i_am_router npdu ≡ b
     → manage_asks links routes here from npdu ≡ [] → manage_change rules here from npdu ≡ None
 unasked_by true rules links routes here from npdu h none = absurd (learned_loud links routes here from npdu h none)
 unasked_by false rules links routes here from npdu h none = rw h refl
 
 -- what asks nothing learns nothing
-pub unasked_learning : (rules : List Rule) (links : List Link) (routes : Table) (here : Link) (from : BipAddr) (npdu : Fields)
+pub unasked_learning : (rules : List Rule) (links : List PortState) (routes : Table) (here : PortState) (from : BipAddr) (npdu : Fields)
     → manage_asks links routes here from npdu ≡ [] → manage_change rules here from npdu ≡ None
-unasked_learning rules links routes here from npdu none = unasked_by (is_learned npdu) rules links routes here from npdu refl none
+unasked_learning rules links routes here from npdu none = unasked_by (is_i_am_router npdu) rules links routes here from npdu refl none

@@ -5,8 +5,8 @@ pub mod Configured
 pub mod Ticks
 pub mod Spreading
 pub mod Histories
-pub mod Left
+pub mod TargetLemmas
 pub mod Peers
 pub mod Learning
-pub mod Going
+pub mod WayLemmas
 pub mod Claims

@@ -6,13 +6,13 @@ use Rattle.gw_addr.specs.declared.bip.BipAddr.{BipAddr}
 use Rattle.gw_bvll.specs.Bvll.{encoding, forwarded, original_broadcast}
 use Rattle.gw_relay.specs.Cast.{devices, managers, spread}
 use Rattle.gw_relay.specs.Sends.{Batch, Sending, sendings, sendings_of, sent}
-use Rattle.gw_relay.specs.declared.port.Link.{Link}
+use Rattle.gw_relay.specs.declared.port.PortState.{PortState}
 
-pub spread_long : (link : Link) (npdu : List ℕ) → 1497 < length npdu → spread link npdu ≡ []
+pub spread_long : (link : PortState) (npdu : List ℕ) → 1497 < length npdu → spread link npdu ≡ []
 unfolding spread
 spread_long link npdu long = rw (lt-leb (length npdu) 1497 long) refl
 
-pub spread_short : (link : Link) (npdu : List ℕ) → length npdu ≤ 1497
+pub spread_short : (link : PortState) (npdu : List ℕ) → length npdu ≤ 1497
     → spread link npdu ≡ sent link.port.number (link.port.broadcast ∷ []) (original_broadcast npdu)
     ++ sent link.port.number (managers link ++ devices link) (forwarded link.port.address npdu)
 unfolding spread
@@ -24,7 +24,7 @@ sent_short : (port : ℕ) (to : BipAddr) (npdu : List ℕ) → length npdu ≤ 1
 sent_short port to npdu short = rw (le-leb (length (encoding (original_broadcast npdu))) 1507 (omega (arith, short))) refl
 
 -- the message on the subnet, and behind it the one to peers and foreign devices, whose octets are lent by the first
-pub spread_both : (link : Link) (npdu octets lent : List ℕ) (first : Batch) (second : Option Batch) → length npdu ≤ 1497
+pub spread_both : (link : PortState) (npdu octets lent : List ℕ) (first : Batch) (second : Option Batch) → length npdu ≤ 1497
     → first.port ≡ link.port.number → first.targets ≡ link.port.broadcast ∷ [] → first.octets ≡ octets
     → octets ≡ encoding (original_broadcast npdu) → lent ≡ npdu
     → option_map_or sendings_of second [] ≡ sent link.port.number (managers link ++ devices link) (forwarded link.port.address lent)

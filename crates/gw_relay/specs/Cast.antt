@@ -21,7 +21,7 @@ use Rattle.gw_relay.specs.Asks.{bound_for, message_ask}
 use Rattle.gw_relay.specs.Claim.{claimed, link_source}
 use Rattle.gw_relay.specs.Link.{answer_to, refused}
 use Rattle.gw_relay.specs.Sends.{Sending, sent}
-use Rattle.gw_relay.specs.declared.port.Link.{Link}
+use Rattle.gw_relay.specs.declared.port.PortState.{PortState}
 
 -- ---- whom a port's broadcasts go to
 
@@ -40,20 +40,20 @@ directed entry = record {
 }
 
 -- the peers, in the order of the table
-abbrev pub managers : Link → List BipAddr
+abbrev pub managers : PortState → List BipAddr
 managers link = map directed (peers link.port.address link.bdt)
 
 -- the registered foreign devices, in their order
-abbrev pub devices : Link → List BipAddr
+abbrev pub devices : PortState → List BipAddr
 devices link = keys_of link.fdt.rows
 
 -- the foreign devices but one
-abbrev pub devices_but : BipAddr → Link → List BipAddr
+abbrev pub devices_but : BipAddr → PortState → List BipAddr
 devices_but address link = filter (λ device. not (same address device)) (devices link)
 
 -- The subnet itself, for a broadcast that a peer sent to the port alone. Where the own mask is
 -- another than all ones, the peer's directed broadcast has reached the subnet already.
-abbrev pub subnet : Link → List BipAddr
+abbrev pub subnet : PortState → List BipAddr
 subnet link =
     if pointwise nat_eq (own_mask link.port.address link.bdt) all_ones
     then link.port.broadcast ∷ [] else []
@@ -61,7 +61,7 @@ subnet link =
 -- ---- a broadcast that is distributed
 
 -- whom it goes to: nobody is left out but the sender of a Distribute-Broadcast-To-Network
-abbrev pub targets : Link → BipAddr → Frame → List BipAddr
+abbrev pub targets : PortState → BipAddr → Frame → List BipAddr
 targets link from (original_broadcast npdu) = managers link ++ devices link
 targets link from (distribute npdu) = link.port.broadcast ∷ managers link ++ devices_but from link
 targets link from (forwarded originator npdu) = subnet link ++ devices link
@@ -77,20 +77,20 @@ passed_on from other = other
 
 -- A Forwarded-NPDU is heard from a peer alone, and not where the port itself is its originator
 -- (ours). Any other frame is heard.
-abbrev pub is_heard : Link → BipAddr → Frame → Bool
-is_heard link from (forwarded originator npdu) =
+abbrev pub accepts : PortState → BipAddr → Frame → Bool
+accepts link from (forwarded originator npdu) =
     not (same originator link.port.address)
     && list_any (is_of from) (peers link.port.address link.bdt)
-is_heard link from other = true
+accepts link from other = true
 
 -- Distribute-Broadcast-To-Network is for registered foreign devices (Annex J.5).
-abbrev pub is_strange : Link → BipAddr → Frame → Bool
-is_strange link from (distribute npdu) = not (contains link.fdt from)
-is_strange link from other = false
+abbrev pub is_unregistered : PortState → BipAddr → Frame → Bool
+is_unregistered link from (distribute npdu) = not (contains link.fdt from)
+is_unregistered link from other = false
 
 -- whether a frame goes on to the network layer
-abbrev pub goes_on : Link → BipAddr → Frame → Bool
-goes_on link from frame = is_heard link from frame && not (is_strange link from frame)
+abbrev pub goes_on : PortState → BipAddr → Frame → Bool
+goes_on link from frame = accepts link from frame && not (is_unregistered link from frame)
 
 -- the frames that are broadcasts
 abbrev pub is_broadcast : Frame → Bool
@@ -100,21 +100,21 @@ is_broadcast (original_broadcast npdu) = true
 is_broadcast other = false
 
 -- the ask of a broadcast
-abbrev pub cast_ask : Link → BipAddr → Frame → Fields → Ask
+abbrev pub cast_ask : PortState → BipAddr → Frame → Fields → Ask
 cast_ask link from frame npdu =
     let source = claimed link.port.network (link_source from frame) npdu in
     message_ask Cast link.port.number source (bound_for npdu) npdu.payload
 
-unfoldable pub cast_asks : Link → BipAddr → Frame → Fields → List Ask
+unfoldable pub cast_asks : PortState → BipAddr → Frame → Fields → List Ask
 cast_asks link from frame npdu =
     if goes_on link from frame && is_broadcast frame then cast_ask link from frame npdu ∷ [] else []
 
 -- The sends of a broadcast: one message to all its targets where the policy allows it. A
--- Distribute-Broadcast-To-Network of a stranger, or that is denied, is refused by its code.
-unfoldable pub cast_sends : List Rule → Link → BipAddr → Frame → Fields → List Sending
+-- Distribute-Broadcast-To-Network of an unregistered sender, or that is denied, is refused by its code.
+unfoldable pub cast_sends : List Rule → PortState → BipAddr → Frame → Fields → List Sending
 cast_sends rules link from frame npdu =
-    if not (is_heard link from frame) then []
-    else if is_strange link from frame
+    if not (accepts link from frame) then []
+    else if is_unregistered link from frame
     || not (list_all (allows rules) (cast_asks link from frame npdu))
     then map (answer_to link.port from) (refused frame)
     else sent link.port.number (targets link from frame) (passed_on from frame)
@@ -123,7 +123,7 @@ cast_sends rules link from frame npdu =
 
 -- The sends of a broadcast by the gateway on a port: on its subnet, and as a Forwarded-NPDU of its
 -- own to all peers and foreign devices. An NPDU of over 1497 octets isn't sent (ours).
-unfoldable pub spread : Link → List ℕ → List Sending
+unfoldable pub spread : PortState → List ℕ → List Sending
 spread link npdu =
     if nat_le (length npdu) max_len
     then sent link.port.number (link.port.broadcast ∷ []) (original_broadcast npdu)

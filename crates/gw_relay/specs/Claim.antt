@@ -13,18 +13,18 @@ link_source from (forwarded originator npdu) = originator
 link_source from other = from
 
 -- a node of a port's network
-abbrev pub here : ℕ → BipAddr → Source
-here network address = record { net = network; mac = octets_of address }
+abbrev pub local_source : ℕ → BipAddr → Source
+local_source network address = record { net = network; mac = octets_of address }
 
 -- a station by the network and the address that a message names
-abbrev pub there : Address → Source
-there a = record { net = a.network; mac = a.mac }
+abbrev pub remote_source : Address → Source
+remote_source a = record { net = a.network; mac = a.mac }
 
 abbrev pub claimed_by : Source → Option Address → Source
 claimed_by link None = link
-claimed_by link (Some s) = there s
+claimed_by link (Some s) = remote_source s
 
 -- the claim: the source that the NPDU names, and where it names none, the link source on the port's
 -- network (clause 6.2.2)
 abbrev pub claimed : ℕ → BipAddr → Fields → Source
-claimed network link npdu = claimed_by (here network link) npdu.source
+claimed network link npdu = claimed_by (local_source network link) npdu.source

@@ -15,7 +15,7 @@ use Rattle.gw_relay.specs.State.{Move, Commit, changed_of}
 use Rattle.gw_relay.specs.State.{Tick as Later}
 use Rattle.gw_relay.specs.declared.change.Change.{Change}
 use Rattle.gw_relay.specs.declared.change.Change.TheVariants.{Entries, Registration, Deletion, Learnings}
-use Rattle.gw_relay.specs.declared.port.Link.{Link}
+use Rattle.gw_relay.specs.declared.port.PortState.{PortState}
 use Rattle.gw_relay.specs.declared.port.Port.{Port}
 
 -- what came of a history on a port
@@ -24,17 +24,17 @@ pub record Acts : Type 0 where
   pub history : History
 
 -- a port after its acts
-abbrev pub link_after : Port → Acts → Link
+abbrev pub link_after : Port → Acts → PortState
 link_after port acts = record { port = port; bdt = acts.entries; fdt = table_after acts.history }
 
 -- the ports, each after its acts
-abbrev pub all_after : List Port → List Acts → List Link
+abbrev pub all_after : List Port → List Acts → List PortState
 all_after [] acts = []
 all_after (port ∷ ports) [] = []
 all_after (port ∷ ports) (first ∷ acts) = link_after port first ∷ all_after ports acts
 
 -- links stand as the acts of their ports leave them
-abbrev pub StandAfter : List Link → List Port → List Acts → Type 0
+abbrev pub StandAfter : List PortState → List Port → List Acts → Type 0
 StandAfter links ports acts = links ≡ all_after ports acts
 
 -- the ports as they are configured, with their numbers counted on from one

@@ -7,7 +7,7 @@ use Rattle.gw_policy_text.specs.declared.route.Route.{Route as ConfiguredRoute}
 use Rattle.gw_routes.specs.declared.route.Route.{Route}
 use Rattle.gw_routes.specs.Table.{table_of, route_by}
 use Rattle.gw_relay.specs.State.{Relay}
-use Rattle.gw_relay.specs.declared.port.Link.{Link}
+use Rattle.gw_relay.specs.declared.port.PortState.{PortState}
 use Rattle.gw_relay.specs.declared.port.Port.{Port}
 
 -- a port of this number
@@ -20,11 +20,11 @@ port_of number p = record {
 }
 
 -- a port with the peers that it starts with, where nobody is registered
-abbrev pub link_of : ℕ → ConfiguredPort → Link
+abbrev pub link_of : ℕ → ConfiguredPort → PortState
 link_of number p = record { port = port_of number p; bdt = p.peers; fdt = no_registration }
 
 -- the ports with their numbers, counted on from one
-abbrev pub links_from : ℕ → List ConfiguredPort → List Link
+abbrev pub links_from : ℕ → List ConfiguredPort → List PortState
 links_from number [] = []
 links_from number (p ∷ ports) = link_of number p ∷ links_from (number + 1) ports
 

@@ -26,7 +26,7 @@ use Rattle.gw_relay.specs.Manage.{manage_asks, manage_change}
 use Rattle.gw_relay.specs.Route.{route_asks}
 use Rattle.gw_relay.specs.State.{Commit, Relay, link_later, links_after, moved}
 use Rattle.gw_relay.specs.declared.change.Change.{Change}
-use Rattle.gw_relay.specs.declared.port.Link.{Link}
+use Rattle.gw_relay.specs.declared.port.PortState.{PortState}
 use Rattle.gw_relay.specs.declared.port.Port.{Port}
 
 -- Links as they are configured stand after no acts.
@@ -36,17 +36,17 @@ ConfiguredLinksStand = (number : ℕ) (ports : List ConfiguredPort) →
 
 -- A change extends every history: what stood after some acts stands after the acts with it.
 abbrev pub ChangesExtendHistories : Type 0
-ChangesExtendHistories = (change : Change) (links : List Link) (ports : List Port) (acts : List Acts) →
+ChangesExtendHistories = (change : Change) (links : List PortState) (ports : List Port) (acts : List Acts) →
     StandAfter links ports acts → StandAfter (links_after change links) ports (acts_after change acts)
 
 -- So does a tick.
 abbrev pub TicksExtendHistories : Type 0
-TicksExtendHistories = (links : List Link) (ports : List Port) (acts : List Acts) →
+TicksExtendHistories = (links : List PortState) (ports : List Port) (acts : List Acts) →
     StandAfter links ports acts → StandAfter (map link_later links) ports (map acts_later acts)
 
 -- Whoever sent a Distribute-Broadcast-To-Network is not among the foreign devices that it goes to.
 abbrev pub SenderIsLeftOut : Type 0
-SenderIsLeftOut = (from : BipAddr) (link : Link) → list_any (same from) (devices_but from link) ≡ false
+SenderIsLeftOut = (from : BipAddr) (link : PortState) → list_any (same from) (devices_but from link) ≡ false
 
 -- A mask of all ones sends to the broadcast manager itself.
 abbrev pub AllOnesReachTheManager : Type 0
@@ -62,7 +62,7 @@ OwnEntryIsLeftOut = (own : BipAddr) (entries : List BdtEntry) → list_any (is_o
 -- No table of a port changes where no ask of the frame that would change one is allowed.
 abbrev pub TablesAreKept : Type 0
 TablesAreKept =
-    (rules : List Rule) (on : Link) (from : BipAddr) (frame : Frame) →
+    (rules : List Rule) (on : PortState) (from : BipAddr) (frame : Frame) →
     NoChangeAllowed rules (link_asks on.port from frame) → link_change rules on from frame ≡ None
 
 -- An ask about a table is for no property.
@@ -74,7 +74,7 @@ TableAsksReadNothing =
 -- Nothing is learned where no ask of the message to learn is allowed.
 abbrev pub RoutesAreKept : Type 0
 RoutesAreKept =
-    (rules : List Rule) (relay : Relay) (here : Link) (from : BipAddr) (npdu : Fields) →
+    (rules : List Rule) (relay : Relay) (here : PortState) (from : BipAddr) (npdu : Fields) →
     NoneAllowed (IsFor Learn) rules (manage_asks relay.links relay.routes here from npdu) →
     moved (option_map Commit (manage_change rules here from npdu)) relay ≡ relay
 
@@ -87,15 +87,15 @@ AreFrom source asks = AllByRecursion (IsFrom source.net (key_of source.mac)) ask
 -- Every ask of a broadcast, of routing and of a network layer message is of the source that the message claims.
 abbrev pub BroadcastsCarryTheirClaim : Type 0
 BroadcastsCarryTheirClaim =
-    (here : Link) (from : BipAddr) (frame : Frame) (npdu : Fields) →
+    (here : PortState) (from : BipAddr) (frame : Frame) (npdu : Fields) →
     AreFrom (claimed here.port.network (link_source from frame) npdu) (cast_asks here from frame npdu)
 
 abbrev pub RoutingCarriesTheClaim : Type 0
 RoutingCarriesTheClaim =
-    (relay : Relay) (here : Link) (link : BipAddr) (npdu : Fields) →
+    (relay : Relay) (here : PortState) (link : BipAddr) (npdu : Fields) →
     AreFrom (claimed here.port.network link npdu) (route_asks relay.links relay.routes here link npdu)
 
 abbrev pub NetworkMessagesCarryTheirClaim : Type 0
 NetworkMessagesCarryTheirClaim =
-    (relay : Relay) (here : Link) (link : BipAddr) (npdu : Fields) →
+    (relay : Relay) (here : PortState) (link : BipAddr) (npdu : Fields) →
     AreFrom (claimed here.port.network link npdu) (manage_asks relay.links relay.routes here link npdu)

@@ -15,19 +15,19 @@ use Rattle.gw_relay.specs.Asks.{link_asks}
 use Rattle.gw_relay.specs.Sends.{Sending, sending}
 use Rattle.gw_relay.specs.declared.change.Change.{Change}
 use Rattle.gw_relay.specs.declared.change.Change.TheVariants.{Entries, Registration, Deletion}
-use Rattle.gw_relay.specs.declared.port.Link.{Link}
+use Rattle.gw_relay.specs.declared.port.PortState.{PortState}
 use Rattle.gw_relay.specs.declared.port.Port.{Port}
 
 -- what a frame asks for can be had: a table of at most 64 entries with no address twice, room for a
 -- registration, a registration to delete
-abbrev pub is_granted : Link → BipAddr → Frame → Bool
+abbrev pub is_granted : PortState → BipAddr → Frame → Bool
 is_granted link from (write_bdt entries) = not (are_too_many entries || has_twice entries)
 is_granted link from (register time_to_live) = has_room link.fdt from
 is_granted link from (delete address) = contains link.fdt address
 is_granted link from other = true
 
 -- the answer where it is had: the table that is read, in its order, or success
-abbrev pub told : Link → Frame → List Frame
+abbrev pub told : PortState → Frame → List Frame
 told link (write_bdt entries) = result_code success ∷ []
 told link read_bdt = read_bdt_ack link.bdt ∷ []
 told link (register time_to_live) = result_code success ∷ []
@@ -47,7 +47,7 @@ change_of port from (delete address) = Some (Deletion port.number address)
 change_of port from other = None
 
 -- it is had where the policy allows it and it can be had
-abbrev pub link_grants : List Rule → Link → BipAddr → Frame → Bool
+abbrev pub link_grants : List Rule → PortState → BipAddr → Frame → Bool
 link_grants rules link from frame =
     list_all (allows rules) (link_asks link.port from frame) && is_granted link from frame
 
@@ -56,12 +56,12 @@ abbrev pub answer_to : Port → BipAddr → Frame → Sending
 answer_to port from answer = sending port.number (encoding answer) from
 
 -- the answer to a frame that reads or changes a table
-unfoldable pub link_answer : List Rule → Link → BipAddr → Frame → List Sending
+unfoldable pub link_answer : List Rule → PortState → BipAddr → Frame → List Sending
 link_answer rules link from frame =
     map (answer_to link.port from)
     (if link_grants rules link from frame then told link frame else refused frame)
 
 -- what it changes
-unfoldable pub link_change : List Rule → Link → BipAddr → Frame → Option Change
+unfoldable pub link_change : List Rule → PortState → BipAddr → Frame → Option Change
 link_change rules link from frame =
     if link_grants rules link from frame then change_of link.port from frame else None

@@ -22,7 +22,7 @@ use Rattle.gw_relay.specs.Claim.{claimed}
 use Rattle.gw_relay.specs.Sends.{Sending}
 use Rattle.gw_relay.specs.State.{at_port}
 use Rattle.gw_relay.specs.Steps.{Step, asks_of, broadcast, sends_of, step, unicast}
-use Rattle.gw_relay.specs.declared.port.Link.{Link}
+use Rattle.gw_relay.specs.declared.port.PortState.{PortState}
 use Rattle.gw_relay.specs.declared.port.Port.{Port as RelayPort}
 
 -- ---- fields that change (clause 6.5.4)
@@ -91,11 +91,11 @@ who_is_router source network = made None source WhoIsRouterToNetwork (to_be_byte
 -- ---- what is sent by each way
 
 -- the ports but that of this number, in order
-abbrev pub others : ℕ → List Link → List Link
+abbrev pub others : ℕ → List PortState → List PortState
 others number links = filter (λ link. not (nat_eq link.port.number number)) links
 
 -- on a port's own network: to all where there is no DADR, to a BACnet/IP address, or to nobody
-abbrev pub delivered : List ℕ → Fields → Link → List Sending
+abbrev pub delivered : List ℕ → Fields → PortState → List Sending
 delivered mac npdu link =
     if length mac == 0 then broadcast npdu link
     else if length mac == 6 then unicast link.port.number (address_in mac) npdu
@@ -103,14 +103,14 @@ delivered mac npdu link =
 
 -- No way is known: the sender is told, and each other port's routers are asked for one. There is
 -- none of it for a Reject-Message-To-Network. The message itself isn't kept (ours).
-abbrev pub sought : List Link → Link → BipAddr → Fields → ℕ → List Sending
+abbrev pub sought : List PortState → PortState → BipAddr → Fields → ℕ → List Sending
 sought links here from npdu network =
     if is_kind RejectMessageToNetwork npdu.payload then []
     else unicast here.port.number from (reject network npdu)
     ++ flat_map (broadcast (who_is_router None network)) (others here.port.number links)
 
 -- by the way of the destination's network, which is one
-abbrev pub sent_on : List Link → Link → BipAddr → Fields → Destination → Way → List Sending
+abbrev pub sent_on : List PortState → PortState → BipAddr → Fields → Destination → Way → List Sending
 sent_on links here from npdu d (Port number) =
     at_port [] (delivered d.address.mac (last_hop here.port from npdu)) links number
 sent_on links here from npdu d (Router route) =
@@ -121,7 +121,7 @@ sent_on links here from npdu d other = []
 -- ---- what is asked
 
 -- the ask of a message that goes to a network
-abbrev pub route_ask : Link → BipAddr → Fields → Option ℕ → Ask
+abbrev pub route_ask : PortState → BipAddr → Fields → Option ℕ → Ask
 route_ask here from npdu network =
     message_ask operations.Route here.port.number (claimed here.port.network from npdu) network
     npdu.payload
@@ -134,18 +134,18 @@ leaves number Unknown = true
 leaves number other = false
 
 -- one ask, and what hangs on it
-abbrev pub on_way : List Link → Link → BipAddr → Fields → Destination → Way → Step
+abbrev pub on_way : List PortState → PortState → BipAddr → Fields → Destination → Way → Step
 on_way links here from npdu d way =
     step (route_ask here from npdu (bound_for npdu)) (sent_on links here from npdu d way)
 
 -- the copy of a global broadcast for another port
-abbrev pub copy : Link → BipAddr → Fields → Destination → Link → Step
+abbrev pub copy : PortState → BipAddr → Fields → Destination → PortState → Step
 copy here from npdu d link =
     step (route_ask here from npdu (Some link.port.network))
     (if has_hops d then broadcast (next_hop here.port from npdu) link else [])
 
 -- by the way of DNET: a copy for each other port, or one ask and what hangs on it
-abbrev pub steps_by : List Link → Link → BipAddr → Fields → Destination → Way → List Step
+abbrev pub steps_by : List PortState → PortState → BipAddr → Fields → Destination → Way → List Step
 steps_by links here from npdu d Everywhere =
     map (copy here from npdu d) (others here.port.number links)
 steps_by links here from npdu d way =
@@ -156,17 +156,17 @@ abbrev pub is_local : Payload → Bool
 is_local payload = is_kind WhatIsNetworkNumber payload || is_kind NetworkNumberIs payload
 
 -- a message without DNET isn't routed
-abbrev pub route_steps : List Link → Table → Link → BipAddr → Fields → List Step
+abbrev pub route_steps : List PortState → Table → PortState → BipAddr → Fields → List Step
 route_steps links routes here from npdu =
     if is_local npdu.payload then []
     else option_map_or (λ d.
     steps_by links here from npdu d (way routes d.address.network)) npdu.destination []
 
 -- the asks of routing
-abbrev pub route_asks : List Link → Table → Link → BipAddr → Fields → List Ask
+abbrev pub route_asks : List PortState → Table → PortState → BipAddr → Fields → List Ask
 route_asks links routes here from npdu = asks_of (route_steps links routes here from npdu)
 
 -- the sends of routing
-abbrev pub route_sends : List Rule → List Link → Table → Link → BipAddr → Fields → List Sending
+abbrev pub route_sends : List Rule → List PortState → Table → PortState → BipAddr → Fields → List Sending
 route_sends rules links routes here from npdu =
     sends_of rules (route_steps links routes here from npdu)

@@ -6,19 +6,19 @@ use Rattle.gw_bdt_fdt.specs.Registrations.{Registrations, contains, has_room, wi
 use Rattle.gw_routes.specs.Table.{Table, route_by, with_each}
 use Rattle.gw_relay.specs.declared.change.Change.{Change}
 use Rattle.gw_relay.specs.declared.change.Change.TheVariants.{Entries, Registration, Deletion, Learnings}
-use Rattle.gw_relay.specs.declared.port.Link.{Link}
+use Rattle.gw_relay.specs.declared.port.PortState.{PortState}
 
 pub record Relay : Type 0 where
-  pub links : List Link
+  pub links : List PortState
   pub routes : Table
   pub ticks : ℕ
 
 -- the link of the port of a number, counted from 1
-abbrev pub link_at : List Link → ℕ → Option Link
+abbrev pub link_at : List PortState → ℕ → Option PortState
 link_at links number = if number == 0 then None else slice_get links (number - 1)
 
 -- what the link of a port gives, and what there is where there is no such port
-abbrev pub at_port : {A : Type 0} → A → (Link → A) → List Link → ℕ → A
+abbrev pub at_port : {A : Type 0} → A → (PortState → A) → List PortState → ℕ → A
 at_port none given links number = option_map_or given (link_at links number) none
 
 -- ---- as it changes
@@ -43,7 +43,7 @@ abbrev pub changed_of : {A : Type 0} → ℕ → (A → A) → List A → List A
 changed_of number change xs = if number == 0 then xs else changed_at (number - 1) change xs
 
 -- the links once a change is made
-abbrev pub links_after : Change → List Link → List Link
+abbrev pub links_after : Change → List PortState → List PortState
 links_after (Entries port bdt) = changed_of port (λ link. record link { bdt = bdt })
 links_after (Registration port address time_to_live) =
     changed_of port (λ link. record link { fdt = registered address time_to_live link.fdt })
@@ -74,7 +74,7 @@ after change relay = record relay {
 }
 
 -- a link one tick later
-abbrev pub link_later : Link → Link
+abbrev pub link_later : PortState → PortState
 link_later link = record link { fdt = with_tick link.fdt }
 
 -- a relay one tick later

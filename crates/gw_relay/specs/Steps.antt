@@ -11,7 +11,7 @@ use Rattle.gw_rules.specs.RuleList.{allows}
 use Rattle.gw_rules.specs.declared.rule.Rule.{Rule}
 use Rattle.gw_relay.specs.Cast.{spread}
 use Rattle.gw_relay.specs.Sends.{Sending, sent}
-use Rattle.gw_relay.specs.declared.port.Link.{Link}
+use Rattle.gw_relay.specs.declared.port.PortState.{PortState}
 
 -- asks, and what is sent where the policy allows all of them
 pub record Step : Type 0 where
@@ -47,5 +47,5 @@ unicast port to npdu =
     option_map_or (λ octets. sent port (to ∷ []) (original_unicast octets)) (npdu_octets npdu) []
 
 -- an NPDU as a broadcast by the gateway on a port; one that is too long isn't sent
-abbrev pub broadcast : Fields → Link → List Sending
+abbrev pub broadcast : Fields → PortState → List Sending
 broadcast npdu link = option_map_or (spread link) (npdu_octets npdu) []

@@ -9,7 +9,7 @@ ghost use Rattle.gw_relay.specs.Asks.{bound_for, link_ask, management_of, messag
 ghost use Rattle.gw_relay.specs.Cast.{cast_ask};
 ghost use Rattle.gw_relay.specs.Claim.{claimed, link_source};
 
-use crate::port::{Link, Port};
+use crate::port::{Port, PortState};
 use gw_addr::BipAddr;
 use gw_bvll::Bvll;
 use gw_npdu::{Npdu, Payload};
@@ -124,7 +124,7 @@ pub(crate) fn message_ask(
 }
 
 /// The ask of a broadcast.
-pub(crate) fn cast_ask(link: &Link, from: BipAddr, frame: &Bvll<'_>, npdu: &Npdu<'_>) -> Ask
+pub(crate) fn cast_ask(link: &PortState, from: BipAddr, frame: &Bvll<'_>, npdu: &Npdu<'_>) -> Ask
     ensures { result ≡ cast_ask link.now from (frame_view frame.now) (npdu_view npdu.now) }
 {
     let source = link_source(from, frame);

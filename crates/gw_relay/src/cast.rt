@@ -9,7 +9,7 @@ ghost use Rattle.gw_bvll.specs.Bvll.{view as frame_view};
 ghost use Rattle.gw_npdu.specs.Npdu.{view as npdu_view};
 ghost use Rattle.gw_rules.specs.Authorizer.{denied_of};
 ghost use Rattle.gw_rules.specs.declared.rule.Rule.{Rule};
-ghost use Rattle.gw_relay.specs.Cast.{cast_asks, cast_sends, devices, devices_but, directed, goes_on, is_broadcast, is_heard, is_strange, managers, passed_on, spread, subnet, targets};
+ghost use Rattle.gw_relay.specs.Cast.{cast_asks, cast_sends, devices, devices_but, directed, goes_on, is_broadcast, accepts, is_unregistered, managers, passed_on, spread, subnet, targets};
 ghost use Rattle.gw_relay.specs.Link.{answer_to, refused};
 ghost use Rattle.gw_relay.specs.Sends.{sendings_of, sent};
 ghost use Rattle.gw_relay.specs.internal.Serving.{judged};
@@ -17,8 +17,8 @@ ghost use Rattle.gw_relay.specs.internal.Serving.{judged};
 use crate::ask::cast_ask;
 use crate::octets::message_octets;
 use crate::outgoing::Outgoing;
-use crate::port::Link;
-use crate::relayed::Relayed;
+use crate::port::PortState;
+use crate::response::RelayResponse;
 use crate::sends::{Batch, Sends};
 use gw_addr::{BdtEntry, BipAddr};
 use gw_bvll::Bvll;
@@ -77,11 +77,11 @@ fn forwarded_len(frame: &Bvll<'_>) -> usize {
     }
 }
 
-impl Link {
+impl PortState {
     /// Whether a frame is heard: a Forwarded-NPDU is from a peer alone, and not where the port
     /// itself is its originator (Annex J.4).
-    pub fn is_heard(&self, from: BipAddr, frame: &Bvll<'_>) -> bool
-        ensures { result ≡ is_heard self.now from (frame_view frame.now) }
+    pub fn accepts(&self, from: BipAddr, frame: &Bvll<'_>) -> bool
+        ensures { result ≡ accepts self.now from (frame_view frame.now) }
     {
         match frame {
             Bvll::Forwarded { originator, .. } => {
@@ -106,8 +106,8 @@ impl Link {
 
     /// Whether a frame is a Distribute-Broadcast-To-Network of someone who isn't registered (Annex
     /// J.5).
-    pub fn is_strange(&self, from: BipAddr, frame: &Bvll<'_>) -> bool
-        ensures { result ≡ is_strange self.now from (frame_view frame.now) }
+    pub fn is_unregistered(&self, from: BipAddr, frame: &Bvll<'_>) -> bool
+        ensures { result ≡ is_unregistered self.now from (frame_view frame.now) }
     {
         match frame {
             Bvll::Distribute(_) => !self.fdt.contains(from),
@@ -119,7 +119,7 @@ impl Link {
     pub fn goes_on(&self, from: BipAddr, frame: &Bvll<'_>) -> bool
         ensures { result ≡ goes_on self.now from (frame_view frame.now) }
     {
-        self.is_heard(from, frame) && !self.is_strange(from, frame)
+        self.accepts(from, frame) && !self.is_unregistered(from, frame)
     }
 
     /// Distributes a broadcast, whose message this is, where the policy allows it.
@@ -130,7 +130,7 @@ impl Link {
         from: BipAddr,
         frame: &Bvll<'_>,
         npdu: &Npdu<'_>,
-    ) -> Result<Relayed, AllocError>
+    ) -> Result<RelayResponse, AllocError>
         ensures sends { (rules : List Rule) → J.StandsFor judge.now rules →
             let frame = frame_view frame.now in
             let sends = cast_sends rules self.now from frame (npdu_view npdu.now) in
@@ -141,27 +141,27 @@ impl Link {
         ensures change { IfOk result (λ given. given.change ≡ None) }
         ensures goes_on { IfOk result (λ given.
             given.goes_on ≡ goes_on self.now from (frame_view frame.now)) }
-        // What asks nothing and tells no stranger wants no memory.
+        // What asks nothing and tells no unregistered sender wants no memory.
         ensures silent { cast_asks self.now from (frame_view frame.now) (npdu_view npdu.now) ≡ [] →
-            is_strange self.now from (frame_view frame.now) ≡ false → IsOk result }
+            is_unregistered self.now from (frame_view frame.now) ≡ false → IsOk result }
     {
-        if !self.is_heard(from, frame) {
-            return Ok(Relayed::nothing(alloc));
+        if !self.accepts(from, frame) {
+            return Ok(RelayResponse::nothing(alloc));
         }
-        if self.is_strange(from, frame) {
+        if self.is_unregistered(from, frame) {
             return self.refuse_stranger(alloc, from, frame);
         }
         if !is_broadcast(frame) {
-            return Ok(Relayed {
+            return Ok(RelayResponse {
                 goes_on: true,
-                ..Relayed::nothing(alloc)
+                ..RelayResponse::nothing(alloc)
             });
         }
         let mut authorizer = Authorizer::new(alloc, judge);
         let ask = cast_ask(self, from, frame, npdu);
         let is_allowed = authorizer.authorize(&ask)?;
         let sends = self.judged_sends(alloc, from, frame, is_allowed)?;
-        Ok(Relayed {
+        Ok(RelayResponse {
             sends,
             refusals: authorizer.into_refusals(),
             change: None,
@@ -169,22 +169,22 @@ impl Link {
         })
     }
 
-    /// A stranger is told so, and nothing is asked.
+    /// An unregistered sender is told so, and nothing is asked.
     fn refuse_stranger(
         &self,
         alloc: Global,
         from: BipAddr,
         frame: &Bvll<'_>,
-    ) -> Result<Relayed, AllocError>
+    ) -> Result<RelayResponse, AllocError>
         ensures sends { IfOk result (λ given. given.sends ≡
             map (answer_to self.now.port from) (refused (frame_view frame.now))) }
         ensures refusals { IfOk result (λ given. given.refusals ≡ []) }
         ensures change { IfOk result (λ given. given.change ≡ None) }
         ensures goes_on { IfOk result (λ given. given.goes_on ≡ false) }
     {
-        Ok(Relayed {
+        Ok(RelayResponse {
             sends: self.refuse(alloc, from, frame)?,
-            ..Relayed::nothing(alloc)
+            ..RelayResponse::nothing(alloc)
         })
     }
 

@@ -6,7 +6,7 @@ ghost use Rattle.gw_bdt_fdt.specs.Peers.{has_twice};
 ghost use Rattle.gw_routes.specs.Table.{table_of};
 ghost use Rattle.gw_relay.specs.Initial.{direct_of, link_of, links_from, routed_of};
 
-use crate::port::{Link, Port};
+use crate::port::{Port, PortState};
 use gw_addr::NetNum;
 use gw_bdt_fdt::{Bdt, Fdt};
 use gw_policy_text::{Config, Port as ConfiguredPort, Route as ConfiguredRoute};
@@ -14,7 +14,10 @@ use gw_routes::{Route, Routes};
 use std::alloc::{AllocError, Global};
 
 /// The ports with the peers that they start with, where nobody is registered.
-pub(crate) fn links_of(alloc: Global, ports: &[ConfiguredPort]) -> Result<Vec<Link>, AllocError>
+pub(crate) fn links_of(
+    alloc: Global,
+    ports: &[ConfiguredPort],
+) -> Result<Vec<PortState>, AllocError>
     requires few { length ports.now ≤ 8 }
     requires once { AllByRecursion (λ p. IsFalse (has_twice p.peers)) ports.now }
     ensures { IfOk result (λ links. links.items ≡ links_from 1 ports.now) }
@@ -28,13 +31,13 @@ pub(crate) fn links_of(alloc: Global, ports: &[ConfiguredPort]) -> Result<Vec<Li
 
 /// A port of this number with the peers that it starts with, which are at most 64 and have no
 /// address twice.
-fn link_of(alloc: Global, number: u8, port: &ConfiguredPort) -> Result<Link, AllocError>
+fn link_of(alloc: Global, number: u8, port: &ConfiguredPort) -> Result<PortState, AllocError>
     requires { IsFalse (has_twice port.now.peers) }
     ensures { IfOk result (λ link. link ≡ link_of number port.now) }
 {
     let peers = Vec::from_slice(alloc, port.peers.as_slice())?;
     let bdt = Bdt::from_vec(peers).unwrap();
-    Ok(Link {
+    Ok(PortState {
         port: Port {
             number,
             network: port.network,

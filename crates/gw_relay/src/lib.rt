@@ -18,13 +18,13 @@ mod octets;
 mod outgoing;
 mod port;
 mod relay;
-mod relayed;
+mod response;
 mod route;
 mod sends;
 
 pub use ask::link_source;
 pub use change::Change;
-pub use port::{Link, Port};
+pub use port::{Port, PortState};
 pub use relay::Relay;
-pub use relayed::Relayed;
+pub use response::RelayResponse;
 pub use sends::{Batch, Sends};

@@ -17,8 +17,8 @@ ghost use Rattle.gw_relay.specs.internal.Serving.{served, served_change};
 use crate::ask::{link_ask, management_of};
 use crate::change::Change;
 use crate::octets::{bdt_ack, fdt_ack};
-use crate::port::Link;
-use crate::relayed::Relayed;
+use crate::port::PortState;
+use crate::response::RelayResponse;
 use crate::sends::{Batch, Sends};
 use gw_addr::{BdtEntry, BipAddr};
 use gw_bdt_fdt::{Bdt, MAX_REGISTRATIONS};
@@ -37,16 +37,16 @@ enum Grant {
     Refused,
 }
 
-impl Link {
+impl PortState {
     /// Answers a frame that reads or changes a table of the port. The answer goes to the sender; a
     /// frame of another kind gets none, and asks nothing. The only fault is want of memory.
-    pub fn manage<J: Judge>(
+    pub fn handle_table_message<J: Judge>(
         &self,
         alloc: Global,
         judge: &J,
         from: BipAddr,
         frame: &Bvll<'_>,
-    ) -> Result<Relayed, AllocError>
+    ) -> Result<RelayResponse, AllocError>
         ensures sends { (rules : List Rule) → J.StandsFor judge.now rules →
             IfOk result (λ given. given.sends ≡ link_answer rules self.now from (view frame.now)) }
         ensures refusals { (rules : List Rule) → J.StandsFor judge.now rules →
@@ -58,13 +58,13 @@ impl Link {
         ensures silent { link_asks self.now.port from (view frame.now) ≡ [] → IsOk result }
     {
         let Some(operation) = management_of(frame) else {
-            return Ok(Relayed::nothing(alloc));
+            return Ok(RelayResponse::nothing(alloc));
         };
         let mut authorizer = Authorizer::new(alloc, judge);
         let ask = link_ask(&self.port, from, frame, operation);
         let is_allowed = authorizer.authorize(&ask)?;
-        let (sends, change) = self.serve(alloc, from, frame, is_allowed)?;
-        Ok(Relayed {
+        let (sends, change) = self.answer_table_message(alloc, from, frame, is_allowed)?;
+        Ok(RelayResponse {
             sends,
             refusals: authorizer.into_refusals(),
             change,
@@ -73,7 +73,7 @@ impl Link {
     }
 
     /// The answer to a frame that was judged, and what it changes.
-    fn serve(
+    fn answer_table_message(
         &self,
         alloc: Global,
         from: BipAddr,

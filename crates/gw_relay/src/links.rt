@@ -9,7 +9,7 @@ ghost use Rattle.gw_relay.specs.History.{learned_after};
 ghost use Rattle.gw_relay.specs.State.{deleted, link_later, links_after, registered, routes_after, wants_room};
 
 use crate::change::Change;
-use crate::port::Link;
+use crate::port::PortState;
 use gw_addr::BipAddr;
 use gw_bdt_fdt::{Bdt, Fdt, RegisterFault};
 use gw_routes::Routes;
@@ -18,7 +18,7 @@ use std::alloc::AllocError;
 /// Makes a change whole. The only fault is want of memory for a registration or for
 /// routes; then nothing changed.
 pub(crate) fn make(
-    links: &mut [Link],
+    links: &mut [PortState],
     routes: &mut Routes,
     change: Change,
 ) -> Result<(), AllocError>
@@ -54,7 +54,7 @@ pub(crate) fn make(
 }
 
 /// A table takes the place of a port's.
-fn replace(links: &mut [Link], port: u8, bdt: Bdt)
+fn replace(links: &mut [PortState], port: u8, bdt: Bdt)
     ensures { links.new ≡ links_after (Change.Entries port bdt) links.old }
 {
     if port == 0 || usize::from(port) > links.len() {
@@ -66,7 +66,7 @@ fn replace(links: &mut [Link], port: u8, bdt: Bdt)
 
 /// A foreign device registers, where there is room for it.
 fn register(
-    links: &mut [Link],
+    links: &mut [PortState],
     port: u8,
     address: BipAddr,
     time_to_live: u16,
@@ -95,7 +95,7 @@ fn registered(fdt: &mut Fdt, address: BipAddr, time_to_live: u16) -> Result<(), 
 }
 
 /// A registration is deleted, where it is there.
-fn delete(links: &mut [Link], port: u8, address: BipAddr)
+fn delete(links: &mut [PortState], port: u8, address: BipAddr)
     ensures { links.new ≡ links_after (Change.Deletion port address) links.old }
 {
     if port == 0 || usize::from(port) > links.len() {
@@ -113,7 +113,7 @@ fn deleted(fdt: &mut Fdt, address: BipAddr)
 }
 
 /// One second passes on each port.
-pub(crate) fn tick_each(links: &mut [Link])
+pub(crate) fn tick_each(links: &mut [PortState])
     requires { AllByRecursion (λ link. link.fdt.ticks < 2 ^ 63) links.old }
     ensures { links.new ≡ map link_later links.old }
 {

@@ -5,7 +5,7 @@ ghost use Rattle.std.specs.Prelude.{◌≡◌, ◌++◌, [], List, map, nat_le, 
 ghost use Rattle.gw_npdu.specs.Npdu.{view as npdu_view, payload_octets};
 ghost use Rattle.gw_rules.specs.Authorizer.{denied_of};
 ghost use Rattle.gw_rules.specs.declared.rule.Rule.{Rule};
-ghost use Rattle.gw_relay.specs.Manage.{answer_steps, are_networks, is_for_all, is_learned, is_number_question, is_question, i_am_router, learn_ask, learned, manage_asks, manage_change, manage_sends, message_ask_of, network_number_is, network_octets, networks_in, number_step, question_of, question_of_all, question_steps, told};
+ghost use Rattle.gw_relay.specs.Manage.{answer_steps, are_networks, is_for_all, is_i_am_router, is_what_is_network_number, is_who_is_router, i_am_router, learn_ask, learned, manage_asks, manage_change, manage_sends, message_ask_of, network_number_is, network_octets, networks_in, number_step, question_of, question_of_all, question_steps, told};
 ghost use Rattle.gw_relay.specs.Route.{made};
 ghost use Rattle.gw_relay.specs.Steps.{allowed_sends, asks_of, broadcast, sends_of};
 ghost use Rattle.gw_npdu.specs.Kind.{kind_number};
@@ -14,8 +14,8 @@ use crate::ask::message_ask;
 use crate::change::Change;
 use crate::npdu::{is_kind, message_of, put_broadcast};
 use crate::outgoing::Outgoing;
-use crate::port::Link;
-use crate::relayed::Relayed;
+use crate::port::PortState;
+use crate::response::RelayResponse;
 use crate::route::put_who_is_router;
 use crate::sends::Sends;
 use gw_addr::{BipAddr, NetNum, Sequence, put_number};
@@ -51,15 +51,15 @@ fn is_for_all(npdu: &Npdu<'_>) -> bool
 }
 
 /// Whether a message asks for routers.
-fn is_question(npdu: &Npdu<'_>) -> bool
-    ensures { result ≡ is_question (npdu_view npdu.now) }
+fn is_who_is_router(npdu: &Npdu<'_>) -> bool
+    ensures { result ≡ is_who_is_router (npdu_view npdu.now) }
 {
     is_kind(&npdu.payload, MessageKind::WhoIsRouterToNetwork) && is_for_all(npdu)
 }
 
 /// Whether a router on the port's own network names the networks that it reaches.
-fn is_learned(npdu: &Npdu<'_>) -> bool
-    ensures { result ≡ is_learned (npdu_view npdu.now) }
+fn is_i_am_router(npdu: &Npdu<'_>) -> bool
+    ensures { result ≡ is_i_am_router (npdu_view npdu.now) }
 {
     let octets = npdu.payload.octets();
     is_kind(&npdu.payload, MessageKind::IAmRouterToNetwork)
@@ -70,8 +70,8 @@ fn is_learned(npdu: &Npdu<'_>) -> bool
 }
 
 /// Whether a message asks for the number of the port's network.
-fn is_number_question(npdu: &Npdu<'_>) -> bool
-    ensures { result ≡ is_number_question (npdu_view npdu.now) }
+fn is_what_is_network_number(npdu: &Npdu<'_>) -> bool
+    ensures { result ≡ is_what_is_network_number (npdu_view npdu.now) }
 {
     is_kind(&npdu.payload, MessageKind::WhatIsNetworkNumber)
         && npdu.destination.is_none()
@@ -82,7 +82,7 @@ fn is_number_question(npdu: &Npdu<'_>) -> bool
 /// The ask of a network layer message, of a network where it names one.
 fn ask_of(
     operation: Operation,
-    here: &Link,
+    here: &PortState,
     from: BipAddr,
     npdu: &Npdu<'_>,
     network: Option<NetNum>,
@@ -110,7 +110,7 @@ fn put_networks(networks: &[NetNum], out: &mut Vec<u8>) -> Result<(), AllocError
 /// Broadcasts a message of a type that the gateway makes.
 fn put_message(
     alloc: Global,
-    here: &Link,
+    here: &PortState,
     kind: MessageKind,
     octets: &[u8],
     sends: &mut Sends,
@@ -126,7 +126,7 @@ fn put_message(
 /// Broadcasts an I-Am-Router-To-Network for these networks (clause 6.4.2).
 fn put_i_am_router(
     alloc: Global,
-    here: &Link,
+    here: &PortState,
     networks: &[NetNum],
     sends: &mut Sends,
 ) -> Result<(), AllocError>
@@ -140,7 +140,7 @@ fn put_i_am_router(
 }
 
 /// Broadcasts a Network-Number-Is (clause 6.4.20).
-fn put_number_is(alloc: Global, here: &Link, sends: &mut Sends) -> Result<(), AllocError>
+fn put_number_is(alloc: Global, here: &PortState, sends: &mut Sends) -> Result<(), AllocError>
     ensures { let sent = broadcast (network_number_is here.now.port.network) here.now in
         OnOk result (sends.new ≡ sends.old ++ sent) }
 {
@@ -150,10 +150,10 @@ fn put_number_is(alloc: Global, here: &Link, sends: &mut Sends) -> Result<(), Al
 }
 
 /// Passes a question for a network on to the other ports' routers, with who asked.
-fn put_question_on(
+fn forward_who_is_router(
     alloc: Global,
-    links: &[Link],
-    here: &Link,
+    links: &[PortState],
+    here: &PortState,
     from: BipAddr,
     npdu: &Npdu<'_>,
     network: NetNum,
@@ -178,10 +178,10 @@ fn put_question_on(
 }
 
 /// Answers a question for a network, by its way.
-fn put_told(
+fn answer_who_is_router(
     alloc: Global,
-    links: &[Link],
-    here: &Link,
+    links: &[PortState],
+    here: &PortState,
     from: BipAddr,
     npdu: &Npdu<'_>,
     network: NetNum,
@@ -197,7 +197,7 @@ fn put_told(
         Way::Port(_) | Way::Device | Way::Router(_) => {
             put_i_am_router(alloc, here, &[network], sends)
         }
-        Way::Unknown => put_question_on(alloc, links, here, from, npdu, network, sends),
+        Way::Unknown => forward_who_is_router(alloc, links, here, from, npdu, network, sends),
         Way::Everywhere => Ok(()),
     }
 }
@@ -206,9 +206,9 @@ fn put_told(
 fn put_answer<J: Judge>(
     alloc: Global,
     authorizer: &mut Authorizer<'_, J>,
-    links: &[Link],
+    links: &[PortState],
     routes: &Routes,
-    here: &Link,
+    here: &PortState,
     from: BipAddr,
     npdu: &Npdu<'_>,
     network: NetNum,
@@ -227,7 +227,7 @@ fn put_answer<J: Judge>(
         return Ok(());
     }
     let way = routes.find(network.get());
-    put_told(alloc, links, here, from, npdu, network, &way, sends)
+    answer_who_is_router(alloc, links, here, from, npdu, network, &way, sends)
 }
 
 /// Asks, and answers a question for all networks.
@@ -235,7 +235,7 @@ fn put_answer_to_all<J: Judge>(
     alloc: Global,
     authorizer: &mut Authorizer<'_, J>,
     routes: &Routes,
-    here: &Link,
+    here: &PortState,
     from: BipAddr,
     npdu: &Npdu<'_>,
     sends: &mut Sends,
@@ -260,9 +260,9 @@ fn put_answer_to_all<J: Judge>(
 fn put_answers<J: Judge>(
     alloc: Global,
     authorizer: &mut Authorizer<'_, J>,
-    links: &[Link],
+    links: &[PortState],
     routes: &Routes,
-    here: &Link,
+    here: &PortState,
     from: BipAddr,
     npdu: &Npdu<'_>,
     octets: &[u8],
@@ -299,7 +299,7 @@ fn put_answers<J: Judge>(
 fn put_number_answer<J: Judge>(
     alloc: Global,
     authorizer: &mut Authorizer<'_, J>,
-    here: &Link,
+    here: &PortState,
     from: BipAddr,
     npdu: &Npdu<'_>,
     sends: &mut Sends,
@@ -323,7 +323,7 @@ fn put_number_answer<J: Judge>(
 /// Asks for each network that a router names, and keeps those that may be learned.
 fn keep_allowed<J: Judge>(
     authorizer: &mut Authorizer<'_, J>,
-    here: &Link,
+    here: &PortState,
     from: BipAddr,
     npdu: &Npdu<'_>,
     octets: &[u8],
@@ -353,11 +353,11 @@ fn keep_allowed<J: Judge>(
 fn learn<J: Judge>(
     alloc: Global,
     judge: &J,
-    here: &Link,
+    here: &PortState,
     from: BipAddr,
     npdu: &Npdu<'_>,
-) -> Result<Relayed, AllocError>
-    requires { is_learned (npdu_view npdu.now) ≡ true }
+) -> Result<RelayResponse, AllocError>
+    requires { is_i_am_router (npdu_view npdu.now) ≡ true }
     ensures sends { IfOk result (λ given. given.sends ≡ []) }
     ensures refusals { (rules : List Rule) → J.StandsFor judge.now rules →
         let npdu = npdu_view npdu.now in
@@ -372,7 +372,7 @@ fn learn<J: Judge>(
     let mut networks = Sequence::new(alloc);
     let octets = npdu.payload.octets();
     keep_allowed(&mut authorizer, here, from, npdu, octets, &mut networks)?;
-    Ok(Relayed {
+    Ok(RelayResponse {
         sends: Sends::new(alloc),
         refusals: authorizer.into_refusals(),
         change: Some(Change::Learnings {
@@ -388,9 +388,9 @@ fn learn<J: Judge>(
 fn put_by_type<J: Judge>(
     alloc: Global,
     authorizer: &mut Authorizer<'_, J>,
-    links: &[Link],
+    links: &[PortState],
     routes: &Routes,
-    here: &Link,
+    here: &PortState,
     from: BipAddr,
     npdu: &Npdu<'_>,
     sends: &mut Sends,
@@ -407,13 +407,13 @@ fn put_by_type<J: Judge>(
         let steps = answer_steps links.now routes.now here.now from npdu in
         asks_of steps ≡ [] → IsOk result }
 {
-    if is_question(npdu) {
+    if is_who_is_router(npdu) {
         let octets = npdu.payload.octets();
         return put_answers(
             alloc, authorizer, links, routes, here, from, npdu, octets, sends,
         );
     }
-    if is_number_question(npdu) {
+    if is_what_is_network_number(npdu) {
         return put_number_answer(alloc, authorizer, here, from, npdu, sends);
     }
     Ok(())
@@ -423,12 +423,12 @@ fn put_by_type<J: Judge>(
 fn answer<J: Judge>(
     alloc: Global,
     judge: &J,
-    links: &[Link],
+    links: &[PortState],
     routes: &Routes,
-    here: &Link,
+    here: &PortState,
     from: BipAddr,
     npdu: &Npdu<'_>,
-) -> Result<Relayed, AllocError>
+) -> Result<RelayResponse, AllocError>
     ensures sends { (rules : List Rule) → J.StandsFor judge.now rules →
         let steps = answer_steps links.now routes.now here.now from (npdu_view npdu.now) in
         IfOk result (λ given. given.sends ≡ sends_of rules steps) }
@@ -452,7 +452,7 @@ fn answer<J: Judge>(
         npdu,
         &mut sends,
     )?;
-    Ok(Relayed {
+    Ok(RelayResponse {
         sends,
         refusals: authorizer.into_refusals(),
         change: None,
@@ -464,12 +464,12 @@ fn answer<J: Judge>(
 pub(crate) fn managed<J: Judge>(
     alloc: Global,
     judge: &J,
-    links: &[Link],
+    links: &[PortState],
     routes: &Routes,
-    here: &Link,
+    here: &PortState,
     from: BipAddr,
     npdu: &Npdu<'_>,
-) -> Result<Relayed, AllocError>
+) -> Result<RelayResponse, AllocError>
     ensures sends { (rules : List Rule) → J.StandsFor judge.now rules →
         let sends = manage_sends rules links.now routes.now here.now from (npdu_view npdu.now) in
         IfOk result (λ given. given.sends ≡ sends) }
@@ -483,7 +483,7 @@ pub(crate) fn managed<J: Judge>(
     ensures silent { let npdu = npdu_view npdu.now in
         manage_asks links.now routes.now here.now from npdu ≡ [] → IsOk result }
 {
-    if is_learned(npdu) {
+    if is_i_am_router(npdu) {
         return learn(alloc, judge, here, from, npdu);
     }
     answer(alloc, judge, links, routes, here, from, npdu)

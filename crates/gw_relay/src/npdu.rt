@@ -7,7 +7,7 @@ ghost use Rattle.gw_relay.specs.Route.{is_kind, made};
 ghost use Rattle.gw_relay.specs.internal.Passing.{broadcast_of, unicast_of};
 
 use crate::outgoing::Outgoing;
-use crate::port::Link;
+use crate::port::PortState;
 use crate::sends::{Batch, Sends};
 use gw_addr::BipAddr;
 use gw_npdu::{MessageKind, NetMessage, Npdu, Payload, Priority};
@@ -59,7 +59,7 @@ pub(crate) fn put_unicast(
 /// Adds a broadcast by the gateway of an NPDU, where there is one.
 pub(crate) fn put_broadcast(
     alloc: Global,
-    link: &Link,
+    link: &PortState,
     npdu: Option<Outgoing>,
     sends: &mut Sends,
 ) -> Result<(), AllocError>

@@ -17,7 +17,7 @@ pub struct Port {
 }
 
 /// A port with the tables of its broadcast manager (Annex J.4, J.5).
-pub struct Link {
+pub struct PortState {
     /// The port.
     pub port: Port,
     /// The broadcast distribution table.
@@ -27,9 +27,9 @@ pub struct Link {
 }
 
 // By hand: a derived one is proved part by part wherever one is dropped (docs/ARCHITECTURE.md).
-impl Drop for Link {
+impl Drop for PortState {
     fn drop(self) {
-        let Link {
+        let PortState {
             port: _,
             bdt: _,
             fdt: _,

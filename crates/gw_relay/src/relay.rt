@@ -7,7 +7,7 @@ ghost use Rattle.gw_npdu.specs.Npdu.{view as npdu_view};
 ghost use Rattle.gw_rules.specs.Authorizer.{denied_of};
 ghost use Rattle.gw_rules.specs.declared.rule.Rule.{Rule};
 ghost use Rattle.gw_relay.specs.Asks.{link_asks};
-ghost use Rattle.gw_relay.specs.Cast.{cast_asks, cast_sends, goes_on, is_strange, spread};
+ghost use Rattle.gw_relay.specs.Cast.{cast_asks, cast_sends, goes_on, is_unregistered, spread};
 ghost use Rattle.gw_relay.specs.Link.{link_answer, link_change};
 ghost use Rattle.gw_relay.specs.Manage.{manage_asks, manage_change, manage_sends};
 ghost use Rattle.gw_relay.specs.Route.{route_asks, route_sends};
@@ -15,7 +15,7 @@ ghost use Rattle.gw_relay.specs.Initial.{direct_of, initial, routed_of};
 ghost use Rattle.gw_routes.specs.History.{IsStateAfter};
 ghost use Rattle.gw_routes.specs.History.{History as Learned};
 ghost use Rattle.gw_routes.specs.Table.{Routed};
-ghost use Rattle.gw_relay.specs.declared.port.Link.{Link};
+ghost use Rattle.gw_relay.specs.declared.port.PortState.{PortState};
 ghost use Rattle.gw_relay.specs.History.{Acts, StandAfter, acts_after, acts_later, initial_acts, learned_after, ports_from};
 ghost use Rattle.gw_relay.specs.State.{after, at_port, later, link_at, wants_room};
 ghost use Rattle.gw_relay.specs.declared.port.Port.{Port};
@@ -24,8 +24,8 @@ use crate::change::Change;
 use crate::initial::{links_of, routes_of};
 use crate::links::{make, tick_each};
 use crate::manage::managed;
-use crate::port::Link;
-use crate::relayed::Relayed;
+use crate::port::PortState;
+use crate::response::RelayResponse;
 use crate::route::route;
 use crate::sends::Sends;
 use gw_addr::BipAddr;
@@ -40,7 +40,7 @@ use std::marker::Model;
 /// The ports of a gateway with their tables, and the routes. Contracts see the links in order of
 /// ports, the table of routes, and how many ticks have passed.
 pub struct Relay {
-    links: Vec<Link>,
+    links: Vec<PortState>,
     routes: Routes,
     ticks: u64,
 }
@@ -91,7 +91,7 @@ impl Relay {
     }
 
     /// The link of the port of this number, from 1, or none.
-    pub fn link_at(&self, port: u8) -> Option<&Link>
+    pub fn link_at(&self, port: u8) -> Option<&PortState>
         ensures { option_map (λ link. link.now) result ≡ link_at self.now.links port }
     {
         if port == 0 {
@@ -110,25 +110,25 @@ impl Relay {
         port: u8,
         from: BipAddr,
         frame: &Bvll<'_>,
-    ) -> Result<Relayed, AllocError>
+    ) -> Result<RelayResponse, AllocError>
         ensures sends { (rules : List Rule) → J.StandsFor judge.now rules →
-            let sends = λ (link : Link). link_answer rules link from (frame_view frame.now) in
+            let sends = λ (link : PortState). link_answer rules link from (frame_view frame.now) in
             IfOk result (λ given. given.sends ≡ at_port [] sends self.now.links port) }
         ensures refusals { (rules : List Rule) → J.StandsFor judge.now rules →
-            let asks = λ (link : Link). link_asks link.port from (frame_view frame.now) in
+            let asks = λ (link : PortState). link_asks link.port from (frame_view frame.now) in
             IfOk result (λ given.
             given.refusals ≡ denied_of rules (at_port [] asks self.now.links port)) }
         ensures change { (rules : List Rule) → J.StandsFor judge.now rules →
-            let change = λ (link : Link). link_change rules link from (frame_view frame.now) in
+            let change = λ (link : PortState). link_change rules link from (frame_view frame.now) in
             IfOk result (λ given. given.change ≡ at_port None change self.now.links port) }
         ensures goes_on { IfOk result (λ given. given.goes_on ≡ false) }
         ensures silent { let frame = frame_view frame.now in
-            let asks = λ (link : Link). link_asks link.port from frame in
+            let asks = λ (link : PortState). link_asks link.port from frame in
             at_port [] asks self.now.links port ≡ [] → IsOk result }
     {
         match self.link_at(port) {
-            Some(link) => link.manage(alloc, judge, from, frame),
-            None => Ok(Relayed::nothing(alloc)),
+            Some(link) => link.handle_table_message(alloc, judge, from, frame),
+            None => Ok(RelayResponse::nothing(alloc)),
         }
     }
 
@@ -146,30 +146,30 @@ impl Relay {
         from: BipAddr,
         frame: &Bvll<'_>,
         npdu: &Npdu<'_>,
-    ) -> Result<Relayed, AllocError>
+    ) -> Result<RelayResponse, AllocError>
         ensures sends { (rules : List Rule) → J.StandsFor judge.now rules →
-            let sends = λ (link : Link).
+            let sends = λ (link : PortState).
             cast_sends rules link from (frame_view frame.now) (npdu_view npdu.now) in
             IfOk result (λ given. given.sends ≡ at_port [] sends self.now.links port) }
         ensures refusals { (rules : List Rule) → J.StandsFor judge.now rules →
             let frame = frame_view frame.now in
-            let asks = λ (link : Link). cast_asks link from frame (npdu_view npdu.now) in
+            let asks = λ (link : PortState). cast_asks link from frame (npdu_view npdu.now) in
             IfOk result (λ given.
             given.refusals ≡ denied_of rules (at_port [] asks self.now.links port)) }
         ensures change { IfOk result (λ given. given.change ≡ None) }
         ensures goes_on { let frame = frame_view frame.now in
-            let on = λ (link : Link). goes_on link from frame in
+            let on = λ (link : PortState). goes_on link from frame in
             IfOk result (λ given. given.goes_on ≡ at_port false on self.now.links port) }
-        // What asks nothing and tells no stranger wants no memory.
+        // What asks nothing and tells no unregistered sender wants no memory.
         ensures silent { let frame = frame_view frame.now in
-            let strange = λ (link : Link). is_strange link from frame in
-            let asks = λ (link : Link). cast_asks link from frame (npdu_view npdu.now) in
+            let strange = λ (link : PortState). is_unregistered link from frame in
+            let asks = λ (link : PortState). cast_asks link from frame (npdu_view npdu.now) in
             at_port [] asks self.now.links port ≡ [] →
             at_port false strange self.now.links port ≡ false → IsOk result }
     {
         match self.link_at(port) {
             Some(link) => link.cast(alloc, judge, from, frame, npdu),
-            None => Ok(Relayed::nothing(alloc)),
+            None => Ok(RelayResponse::nothing(alloc)),
         }
     }
 
@@ -177,7 +177,7 @@ impl Relay {
     /// all peers and foreign devices. No policy is asked. On a port that isn't there nothing is
     /// sent. The only fault is want of memory.
     pub fn spread(&self, alloc: Global, port: u8, npdu: &[u8]) -> Result<Sends, AllocError>
-        ensures { let sent = λ (link : Link). spread link npdu.now in
+        ensures { let sent = λ (link : PortState). spread link npdu.now in
             IfOk result (λ sends. sends ≡ at_port [] sent self.now.links port) }
     {
         match self.link_at(port) {
@@ -187,7 +187,7 @@ impl Relay {
     }
 
     /// The ports with their tables, in order.
-    pub fn links(&self) -> &[Link]
+    pub fn links(&self) -> &[PortState]
         ensures { result.now ≡ self.now.links }
     {
         self.links.as_slice()
@@ -203,25 +203,25 @@ impl Relay {
         port: u8,
         from: BipAddr,
         npdu: &Npdu<'_>,
-    ) -> Result<Relayed, AllocError>
+    ) -> Result<RelayResponse, AllocError>
         ensures sends { (rules : List Rule) → J.StandsFor judge.now rules →
-            let sends = λ (link : Link).
+            let sends = λ (link : PortState).
             route_sends rules self.now.links self.now.routes link from (npdu_view npdu.now) in
             IfOk result (λ given. given.sends ≡ at_port [] sends self.now.links port) }
         ensures refusals { (rules : List Rule) → J.StandsFor judge.now rules →
-            let asks = λ (link : Link).
+            let asks = λ (link : PortState).
             route_asks self.now.links self.now.routes link from (npdu_view npdu.now) in
             IfOk result (λ given.
             given.refusals ≡ denied_of rules (at_port [] asks self.now.links port)) }
         ensures change { IfOk result (λ given. given.change ≡ None) }
         ensures goes_on { IfOk result (λ given. given.goes_on ≡ false) }
-        ensures silent { let asks = λ (link : Link).
+        ensures silent { let asks = λ (link : PortState).
             route_asks self.now.links self.now.routes link from (npdu_view npdu.now) in
             at_port [] asks self.now.links port ≡ [] → IsOk result }
     {
         match self.link_at(port) {
             Some(here) => self.route_from(alloc, judge, here, from, npdu),
-            None => Ok(Relayed::nothing(alloc)),
+            None => Ok(RelayResponse::nothing(alloc)),
         }
     }
 
@@ -235,10 +235,10 @@ impl Relay {
         &self,
         alloc: Global,
         judge: &J,
-        here: &Link,
+        here: &PortState,
         from: BipAddr,
         npdu: &Npdu<'_>,
-    ) -> Result<Relayed, AllocError>
+    ) -> Result<RelayResponse, AllocError>
         ensures sends { (rules : List Rule) → J.StandsFor judge.now rules →
             let npdu = npdu_view npdu.now in
             let sends = route_sends rules self.now.links self.now.routes here.now from npdu in
@@ -266,27 +266,27 @@ impl Relay {
         port: u8,
         from: BipAddr,
         npdu: &Npdu<'_>,
-    ) -> Result<Relayed, AllocError>
+    ) -> Result<RelayResponse, AllocError>
         ensures sends { (rules : List Rule) → J.StandsFor judge.now rules →
-            let sends = λ (link : Link).
+            let sends = λ (link : PortState).
             manage_sends rules self.now.links self.now.routes link from (npdu_view npdu.now) in
             IfOk result (λ given. given.sends ≡ at_port [] sends self.now.links port) }
         ensures refusals { (rules : List Rule) → J.StandsFor judge.now rules →
-            let asks = λ (link : Link).
+            let asks = λ (link : PortState).
             manage_asks self.now.links self.now.routes link from (npdu_view npdu.now) in
             IfOk result (λ given.
             given.refusals ≡ denied_of rules (at_port [] asks self.now.links port)) }
         ensures change { (rules : List Rule) → J.StandsFor judge.now rules →
-            let change = λ (link : Link). manage_change rules link from (npdu_view npdu.now) in
+            let change = λ (link : PortState). manage_change rules link from (npdu_view npdu.now) in
             IfOk result (λ given. given.change ≡ at_port None change self.now.links port) }
         ensures goes_on { IfOk result (λ given. given.goes_on ≡ false) }
-        ensures silent { let asks = λ (link : Link).
+        ensures silent { let asks = λ (link : PortState).
             manage_asks self.now.links self.now.routes link from (npdu_view npdu.now) in
             at_port [] asks self.now.links port ≡ [] → IsOk result }
     {
         match self.link_at(port) {
             Some(here) => self.manage_from(alloc, judge, here, from, npdu),
-            None => Ok(Relayed::nothing(alloc)),
+            None => Ok(RelayResponse::nothing(alloc)),
         }
     }
 
@@ -298,10 +298,10 @@ impl Relay {
         &self,
         alloc: Global,
         judge: &J,
-        here: &Link,
+        here: &PortState,
         from: BipAddr,
         npdu: &Npdu<'_>,
-    ) -> Result<Relayed, AllocError>
+    ) -> Result<RelayResponse, AllocError>
         ensures sends { (rules : List Rule) → J.StandsFor judge.now rules →
             let npdu = npdu_view npdu.now in
             let sends = manage_sends rules self.now.links self.now.routes here.now from npdu in

@@ -13,8 +13,8 @@ ghost use Rattle.gw_relay.specs.State.{link_at};
 use crate::ask::{bound_for, message_ask};
 use crate::npdu::{is_kind, message_of, put_broadcast, put_unicast};
 use crate::outgoing::Outgoing;
-use crate::port::{Link, Port};
-use crate::relayed::Relayed;
+use crate::port::{Port, PortState};
+use crate::response::RelayResponse;
 use crate::sends::Sends;
 use gw_addr::BipAddr;
 use gw_npdu::{AddressRef, Destination, MessageKind, Npdu, Onward, Payload};
@@ -55,7 +55,7 @@ fn is_local(payload: &Payload<'_>) -> bool
 }
 
 /// The ask of a message that goes to a network.
-fn route_ask(here: &Link, from: BipAddr, npdu: &Npdu<'_>, network: Option<u64>) -> Ask
+fn route_ask(here: &PortState, from: BipAddr, npdu: &Npdu<'_>, network: Option<u64>) -> Ask
     ensures { result ≡ route_ask here.now from (npdu_view npdu.now) network }
 {
     message_ask(Operation::Route, &here.port, from, network, npdu)
@@ -88,11 +88,11 @@ fn outgoing_from(
 /// Adds a message on the destination's own network.
 fn put_delivered(
     alloc: Global,
-    here: &Link,
+    here: &PortState,
     from: BipAddr,
     npdu: &Npdu<'_>,
     mac: &[u8],
-    link: &Link,
+    link: &PortState,
     sends: &mut Sends,
 ) -> Result<(), AllocError>
     ensures { let npdu = last_hop here.now.port from (npdu_view npdu.now) in
@@ -114,7 +114,7 @@ fn put_delivered(
 /// Adds a message to the next router.
 fn put_routed(
     alloc: Global,
-    here: &Link,
+    here: &PortState,
     from: BipAddr,
     npdu: &Npdu<'_>,
     destination: &Destination<'_>,
@@ -133,13 +133,13 @@ fn put_routed(
 }
 
 /// Adds a copy of a global broadcast for another port.
-fn put_copied(
+fn copy_to_port(
     alloc: Global,
-    here: &Link,
+    here: &PortState,
     from: BipAddr,
     npdu: &Npdu<'_>,
     destination: &Destination<'_>,
-    link: &Link,
+    link: &PortState,
     sends: &mut Sends,
 ) -> Result<(), AllocError>
     ensures { let d = destination_view destination.now in
@@ -156,7 +156,7 @@ fn put_copied(
 /// Adds the Reject-Message-To-Network for a message (clause 6.4.4).
 fn put_reject(
     alloc: Global,
-    here: &Link,
+    here: &PortState,
     from: BipAddr,
     npdu: &Npdu<'_>,
     network: u16,
@@ -190,7 +190,7 @@ pub(crate) fn put_who_is_router(
     number: u8,
     source: &Option<AddressRef<'_>>,
     network: u16,
-    links: &[Link],
+    links: &[PortState],
     sends: &mut Sends,
 ) -> Result<(), AllocError>
     ensures { let asked = who_is_router (option_map address_view source.now) network in
@@ -210,7 +210,7 @@ fn put_on_others(
     alloc: Global,
     number: u8,
     npdu: &Npdu<'_>,
-    links: &[Link],
+    links: &[PortState],
     sends: &mut Sends,
 ) -> Result<(), AllocError>
     ensures { let sent = flat_map (broadcast (npdu_view npdu.now)) (others number links.now) in
@@ -227,10 +227,10 @@ fn put_on_others(
 }
 
 /// Tells the sender that no way is known, and asks the other ports' routers for one.
-fn put_sought(
+fn reject_and_search(
     alloc: Global,
-    links: &[Link],
-    here: &Link,
+    links: &[PortState],
+    here: &PortState,
     from: BipAddr,
     npdu: &Npdu<'_>,
     network: u16,
@@ -247,10 +247,10 @@ fn put_sought(
 }
 
 /// Adds what is sent by a way that is one.
-fn put_sent_on(
+fn forward(
     alloc: Global,
-    links: &[Link],
-    here: &Link,
+    links: &[PortState],
+    here: &PortState,
     from: BipAddr,
     npdu: &Npdu<'_>,
     destination: &Destination<'_>,
@@ -267,13 +267,21 @@ fn put_sent_on(
             None => Ok(()),
         },
         Way::Router(route) => put_routed(alloc, here, from, npdu, destination, route, sends),
-        Way::Unknown => put_sought(alloc, links, here, from, npdu, destination.network, sends),
+        Way::Unknown => reject_and_search(
+            alloc,
+            links,
+            here,
+            from,
+            npdu,
+            destination.network,
+            sends,
+        ),
         Way::Device | Way::Everywhere => Ok(()),
     }
 }
 
 /// The link of the port of this number, from 1, or none.
-fn link_of(links: &[Link], number: usize) -> Option<&Link>
+fn link_of(links: &[PortState], number: usize) -> Option<&PortState>
     ensures { option_map (λ link. link.now) result ≡ link_at links.now number }
 {
     if number == 0 {
@@ -286,11 +294,11 @@ fn link_of(links: &[Link], number: usize) -> Option<&Link>
 fn put_copies<J: Judge>(
     alloc: Global,
     authorizer: &mut Authorizer<'_, J>,
-    here: &Link,
+    here: &PortState,
     from: BipAddr,
     npdu: &Npdu<'_>,
     destination: &Destination<'_>,
-    links: &[Link],
+    links: &[PortState],
     sends: &mut Sends,
 ) -> Result<(), AllocError>
     ensures sends { (rules : List Rule) → J.StandsFor authorizer.old.judge rules →
@@ -345,11 +353,11 @@ fn put_copies<J: Judge>(
 fn put_copy<J: Judge>(
     alloc: Global,
     authorizer: &mut Authorizer<'_, J>,
-    here: &Link,
+    here: &PortState,
     from: BipAddr,
     npdu: &Npdu<'_>,
     destination: &Destination<'_>,
-    link: &Link,
+    link: &PortState,
     sends: &mut Sends,
 ) -> Result<(), AllocError>
     ensures sends { (rules : List Rule) → J.StandsFor authorizer.old.judge rules →
@@ -365,7 +373,7 @@ fn put_copy<J: Judge>(
     let network = Some(u64::from(link.port.network.get()));
     let ask = route_ask(here, from, npdu, network);
     if authorizer.authorize(&ask)? {
-        put_copied(alloc, here, from, npdu, destination, link, sends)
+        copy_to_port(alloc, here, from, npdu, destination, link, sends)
     } else {
         Ok(())
     }
@@ -375,8 +383,8 @@ fn put_copy<J: Judge>(
 fn put_allowed<J: Judge>(
     alloc: Global,
     authorizer: &mut Authorizer<'_, J>,
-    links: &[Link],
-    here: &Link,
+    links: &[PortState],
+    here: &PortState,
     from: BipAddr,
     npdu: &Npdu<'_>,
     destination: &Destination<'_>,
@@ -395,19 +403,19 @@ fn put_allowed<J: Judge>(
 {
     let ask = route_ask(here, from, npdu, bound_for(npdu));
     if authorizer.authorize(&ask)? {
-        put_sent_on(alloc, links, here, from, npdu, destination, way, sends)
+        forward(alloc, links, here, from, npdu, destination, way, sends)
     } else {
         Ok(())
     }
 }
 
 /// Asks and adds by the way of the destination.
-#[tactic(auto, using(crate::proofs::Going::everywhere_silent))]
+#[tactic(auto, using(crate::proofs::WayLemmas::everywhere_silent))]
 fn put_by_way<J: Judge>(
     alloc: Global,
     authorizer: &mut Authorizer<'_, J>,
-    links: &[Link],
-    here: &Link,
+    links: &[PortState],
+    here: &PortState,
     from: BipAddr,
     npdu: &Npdu<'_>,
     destination: &Destination<'_>,
@@ -460,12 +468,12 @@ fn put_by_way<J: Judge>(
 pub(crate) fn route<J: Judge>(
     alloc: Global,
     judge: &J,
-    links: &[Link],
+    links: &[PortState],
     routes: &Routes,
-    here: &Link,
+    here: &PortState,
     from: BipAddr,
     npdu: &Npdu<'_>,
-) -> Result<Relayed, AllocError>
+) -> Result<RelayResponse, AllocError>
     ensures sends { (rules : List Rule) → J.StandsFor judge.now rules →
         let sends = route_sends rules links.now routes.now here.now from (npdu_view npdu.now) in
         IfOk result (λ given. given.sends ≡ sends) }
@@ -478,10 +486,10 @@ pub(crate) fn route<J: Judge>(
         route_asks links.now routes.now here.now from npdu ≡ [] → IsOk result }
 {
     let Some(destination) = &npdu.destination else {
-        return Ok(Relayed::nothing(alloc));
+        return Ok(RelayResponse::nothing(alloc));
     };
     if is_local(&npdu.payload) {
-        return Ok(Relayed::nothing(alloc));
+        return Ok(RelayResponse::nothing(alloc));
     }
     let way = routes.find(destination.network);
     let mut authorizer = Authorizer::new(alloc, judge);
@@ -497,7 +505,7 @@ pub(crate) fn route<J: Judge>(
         &way,
         &mut sends,
     )?;
-    Ok(Relayed {
+    Ok(RelayResponse {
         sends,
         refusals: authorizer.into_refusals(),
         change: None,

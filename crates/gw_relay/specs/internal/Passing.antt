@@ -5,12 +5,12 @@ use Rattle.gw_addr.specs.declared.bip.BipAddr.{BipAddr}
 use Rattle.gw_bvll.specs.Bvll.{original_unicast}
 use Rattle.gw_relay.specs.Cast.{spread}
 use Rattle.gw_relay.specs.Sends.{Sending, sent}
-use Rattle.gw_relay.specs.declared.port.Link.{Link}
+use Rattle.gw_relay.specs.declared.port.PortState.{PortState}
 
 -- to one address
 abbrev pub unicast_of : ℕ → BipAddr → Option (List ℕ) → List Sending
 unicast_of port to npdu = option_map_or (λ octets. sent port (to ∷ []) (original_unicast octets)) npdu []
 
 -- as a broadcast on a port
-abbrev pub broadcast_of : Option (List ℕ) → Link → List Sending
+abbrev pub broadcast_of : Option (List ℕ) → PortState → List Sending
 broadcast_of npdu link = option_map_or (spread link) npdu []

@@ -6,21 +6,21 @@ use Rattle.gw_relay.specs.Cast.{passed_on, targets}
 use Rattle.gw_relay.specs.Link.{answer_to, change_of, is_granted, refused, told}
 use Rattle.gw_relay.specs.Sends.{Sending, sent}
 use Rattle.gw_relay.specs.declared.change.Change.{Change}
-use Rattle.gw_relay.specs.declared.port.Link.{Link}
+use Rattle.gw_relay.specs.declared.port.PortState.{PortState}
 
 -- the answer to a frame that manages a table
-abbrev pub served : Link → BipAddr → Frame → Bool → List Sending
+abbrev pub served : PortState → BipAddr → Frame → Bool → List Sending
 served link from frame allowed =
     map (answer_to link.port from)
     (if allowed && is_granted link from frame then told link frame else refused frame)
 
 -- what it changes
-abbrev pub served_change : Link → BipAddr → Frame → Bool → Option Change
+abbrev pub served_change : PortState → BipAddr → Frame → Bool → Option Change
 served_change link from frame allowed =
     if allowed && is_granted link from frame then change_of link.port from frame else None
 
 -- the sends of a broadcast
-abbrev pub judged : Link → BipAddr → Frame → Bool → List Sending
+abbrev pub judged : PortState → BipAddr → Frame → Bool → List Sending
 judged link from frame allowed =
     if allowed then sent link.port.number (targets link from frame) (passed_on from frame)
     else map (answer_to link.port from) (refused frame)

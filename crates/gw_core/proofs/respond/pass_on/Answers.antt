@@ -29,8 +29,8 @@ returns-in_err-told-clause-silent g c = λ rules stands asks sends.
     let ok = c.in_err-told.ensures.silent (rw c.link-link.ensures silent.manage_asks) in
     absurd cc
 
-pub returns-in_err-and-clause-silent : goal.returns-in_err-and-clause-silent
-returns-in_err-and-clause-silent g c = λ rules stands asks sends.
+pub returns-in_err-append-clause-silent : goal.returns-in_err-append-clause-silent
+returns-in_err-append-clause-silent g c = λ rules stands asks sends.
     let relay = c.args.relay.now in
     let m = message_view c.args.message.now in
     let on = sym c.in_ok-given.ensures.goes_on ∙ c.if-not-given.false in
@@ -40,7 +40,7 @@ returns-in_err-and-clause-silent g c = λ rules stands asks sends.
     let refused = c.in_ok-told.ensures.refusals rules stands
     ∙ ap (λ (l : BipAddr). denied_of rules (manage_asks relay.links relay.routes m.here l m.npdu)) c.link-link.ensures
     ∙ ap (denied_of rules) silent.manage_asks in
-    let ok = c.in_err-and.ensures.silent told refused in
+    let ok = c.in_err-append.ensures.silent told refused in
     absurd cc
 
 pub returns-clause-refusals : goal.returns-clause-refusals
@@ -53,9 +53,9 @@ returns-clause-refusals g c = λ rules stands.
     ∙ ap (λ (l : BipAddr). denied_of rules (route_asks relay.links relay.routes m.here l m.npdu)) c.link-link.ensures in
     let told = c.in_ok-told.ensures.refusals rules stands
     ∙ ap (λ (l : BipAddr). denied_of rules (manage_asks relay.links relay.routes m.here l m.npdu)) c.link-link.ensures in
-    let both = c.in_ok-and.ensures.refusals ∙ ap₂ (λ (x y : List Refusal). x ++ y) routed told in
+    let both = c.in_ok-append.ensures.refusals ∙ ap₂ (λ (x y : List Refusal). x ++ y) routed told in
     let same = ap₂ (λ (x y : List Refusal). x ++ y) cast both ∙ sym (denied_on rules relay m on) in
-    subst (λ (l : List Refusal). IfOk c.and-2.result (λ given. given.refusals ≡ l)) same c.and-2.ensures.refusals
+    subst (λ (l : List Refusal). IfOk c.append-2.result (λ given. given.refusals ≡ l)) same c.append-2.ensures.refusals
 
 pub returns-clause-silent : goal.returns-clause-silent
 returns-clause-silent g c = λ rules stands asks sends.
@@ -73,5 +73,5 @@ returns-clause-silent g c = λ rules stands asks sends.
     ∙ ap (λ (l : BipAddr). route_sends rules relay.links relay.routes m.here l m.npdu) c.link-link.ensures ∙ silent.route_sends in
     let told_sends = c.in_ok-told.ensures.sends rules stands
     ∙ ap (λ (l : BipAddr). manage_sends rules relay.links relay.routes m.here l m.npdu) c.link-link.ensures ∙ silent.manage_sends in
-    c.and-2.ensures.silent (c.in_ok-and.ensures.sends ∙ ap₂ (λ (x y : List Sending). x ++ y) routed_sends told_sends)
-    (c.in_ok-and.ensures.refusals ∙ ap₂ (λ (x y : List Refusal). x ++ y) routed told)
+    c.append-2.ensures.silent (c.in_ok-append.ensures.sends ∙ ap₂ (λ (x y : List Sending). x ++ y) routed_sends told_sends)
+    (c.in_ok-append.ensures.refusals ∙ ap₂ (λ (x y : List Refusal). x ++ y) routed told)

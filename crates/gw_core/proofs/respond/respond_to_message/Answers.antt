@@ -32,11 +32,11 @@ returns-in_err-served-clause-silent g c = λ rules stands asks sends.
     let ok = c.in_err-served.ensures.silent rules stands silent.0 silent.1 in
     absurd cc
 
-pub returns-in_err-and-clause-silent : goal.returns-in_err-and-clause-silent
-returns-in_err-and-clause-silent g c = λ rules stands asks sends.
+pub returns-in_err-append-clause-silent : goal.returns-in_err-append-clause-silent
+returns-in_err-append-clause-silent g c = λ rules stands asks sends.
     let on = sym c.in_ok-given.ensures.goes_on ∙ c.if-not-given.false in
     let silent = served_silent rules c.args.relay.now c.args.device.now (message_view c.args.message.now) on asks sends in
-    let ok = c.in_err-and.ensures.silent (c.in_ok-served.ensures.sends rules stands ∙ silent.1)
+    let ok = c.in_err-append.ensures.silent (c.in_ok-served.ensures.sends rules stands ∙ silent.1)
     (c.in_ok-served.ensures.refusals rules stands ∙ ap (denied_of rules) silent.0) in
     absurd cc
 
@@ -47,12 +47,12 @@ returns-clause-response g c = λ rules stands.
     let m = message_view c.args.message.now in
     let on = sym c.in_ok-given.ensures.goes_on ∙ c.if-not-given.false in
     let all = goes rules relay d m on in record {
-      sends = c.in_ok-and.ensures.sends ∙ ap₂ (λ (x y : List Sending). x ++ y) (c.in_ok-given.ensures.sends rules stands)
+      sends = c.in_ok-append.ensures.sends ∙ ap₂ (λ (x y : List Sending). x ++ y) (c.in_ok-given.ensures.sends rules stands)
           (c.in_ok-served.ensures.sends rules stands) ∙ sym all.sends;
-      refusals = c.in_ok-and.ensures.refusals
+      refusals = c.in_ok-append.ensures.refusals
           ∙ ap₂ (λ (x y : List Refusal). x ++ y) (c.in_ok-given.ensures.refusals rules stands) (c.in_ok-served.ensures.refusals rules stands)
           ∙ sym (goes_denied rules relay d m on);
-      change = c.in_ok-and.ensures.change
+      change = c.in_ok-append.ensures.change
           ∙ ap₂ (λ (x y : Option Change). option_or x y) (c.in_ok-given.ensures.change rules stands) c.in_ok-served.ensures.change ∙ or_none _
           ∙ sym all.change;
       write = c.in_ok-served.ensures.write rules stands ∙ sym all.write;

@@ -23,7 +23,7 @@ take_turn-requires g c =
     let start = scene c.args.gateway.now (g.L.OctetSink.held c.args.log.now) (g.W.Wire.calls c.args.wire.now) in
     let now = scene c.loop.gateway (g.L.OctetSink.held c.loop.log) (g.W.Wire.calls c.loop.wire) in
     let failures = g.W.Wire.failure_count in
-    let room = room_left c.loop.counter c.args.turns (failures c.args.wire.now) (failures c.loop.wire) start now c.loop.desk.served in
+    let room = room_left c.loop.counter c.args.turns (failures c.args.wire.now) (failures c.loop.wire) start now c.loop.state.served in
     record { room = room so_far.served c.loop-test.true c.requires.turns c.requires.failures so_far.few so_far.failures }
 
 pub loop-preserved : goal.loop-preserved
@@ -34,7 +34,7 @@ loop-preserved g c =
     let now = scene c.loop.gateway (g.L.OctetSink.held c.loop.log) (g.W.Wire.calls c.loop.wire) in
     let then = scene c.take_turn.new.gateway (g.L.OctetSink.held c.take_turn.new.log) (g.W.Wire.calls c.take_turn.new.wire) in
     record {
-      served = serves_more c.loop.counter start now then c.loop.desk.served c.take_turn.new.self.served so_far.served turn.end;
+      served = serves_more c.loop.counter start now then c.loop.state.served c.take_turn.new.self.served so_far.served turn.end;
       failures = omega (arith, so_far.failures, turn.failures);
       few = omega (arith, so_far.few, turn.few);
       ports = turn.ports ∙ so_far.ports;

@@ -7,7 +7,7 @@ abbrev pub invariant-loop : goal.invariant-loop
 invariant-loop g l =
     let wire = g.W.Wire in
     let log = g.L.OctetSink in
-    let counts = l.desk.served in
+    let counts = l.state.served in
     record {
       served : ServesAll l.counter (scene l.fn.gateway (log.held l.fn.log) (wire.calls l.fn.wire)) counts (scene l.gateway
           (log.held l.log) (wire.calls l.wire));

@@ -1,4 +1,4 @@
-use Rattle.gw_device.proofs.Speaks.{confirmed_answers}
+use Rattle.gw_device.proofs.RequestLemmas.{confirmed_answers}
 use Rattle.gw_device.proofs.dispatch.confirmed.Goals as goal
 
 pub returns-clause-silent : goal.returns-clause-silent

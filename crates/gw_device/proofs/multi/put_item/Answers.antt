@@ -1,7 +1,7 @@
 use Rattle.std.proofs.lemmas.Result.{on_ok_weaker}
 use Rattle.gw_objects.specs.Table.{read_of}
 use Rattle.gw_tags.specs.Object.{object_view}
-use Rattle.gw_device.proofs.Found.{item_value}
+use Rattle.gw_device.proofs.PropertyLemmas.{item_value}
 use Rattle.gw_device.proofs.multi.put_item.Goals as goal
 
 pub returns-in-Ok : goal.returns-in-Ok

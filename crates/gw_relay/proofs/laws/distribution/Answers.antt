@@ -1,4 +1,4 @@
-use Rattle.gw_relay.proofs.Left.{all_ones_reach, own_left_out, sender_left_out}
+use Rattle.gw_relay.proofs.TargetLemmas.{all_ones_reach, own_left_out, sender_left_out}
 use Rattle.gw_relay.proofs.laws.distribution.Goals as goal
 
 pub returns : goal.returns

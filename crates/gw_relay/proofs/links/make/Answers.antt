@@ -1,4 +1,4 @@
-use Rattle.gw_relay.proofs.Going.{learnings_made}
+use Rattle.gw_relay.proofs.WayLemmas.{learnings_made}
 use Rattle.gw_relay.proofs.links.make.Goals as goal
 
 pub returns-in-Learnings-clause-learnings : goal.returns-in-Learnings-clause-learnings

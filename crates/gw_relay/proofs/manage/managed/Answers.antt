@@ -6,18 +6,18 @@ use Rattle.gw_relay.specs.Manage.{learn_ask, manage_asks, manage_sends, networks
 use Rattle.gw_relay.proofs.Learning.{learned_asks, learned_sends}
 use Rattle.gw_relay.proofs.manage.managed.Goals as goal
 
-pub returns-then-is_learned-clause-sends : goal.returns-then-is_learned-clause-sends
-returns-then-is_learned-clause-sends g c = λ rules stands.
-    let heard = sym c.is_learned.ensures ∙ c.if-is_learned.true in
+pub returns-then-is_i_am_router-clause-sends : goal.returns-then-is_i_am_router-clause-sends
+returns-then-is_i_am_router-clause-sends g c = λ rules stands.
+    let heard = sym c.is_i_am_router.ensures ∙ c.if-is_i_am_router.true in
     let npdu = npdu_view c.args.npdu.now in
     let all = manage_sends rules c.args.links.now c.args.routes.now c.args.here.now c.args.from npdu in
     IfOk-weaker c.learn.result (λ given. given.sends ≡ []) (λ given. given.sends ≡ all)
     (λ given none. none ∙ sym (learned_sends rules c.args.links.now c.args.routes.now c.args.here.now c.args.from npdu heard))
     c.learn.ensures.sends
 
-pub returns-then-is_learned-clause-refusals : goal.returns-then-is_learned-clause-refusals
-returns-then-is_learned-clause-refusals g c = λ rules stands.
-    let heard = sym c.is_learned.ensures ∙ c.if-is_learned.true in
+pub returns-then-is_i_am_router-clause-refusals : goal.returns-then-is_i_am_router-clause-refusals
+returns-then-is_i_am_router-clause-refusals g c = λ rules stands.
+    let heard = sym c.is_i_am_router.ensures ∙ c.if-is_i_am_router.true in
     let npdu = npdu_view c.args.npdu.now in
     let asks = map (learn_ask c.args.here.now c.args.from npdu) (networks_in (payload_octets npdu.payload)) in
     let all = manage_asks c.args.links.now c.args.routes.now c.args.here.now c.args.from npdu in

@@ -1,7 +1,7 @@
 use Rattle.std.proofs.Common.{◌∙◌, ap, map}
 use Rattle.gw_relay.specs.Initial.{direct_of, links_from, routed_of}
 use Rattle.gw_relay.proofs.Histories.{configured_stand}
-use Rattle.gw_relay.proofs.Going.{none_learned}
+use Rattle.gw_relay.proofs.WayLemmas.{none_learned}
 use Rattle.gw_relay.proofs.Peers.{all_peers_once}
 use Rattle.gw_relay.proofs.Ticks.{initial_alike}
 use Rattle.gw_relay.proofs.relay.Relay.new.Goals as goal

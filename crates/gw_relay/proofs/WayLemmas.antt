@@ -16,15 +16,15 @@ use Rattle.gw_relay.specs.Route.{copy, others, route_ask, steps_by}
 use Rattle.gw_relay.specs.Steps.{asks_of}
 use Rattle.gw_relay.specs.declared.change.Change.{Change}
 use Rattle.gw_relay.specs.declared.change.Change.TheVariants.{Learnings}
-use Rattle.gw_relay.specs.declared.port.Link.{Link}
+use Rattle.gw_relay.specs.declared.port.PortState.{PortState}
 
 -- each copy of a global broadcast is asked for
-pub each_copy_asks : (here : Link) (from : BipAddr) (npdu : Fields) (d : Destination) (links : List Link)
+pub each_copy_asks : (here : PortState) (from : BipAddr) (npdu : Fields) (d : Destination) (links : List PortState)
     → asks_of (map (copy here from npdu d) links) ≡ [] → links ≡ []
 each_copy_asks here from npdu d [] none = refl
 each_copy_asks here from npdu d (link ∷ links) none = absurd cc
 
-pub everywhere_silent : (links : List Link) (here : Link) (from : BipAddr) (npdu : Fields) (d : Destination) (to : Way) → to ≡ Everywhere
+pub everywhere_silent : (links : List PortState) (here : PortState) (from : BipAddr) (npdu : Fields) (d : Destination) (to : Way) → to ≡ Everywhere
     → asks_of (steps_by links here from npdu d to) ≡ [] → others here.port.number links ≡ []
 everywhere_silent links here from npdu d to is none =
     each_copy_asks here from npdu d (others here.port.number links)

@@ -10,7 +10,7 @@ use std::alloc::{AllocError, Global};
 
 /// What a relay answers to a frame: it changed nothing yet.
 #[derive(Drop)]
-pub struct Relayed {
+pub struct RelayResponse {
     /// The datagrams to send, in order.
     pub sends: Sends,
     /// The asks that the policy denied, in order.
@@ -21,7 +21,7 @@ pub struct Relayed {
     pub goes_on: bool,
 }
 
-impl Relayed {
+impl RelayResponse {
     /// Nothing is asked, sent or changed, and the frame ends here. It takes no memory.
     pub fn nothing(alloc: Global) -> Self
         ensures sends { result.sends ≡ [] }
@@ -29,7 +29,7 @@ impl Relayed {
         ensures change { result.change ≡ None }
         ensures goes_on { result.goes_on ≡ false }
     {
-        Relayed {
+        RelayResponse {
             sends: Sends::new(alloc),
             refusals: Refusals::new(alloc),
             change: None,
@@ -40,7 +40,7 @@ impl Relayed {
     /// This, and behind it what a later step answers. What is to be committed is this one's, and
     /// where there is none, the later one's. Where the later one sends nothing and had nothing
     /// denied it takes no memory.
-    pub fn and(self, later: Relayed) -> Result<Self, AllocError>
+    pub fn append(self, later: RelayResponse) -> Result<Self, AllocError>
         ensures sends { IfOk result (λ given. given.sends ≡ self.sends ++ later.sends) }
         ensures refusals { IfOk result (λ given. given.refusals ≡ self.refusals ++ later.refusals) }
         ensures change { IfOk result (λ given. given.change ≡ option_or self.change later.change) }
@@ -51,7 +51,7 @@ impl Relayed {
         let mut refusals = self.refusals;
         sends.append(later.sends)?;
         put_refusals(&mut refusals, later.refusals)?;
-        Ok(Relayed {
+        Ok(RelayResponse {
             sends,
             refusals,
             change: self.change.or(later.change),

@@ -1,7 +1,7 @@
 use Rattle.std.proofs.Common.{◌∙◌}
 use Rattle.gw_core.specs.View.{message_view}
 use Rattle.gw_core.proofs.SilenceLemmas.{none_mapped, silent_message}
-use Rattle.gw_core.proofs.respond.serve.Goals as goal
+use Rattle.gw_core.proofs.respond.answer_apdu.Goals as goal
 
 pub returns-in_err-answer-clause-silent : goal.returns-in_err-answer-clause-silent
 returns-in_err-answer-clause-silent g c = λ rules stands asks sends.

@@ -2,7 +2,7 @@ use Rattle.std.proofs.Common.{◌≡◌}
 use Rattle.std.specs.List.{list_any}
 use Rattle.gw_bdt_fdt.specs.Internal.{peers_left}
 use Rattle.gw_bdt_fdt.specs.Peers.{is_of, peers}
-use Rattle.gw_relay.proofs.port.Link.is_peer.Given as goal
+use Rattle.gw_relay.proofs.port.PortState.is_peer.Given as goal
 
 -- the entries that are left have it exactly where all have it
 abbrev pub invariant-loop-entry : goal.invariant-loop-entry

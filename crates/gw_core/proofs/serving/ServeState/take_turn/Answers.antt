@@ -2,7 +2,7 @@ use Rattle.std.proofs.Common.{None, Some, Err, refl, ap, arith}
 use Rattle.gw_script.specs.Event.{event_view}
 use Rattle.gw_core.specs.Serve.{empty_turn, failed_turn, lost_event, taken_event, scene}
 use Rattle.gw_core.proofs.ServeLemmas.{arrives, ends_by, lead_with, lead_without, tried_counted}
-use Rattle.gw_core.proofs.serving.Desk.take_turn.Goals as goal
+use Rattle.gw_core.proofs.serving.ServeState.take_turn.Goals as goal
 
 pub returns-in-Ok-None-clause-end : goal.returns-in-Ok-None-clause-end
 returns-in-Ok-None-clause-end g c =

@@ -2,7 +2,7 @@ use Rattle.std.proofs.Common.{◌∙◌, sym, ap}
 use Rattle.gw_bvll.specs.Bvll.{view}
 use Rattle.gw_rules.specs.RuleList.{allows}
 use Rattle.gw_relay.proofs.Asking.{link_changed, link_served, unmanaged_answer, unmanaged_change}
-use Rattle.gw_relay.proofs.port.Link.manage.Goals as goal
+use Rattle.gw_relay.proofs.port.PortState.handle_table_message.Goals as goal
 
 pub returns-in_default-clause-sends : goal.returns-in_default-clause-sends
 returns-in_default-clause-sends g c = λ rules stands.
