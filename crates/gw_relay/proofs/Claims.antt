@@ -1,8 +1,7 @@
 -- What changes a table or a route, and whose asks a message raises.
-use Rattle.std.proofs.Common.{◌≡◌, ap, refl, subst, ℕ, Bool, true, false, List, [], ◌∷◌, ◌++◌, map, Option, Some, None}
+use Rattle.std.proofs.Common.{◌≡◌, ap, refl, subst, ℕ, Bool, true, false, List, [], ◌∷◌, map, Option, Some, None}
 use Rattle.std.specs.Prelude.{◌&&◌, if◌then◌else◌}
 use Rattle.std.specs.Int.{w16, from_be_bytes}
-use Rattle.std.specs.List.{AllByRecursion}
 use Rattle.std.specs.Option.{option_map, option_map_or}
 use Rattle.gw_addr.specs.declared.bip.BipAddr.{BipAddr}
 use Rattle.gw_addr.specs.declared.station.Source.{Source}
@@ -13,18 +12,18 @@ use Rattle.gw_npdu.specs.Npdu.{Destination, Fields, payload_octets}
 use Rattle.gw_routes.specs.Table.{Table, way}
 use Rattle.gw_routes.specs.declared.route.Way.{Way}
 use Rattle.gw_routes.specs.declared.route.Way.TheVariants as ways
-use Rattle.gw_rules.specs.Allowed.{NoChangeAllowed, NoneAllowed}
+use Rattle.gw_rules.specs.Allowed.{NoneAllowed}
 use Rattle.gw_rules.specs.Ask.{Ask, IsFor, IsFrom}
 use Rattle.gw_rules.specs.RuleList.{allows}
 use Rattle.gw_rules.specs.declared.operation.Operation.TheVariants as operations
 use Rattle.gw_rules.specs.declared.rule.Rule.{Rule}
-use Rattle.gw_relay.specs.Asks.{link_ask, link_asks}
+use Rattle.gw_relay.specs.Asks.{link_ask}
 use Rattle.gw_relay.specs.Cast.{cast_asks, goes_on, is_broadcast}
 use Rattle.gw_relay.specs.Claim.{claimed, link_source}
 use Rattle.gw_relay.specs.Laws.{AreFrom, BroadcastsCarryTheirClaim, NetworkMessagesCarryTheirClaim, RoutesAreKept, RoutingCarriesTheClaim, TableAsksReadNothing, TablesAreKept}
 use Rattle.gw_relay.specs.Link.{link_change}
 use Rattle.gw_relay.specs.Manage.{is_i_am_router, is_what_is_network_number, is_who_is_router, learn_ask, learn_steps, learned, manage_asks, networks_in, question_of, question_steps}
-use Rattle.gw_relay.specs.Route.{copy, is_local, leaves, others, route_asks, steps_by}
+use Rattle.gw_relay.specs.Route.{copy, is_local, leaves, others, steps_by}
 use Rattle.gw_relay.specs.State.{Commit, Relay, after, moved}
 use Rattle.gw_relay.specs.Steps.{Step, asks_of}
 use Rattle.gw_relay.specs.declared.change.Change.{Change}

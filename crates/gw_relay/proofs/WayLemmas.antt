@@ -1,6 +1,6 @@
 -- What is sent, asked and learned, where it is nothing or where it is one thing.
 use Rattle.std.proofs.Common.{◌≡◌, ◌∙◌, sym, ap, subst, refl, ℕ, List, [], ◌∷◌, map, Result}
-use Rattle.std.specs.Prelude.{Some, OnOk}
+use Rattle.std.specs.Prelude.{OnOk}
 use Rattle.std.specs.declared.alloc.AllocError.{AllocError}
 use Rattle.gw_addr.specs.declared.bip.BipAddr.{BipAddr}
 use Rattle.gw_npdu.specs.Npdu.{Destination, Fields}
@@ -10,9 +10,8 @@ use Rattle.gw_routes.specs.History.{learned_after as learned_after_all}
 use Rattle.gw_routes.specs.Table.{Routed, Table, route_by, table_of}
 use Rattle.gw_routes.specs.declared.route.Way.{Way}
 use Rattle.gw_routes.specs.declared.route.Way.TheVariants.{Everywhere}
-use Rattle.gw_rules.specs.Ask.{Ask}
 use Rattle.gw_relay.specs.History.{learned_after}
-use Rattle.gw_relay.specs.Route.{copy, others, route_ask, steps_by}
+use Rattle.gw_relay.specs.Route.{copy, others, steps_by}
 use Rattle.gw_relay.specs.Steps.{asks_of}
 use Rattle.gw_relay.specs.declared.change.Change.{Change}
 use Rattle.gw_relay.specs.declared.change.Change.TheVariants.{Learnings}
