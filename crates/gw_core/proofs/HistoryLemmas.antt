@@ -1,6 +1,6 @@
 -- A history goes on by one event, and a list of events is history_after one after the other.
 use Rattle.std.proofs.Common.{◌≡◌, ℕ, suc, ◌+◌, ◌-◌, ◌<◌, ◌≤◌, List, [], ◌∷◌, ◌++◌, length, get_or, take, drop, Option, Some, None, true, refl, sym, ap, subst, ◌∙◌, arith, add_assoc, add-zero, append_assoc}
-use Rattle.std.specs.Prelude.{map, slice_get, IsErrOf, Err}
+use Rattle.std.specs.Prelude.{map, slice_get, IsErrAnd, IsErrOf, Result, Ok, Err}
 use Rattle.gw_core.specs.declared.fault.StepFault.{StepFault}
 use Rattle.std.specs.Option.{option_map}
 use Rattle.std.proofs.lemmas.List.{take_at, length-map}
@@ -166,6 +166,12 @@ fault_is fault other e = cc
 pub fault_as : {S T : Type 0} (fault other : StepFault) → IsErrOf {T = S} {E = StepFault} (Err fault) other
     → IsErrOf {T = T} {E = StepFault} (Err fault) other
 fault_as {S} {T} fault other e = ap Err (fault_is {T = S} fault other e)
+
+-- a fault that is passed on
+pub fault_of_call : {T : Type 0} (result : Result T StepFault) (fault other : StepFault) → IsErrAnd result (λ e. e ≡ fault)
+    → IsErrOf result other → fault ≡ other
+fault_of_call (Ok given) fault other is told = absurd is
+fault_of_call {T} (Err known) fault other is told = sym is ∙ fault_is {T = T} known other told
 
 -- where the next event would pass the end of a count
 pub run_stops : (first w v : State) (all rest later : List Event) (given : List Effects) (e : Event) → RunProgress first w all rest given

@@ -1,6 +1,5 @@
 -- A datagram that is allowed no change changes the number of the last denial alone, and nothing that is seen rests on that.
-use Rattle.std.proofs.Common.{◌≡◌, ◌∙◌, sym, ap, refl, subst, ℕ, ◌+◌, add-zero, Bool, true, false, List, [], ◌∷◌, ◌++◌, map, length, Option, Some, None, Result, Ok, Err}
-use Rattle.std.specs.Prelude.{◌==◌, if◌then◌else◌, is_some}
+use Rattle.std.proofs.Common.{◌≡◌, ◌∙◌, sym, ap, refl, subst, ℕ, ◌+◌, add-zero, Bool, true, false, List, [], ◌∷◌, ◌++◌, map, length, Option, Some, None}
 use Rattle.std.specs.Option.{option_map}
 use Rattle.gw_audit.specs.declared.denial.Denial.{Denial}
 use Rattle.gw_device.specs.declared.context.Context.{Context}

@@ -1,7 +1,7 @@
 -- A write of an object changes the slots and the default of that object alone, and nothing rests on those but a read of it.
-use Rattle.std.proofs.Common.{◌≡◌, ◌≢◌, ◌∙◌, sym, ap, refl, subst, ℕ, zero, suc, ◌+◌, ◌<◌, add-zero, arith, Bool, true, false, List, [], ◌∷◌, ◌++◌, map, length, take, set, Option, Some, None, Result, Ok, Err, ◌⊎◌, inl, inr, get_or}
-use Rattle.std.specs.Prelude.{◌==◌, if◌then◌else◌, is_some, slice_get}
-use Rattle.std.specs.Option.{ok_or, option_map, option_and_then}
+use Rattle.std.proofs.Common.{◌≡◌, ◌∙◌, sym, ap, refl, subst, ℕ, zero, suc, ◌+◌, add-zero, Bool, true, false, List, [], ◌∷◌, ◌++◌, map, length, take, Option, Some, None}
+use Rattle.std.specs.Prelude.{if◌then◌else◌, slice_get}
+use Rattle.std.specs.Option.{option_map, option_and_then}
 use Rattle.gw_addr.specs.declared.bip.BipAddr.{BipAddr}
 use Rattle.gw_audit.specs.declared.denial.Denial.{Denial}
 use Rattle.gw_device.specs.declared.context.Context.{Context}

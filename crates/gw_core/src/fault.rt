@@ -1,6 +1,7 @@
 //! Why an event isn't taken.
 
 ghost use Rattle.std.specs.Prelude.{◌≡◌};
+ghost use Rattle.gw_core.specs.declared.fault.StepFault.TheVariants.{Memory};
 
 use std::alloc::AllocError;
 use thiserror::Error;
