@@ -13,7 +13,7 @@ use std::marker::Model;
 const MAX_UNREAD: usize = 16_384;
 
 /// How many octets a line has at most, without its line feed.
-const MAX_LINE: usize = 4096;
+pub(crate) const MAX_LINE: usize = 4096;
 
 /// What stands first in the text that is left.
 #[derive(Debug, Drop)]
