@@ -1,13 +1,13 @@
 //! Laws of the definitions that the contracts cite. The functions change nothing and answer nothing:
 //! their contracts are the laws.
 
-ghost use Rattle.std.specs.Prelude.{◌≤◌, ◌<◌, ◌∷◌, ◌^◌, ℕ, List, length, IfSome};
+ghost use Rattle.std.specs.Prelude.{◌≡◌, ◌≤◌, ◌<◌, ◌∷◌, ◌^◌, ℕ, List, length, IfSome};
 ghost use Rattle.gw_tags.specs.List.{IsBalanced, deepest};
-ghost use Rattle.gw_services.specs.Limits.{last_number, last_short_number};
+ghost use Rattle.gw_services.specs.Limits.{last_instance, last_number, last_priority, last_property, last_segmentation, last_short_number};
 ghost use Rattle.gw_services.specs.Laws.{HasOneReading};
 ghost use Rattle.gw_services.specs.Read.{IsRead, read_view, read_encoding};
 ghost use Rattle.gw_services.specs.Write.{IsWrite, write_view, write_encoding};
-ghost use Rattle.gw_services.specs.Multi.{Reference, IsMulti, multi_encoding};
+ghost use Rattle.gw_services.specs.Multi.{Reference, IsMulti, most_references, multi_encoding};
 ghost use Rattle.gw_services.specs.WhoIs.{IsWhoIs, who_is_view, who_is_encoding};
 ghost use Rattle.gw_services.specs.WhoHas.{IsWhoHas, who_has_view, who_has_encoding, sought_view, NameFits};
 ghost use Rattle.gw_services.specs.IAm.{IsIAm, i_am_view, i_am_encoding};
@@ -15,6 +15,18 @@ ghost use Rattle.gw_services.specs.IHave.{IsIHave, i_have_view, i_have_encoding}
 
 use crate::discovery::{IAm, IHave, WhoHas, WhoIs};
 use crate::request::{ReadReq, WriteReq};
+
+/// The limits are 128 references of one body, which is our own, and the last values of the standard's
+/// types.
+pub fn limits()
+    ensures references { most_references ≡ 128 }
+    ensures property { last_property ≡ 4194303 }
+    ensures instance { last_instance ≡ 4194303 }
+    ensures number { last_number ≡ 4294967295 }
+    ensures short_number { last_short_number ≡ 65535 }
+    ensures priority { last_priority ≡ 16 }
+    ensures segmentation { last_segmentation ≡ 3 }
+{}
 
 /// The body of one ReadProperty has one reading.
 pub fn one_read()
