@@ -1,7 +1,19 @@
 //! What the words of registrations mean, proved of every history, for a reader of the definitions
 //! that contracts here and in the crates above cite. The functions do nothing.
+ghost use Rattle.std.specs.Prelude.{◌≡◌};
 ghost use Rattle.gw_bdt_fdt.specs.Laws.{EachStandsOnce, LastGrantIsFound, OrderIsOfBeginnings};
 ghost use Rattle.gw_bdt_fdt.specs.Laws.{RegisteredStand, SameIsEqual, TableHoldsRegistrations};
+
+use crate::{GRACE, MAX_ENTRIES, MAX_REGISTRATIONS, MAX_REMAINING};
+
+/// The limits are 128 registrations, 30 seconds of grace behind each (Annex J.5.2.3), 65535 seconds
+/// that are shown to remain, and 64 entries of a table of peers.
+pub fn limits()
+    ensures registrations { MAX_REGISTRATIONS ≡ 128 }
+    ensures grace { GRACE ≡ 30 }
+    ensures remaining { MAX_REMAINING ≡ 65535 }
+    ensures entries { MAX_ENTRIES ≡ 64 }
+{}
 
 /// The last grant of an address is the last one; and two addresses are one exactly where all six
 /// octets are.

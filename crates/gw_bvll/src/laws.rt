@@ -6,7 +6,13 @@ ghost use Rattle.gw_addr.specs.Reading.{AreOctets};
 ghost use Rattle.gw_bvll.specs.Bvll.{Message, view, encoding, HasFields, IsValid, IsBvll};
 ghost use Rattle.gw_bvll.specs.Reading.{bvll_at};
 
+use crate::MAX_LEN;
 use crate::message::Bvll;
+
+/// A message has at most 1507 octets: an NPDU of 1497 behind the ten of a Forwarded-NPDU.
+pub fn limits()
+    ensures { MAX_LEN ≡ 1507 }
+{}
 
 /// What the reading function answers is what `IsBvll` says, and nothing else.
 pub fn read_as()

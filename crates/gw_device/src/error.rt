@@ -1,7 +1,7 @@
 //! What the device answers to a fault: an error's class and code (clause 18), or the reason of a
 //! reject (clause 21).
 
-ghost use Rattle.std.specs.Prelude.{◌≡◌, ◌≢◌, IfOk};
+ghost use Rattle.std.specs.Prelude.{◌≡◌, ◌≢◌, IfOk, IsOk};
 ghost use Rattle.gw_device.specs.Errors.{read_error, reject_reason, write_error};
 
 use gw_apdu::{RejectReason, ServiceError};
@@ -71,6 +71,7 @@ const NO_SPACE: ServiceError = ServiceError {
 pub(crate) fn read_error(fault: ReadFault) -> Result<ServiceError, AllocError>
     ensures error { IfOk result (λ why. why ≡ read_error fault) }
     ensures due { IfOk result (λ why. fault ≢ ReadFault.Memory) }
+    ensures memory { fault ≢ ReadFault.Memory → IsOk result }
 {
     match fault {
         ReadFault::UnknownObject => Ok(UNKNOWN_OBJECT),
@@ -85,6 +86,7 @@ pub(crate) fn read_error(fault: ReadFault) -> Result<ServiceError, AllocError>
 pub(crate) fn write_error(fault: WriteFault) -> Result<ServiceError, AllocError>
     ensures error { IfOk result (λ why. why ≡ write_error fault) }
     ensures due { IfOk result (λ why. fault ≢ WriteFault.Memory) }
+    ensures memory { fault ≢ WriteFault.Memory → IsOk result }
 {
     match fault {
         WriteFault::UnknownObject => Ok(UNKNOWN_OBJECT),
@@ -103,6 +105,7 @@ pub(crate) fn write_error(fault: WriteFault) -> Result<ServiceError, AllocError>
 pub(crate) fn reject_reason(fault: BodyFault) -> Result<RejectReason, AllocError>
     ensures reason { IfOk result (λ reason. reason.0 ≡ reject_reason fault) }
     ensures due { IfOk result (λ reason. fault ≢ BodyFault.Memory) }
+    ensures memory { fault ≢ BodyFault.Memory → IsOk result }
 {
     match fault {
         BodyFault::InvalidTag => Ok(RejectReason::INVALID_TAG),

@@ -1,6 +1,16 @@
-//! What holds of every read and every write. The function does nothing: its contract is the laws.
+//! What holds of every read and every write. The functions do nothing: their contracts are the laws.
 
+ghost use Rattle.std.specs.Prelude.{◌≡◌};
 ghost use Rattle.gw_objects.specs.Laws.{OthersReadAlike, WritesAreInPlace, WritesKeepAgreement, WritesLeaveOthers};
+
+use crate::table::MAX_APDU;
+use crate::write::MAX_TEXT;
+
+/// The limits are 255 octets of a text that is written, and 1476 of an APDU that the device takes.
+pub fn limits()
+    ensures text { MAX_TEXT ≡ 255 }
+    ensures apdu { MAX_APDU ≡ 1476 }
+{}
 
 /// What a property of an object reads as doesn't rest on the slots and the default of another object;
 /// and a write leaves those of every object but its own.

@@ -13,7 +13,7 @@ use gw_priority::PriorityArray;
 /// The version of the protocol (clause 12.11).
 const PROTOCOL_VERSION: u32 = 1;
 /// The most octets of an APDU that the device takes.
-const MAX_APDU: u32 = 1476;
+pub(crate) const MAX_APDU: u32 = 1476;
 /// How long the device would wait for an answer, in milliseconds.
 const APDU_TIMEOUT: u32 = 3000;
 /// How often it would ask again.

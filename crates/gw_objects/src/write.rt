@@ -23,7 +23,7 @@ use std::alloc::Global;
 use std::marker::Model;
 
 /// How many octets a text has at most.
-const MAX_TEXT: usize = 255;
+pub(crate) const MAX_TEXT: usize = 255;
 
 /// A write that [`check`](crate::ObjectDb::check) found without a fault, for
 /// [`put`](crate::ObjectDb::put). Contracts see the place of its object and what it does there.

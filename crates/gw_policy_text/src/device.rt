@@ -3,7 +3,9 @@
 ghost use Rattle.std.specs.Prelude.{◌≡◌};
 ghost use Rattle.toml.specs.View.{table_view};
 ghost use Rattle.gw_policy_text.specs.Configuration.{device_of, device_parts};
-ghost use Rattle.gw_policy_text.specs.Reading.{Gives};
+ghost use Rattle.gw_policy_text.specs.Field.{fault_of};
+ghost use Rattle.gw_policy_text.specs.Reading.{Gives, TellsFault};
+ghost use Rattle.gw_policy_text.specs.Tables.{device_fields};
 
 use crate::field::fault_of;
 use crate::reading::{
@@ -66,7 +68,8 @@ impl Device {
     /// The device that the table says.
     #[tactic(auto, unfolding(crate::specs::Configuration::device_of))]
     pub(crate) fn read(alloc: Global, table: &Table) -> Result<Self, ConfigFault>
-        ensures { Gives (λ d. d) result (device_of (table_view table.now)) }
+        ensures device { Gives (λ d. d) result (device_of (table_view table.now)) }
+        ensures told { TellsFault result (fault_of device_fields (table_view table.now)) }
     {
         match fault_of(&device_fields(), table) {
             Some(fault) => Err(fault),

@@ -10,6 +10,7 @@ mod fault;
 mod field;
 mod finding;
 mod instance;
+pub mod laws;
 mod object;
 mod objects;
 mod parts;

@@ -4,7 +4,7 @@ ghost use Rattle.gw_addr.specs.Reading as plain;
 ghost use Rattle.toml.specs.View.{table_view, view};
 ghost use Rattle.gw_policy_text.specs.Configuration.{binary_value, character_string_value, count_at, each, integer_value, kind_at, multi_state_value, object_in, object_of, object_of_kind, object_parts, positive_integer_value, signed_at, states_with, value_of};
 ghost use Rattle.gw_policy_text.specs.Field as field;
-ghost use Rattle.gw_policy_text.specs.Reading.{Gives};
+ghost use Rattle.gw_policy_text.specs.Reading.{Gives, TellsFault};
 ghost use Rattle.gw_policy_text.specs.Tables.{object_fields};
 ghost use Rattle.gw_policy_text.specs.Value.{text_in};
 
@@ -57,7 +57,9 @@ pub(crate) fn kind_at(table: &Table) -> Result<ObjectKind, ConfigFault>
 
 #[tactic(auto, unfolding(crate::specs::Configuration::object_of_kind))]
 fn object_of_kind(alloc: Global, kind: ObjectKind, table: &Table) -> Result<Object, ConfigFault>
-    ensures { Gives (λ o. o) result (object_of_kind kind (table_view table.now)) }
+    ensures object { Gives (λ o. o) result (object_of_kind kind (table_view table.now)) }
+    ensures told { let states = count_at (codes "states") (table_view table.now) in
+        TellsFault result (field.fault_of (object_fields kind states) (table_view table.now)) }
 {
     match object_fault(kind, table) {
         Some(fault) => Err(fault),

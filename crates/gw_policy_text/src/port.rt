@@ -3,7 +3,10 @@
 ghost use Rattle.std.specs.Prelude.{◌≡◌, ◌≤◌, length, map, IfOk};
 ghost use Rattle.toml.specs.View.{table_view, view};
 ghost use Rattle.gw_policy_text.specs.Configuration.{each, peer_in, peer_of, peer_parts, port_in, port_of, port_parts};
-ghost use Rattle.gw_policy_text.specs.Reading.{Gives};
+ghost use Rattle.gw_policy_text.specs.Field.{fault_of};
+ghost use Rattle.gw_policy_text.specs.Reading.{Gives, TellsFault};
+ghost use Rattle.gw_policy_text.specs.Tables.{port_fields};
+ghost use Rattle.gw_addr.specs.Reading as plain;
 
 use crate::ConfigFault;
 use crate::field::fault_of;
@@ -80,7 +83,8 @@ impl Port {
     }
 
     fn of_table(alloc: Global, table: &Table) -> Result<Self, ConfigFault>
-        ensures { Gives (λ p. p) result (port_of (table_view table.now)) }
+        ensures port { Gives (λ p. p) result (port_of (table_view table.now)) }
+        ensures told { TellsFault result (fault_of port_fields (table_view table.now)) }
     {
         match fault_of(&port_fields(), table) {
             Some(fault) => Err(fault),
@@ -135,13 +139,13 @@ fn entries(alloc: Global, values: &[Value]) -> Result<Sequence<BdtEntry>, Config
 
 /// The peer that a value says.
 fn peer(value: &Value) -> Result<BdtEntry, ConfigFault>
-    ensures { Gives (λ p. p) result (peer_in (view value.now)) }
+    ensures { plain.Gives (λ p. p) result (peer_in (view value.now)) }
 {
     peer_of_table(table(value)?)
 }
 
 fn peer_of_table(table: &Table) -> Result<BdtEntry, ConfigFault>
-    ensures { Gives (λ p. p) result (peer_of (table_view table.now)) }
+    ensures { plain.Gives (λ p. p) result (peer_of (table_view table.now)) }
 {
     match fault_of(&peer_fields(), table) {
         Some(fault) => Err(fault),
@@ -151,7 +155,7 @@ fn peer_of_table(table: &Table) -> Result<BdtEntry, ConfigFault>
 
 /// The parts of a table without a fault.
 fn peer_parts(table: &Table) -> Result<BdtEntry, ConfigFault>
-    ensures { Gives (λ p. p) result (peer_parts (table_view table.now)) }
+    ensures { plain.Gives (λ p. p) result (peer_parts (table_view table.now)) }
 {
     let address = address_at("address", table)?;
     let mask = mask_at("mask", table)?.octets;

@@ -1,8 +1,11 @@
 //! A configuration as it is read from its text.
-ghost use Rattle.std.specs.Prelude.{◌≡◌};
+ghost use Rattle.std.specs.Prelude.{◌≡◌, ◌<◌, Err, length};
 ghost use Rattle.toml.specs.View.{table_view};
 ghost use Rattle.gw_policy_text.specs.Document.{configuration, configuration_of, document};
-ghost use Rattle.gw_policy_text.specs.Reading.{Gives};
+ghost use Rattle.gw_policy_text.specs.Field.{fault_of};
+ghost use Rattle.gw_policy_text.specs.Reading.{Gives, TellsFault};
+ghost use Rattle.gw_policy_text.specs.Tables.{top_fields};
+ghost use Rattle.gw_policy_text.specs.declared.fault.ConfigFault.TheVariants.{TooMany};
 
 use crate::field::fault_of;
 use crate::parts::Parts;
@@ -24,7 +27,8 @@ pub const MAX_OCTETS: usize = 1_048_576;
 /// next.
 #[tactic(auto, unfolding(crate::specs::Document::configuration))]
 pub fn read_config(alloc: Global, text: &[u8]) -> Result<Config, ConfigFault>
-    ensures { Gives (λ c. c) result (configuration text.now) }
+    ensures configuration { Gives (λ c. c) result (configuration text.now) }
+    ensures too_long { 1048576 < length text.now → result ≡ Err TooMany }
 {
     if text.len() > MAX_OCTETS {
         return Err(ConfigFault::TooMany);
@@ -50,7 +54,8 @@ fn document(alloc: Global, text: &[u8]) -> Result<Table, ConfigFault>
 /// The configuration of a document.
 #[tactic(auto, unfolding(crate::specs::Document::configuration_of))]
 fn config_of(alloc: Global, top: &Table) -> Result<Config, ConfigFault>
-    ensures { Gives (λ c. c) result (configuration_of (table_view top.now)) }
+    ensures configuration { Gives (λ c. c) result (configuration_of (table_view top.now)) }
+    ensures told { TellsFault result (fault_of top_fields (table_view top.now)) }
 {
     match fault_of(&top_fields(), top) {
         Some(fault) => Err(fault),

@@ -4,7 +4,7 @@ ghost use Rattle.gw_addr.specs.Reading as plain;
 ghost use Rattle.toml.specs.Data.{get_member};
 ghost use Rattle.toml.specs.View.{table_view, view};
 ghost use Rattle.gw_policy_text.specs.Configuration.{address_at, at, list_at, list_or, mask_at, number_at, optional_text, text_at};
-ghost use Rattle.gw_policy_text.specs.Reading.{Gives};
+ghost use Rattle.gw_policy_text.specs.Reading.{Gives, Tells};
 
 use crate::value::{self, member, string};
 use crate::{ConfigFault, Instance, Text};
@@ -89,12 +89,11 @@ pub(crate) fn text_at(
     key: &str,
     table: &Table,
 ) -> Result<Text, ConfigFault>
-    ensures { Gives (λ t. t) result (text_at least key.now (table_view table.now)) }
+    ensures text { Gives (λ t. t) result (text_at least key.now (table_view table.now)) }
+    ensures told { Tells result (text_at least key.now (table_view table.now)) }
 {
-    match string(at(key, table)?) {
-        Some(text) => Text::new(alloc, least, text),
-        None => Err(ConfigFault::Kind),
-    }
+    let text = value::text(least, at(key, table)?)?;
+    Ok(Text::copy(alloc, text)?)
 }
 
 /// The text at a key that may be missing.

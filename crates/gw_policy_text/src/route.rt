@@ -5,6 +5,7 @@ ghost use Rattle.std.specs.List.{list_all};
 ghost use Rattle.toml.specs.View.{table_view, view};
 ghost use Rattle.gw_policy_text.specs.Configuration.{each, is_by, route_in, route_of, route_parts};
 ghost use Rattle.gw_policy_text.specs.Reading.{Gives};
+ghost use Rattle.gw_addr.specs.Reading as plain;
 
 use crate::ConfigFault;
 use crate::field::fault_of;
@@ -30,14 +31,14 @@ impl Route {
     /// The route that a value says, by one of so many ports.
     fn read(ports: u8, value: &Value) -> Result<Self, ConfigFault>
         ensures exists { IfOk result (λ r. IsTrue (is_by ports r)) }
-        ensures route { Gives (λ r. r) result (route_in ports (view value.now)) }
+        ensures route { plain.Gives (λ r. r) result (route_in ports (view value.now)) }
     {
         Route::of_table(ports, table(value)?)
     }
 
     fn of_table(ports: u8, table: &Table) -> Result<Self, ConfigFault>
         ensures exists { IfOk result (λ r. IsTrue (is_by ports r)) }
-        ensures route { Gives (λ r. r) result (route_of ports (table_view table.now)) }
+        ensures route { plain.Gives (λ r. r) result (route_of ports (table_view table.now)) }
     {
         match fault_of(&route_fields(ports), table) {
             Some(fault) => Err(fault),
@@ -48,7 +49,7 @@ impl Route {
     /// The parts of a table without a fault.
     fn parts(ports: u8, table: &Table) -> Result<Self, ConfigFault>
         ensures exists { IfOk result (λ r. IsTrue (is_by ports r)) }
-        ensures route { Gives (λ r. r) result (route_parts ports (table_view table.now)) }
+        ensures route { plain.Gives (λ r. r) result (route_parts ports (table_view table.now)) }
     {
         Ok(Route {
             network: network_at("network", table)?,

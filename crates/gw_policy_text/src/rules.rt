@@ -3,8 +3,9 @@ ghost use Rattle.std.specs.Prelude.{◌≡◌, codes, map};
 ghost use Rattle.gw_addr.specs.Reading as plain;
 ghost use Rattle.toml.specs.View.{table_view, view};
 ghost use Rattle.gw_policy_text.specs.Configuration.{boolean_at, each, fields_of, ranges_at, rule_in, rule_name_at, rule_of, rule_parts};
-ghost use Rattle.gw_policy_text.specs.Field.{range_in};
-ghost use Rattle.gw_policy_text.specs.Reading.{Gives};
+ghost use Rattle.gw_policy_text.specs.Field.{fault_of, range_in};
+ghost use Rattle.gw_policy_text.specs.Reading.{Gives, Tells, TellsFault};
+ghost use Rattle.gw_policy_text.specs.Tables.{rule_fields};
 
 use crate::ConfigFault;
 use crate::field::fault_of;
@@ -37,7 +38,8 @@ fn rule(alloc: Global, value: &Value) -> Result<Rule, ConfigFault>
 
 #[tactic(auto, unfolding(crate::specs::Configuration::rule_of))]
 fn rule_of_table(alloc: Global, table: &Table) -> Result<Rule, ConfigFault>
-    ensures { Gives (λ r. r) result (rule_of (table_view table.now)) }
+    ensures rule { Gives (λ r. r) result (rule_of (table_view table.now)) }
+    ensures told { TellsFault result (fault_of rule_fields (table_view table.now)) }
 {
     match fault_of(&rule_fields(), table) {
         Some(fault) => Err(fault),
@@ -60,7 +62,8 @@ fn rule_parts(alloc: Global, table: &Table) -> Result<Rule, ConfigFault>
 }
 
 fn name_at(alloc: Global, table: &Table) -> Result<RuleName, ConfigFault>
-    ensures { Gives (λ n. n) result (rule_name_at (codes "name") (table_view table.now)) }
+    ensures name { Gives (λ n. n) result (rule_name_at (codes "name") (table_view table.now)) }
+    ensures told { Tells result (rule_name_at (codes "name") (table_view table.now)) }
 {
     let name = value::rule_name(at("name", table)?)?;
     match RuleName::new(alloc, name) {

@@ -1,10 +1,10 @@
 //! The texts of a configuration.
-ghost use Rattle.std.specs.Prelude.{◌≡◌, ◌≤◌, length};
+ghost use Rattle.std.specs.Prelude.{◌≡◌, ◌≤◌, length, IfOk};
 ghost use Rattle.gw_policy_text.specs.Reading.{Gives};
 ghost use Rattle.gw_policy_text.specs.Value.{text_within};
 
 use crate::ConfigFault;
-use std::alloc::Global;
+use std::alloc::{AllocError, Global};
 use std::marker::Model;
 
 /// How many octets a text has at most.
@@ -35,6 +35,14 @@ impl Text {
         if text.len() < least || MAX_TEXT < text.len() {
             return Err(ConfigFault::Range);
         }
+        Ok(Text::copy(alloc, text)?)
+    }
+
+    /// A copy of a text of at most 255 octets. The only fault is want of memory.
+    pub(crate) fn copy(alloc: Global, text: &str) -> Result<Self, AllocError>
+        requires { length text.now ≤ 255 }
+        ensures { IfOk result (λ t. t ≡ text.now) }
+    {
         Ok(Text {
             text: String::from_str(alloc, text)?,
         })

@@ -1,5 +1,5 @@
 //! Single values of a configuration.
-ghost use Rattle.std.specs.Prelude.{◌≡◌, ◌≤◌, IfOk, map, option_map, option_copied};
+ghost use Rattle.std.specs.Prelude.{◌≡◌, ◌≤◌, IfOk, length, map, option_map, option_copied};
 ghost use Rattle.std.specs.List.{list_all};
 ghost use Rattle.gw_addr.specs.Address.{IsAddress};
 ghost use Rattle.gw_addr.specs.Mask.{IsMask};
@@ -16,7 +16,7 @@ use gw_rules::Operation;
 use toml::{Table, Value};
 
 /// How many characters the name of a rule has at most.
-const MAX_RULE_NAME: usize = 32;
+pub(crate) const MAX_RULE_NAME: usize = 32;
 
 /// The word that the log has where no rule matches.
 const NO_RULE: &str = "default";
@@ -92,7 +92,8 @@ pub(crate) fn string(value: &Value) -> Option<&str>
 
 /// A text of at least so many octets, and at most 255.
 pub(crate) fn text(least: usize, value: &Value) -> Result<&str, ConfigFault>
-    ensures { Gives (λ t. t.now) result (text_in least (view value.now)) }
+    ensures text { Gives (λ t. t.now) result (text_in least (view value.now)) }
+    ensures short { IfOk result (λ t. length t.now ≤ 255) }
 {
     let Some(text) = string(value) else {
         return Err(ConfigFault::Kind);

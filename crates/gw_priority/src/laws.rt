@@ -4,7 +4,15 @@ ghost use Rattle.std.specs.Prelude.{◌≡◌, ◌↔◌, ◌⊎◌, ℕ, List, 
 ghost use Rattle.gw_priority.specs.Commandable.{Commandable, IsPriority, IsPresent, present, slot};
 ghost use Rattle.gw_priority.specs.History.{Act, Command, Relinquish, IsLastAt, HasNoneAt, slot_after, state_after};
 
-use crate::PRIORITIES;
+use crate::{LOWEST, PRIORITIES, RESERVED};
+
+/// There are 16 priorities (clause 19.2). The lowest is 16, and 6 is that of minimum on and off times
+/// (clause 19.2.3).
+pub fn limits()
+    ensures count { PRIORITIES ≡ 16 }
+    ensures lowest { LOWEST ≡ 16 }
+    ensures reserved { RESERVED ≡ 6 }
+{}
 
 /// The present value as it is computed is that of the least priority whose slot isn't empty, else
 /// the default, and no other value is.

@@ -1,7 +1,16 @@
 //! What the words of a routing table mean, proved of every history and every table, for a reader of
 //! the definitions that contracts here and in the crates above cite. The functions do nothing.
+ghost use Rattle.std.specs.Prelude.{◌≡◌};
 ghost use Rattle.gw_routes.specs.Laws.{EachIsLearnedOnce, NamedAreLearned, PlacesAreKept};
 ghost use Rattle.gw_routes.specs.Laws.{FixedWaysStay, LastLearningHolds};
+
+use crate::{EVERYWHERE, MAX_ROUTES};
+
+/// The limit is 512 routes, and 65535 stands for all networks (clause 6.2.2).
+pub fn limits()
+    ensures routes { MAX_ROUTES ≡ 512 }
+    ensures everywhere { EVERYWHERE ≡ 65535 }
+{}
 
 /// The learned networks are those that were granted, in the order of their first grants, each with
 /// the port and next router of its last.

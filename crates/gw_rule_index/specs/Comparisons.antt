@@ -1,10 +1,12 @@
 -- How many comparisons an ask may cost.
-use Rattle.std.specs.Prelude.{ℕ, List, Option}
-use Rattle.std.specs.List.{sum_by}
+use Rattle.std.specs.Prelude.{ℕ, Bool, if◌then◌else◌, List, length, nat_lt, Option}
+use Rattle.std.specs.List.{list_any, sum_by}
 use Rattle.std.specs.Option.{option_map_or}
 use Rattle.gw_rules.specs.Ask.{Ask}
 use Rattle.gw_rules.specs.Fields.{value_of}
+use Rattle.gw_rules.specs.Rule.{ranges_of}
 use Rattle.gw_rules.specs.declared.field.FieldName.{FieldName}
+use Rattle.gw_rules.specs.declared.rule.Rule.{Rule}
 use Rattle.gw_rules.specs.declared.field.TheConstants.FieldName.{ALL}
 use Rattle.gw_rule_index.specs.declared.counted.TheConstants.{COMPARISONS_A_FIELD}
 
@@ -19,3 +21,24 @@ most_comparisons_in ask fields = sum_by (λ field. most_comparisons (value_of fi
 -- and for each of the ten
 abbrev pub most_comparisons_of : Ask → ℕ
 most_comparisons_of ask = most_comparisons_in ask ALL
+
+-- some rule names the field
+abbrev pub is_named : List Rule → FieldName → Bool
+is_named rules field = list_any (λ rule. nat_lt 0 (length (ranges_of field rule))) rules
+
+-- one comparison where the ask has the field, and none where it doesn't
+abbrev pub one_comparison : Option ℕ → ℕ
+one_comparison value = option_map_or (λ _. 1) value 0
+
+-- at least one comparison where the ask has a field that a rule names
+abbrev pub least_comparisons : List Rule → FieldName → Option ℕ → ℕ
+least_comparisons rules field value = if is_named rules field then one_comparison value else 0
+
+-- so for each of some fields
+abbrev pub least_comparisons_in : List Rule → Ask → List FieldName → ℕ
+least_comparisons_in rules ask fields =
+    sum_by (λ field. least_comparisons rules field (value_of field ask)) fields
+
+-- and for each of the ten
+abbrev pub least_comparisons_of : List Rule → Ask → ℕ
+least_comparisons_of rules ask = least_comparisons_in rules ask ALL

@@ -1,9 +1,9 @@
 //! What the index of a field says of an ask.
-ghost use Rattle.std.specs.Prelude.{◌≡◌, ◌+◌, ◌≤◌, ◌<◌, ◌&&◌, Bool, List};
+ghost use Rattle.std.specs.Prelude.{◌≡◌, ◌+◌, ◌≤◌, ◌<◌, ◌&&◌, Bool, List, length};
 ghost use Rattle.gw_rules.specs.declared.field.FieldName.{FieldName};
 ghost use Rattle.gw_rules.specs.declared.rule.Rule.{Rule};
 ghost use Rattle.gw_rule_index.specs.declared.counted.TheConstants.{COMPARISONS_A_FIELD, MAX_ANDS, MAX_COMPARISONS};
-ghost use Rattle.gw_rule_index.specs.Comparisons.{most_comparisons};
+ghost use Rattle.gw_rule_index.specs.Comparisons.{least_comparisons, most_comparisons, one_comparison};
 ghost use Rattle.gw_rule_index.specs.internal.Field.{IsIndexOf};
 ghost use Rattle.gw_rule_index.specs.internal.Row.{Marks, admits_in};
 
@@ -23,6 +23,9 @@ impl FieldIndex {
             Marks kept.new.words (λ rule. test rule && admits_in field value rule) rules }
         ensures comparisons { counted.new.comparisons
             ≤ counted.old.comparisons + most_comparisons value }
+        ensures least { (rules : List Rule) (field : FieldName) → IsIndexOf rules field self.now →
+            counted.old.comparisons + least_comparisons rules field value
+            ≤ counted.new.comparisons }
         ensures ands { counted.new.ands ≤ counted.old.ands + 1 }
     {
         if self.bounds.as_slice().is_empty() {
@@ -39,6 +42,8 @@ impl FieldIndex {
             Marks result.now.words (admits_in field value) rules }
         ensures comparisons { counted.new.comparisons
             ≤ counted.old.comparisons + most_comparisons value }
+        ensures some { 1 ≤ length self.now.bounds.items →
+            counted.old.comparisons + one_comparison value ≤ counted.new.comparisons }
         ensures ands { counted.new.ands ≡ counted.old.ands }
     {
         match value {

@@ -9,6 +9,7 @@ mod counted;
 mod field_ask;
 mod field_build;
 mod field_index;
+pub mod laws;
 mod policy;
 mod row;
 mod rule_index;

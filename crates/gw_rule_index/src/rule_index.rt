@@ -7,7 +7,7 @@ ghost use Rattle.gw_rules.specs.RuleList.{KeepsCounts, allows, allows_at, decide
 ghost use Rattle.gw_rules.specs.declared.field.FieldName.{FieldName};
 ghost use Rattle.gw_rules.specs.declared.rule.Rule.{Rule};
 ghost use Rattle.gw_rule_index.specs.declared.counted.TheConstants.{COMPARISONS_A_FIELD, MAX_ANDS, MAX_COMPARISONS};
-ghost use Rattle.gw_rule_index.specs.Comparisons.{most_comparisons_in, most_comparisons_of};
+ghost use Rattle.gw_rule_index.specs.Comparisons.{least_comparisons_in, least_comparisons_of, most_comparisons_in, most_comparisons_of};
 ghost use Rattle.gw_rule_index.specs.internal.Field.{IsIndexOf};
 ghost use Rattle.gw_rule_index.specs.internal.Index.{IsBuiltFrom};
 ghost use Rattle.gw_rule_index.specs.internal.Row.{Marks, admits_all};
@@ -71,6 +71,9 @@ impl RuleIndex {
         ensures number { IfSome result.rule (λ number. 1 ≤ number) }
         ensures each_field { result.comparisons ≤ most_comparisons_of ask.now }
         ensures comparisons { result.comparisons ≤ MAX_COMPARISONS }
+        // Each field that the ask has and a rule names takes a comparison.
+        ensures least { (rules : List Rule) → IsBuiltFrom self.now rules →
+            least_comparisons_of rules ask.now ≤ result.comparisons }
         ensures ands { result.ands ≤ MAX_ANDS }
     {
         let mut counted = Counted::start();
@@ -89,6 +92,8 @@ impl RuleIndex {
             Marks result.words (λ rule. matches rule ask.now) rules }
         ensures each_field { counted.new.comparisons ≤ most_comparisons_of ask.now }
         ensures comparisons { counted.new.comparisons ≤ MAX_COMPARISONS }
+        ensures least { (rules : List Rule) → IsBuiltFrom self.now rules →
+            least_comparisons_of rules ask.now ≤ counted.new.comparisons }
         ensures ands { counted.new.ands ≤ MAX_ANDS }
     {
         let mut row = self.every;
@@ -106,6 +111,8 @@ impl RuleIndex {
             Marks row.new.words (admits_all ask.now fields.now) rules }
         ensures each_field { counted.new.comparisons ≤ most_comparisons_in ask.now fields.now }
         ensures comparisons { counted.new.comparisons ≤ COMPARISONS_A_FIELD * length fields.now }
+        ensures least { (rules : List Rule) → IsBuiltFrom self.now rules →
+            least_comparisons_in rules ask.now fields.now ≤ counted.new.comparisons }
         ensures ands { counted.new.ands ≤ length fields.now }
     {
         for field in fields {

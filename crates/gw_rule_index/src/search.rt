@@ -13,6 +13,8 @@ pub(crate) fn place_of(bounds: &[Bound], value: u64, counted: &mut Counted) -> u
     ensures within { result ≤ length bounds.now }
     ensures place { AreSearchable bounds.now → IsPlace bounds.now value result }
     ensures comparisons { counted.new.comparisons ≤ counted.old.comparisons + COMPARISONS_A_FIELD }
+    ensures some { 1 ≤ length bounds.now →
+        counted.old.comparisons + 1 ≤ counted.new.comparisons }
     ensures ands { counted.new.ands ≡ counted.old.ands }
 {
     let mut low = 0;

@@ -1,5 +1,6 @@
 -- What a line reader keeps of a text, and what it says of the text's first line.
-use Rattle.std.specs.Prelude.{◌≡◌, ℕ, ◌+◌, ◌≤◌, ◌<◌, List, [], ◌∷◌, ◌++◌, length, take, drop, Option, Some, None, ⊤}
+use Rattle.std.specs.Prelude.{◌≡◌, ℕ, ◌+◌, ◌≤◌, ◌<◌, ◌⊎◌, List, [], ◌∷◌, ◌++◌, length, take, drop, Option, Some, None, ⊤}
+use Rattle.gw_addr.specs.Text.{Lacks}
 use Rattle.gw_script.specs.declared.reader.NextLine.{NextLine}
 use Rattle.gw_script.specs.declared.reader.NextLine.TheVariants.{Line, Long, End}
 use Rattle.gw_script.specs.Script.{lines_of}
@@ -27,6 +28,10 @@ abbrev pub IsNextLine : List ℕ → List ℕ → NextLine → Type 0
 IsNextLine unread rest (Line len span) = lines_of (unread ++ rest) ≡ take len unread ∷ lines_of (drop span unread ++ rest)
 IsNextLine unread rest Long = BeginsLong (unread ++ rest)
 IsNextLine unread rest End = lines_of (unread ++ rest) ≡ []
+
+-- what stands first can be told from what is unread: it has a line feed, or more than 4096 octets
+abbrev pub IsAtHand : List ℕ → Type 0
+IsAtHand unread = (¬ (Lacks 10 unread)) ⊎ (4096 < length unread)
 
 -- each call more is an octet less that a source has left, where it is known
 abbrev pub IsGiven : ℕ → Option (List ℕ) → ℕ → Option (List ℕ) → Type 0

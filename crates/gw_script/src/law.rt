@@ -6,6 +6,15 @@ ghost use Rattle.gw_script.specs.Event.{Event};
 ghost use Rattle.gw_script.specs.Script.{AreLines, IsLine, lines_of};
 ghost use Rattle.gw_addr.specs.Text.{Lacks};
 
+use crate::line::MAX_DATAGRAM;
+use crate::reader::MAX_LINE;
+
+/// The limits are 4096 octets of a line and 2048 of a datagram.
+pub fn script_limits()
+    ensures line { MAX_LINE ≡ 4096 }
+    ensures datagram { MAX_DATAGRAM ≡ 2048 }
+{}
+
 /// What holds of all scripts: a line writes one event at most, so the events of a script are the only ones; the lines that end at a
 /// line feed are the lines of the text that they make, and a last line may lack its line feed.
 pub fn script_laws()

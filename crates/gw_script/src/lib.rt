@@ -12,7 +12,7 @@ mod source;
 mod text;
 
 pub use event::{Event, SpelledAddr};
-pub use law::script_laws;
+pub use law::{script_laws, script_limits};
 pub use line::{MAX_DATAGRAM, parse_line, parse_spelled};
 pub use reader::{LineReader, NextLine};
 pub use sink::{OctetSink, WriteFailed, write_whole};

@@ -3,7 +3,7 @@
 ghost use Rattle.std.specs.Prelude.{◌≡◌, ◌+◌, ◌-◌, ◌≤◌, ◌<◌, ℕ, List, [], length, slice_range, take, drop, IsOk, OnErr, IfOk, IfSome, IsNone};
 ghost use Rattle.std.specs.Io.KnownBytes.{Keeps, IsAtEnd, prepend_known};
 ghost use Rattle.gw_addr.specs.Text.{Lacks};
-ghost use Rattle.gw_script.specs.Reader.{IsGiven, IsNextLine, IsPaid, IsWithin};
+ghost use Rattle.gw_script.specs.Reader.{IsAtHand, IsGiven, IsNextLine, IsPaid, IsWithin};
 
 use crate::source::{OctetSource, ReadFailed};
 use memchr::memchr;
@@ -13,7 +13,7 @@ use std::marker::Model;
 const MAX_UNREAD: usize = 16_384;
 
 /// How many octets a line has at most, without its line feed.
-const MAX_LINE: usize = 4096;
+pub(crate) const MAX_LINE: usize = 4096;
 
 /// What stands first in the text that is left.
 #[derive(Debug, Drop)]
@@ -168,9 +168,13 @@ impl LineReader {
         ensures paid { IsPaid self.old.calls (S.left source.old) self.new.calls (S.left source.new) }
         ensures sure { S.NeverFails source.old → OnErr result (self.new.calls ≡ 4294967295) }
         ensures lasts { S.NeverFails source.old → S.NeverFails source.new }
+        // What can be told is told at once: nothing is asked of the source, and nothing changes.
+        ensures told { IsAtHand self.old.unread → IsOk result }
+        ensures same { IsAtHand self.old.unread → self.new ≡ self.old }
+        ensures unasked { IsAtHand self.old.unread → source.new ≡ source.old }
     {
-        if let Some(next) = self.whole_line() {
-            return Ok(next);
+        if let Some(at_hand) = self.whole_line() {
+            return Ok(at_hand);
         }
         while self.calls < u32::MAX {
             if self.read_more(source)? == 0 {

@@ -1,20 +1,56 @@
 //! Laws of the definitions that the contracts cite. The functions change nothing and answer nothing:
 //! their contracts are the laws.
 
-ghost use Rattle.std.specs.Prelude.{◌≤◌, ◌<◌, ◌∷◌, ◌^◌, ℕ, List, length, IfSome};
+ghost use Rattle.std.specs.Prelude.{◌≡◌, ◌≤◌, ◌<◌, ◌∷◌, ◌^◌, ℕ, List, length, IfSome};
 ghost use Rattle.gw_tags.specs.List.{IsBalanced, deepest};
-ghost use Rattle.gw_services.specs.Limits.{last_number, last_short_number};
-ghost use Rattle.gw_services.specs.Laws.{HasOneReading};
-ghost use Rattle.gw_services.specs.Read.{IsRead, read_view, read_encoding};
-ghost use Rattle.gw_services.specs.Write.{IsWrite, write_view, write_encoding};
-ghost use Rattle.gw_services.specs.Multi.{Reference, IsMulti, multi_encoding};
-ghost use Rattle.gw_services.specs.WhoIs.{IsWhoIs, who_is_view, who_is_encoding};
-ghost use Rattle.gw_services.specs.WhoHas.{IsWhoHas, who_has_view, who_has_encoding, sought_view, NameFits};
-ghost use Rattle.gw_services.specs.IAm.{IsIAm, i_am_view, i_am_encoding};
-ghost use Rattle.gw_services.specs.IHave.{IsIHave, i_have_view, i_have_encoding};
+ghost use Rattle.gw_services.specs.Limits.{last_instance, last_number, last_priority, last_property, last_segmentation, last_short_number};
+ghost use Rattle.gw_services.specs.Body.{HasFault};
+ghost use Rattle.gw_services.specs.Laws.{HasOneReading, ReadsExactly, TellsExactly};
+ghost use Rattle.gw_services.specs.MultiReading.{multi_at};
+ghost use Rattle.gw_services.specs.Read.{IsRead, read_at, read_body, read_view, read_encoding};
+ghost use Rattle.gw_services.specs.Write.{IsWrite, write_at, write_body, write_view, write_encoding};
+ghost use Rattle.gw_services.specs.Multi.{Reference, HasMultiFault, IsMulti, most_references, multi_encoding};
+ghost use Rattle.gw_services.specs.WhoIs.{IsWhoIs, who_is_at, who_is_body, who_is_view, who_is_encoding};
+ghost use Rattle.gw_services.specs.WhoHas.{IsWhoHas, who_has_at, who_has_body, who_has_view, who_has_encoding, sought_view, NameFits};
+ghost use Rattle.gw_services.specs.IAm.{IsIAm, i_am_at, i_am_body, i_am_view, i_am_encoding};
+ghost use Rattle.gw_services.specs.IHave.{IsIHave, i_have_at, i_have_body, i_have_view, i_have_encoding};
 
 use crate::discovery::{IAm, IHave, WhoHas, WhoIs};
 use crate::request::{ReadReq, WriteReq};
+
+/// The limits are 128 references of one body, which is our own, and the last values of the standard's
+/// types.
+pub fn limits()
+    ensures references { most_references ≡ 128 }
+    ensures property { last_property ≡ 4194303 }
+    ensures instance { last_instance ≡ 4194303 }
+    ensures number { last_number ≡ 4294967295 }
+    ensures short_number { last_short_number ≡ 65535 }
+    ensures priority { last_priority ≡ 16 }
+    ensures segmentation { last_segmentation ≡ 3 }
+{}
+
+/// What each reading function gives of octets is the body that they are.
+pub fn reading()
+    ensures read { ReadsExactly read_at IsRead }
+    ensures write { ReadsExactly write_at IsWrite }
+    ensures multi { ReadsExactly multi_at IsMulti }
+    ensures who_is { ReadsExactly who_is_at IsWhoIs }
+    ensures who_has { ReadsExactly who_has_at IsWhoHas }
+    ensures i_am { ReadsExactly i_am_at IsIAm }
+    ensures i_have { ReadsExactly i_have_at IsIHave }
+{}
+
+/// What each of them gives of octets that are no such body is the fault that they have.
+pub fn faults()
+    ensures read { TellsExactly read_at (λ fault octets. HasFault fault read_body octets) }
+    ensures write { TellsExactly write_at (λ fault octets. HasFault fault write_body octets) }
+    ensures multi { TellsExactly multi_at HasMultiFault }
+    ensures who_is { TellsExactly who_is_at (λ fault octets. HasFault fault who_is_body octets) }
+    ensures who_has { TellsExactly who_has_at (λ fault octets. HasFault fault who_has_body octets) }
+    ensures i_am { TellsExactly i_am_at (λ fault octets. HasFault fault i_am_body octets) }
+    ensures i_have { TellsExactly i_have_at (λ fault octets. HasFault fault i_have_body octets) }
+{}
 
 /// The body of one ReadProperty has one reading.
 pub fn one_read()

@@ -1,6 +1,6 @@
 //! ReadPropertyMultiple (clause 15.7).
 
-ghost use Rattle.std.specs.Prelude.{◌≡◌, ◌≢◌, ◌≤◌, ◌<◌, ◌+◌, ◌++◌, ◌⊎◌, List, ℕ, map, None, length, vec_len, IfOk, IsOk, MatchResult, OnOk, OnErr, Ok, Err};
+ghost use Rattle.std.specs.Prelude.{◌≡◌, ◌≢◌, ◌≤◌, ◌<◌, ◌+◌, ◌++◌, ◌⊎◌, List, [], ℕ, map, None, length, vec_len, IfOk, IsOk, MatchResult, OnOk, OnErr, Ok, Err};
 ghost use Rattle.std.specs.Vec.{vec_capacity};
 ghost use Rattle.std.specs.Option.{option_map};
 ghost use Rattle.gw_addr.specs.Reading.{Gives, Keeps};
@@ -123,6 +123,7 @@ fn references(
         ≡ Ok (map reference_view out.new.items)) }
     ensures err { (fault : BodyFault) → result ≡ Err fault → fault ≢ BodyFault.Memory
         → references_at left (option_map object_view current) octets.now ≡ Err fault }
+    ensures nothing { octets.now ≡ [] → result ≡ Err BodyFault.Missing }
 {
     let (reference, behind) = match reference(current, octets) {
         Ok(found) => found,
@@ -145,6 +146,7 @@ fn references(
 
 /// What `decode_multi` gives, said by the reading function alone.
 fn read(alloc: Global, octets: &[u8]) -> Result<MultiReq, BodyFault>
+    ensures nothing { octets.now ≡ [] → result ≡ Err BodyFault.Missing }
     ensures ok { IfOk result (λ m. multi_at octets.now ≡ Ok (multi_view m)) }
     ensures err { (fault : BodyFault) → result ≡ Err fault → fault ≢ BodyFault.Memory
         → multi_at octets.now ≡ Err fault }
@@ -159,7 +161,9 @@ fn read(alloc: Global, octets: &[u8]) -> Result<MultiReq, BodyFault>
 }
 
 /// The most references that so many octets can have.
-fn most_of(len: usize) -> usize {
+fn most_of(len: usize) -> usize
+    ensures { len ≡ 0 → result ≡ 0 }
+{
     if len / 2 < MOST_REFERENCES as usize {
         len / 2
     } else {
@@ -187,6 +191,8 @@ pub fn decode_multi(alloc: Global, octets: &[u8]) -> Result<MultiReq, BodyFault>
     // What is wrong is told, or memory was refused.
     ensures told { (fault : BodyFault) → HasMultiFault fault octets.now
         → (result ≡ Err fault) ⊎ (result ≡ Err BodyFault.Memory) }
+    // Of nothing no list is made, so no memory is wanted.
+    ensures nothing { octets.now ≡ [] → result ≡ Err BodyFault.Missing }
     // The answer as a function of the octets, unless memory was refused.
     ensures exact { IfOk result (λ m. multi_at octets.now ≡ Ok (multi_view m)) }
     ensures exact_fault { (fault : BodyFault) → result ≡ Err fault → fault ≢ BodyFault.Memory

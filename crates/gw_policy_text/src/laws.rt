@@ -1,0 +1,26 @@
+//! Laws of the limits that contracts cite. The function does nothing: its contract is the laws.
+
+ghost use Rattle.std.specs.Prelude.{◌≡◌};
+
+use crate::instance::MAX_INSTANCE;
+use crate::object::MAX_STATES;
+use crate::parts::{MAX_OBJECTS, MAX_PORTS, MAX_ROUTES};
+use crate::port::MAX_PEERS;
+use crate::read::MAX_OCTETS;
+use crate::text::MAX_TEXT;
+use crate::value::MAX_RULE_NAME;
+
+/// The limits are 1,048,576 octets of a configuration, 8 ports, 64 peers of each, 512 routes, 256
+/// objects, 64 states of each, 255 octets of a text, 32 of a rule's name, and the last instance,
+/// 4194302.
+pub fn limits()
+    ensures octets { MAX_OCTETS ≡ 1048576 }
+    ensures ports { MAX_PORTS ≡ 8 }
+    ensures peers { MAX_PEERS ≡ 64 }
+    ensures routes { MAX_ROUTES ≡ 512 }
+    ensures objects { MAX_OBJECTS ≡ 256 }
+    ensures states { MAX_STATES ≡ 64 }
+    ensures text { MAX_TEXT ≡ 255 }
+    ensures rule_name { MAX_RULE_NAME ≡ 32 }
+    ensures instance { MAX_INSTANCE ≡ 4194302 }
+{}
