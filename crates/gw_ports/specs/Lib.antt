@@ -1,0 +1,4 @@
+pub mod Ports
+pub mod SockPair
+pub mod Socket
+pub mod Timed

@@ -1,0 +1,6 @@
+mod AnnouncementLemmas
+mod AppendLemmas
+mod ChoiceLemmas
+mod ReplayLemmas
+mod ServingLemmas
+mod WordsLemmas

@@ -1,0 +1,9 @@
+pub mod Announcement
+pub mod CommandLine
+pub mod Configured
+pub mod Ending
+pub mod Files
+pub mod Host
+pub mod Program
+pub mod Replay
+pub mod Serving
