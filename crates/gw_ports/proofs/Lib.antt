@@ -1,1 +1,2 @@
 mod PortLemmas
+mod TimedLemmas

@@ -1,4 +1,4 @@
-pub mod Ports
-pub mod SockPair
 pub mod Socket
+pub mod SockPair
+pub mod Ports
 pub mod Timed

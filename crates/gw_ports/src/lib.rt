@@ -7,6 +7,7 @@ mod ports;
 mod sock_pair;
 mod socket;
 mod timed;
+mod timepiece;
 mod turns;
 mod waiter;
 
@@ -14,4 +15,5 @@ pub use ports::Ports;
 pub use sock_pair::SockPair;
 pub use socket::{Sock, SockFault};
 pub use timed::TimedPorts;
+pub use timepiece::Timepiece;
 pub use waiter::Waiter;

@@ -1,6 +1,6 @@
 //! The two sockets of a port.
 
-ghost use Rattle.std.specs.Prelude.{◌≡◌, ◌≢◌, ◌+◌, ◌≤◌, ◌<◌, ◌^◌, true, false, length, IfOk, IfSome};
+ghost use Rattle.std.specs.Prelude.{◌≡◌, ◌≢◌, ◌+◌, ◌≤◌, ◌<◌, ◌^◌, true, false, length, IfOk, IfSome, OnOk};
 ghost use Rattle.gw_ports.specs.Socket.{FitsBuffer, is_nothing};
 ghost use Rattle.gw_ports.specs.SockPair.{ArePassed, HasAnswered, IsAnswer, IsPassed};
 
@@ -32,6 +32,13 @@ impl<S: Sock> SockPair<S> {
             broadcast,
             own_first: true,
         }
+    }
+
+    /// Sends a datagram by the own socket.
+    pub(crate) fn send(&mut self, to: BipAddr, octets: &[u8]) -> Result<(), SockFault>
+        ensures { OnOk result (S.Sent self.new.own to octets.now) }
+    {
+        self.own.send_to(to, octets)
     }
 
     /// Asks the own socket.

@@ -1,6 +1,7 @@
 //! A UDP socket that never waits.
 
-ghost use Rattle.std.specs.Prelude.{◌≡◌, ◌+◌, ◌%◌, ◌^◌, ℕ, List, Bool};
+ghost use Rattle.std.specs.Prelude.{◌≡◌, ◌+◌, ◌%◌, ◌^◌, ℕ, List, Bool, OnOk};
+ghost use Rattle.gw_addr.specs.declared.bip.BipAddr.{BipAddr};
 ghost use Rattle.gw_ports.specs.Socket.{Answer, FitsBuffer, is_nothing};
 
 use gw_addr::BipAddr;
@@ -26,6 +27,9 @@ pub trait Sock {
     /// What it may have answered when it was last asked, and what the buffer then held.
     ghost Answered: { Self → Answer → List ℕ → Type 0 };
 
+    /// What it may have sent last, and whom to.
+    ghost Sent: { Self → BipAddr → List ℕ → Type 0 };
+
     /// Receives a datagram to the buffer's front: how many octets it has, and whom it came from; or
     /// none where nothing waits.
     fn receive(
@@ -39,6 +43,7 @@ pub trait Sock {
 
     /// Sends a datagram.
     fn send_to(&mut self, to: BipAddr, octets: &[u8]) -> Result<(), SockFault>
+        ensures sent { OnOk result (Sent self.new to octets.now) }
         ensures looks { look_count self.new ≡ look_count self.old }
         ensures empty { is_empty self.new ≡ is_empty self.old };
 

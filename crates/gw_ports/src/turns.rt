@@ -1,10 +1,9 @@
 //! Whose turn it is among the sockets of the ports.
 
-ghost use Rattle.std.specs.Prelude.{◌≡◌, ◌∷◌, [], ◌+◌, ◌-◌, ◌≤◌, ◌<◌, ◌^◌, length, min, slice_index_or, IfOk, IfSome, None};
+ghost use Rattle.std.specs.Prelude.{◌≡◌, ◌∷◌, [], ◌+◌, ◌-◌, ◌≤◌, ◌<◌, ◌^◌, length, min, slice_index_or, IfOk, IfSome, OnOk, None};
 ghost use Rattle.gw_ports.specs.declared.sock_pair.SockPair.{SockPair};
 ghost use Rattle.gw_ports.specs.Socket.{FitsBuffer};
-ghost use Rattle.gw_ports.specs.declared.turns.TheConstants.{MAX_DUE};
-ghost use Rattle.gw_core.specs.Wire.{IsHandedIn, Tells, failures_of, receive_answer, receive_call};
+ghost use Rattle.gw_core.specs.Wire.{IsHandedIn, Tells, failures_of, receive_answer, receive_call, send_call};
 ghost use Rattle.gw_ports.specs.Ports.{AreAsked, AreAskedInTurn, IsNext, asked, got_of, handed_in, last_number, some_answer};
 
 use crate::ports::Ports;
@@ -36,7 +35,7 @@ impl<S: Sock> Ports<S> {
 
     /// So many ticks more are due. What would make more than 2^63 due at once is dropped.
     pub fn due(&mut self, ticks: u64)
-        ensures { self.new ≡ record self.old { ticks = min (self.old.ticks + ticks) MAX_DUE } }
+        ensures { self.new ≡ record self.old { ticks = min (self.old.ticks + ticks) (2 ^ 63) } }
     {
         self.ticks = self.ticks.saturating_add(ticks).min(MAX_DUE);
     }
@@ -88,14 +87,13 @@ impl<S: Sock> Ports<S> {
     fn send_on(&mut self, port: u8, to: BipAddr, octets: &[u8]) -> Result<(), SockFault>
         ensures count { length self.new.pairs ≡ length self.old.pairs }
         ensures rest { self.new ≡ asked self.new.pairs self.old }
+        ensures sent { (d : SockPair S) →
+            OnOk result (S.Sent (slice_index_or self.new.pairs (port - 1) d).own to octets.now) }
     {
-        if port == 0 {
+        if port == 0 || usize::from(port) > self.pairs.len() {
             return Err(SockFault::Failed);
         }
-        match self.pairs.get_mut(usize::from(port) - 1) {
-            Some(pair) => pair.own.send_to(to, octets),
-            None => Err(SockFault::Failed),
-        }
+        self.pairs[usize::from(port) - 1].send(to, octets)
     }
 
     /// Asks the ports in turn, until one answers.
@@ -217,7 +215,15 @@ impl<S: Sock> Wire for Ports<S> {
         self.next(buf)
     }
 
-    fn send(&mut self, port: u8, to: BipAddr, octets: &[u8]) -> Result<(), WireFault> {
+    fn send(&mut self, port: u8, to: BipAddr, octets: &[u8]) -> Result<(), WireFault>
+        requires { self.old.failures < 2 ^ 128 - 1 }
+        ensures sent { (d : SockPair S) →
+            OnOk result (S.Sent (slice_index_or self.new.pairs (port - 1) d).own to octets.now) }
+        ensures ports { length self.new.pairs ≡ length self.old.pairs }
+        ensures calls { let call = send_call result (record { port = port; to = to; octets = octets.now }) in
+            Tells None None (call ∷ []) }
+        ensures failures { self.new.failures ≡ self.old.failures + failures_of result }
+    {
         match self.send_on(port, to, octets) {
             Ok(()) => Ok(()),
             Err(_) => Err(self.fail()),

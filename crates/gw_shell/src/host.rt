@@ -7,6 +7,7 @@ ghost use Rattle.gw_shell.specs.Host.{IsLogFault, IsSocketFault};
 
 use crate::fault::Fault;
 use crate::poll_waiter::PollWaiter;
+use crate::system_clock::SystemClock;
 use crate::udp::{UdpSock, open_pairs, socket_fault};
 use gw_core::Wire;
 use gw_policy_text::Port;
@@ -70,21 +71,21 @@ impl<'a, R: Net + Clock> SystemHost<'a, R> {
         &self,
         alloc: Global,
         mut pairs: Vec<SockPair<UdpSock>>,
-    ) -> io::Result<TimedPorts<'a, UdpSock, R, PollWaiter>>
+    ) -> io::Result<TimedPorts<UdpSock, SystemClock<'a, R>, PollWaiter>>
         requires { length pairs.items ≤ 8 }
         ensures ports { IfOk result
             (λ timed. length timed.ports.pairs ≡ length pairs.items) }
         ensures fresh { IfOk result (λ timed. timed.ports.failures ≡ 0) }
     {
         let waiter = PollWaiter::open(alloc, self.rt, &mut pairs)?;
-        TimedPorts::start(Ports::new(pairs), self.rt, waiter)
+        TimedPorts::start(Ports::new(pairs), SystemClock { rt: self.rt }, waiter)
     }
 }
 
 impl<'a, R: Files + Net + Clock> Host for SystemHost<'a, R> {
     type Log = R::File;
 
-    type Sockets = TimedPorts<'a, UdpSock, R, PollWaiter>;
+    type Sockets = TimedPorts<UdpSock, SystemClock<'a, R>, PollWaiter>;
 
     ghost LogOpens = { λ _ _ _. ⊤ };
 
@@ -110,7 +111,7 @@ impl<'a, R: Files + Net + Clock> Host for SystemHost<'a, R> {
         &self,
         alloc: Global,
         ports: &[Port],
-    ) -> Result<TimedPorts<'a, UdpSock, R, PollWaiter>, Fault> {
+    ) -> Result<TimedPorts<UdpSock, SystemClock<'a, R>, PollWaiter>, Fault> {
         let pairs = open_pairs(alloc, self.rt, ports)?;
         match self.start(alloc, pairs) {
             Ok(timed) => Ok(timed),
@@ -118,7 +119,7 @@ impl<'a, R: Files + Net + Clock> Host for SystemHost<'a, R> {
         }
     }
 
-    fn close(&mut self, _sockets: TimedPorts<'a, UdpSock, R, PollWaiter>, _log: Option<R::File>)
+    fn close(&mut self, _sockets: TimedPorts<UdpSock, SystemClock<'a, R>, PollWaiter>, _log: Option<R::File>)
         ensures { self.new ≡ self.old }
     {}
 }

@@ -16,6 +16,7 @@ mod poll_waiter;
 mod program;
 mod script;
 mod serving;
+mod system_clock;
 mod udp;
 
 pub use command_line::{Choice, choice_of};
@@ -28,4 +29,5 @@ pub use poll_waiter::PollWaiter;
 pub use program::run;
 pub use script::replay;
 pub use serving::serve_fresh;
+pub use system_clock::SystemClock;
 pub use udp::UdpSock;

@@ -36,6 +36,10 @@ impl PollWaiter {
 }
 
 impl Waiter for PollWaiter {
+    ghost use Rattle.std.specs.Prelude.{⊤};
+
+    ghost Waited = { λ _ _. ⊤ };
+
     fn wait(&mut self, most: Duration) -> io::Result<()> {
         self.poll.poll(&mut self.events, Some(most))
     }

@@ -113,6 +113,8 @@ impl Sock for UdpSock {
 
     ghost Answered = { λ _ _ _. ⊤ };
 
+    ghost Sent = { λ _ _ _. ⊤ };
+
     fn receive(
         &mut self,
         buf: &mut [u8; RECEIVE_ROOM],
