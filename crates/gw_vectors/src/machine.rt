@@ -235,7 +235,10 @@ fn words_of(
 fn output_of(alloc: Global, lines: &str, room: usize) -> Result<BufWriter<Narrow>, AllocError> {
     let narrow = Narrow::with(alloc, room, !has_line(lines, "flushes fail"));
     let capacity = number_of(lines, "buffer ").unwrap_or(CAPACITY);
-    BufWriter::with_capacity(alloc, capacity, narrow)
+    match BufWriter::with_capacity(alloc, capacity, narrow) {
+        Ok(output) => Ok(output),
+        Err(_) => Err(AllocError),
+    }
 }
 
 /// Runs the program of a section, whose output has room for so many octets.
@@ -256,7 +259,15 @@ fn run_with(alloc: Global, config: &str, section: &str, room: usize) -> Result<L
     let mut output = output_of(alloc, lines, room)?;
     let mut errors = Narrow::with(alloc, number_of(lines, "errors ").unwrap_or(AMPLE), true);
     let files = MemFiles { text: config };
-    let code = run(alloc, words, &files, &mut host, &mut input, &mut output, &mut errors);
+    let code = run(
+        alloc,
+        words,
+        &files,
+        &mut host,
+        &mut input,
+        &mut output,
+        &mut errors,
+    );
     let (output, _unwritten) = output.into_parts();
     Ok(Left {
         code,
@@ -266,14 +277,9 @@ fn run_with(alloc: Global, config: &str, section: &str, room: usize) -> Result<L
     })
 }
 
-/// The run of a section: its exit status, each line of its streams and of its log, and what the
+/// What the run of a section leaves: its exit status, each line of its streams and of its log, and what the
 /// machine closed.
-pub fn run_section(
-    alloc: Global,
-    config: &str,
-    section: &str,
-    out: &mut Vec<u8>,
-) -> Result<(), AllocError> {
+pub fn machine(alloc: Global, config: &str, section: &str, out: &mut Vec<u8>) -> io::Result<()> {
     let (_, lines) = section.split_once('\n').unwrap_or((section, ""));
     let room = number_of(lines, "output ").unwrap_or(AMPLE);
     let left = run_with(alloc, config, section, room)?;
@@ -281,7 +287,7 @@ pub fn run_section(
     put_lines("out ", &left.output, out)?;
     put_lines("err ", &left.errors, out)?;
     match &left.closed {
-        Some(closed) => put_closed(closed, out),
+        Some(closed) => Ok(put_closed(closed, out)?),
         None => Ok(()),
     }
 }
@@ -301,7 +307,11 @@ fn put_lines(word: &str, text: &[u8], out: &mut Vec<u8>) -> Result<(), AllocErro
     if text.is_empty() {
         return Ok(());
     }
-    for line in text.strip_suffix(b"\n").unwrap_or(text).split(|octet| *octet == b'\n') {
+    for line in text
+        .strip_suffix(b"\n")
+        .unwrap_or(text)
+        .split(|octet| *octet == b'\n')
+    {
         put(out, &[word])?;
         out.extend_from_slice(line)?;
         out.push(b'\n')?;
@@ -312,12 +322,7 @@ fn put_lines(word: &str, text: &[u8], out: &mut Vec<u8>) -> Result<(), AllocErro
 /// Runs a section with ample room for its output, and then with less, octet by octet, and says of
 /// how many octets it is. Each run with less that doesn't leave a front of them and tell that a
 /// write failed has a line of its own.
-pub fn fronts(
-    alloc: Global,
-    config: &str,
-    section: &str,
-    out: &mut Vec<u8>,
-) -> Result<(), AllocError> {
+pub fn fronts(alloc: Global, config: &str, section: &str, out: &mut Vec<u8>) -> io::Result<()> {
     let whole = run_with(alloc, config, section, AMPLE)?.output;
     for room in 0..whole.len() {
         let left = run_with(alloc, config, section, room)?;
@@ -325,7 +330,10 @@ pub fn fronts(
             put(out, &["not a front at ", Buffer::new().format(room), "\n"])?;
         }
     }
-    put(out, &["fronts of ", Buffer::new().format(whole.len()), " octets\n"])
+    Ok(put(
+        out,
+        &["fronts of ", Buffer::new().format(whole.len()), " octets\n"],
+    )?)
 }
 
 /// Whether a run left this front and told that a write failed.

@@ -1,16 +1,16 @@
 //! Whose turn it is, and how time passes, over sockets, a clock and a waiter in memory.
 
 ghost use Rattle.std.specs.Prelude.{◌≡◌, ⊤};
+ghost use Rattle.std.specs.Duration.{as_nanos};
 ghost use Rattle.gw_ports.specs.Socket.{FitsBuffer};
 
 use gw_addr::BipAddr;
 use gw_core::{Got, RECEIVE_ROOM, Wire, WireFault};
-use gw_ports::{Ports, Sock, SockFault, SockPair, TimedPorts, Waiter};
+use gw_ports::{Ports, Sock, SockFault, SockPair, TimedPorts, Timepiece, Waiter};
 use std::alloc::{AllocError, Global};
-use std::cell::Cell;
 use std::io;
 use std::io::ErrorKind;
-use std::time::{Clock, Duration};
+use std::time::Duration;
 
 /// Whom all datagrams come from.
 const SENDER: BipAddr = BipAddr {
@@ -61,6 +61,8 @@ impl Sock for MemSock {
     ghost is_empty = { λ s. s.empty };
 
     ghost Answered = { λ _ _ _. ⊤ };
+
+    ghost Sent = { λ _ _ _. ⊤ };
 
     fn receive(
         &mut self,
@@ -124,12 +126,12 @@ fn next_of(wire: &mut impl Wire) -> u8 {
     }
 }
 
-/// What comes in so many calls, on a line.
-fn put_course(wire: &mut impl Wire, calls: u64, out: &mut Vec<u8>) -> Result<(), AllocError> {
+/// What comes in so many calls.
+fn put_course(wire: &mut impl Wire, calls: u64, out: &mut Vec<u8>) -> io::Result<()> {
     for _ in 0..calls {
         out.push(next_of(wire))?;
     }
-    out.push(b'\n')
+    Ok(())
 }
 
 /// The number behind a name and an equals sign, in a line of such.
@@ -144,82 +146,69 @@ fn failing_of(line: &str) -> Option<(u64, u64)> {
 }
 
 /// What comes of two ports, with so many datagrams waiting and ticks due as the line says.
-fn put_turns(alloc: Global, line: &str, out: &mut Vec<u8>) -> Result<(), AllocError> {
+pub fn turns(alloc: Global, line: &str, out: &mut Vec<u8>) -> io::Result<()> {
     let waiting = number_of(line, "waiting=").unwrap_or(0);
     let mut ports = two_ports(alloc, waiting, failing_of(line))?;
     ports.due(number_of(line, "ticks=").unwrap_or(0));
     put_course(&mut ports, number_of(line, "calls=").unwrap_or(0), out)
 }
 
-/// Each line, answered by what comes of two ports.
-pub fn turns(alloc: Global, lines: &str, out: &mut Vec<u8>) -> Result<(), AllocError> {
-    for line in lines.lines() {
-        put_turns(alloc, line, out)?;
-    }
-    Ok(())
-}
-
 /// A clock on which 0.3 seconds pass from each look to the next, and which fails at one of them.
 #[derive(Drop)]
 struct SlowClock {
-    looks: Cell<u64>,
+    looks: u64,
     failing: Option<u64>,
 }
 
-impl Clock for SlowClock {
-    fn monotonic(&self) -> io::Result<Duration> {
-        let look = self.looks.get();
-        self.looks.set(look.wrapping_add(1));
+impl Timepiece for SlowClock {
+    ghost Told = { λ _ _. ⊤ };
+
+    fn elapsed(&mut self) -> io::Result<Duration> {
+        let look = self.looks;
+        self.looks = look.wrapping_add(1);
         if self.failing == Some(look) {
             return Err(ErrorKind::Other.into());
         }
         Ok(Duration::from_millis(look.wrapping_mul(300)))
     }
-
-    fn since_1970(&self) -> io::Result<Duration> {
-        Err(ErrorKind::Other.into())
-    }
 }
 
-/// Waits for nothing, and fails at one of its calls, from 1.
+/// Waits for nothing, and fails at one of its calls, from 1. It tells how long it was let wait.
 #[derive(Drop)]
 struct MemWaiter {
     waits: u64,
     failing: Option<u64>,
+    last: Duration,
 }
 
 impl Waiter for MemWaiter {
+    ghost Waited = { λ waiter most. as_nanos waiter.last ≡ most };
+
     fn wait(&mut self, most: Duration) -> io::Result<()> {
         self.waits = self.waits.wrapping_add(1);
         if self.failing == Some(self.waits) || most > Duration::from_secs(1) {
             return Err(ErrorKind::Other.into());
         }
+        self.last = most;
         Ok(())
     }
 }
 
-/// What comes of two ports with two datagrams each, where the clock and the waiter fail as the line
-/// says.
-fn put_seconds(alloc: Global, line: &str, out: &mut Vec<u8>) -> Result<(), AllocError> {
+/// What comes of two ports with two datagrams each in eight receives, where the clock and the waiter
+/// fail as the line says. The looks at the clock are at 0.0, 0.3, 0.6, .. seconds; a receive looks
+/// once, and where nothing waits again.
+pub fn seconds(alloc: Global, line: &str, out: &mut Vec<u8>) -> io::Result<()> {
     let clock = SlowClock {
-        looks: Cell::new(0),
+        looks: 0,
         failing: number_of(line, "look="),
     };
     let waiter = MemWaiter {
         waits: 0,
         failing: number_of(line, "wait="),
+        last: Duration::from_secs(0),
     };
-    match TimedPorts::start(two_ports(alloc, 2, None)?, &clock, waiter) {
+    match TimedPorts::start(two_ports(alloc, 2, None)?, clock, waiter) {
         Ok(mut timed) => put_course(&mut timed, TIMED_CALLS, out),
-        Err(_) => out.extend_from_slice(b"not started\n"),
+        Err(_) => Ok(out.extend_from_slice(b"not started")?),
     }
-}
-
-/// Each line, answered by what comes in eight receives. The looks at the clock are at 0.0, 0.3, 0.6,
-/// .. seconds; a receive looks once, and where nothing waits again.
-pub fn seconds(alloc: Global, lines: &str, out: &mut Vec<u8>) -> Result<(), AllocError> {
-    for line in lines.lines() {
-        put_seconds(alloc, line, out)?;
-    }
-    Ok(())
 }

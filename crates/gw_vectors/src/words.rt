@@ -4,6 +4,7 @@ use gw_policy_text::ConfigFault;
 use gw_shell::{Choice, Fault, RunOptions, choice_of, end};
 use itoa::Buffer;
 use std::alloc::{AllocError, Global};
+use std::io;
 use std::process::ExitCode;
 
 /// The words of a call, the program's name first, from a line with a bar between two words. In a
@@ -20,22 +21,25 @@ pub fn call(alloc: Global, line: &str) -> Result<Vec<String>, AllocError> {
     Ok(call)
 }
 
-/// Each line of words, answered by what they choose, a line each: the command, the file of the
-/// configuration and what else is asked for, `help`, or the fault.
-pub fn words(alloc: Global, lines: &str, out: &mut Vec<u8>) -> Result<(), AllocError> {
-    for line in lines.lines().filter(|line| !line.is_empty()) {
-        let call = call(alloc, line)?;
-        put_choice(&choice_of(alloc, call.as_slice()), out)?;
-        out.push(b'\n')?;
-    }
-    Ok(())
+/// What words choose: the command, the file of the configuration and what else is asked for, `help`,
+/// or the fault.
+pub fn words(alloc: Global, line: &str, out: &mut Vec<u8>) -> io::Result<()> {
+    let call = call(alloc, line)?;
+    Ok(put_choice(&choice_of(alloc, call.as_slice()), out)?)
 }
 
 /// What is chosen.
 fn put_choice(choice: &Result<Choice, Fault>, out: &mut Vec<u8>) -> Result<(), AllocError> {
     match choice {
         Ok(Choice::Check { file, explains }) => {
-            put(out, &["check ", file.as_str(), if *explains { " explain" } else { "" }])
+            put(
+                out,
+                &[
+                    "check ",
+                    file.as_str(),
+                    if *explains { " explain" } else { "" },
+                ],
+            )
         }
         Ok(Choice::Replay(None)) => put(out, &["replay"]),
         Ok(Choice::Replay(Some(file))) => put(out, &["replay ", file.as_str()]),
@@ -65,7 +69,7 @@ pub fn put(out: &mut Vec<u8>, texts: &[&str]) -> Result<(), AllocError> {
 }
 
 /// The exit status of each fault, and its line on standard error.
-pub fn faults(alloc: Global, out: &mut Vec<u8>) -> Result<(), AllocError> {
+pub fn faults(alloc: Global, out: &mut Vec<u8>) -> io::Result<()> {
     let faults = [
         Fault::CommandLine,
         Fault::Unreadable,
