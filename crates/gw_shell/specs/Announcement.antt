@@ -5,16 +5,12 @@ use Rattle.gw_policy_text.specs.Configuration.{Configuration}
 use Rattle.gw_policy_text.specs.Explanation.{is_printed}
 use Rattle.gw_policy_text.specs.declared.device.Device.{Device}
 use Rattle.gw_policy_text.specs.declared.port.Port.{Port}
+use Rattle.gw_shell.specs.Numbered.{numbered}
 
 -- a port by its number, and its two addresses
 abbrev pub port_text : ℕ → Port → List ℕ
 port_text number port =
     codes "port " ++ decimal number ++ codes " at " ++ text_of port.address ++ codes ", broadcast " ++ text_of port.broadcast ++ codes "; "
-
--- the ports in order, numbered on from this number
-unfoldable pub ports_from : ℕ → List Port → List ℕ
-ports_from number [] = []
-ports_from number (port ∷ ports) = port_text number port ++ ports_from (number + 1) ports
 
 -- how many rules there are
 abbrev pub rules_text : Configuration → List ℕ
@@ -40,7 +36,7 @@ log_text None = codes "standard output"
 -- the line
 abbrev pub announcement : Configuration → Option (List ℕ) → List ℕ
 announcement c log =
-    codes "bacgw: serving " ++ ports_from 1 c.ports ++ device_text c.device ++ objects_text c ++ rules_text c ++ log_text log ++ 10 ∷ []
+    codes "bacgw: serving " ++ numbered port_text 1 c.ports ++ device_text c.device ++ objects_text c ++ rules_text c ++ log_text log ++ 10 ∷ []
 
 -- what is told at the start: the line where that is asked for, and else nothing
 abbrev pub told_text : Bool → Configuration → Option (List ℕ) → List ℕ

@@ -9,8 +9,9 @@ use Rattle.gw_shell.specs.declared.command_line.Choice.{Choice}
 use Rattle.gw_shell.specs.declared.command_line.Choice.TheVariants as choice
 use Rattle.gw_shell.specs.declared.fault.Fault.{Fault}
 use Rattle.gw_shell.specs.declared.fault.Fault.TheVariants as fault
-use Rattle.gw_shell.specs.Configured.{IsConfigurationOf, IsConfigured, summary}
+use Rattle.gw_shell.specs.Configured.{IsConfigurationOf, IsConfigured}
 use Rattle.gw_shell.specs.Ending.{error_text, status_after}
+use Rattle.gw_shell.specs.Hidden.{checked_text}
 use Rattle.gw_shell.specs.Replay.{Plays}
 use Rattle.gw_shell.specs.Serving.{IsFlushedFor, LeavesRun, Machine}
 
@@ -36,12 +37,12 @@ abbrev pub LeavesFault : Bool → Fault → Option (List ℕ) → Option (List �
 LeavesFault true (fault.Configuration f) held holds = LeavesLine held holds
 LeavesFault _ _ held holds = holds ≡ held
 
--- What `check` leaves of the configuration that was read: its summary, of which a failed write may leave a front. Where there is none
+-- What `check` leaves of the configuration that was read: its text, of which a failed write may leave a front. Where there is none
 -- the outcome is why, whatever became of the explanation.
 abbrev pub LeavesChecked : Bool → Option (List ℕ) → Option (List ℕ)
     → Result Configuration Fault → Result (Unit {0}) Fault → Type 0
-LeavesChecked explains held holds (Ok c) (Ok done) = Appends held holds (summary c)
-LeavesChecked explains held holds (Ok c) (Err fault.Write) = AppendsFront held holds (summary c)
+LeavesChecked explains held holds (Ok c) (Ok done) = Appends held holds (checked_text explains c)
+LeavesChecked explains held holds (Ok c) (Err fault.Write) = AppendsFront held holds (checked_text explains c)
 LeavesChecked explains held holds (Ok c) (Err fault.Memory) = holds ≡ held
 LeavesChecked explains held holds (Ok c) (Err _) = ⊥
 LeavesChecked explains held holds (Err f) outcome = (outcome ≡ Err f) × LeavesFault explains f held holds

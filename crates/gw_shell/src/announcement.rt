@@ -1,7 +1,8 @@
 //! What `run --verbose` tells at the start: one line on what is served.
 
 ghost use Rattle.std.specs.Prelude.{◌≡◌, ◌++◌, ◌≤◌, length, map, option_map, string_bytes, IfOk, OnOk};
-ghost use Rattle.gw_shell.specs.Announcement.{announcement, device_text, log_text, objects_text, port_text, ports_from, rules_text, shown, told_text};
+ghost use Rattle.gw_shell.specs.Announcement.{announcement, device_text, log_text, objects_text, port_text, rules_text, shown, told_text};
+ghost use Rattle.gw_shell.specs.Numbered.{numbered};
 
 use gw_policy_text::{Config, Device, Port};
 use itoa::{Buffer, Integer};
@@ -65,7 +66,7 @@ fn put_port(out: &mut Vec<u8>, number: usize, port: &Port) -> Result<(), AllocEr
 /// Appends the ports in order.
 fn put_ports(out: &mut Vec<u8>, ports: &[Port]) -> Result<(), AllocError>
     requires { length ports.now ≤ 8 }
-    ensures { OnOk result (out.new.items ≡ out.old.items ++ ports_from 1 ports.now) }
+    ensures { OnOk result (out.new.items ≡ out.old.items ++ numbered port_text 1 ports.now) }
 {
     for place in 0..ports.len() {
         put_port(out, place + 1, &ports[place])?;
@@ -74,7 +75,7 @@ fn put_ports(out: &mut Vec<u8>, ports: &[Port]) -> Result<(), AllocError>
 }
 
 /// Appends a text and a number behind it in decimal digits.
-fn put_number<N: Integer>(out: &mut Vec<u8>, text: &str, number: N) -> Result<(), AllocError>
+pub fn put_number<N: Integer>(out: &mut Vec<u8>, text: &str, number: N) -> Result<(), AllocError>
     ensures { OnOk result (out.new.items ≡ out.old.items ++ text.now ++ N.text number) }
 {
     out.extend_from_slice(text.as_bytes())?;
@@ -117,7 +118,7 @@ fn put_log(out: &mut Vec<u8>, log: &Option<String>) -> Result<(), AllocError>
 }
 
 /// Appends a name, with a question mark in the place of each control character.
-fn put_shown(out: &mut Vec<u8>, name: &[u8]) -> Result<(), AllocError>
+pub fn put_shown(out: &mut Vec<u8>, name: &[u8]) -> Result<(), AllocError>
     ensures { OnOk result (out.new.items ≡ out.old.items ++ map shown name.now) }
 {
     for octet in name {

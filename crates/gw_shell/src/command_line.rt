@@ -38,7 +38,7 @@ fn make_check<'a>(alloc: Global) -> Result<Command<'a>, AllocError>
 {
     let explain = Arg::new(alloc, "explain")
         .long("explain")
-        .help("Also prints where the fault is")
+        .help("Also prints where the fault is, or what the policy hides from whom")
         .action(ArgAction::SetTrue);
     make_check_of_file(alloc)?.arg(explain)
 }

@@ -10,6 +10,7 @@ mod configured;
 mod ending;
 mod fault;
 mod files;
+mod hidden;
 mod host;
 mod options;
 mod poll_waiter;

@@ -14,10 +14,11 @@ ghost use Rattle.gw_shell.specs.declared.fault.Fault.{Fault};
 ghost use Rattle.gw_shell.specs.declared.fault.Fault.TheVariants as fault;
 
 use crate::command_line::{Choice, choice_of};
-use crate::configured::{configuration, configuration_in, configuration_of, summary};
+use crate::configured::{configuration, configuration_in, configuration_of};
 use crate::ending::end;
 use crate::fault::Fault;
 use crate::files::ConfigFiles;
+use crate::hidden::checked_text;
 use crate::host::Host;
 use crate::options::RunOptions;
 use crate::script::replay;
@@ -61,19 +62,20 @@ fn choice_from(alloc: Global, words: Result<Vec<String>, Fault>) -> Result<Choic
     }
 }
 
-/// Prints what a configuration has.
-fn print_summary<W: Write + Drop>(
+/// Prints what a configuration has, and what its policy hides where that is asked for.
+fn print_checked<W: Write + Drop>(
     alloc: Global,
+    explains: bool,
     config: &Config,
     output: &mut BufWriter<W>,
 ) -> Result<(), Fault>
-    ensures output { (explains : Bool) → let held = writer_contents W.contents output.old in
+    ensures output { let held = writer_contents W.contents output.old in
         let holds = writer_contents W.contents output.new in
         LeavesChecked explains held holds (Ok config.now) result }
     ensures flush { OnOk result (writer_buffer output.new ≡ []) }
 {
-    let text = summary(alloc, config)?;
-    print(text.as_bytes(), output)
+    let text = checked_text(alloc, explains, config)?;
+    print(&text, output)
 }
 
 /// The line that explains this fault of a text, where there is one.
@@ -144,7 +146,7 @@ fn check<W: Write + Drop>(
     ensures flush { OnOk result (writer_buffer output.new ≡ []) }
 {
     match configuration_of(alloc, text) {
-        Ok(config) => print_summary(alloc, &config, output),
+        Ok(config) => print_checked(alloc, explains, &config, output),
         Err(fault) => {
             print_fault(alloc, explains, text, fault, output);
             Err(fault)
