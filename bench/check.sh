@@ -3,7 +3,7 @@
 #
 #     bench/check.sh [RUNS]      # the least time of 11 runs unless told otherwise, and the peak memory
 #
-# It wants the program built, as `./bacgw --help` leaves it, and python3 and /usr/bin/time.
+# It wants the program built, as `./bacgw prove` leaves it, and python3 and /usr/bin/time.
 set -euo pipefail
 
 top=$(cd "$(dirname "$0")/.." && pwd)
@@ -12,7 +12,7 @@ program=${BACGW:-$top/crates/bacgw/out/bacgw}
 work=$(mktemp -d)
 trap 'rm -rf "$work"' EXIT
 
-[ -x "$program" ] || { echo "build bacgw first: ./bacgw --help" >&2; exit 1; }
+[ -x "$program" ] || { echo "build bacgw first: ./bacgw prove" >&2; exit 1; }
 
 python3 - > "$work/greatest.toml" <<'PYTHON'
 def four(item):

@@ -6,7 +6,7 @@
 #     bench/replay.sh [RUNS]            # 11 runs unless told otherwise; writes docs/PERFORMANCE.md
 #     bench/replay.sh --print [RUNS]    # prints the table alone
 #
-# It wants the program built, as `./bacgw --help` leaves it, and valgrind, python3 and /usr/bin/time.
+# It wants the program built, as `./bacgw prove` leaves it, and valgrind, python3 and /usr/bin/time.
 set -euo pipefail
 
 top=$(cd "$(dirname "$0")/.." && pwd)
@@ -17,7 +17,7 @@ program=${BACGW:-$top/crates/bacgw/out/bacgw}
 work=$(mktemp -d)
 trap 'rm -rf "$work"' EXIT
 
-[ -x "$program" ] || { echo "build bacgw first: ./bacgw --help" >&2; exit 1; }
+[ -x "$program" ] || { echo "build bacgw first: ./bacgw prove" >&2; exit 1; }
 for tool in valgrind python3 /usr/bin/time; do
     command -v "$tool" > /dev/null || { echo "this wants $tool" >&2; exit 1; }
 done

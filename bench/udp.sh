@@ -6,7 +6,7 @@
 #     bench/udp.sh [COUNT]            # a million datagrams unless told otherwise; writes docs/PERFORMANCE.md
 #     bench/udp.sh --print [COUNT]    # prints the table alone
 #
-# It wants the program built, as `./bacgw --help` leaves it, and rustc.
+# It wants the program built, as `./bacgw prove` leaves it, and rustc.
 set -euo pipefail
 
 top=$(cd "$(dirname "$0")/.." && pwd)
@@ -18,7 +18,7 @@ work=$(mktemp -d)
 server=
 trap '[ -z "$server" ] || kill "$server" 2> /dev/null || true; rm -rf "$work"' EXIT
 
-[ -x "$program" ] || { echo "build bacgw first: ./bacgw --help" >&2; exit 1; }
+[ -x "$program" ] || { echo "build bacgw first: ./bacgw prove" >&2; exit 1; }
 command -v rustc > /dev/null || { echo "this wants rustc" >&2; exit 1; }
 for name in load echo; do
     rustc --edition 2021 -O -o "$work/$name" "$top/bench/udp/$name.rs"

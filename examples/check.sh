@@ -1,6 +1,7 @@
 #!/usr/bin/env bash
 # Runs the built `bacgw` on each script beside this one and on faulty calls, and compares what it prints, what it tells on standard
-# error, and its exit status. It wants the program built, as `./bacgw --help` leaves it. The last line says how many agreed.
+# error, and its exit status. It wants the program built, as `./bacgw prove` leaves it, and python3 for a client. The last line says
+# how many agreed.
 set -uo pipefail
 
 here=$(cd "$(dirname "$0")" && pwd)
@@ -10,7 +11,7 @@ trap 'rm -rf "$work"' EXIT
 passed=0
 failed=0
 
-[ -x "$program" ] || { echo "build bacgw first: ./bacgw --help" >&2; exit 1; }
+[ -x "$program" ] || { echo "build bacgw first: ./bacgw prove" >&2; exit 1; }
 
 # agrees WHAT STATUS OUT ERR: the last run ended so
 agrees() {
@@ -132,12 +133,60 @@ echo 'a line of before' > "$work/log"
 ran 0 "bacgw: serving port 1 at 127.1.0.2:47808, broadcast 127.1.0.255:47808; port 2 at 127.2.0.2:47808, broadcast \
 127.2.0.255:47808; device 1234 on network 100 with 1 objects; 3 rules; log to $work/log" --config "$work/loopback.toml" --log "$work/log" \
     --turns 2 --verbose
-if [ "$(cat "$work/log")" = 'a line of before' ]; then
-    passed=$((passed + 1))
-else
-    failed=$((failed + 1))
-    echo "not as expected: what stood in the log before a run"
-fi
+
+# same WHAT TEXT WANTED: the two are the same
+same() {
+    if [ "$2" = "$3" ]; then
+        passed=$((passed + 1))
+    else
+        failed=$((failed + 1))
+        echo "not as expected: $1"
+    fi
+}
+same 'what stood in the log before a run' "$(cat "$work/log")" 'a line of before'
+
+# Two ports on the loopback device, with a fan and a door, which nobody may read.
+hiding() {
+    sed "$1" "$here/base.toml"
+    printf '[[rule]]\nname = "hide"\nallow = false\noperation = ["read"]\nobject_type = [5]\ninstance = [2]\n'
+    printf '[[rule]]\nname = "all"\nallow = true\n'
+}
+hiding 's/192\.168\.1\./127.3.0./; s/192\.168\.2\./127.4.0./' > "$work/served.toml"
+echo 'a line of before' > "$work/log"
+python3 "$here/loopback.py" serve "$program" "$work/served.toml" "$work/log" > "$work/out" 2> "$work/err"
+status=$?
+tells 'a client is served' 0 "bacgw: serving port 1 at 127.3.0.10:47808, broadcast 127.3.0.255:47808; port 2 at 127.4.0.10:47808, \
+broadcast 127.4.0.255:47808; device 1234 on network 100 with 2 objects; 2 rules; log to $work/log"
+same 'the fan is read, the door is denied, and SIGTERM ends it' "$(cat "$work/out")" \
+    '127.3.0.10 810A001801080064010130070C0C0140000119553E91013F
+127.3.0.10 810A001101080064010150080C9102911B
+status -15'
+same 'the log has the denial behind what stood there' "$(sed 's/^1 [0-9]* /1 . /' "$work/log")" \
+    'a line of before
+1 . 1 1:7F030005BAC0 read dst=100 svc=12 obj=5,2 prop=85 prio=- rule=hide'
+
+# taken ADDRESS PORT: while another socket stands at this address, `run` says which port can't be opened
+taken() {
+    python3 "$here/loopback.py" taken "$program" "$work/served.toml" "$1" > "$work/out" 2> "$work/err"
+    status=$?
+    tells "a socket stands at $1" 0 "bacgw: socket failed on port $2"
+    same "the status where a socket stands at $1" "$(cat "$work/out")" 'status 1'
+}
+taken 127.3.0.10 1
+taken 127.3.0.255 1
+taken 127.4.0.10 2
+taken 127.4.0.255 2
+
+# What the policy hides is told behind the first line, where that is asked for.
+hiding '' > "$work/hiding.toml"
+"$program" check --config "$work/hiding.toml" --explain < /dev/null > "$work/out" 2> "$work/err"
+status=$?
+printf 'ok 2 ports 2 objects 2 rules\nobject 2 (5,2) "door" is hidden from network %s\n' 1 > "$work/line"
+echo 'object 2 (5,2) "door" is hidden from network 2' >> "$work/line"
+agrees 'what is hidden' 0 "$work/line" /dev/null
+checked "$work/hiding.toml"
+echo 'ok 2 ports 2 objects 2 rules' > "$work/line"
+agrees 'a check that explains nothing' 0 "$work/line" /dev/null
 
 # explained TEXT NAME LINE: `check --explain` tells the fault as before, and says where it is
 explained() {

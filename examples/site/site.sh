@@ -5,7 +5,7 @@
 #
 #     sudo examples/site/site.sh
 #
-# It wants root, for the namespaces, and ip, python3 and the program built, as `./bacgw --help` leaves it. Everything that it made is
+# It wants root, for the namespaces, and ip, python3 and the program built, as `./bacgw prove` leaves it. Everything that it made is
 # gone when it ends.
 set -euo pipefail
 
@@ -15,7 +15,7 @@ work=$(mktemp -d)
 gateway=
 
 [ "$(id -u)" = 0 ] || { echo "this wants root: it makes network namespaces" >&2; exit 1; }
-[ -x "$program" ] || { echo "build bacgw first: ./bacgw --help" >&2; exit 1; }
+[ -x "$program" ] || { echo "build bacgw first: ./bacgw prove" >&2; exit 1; }
 for tool in ip python3; do
     command -v "$tool" > /dev/null || { echo "this wants $tool" >&2; exit 1; }
 done

@@ -2,38 +2,11 @@
 //!
 //! `bacgw check` says what the configuration in a file has, `bacgw replay` reads events from standard
 //! input and writes what the gateway gives for each to standard output, and `bacgw run` serves the
-//! ports of a configuration over UDP. A fault is one line on standard error, and the exit status says
-//! of which kind it is.
+//! ports of a configuration over UDP. What these do is `gw_shell`'s; `main` hands it the words, the
+//! files, the machine and the streams of the process.
 #![tactic(auto)]
 
-mod announcement;
-mod command_line;
-mod configured;
-mod ending;
-mod fault;
-mod files;
-mod host;
-mod options;
-mod ports;
-mod program;
-#[cfg(test)]
-mod run_tests;
-mod script;
-mod serving;
-mod sock_pair;
-mod socket;
-#[cfg(test)]
-mod tests;
-mod timed;
-#[cfg(test)]
-mod turn_tests;
-mod turns;
-mod udp;
-mod waiter;
-
-use fault::Fault;
-use files::SystemFiles;
-use host::SystemHost;
+use gw_shell::{Fault, SystemFiles, SystemHost, end, run};
 use std::io::BufWriter;
 use std::process::ExitCode;
 use std::rt::Env;
@@ -54,9 +27,9 @@ fn main(rt: HostRuntime) -> ExitCode {
     let alloc = rt.alloc();
     let mut errors = rt.stderr();
     let Ok(mut output) = BufWriter::with_capacity(alloc, OUTPUT_OCTETS, io::writer(&rt)) else {
-        return ending::end(Err(Fault::Memory), &mut errors);
+        return end(Err(Fault::Memory), &mut errors);
     };
-    program::run(
+    run(
         alloc,
         words(&rt),
         &SystemFiles { rt: &rt },

@@ -1,6 +1,0 @@
-use Rattle.std.proofs.Common.{◌≡◌, ◌++◌, take}
-use Rattle.bacgw.specs.Announcement.{ports_from}
-use Rattle.bacgw.proofs.announcement.put_ports.Given as goal
-
-abbrev pub invariant-loop-place : goal.invariant-loop-place
-invariant-loop-place l = l.out.items ≡ l.fn.out.items ++ ports_from 1 (take l.place l.ports)

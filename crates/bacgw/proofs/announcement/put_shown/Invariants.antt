@@ -1,6 +1,0 @@
-use Rattle.std.proofs.Common.{◌≡◌, ◌++◌, map, take}
-use Rattle.bacgw.specs.Announcement.{shown}
-use Rattle.bacgw.proofs.announcement.put_shown.Given as goal
-
-abbrev pub invariant-loop-octet : goal.invariant-loop-octet
-invariant-loop-octet l = l.out.items ≡ l.fn.out.items ++ map shown (take l.octet-index l.name)

@@ -1,0 +1,2 @@
+mod PortLemmas
+mod TimedLemmas

@@ -1,0 +1,4 @@
+pub mod Socket
+pub mod SockPair
+pub mod Ports
+pub mod Timed

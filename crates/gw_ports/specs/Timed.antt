@@ -1,0 +1,68 @@
+-- How time passes at the ports: in whole seconds, each of which is a tick.
+use Rattle.std.specs.Prelude.{◌≡◌, ℕ, ◌+◌, ◌-◌, ◌*◌, ◌/◌, ◌%◌, ◌^◌, min, Bool, true, false, List, Result, Ok, Err}
+use Rattle.std.specs.Duration.{as_nanos, max_nanos}
+use Rattle.gw_core.specs.declared.wire.Got.{Got}
+use Rattle.gw_core.specs.declared.wire.Got.TheVariants as got
+use Rattle.gw_core.specs.declared.wire.WireFault.{WireFault}
+use Rattle.gw_ports.specs.Ports.{IsNext, Ports}
+use Rattle.gw_ports.specs.Socket.{Answer}
+use Rattle.gw_ports.specs.declared.timed.TimedPorts.{TimedPorts}
+
+-- how many nanoseconds a second has
+abbrev pub second : ℕ
+second = 1000000000
+
+-- how many whole seconds passed from one moment of the clock to another, in nanoseconds; none where the clock went back
+abbrev pub seconds_between : ℕ → ℕ → ℕ
+seconds_between from to = (to - from) / second
+
+-- how many nanoseconds passed behind the last of them
+abbrev pub rest_between : ℕ → ℕ → ℕ
+rest_between from to = (to - from) % second
+
+-- so many ticks more are due, up to 2^63 at once
+abbrev pub with_due : {S : Type 0} → ℕ → Ports S → Ports S
+with_due ticks ports = record ports { ticks = min (ports.ticks + ticks) (2 ^ 63) }
+
+-- The clock told a moment. The whole seconds until then are counted, each a tick that is due, and so long is left to the next.
+pub record IsCounted {S C P : Type 0} (Told : C → ℕ → Type 0) (before after : TimedPorts S C P) (left : ℕ) : Type 0 where
+  pub moment : ℕ
+  pub told : Told after.clock moment
+  pub ports : after.ports ≡ with_due (seconds_between (as_nanos before.counted) moment) before.ports
+  pub counted : as_nanos after.counted
+      ≡ min (as_nanos before.counted + seconds_between (as_nanos before.counted) moment * second) max_nanos
+  pub rest : left ≡ second - rest_between (as_nanos before.counted) moment
+
+-- what may come next of ports, with what the buffer then holds, and the ports behind it
+abbrev pub Following : Type 0 → Type 1
+Following S = Ports S → Ports S → List ℕ → Got → Type 0
+
+-- what comes next where no call fails
+abbrev pub ComesNext : {S : Type 0} → (S → ℕ) → (S → Bool) → (S → Answer → List ℕ → Type 0) → Following S
+ComesNext looks empty Answered before after buffer given = IsNext looks empty Answered before after buffer (Ok given)
+
+-- nothing came
+abbrev pub is_idle : Result Got WireFault → Bool
+is_idle (Ok got.Idle) = true
+is_idle (Ok came) = false
+is_idle (Err fault) = false
+
+-- It was waited so long at most, then the seconds were counted, and this came next.
+pub record IsReceivedLater {S C P : Type 0} (Told : C → ℕ → Type 0) (Waited : P → ℕ → Type 0) (Follows : Following S)
+    (before after : TimedPorts S C P) (most : ℕ) (buffer : List ℕ) (given : Got) : Type 0 where
+  pub counted : TimedPorts S C P
+  pub left : ℕ
+  pub waited : Waited after.waiter most
+  pub counts : IsCounted Told before counted left
+  pub follows : Follows counted.ports after.ports buffer given
+
+-- The seconds were counted, and something came next; or nothing did, and it was waited for as long as is left of the second.
+pub data IsReceived {S C P : Type 0} (Told : C → ℕ → Type 0) (Waited : P → ℕ → Type 0) (Follows : Following S)
+    (before after : TimedPorts S C P) (buffer : List ℕ) (given : Got) : Type 0 where
+  at_once : (counted : TimedPorts S C P) (left : ℕ) → IsCounted Told before counted left →
+      Follows counted.ports after.ports buffer given → is_idle (Ok given) ≡ false →
+      IsReceived Told Waited Follows before after buffer given
+  later : (counted idle : TimedPorts S C P) (left : ℕ) (held : List ℕ) → IsCounted Told before counted left →
+      Follows counted.ports idle.ports held got.Idle → idle.counted ≡ counted.counted →
+      IsReceivedLater Told Waited Follows idle after left buffer given →
+      IsReceived Told Waited Follows before after buffer given

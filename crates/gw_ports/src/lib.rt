@@ -1,0 +1,19 @@
+//! The sockets of all ports and the clock, as one wire: whose turn it is, and what a second brings.
+//!
+//! It is over any sockets, clock and waiter, and opens none: those of the system are `gw_shell`'s.
+#![tactic(auto)]
+
+mod ports;
+mod sock_pair;
+mod socket;
+mod timed;
+mod timepiece;
+mod turns;
+mod waiter;
+
+pub use ports::Ports;
+pub use sock_pair::SockPair;
+pub use socket::{Sock, SockFault};
+pub use timed::TimedPorts;
+pub use timepiece::Timepiece;
+pub use waiter::Waiter;

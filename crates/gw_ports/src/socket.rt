@@ -1,0 +1,57 @@
+//! A UDP socket that never waits.
+
+ghost use Rattle.std.specs.Prelude.{◌≡◌, ◌+◌, ◌%◌, ◌^◌, ℕ, List, Bool, OnOk};
+ghost use Rattle.gw_addr.specs.declared.bip.BipAddr.{BipAddr};
+ghost use Rattle.gw_ports.specs.Socket.{Answer, FitsBuffer, is_nothing};
+
+use gw_addr::BipAddr;
+use gw_core::RECEIVE_ROOM;
+use thiserror::Error;
+
+/// A call of a socket failed.
+#[derive(Clone, Copy, Debug, PartialEq, Eq, Error)]
+pub enum SockFault {
+    /// A receive or a send failed.
+    #[error("socket failed")]
+    Failed,
+}
+
+/// A UDP socket of a port. It never waits.
+pub trait Sock {
+    /// How often it was asked for a datagram, counted around at 2^64.
+    ghost look_count: { Self → ℕ };
+
+    /// Whether nothing waited when it was last asked; not before it was asked.
+    ghost is_empty: { Self → Bool };
+
+    /// What it may have answered when it was last asked, and what the buffer then held.
+    ghost Answered: { Self → Answer → List ℕ → Type 0 };
+
+    /// What it may have sent last, and whom to.
+    ghost Sent: { Self → BipAddr → List ℕ → Type 0 };
+
+    /// Receives a datagram to the buffer's front: how many octets it has, and whom it came from; or
+    /// none where nothing waits.
+    fn receive(
+        &mut self,
+        buf: &mut [u8; RECEIVE_ROOM],
+    ) -> Result<Option<(usize, BipAddr)>, SockFault>
+        ensures looks { look_count self.new ≡ (look_count self.old + 1) % 2 ^ 64 }
+        ensures empty { is_empty self.new ≡ is_nothing result }
+        ensures answered { Answered self.new result buf.new }
+        ensures fits { FitsBuffer result };
+
+    /// Sends a datagram.
+    fn send_to(&mut self, to: BipAddr, octets: &[u8]) -> Result<(), SockFault>
+        ensures sent { OnOk result (Sent self.new to octets.now) }
+        ensures looks { look_count self.new ≡ look_count self.old }
+        ensures empty { is_empty self.new ≡ is_empty self.old };
+
+    /// How often it was asked for a datagram, counted around at 2^64.
+    fn looks(&self) -> u64
+        ensures { result ≡ look_count self.now };
+
+    /// Whether nothing waited when it was last asked; not before it was asked.
+    fn empty(&self) -> bool
+        ensures { result ≡ is_empty self.now };
+}

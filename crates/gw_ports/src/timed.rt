@@ -1,0 +1,162 @@
+//! The ports and a clock: each second that passes is a tick, and where nothing waits it is waited for.
+
+ghost use Rattle.std.specs.Prelude.{◌≡◌, ◌+◌, ◌-◌, ◌*◌, ◌<◌, ◌^◌, ◌∷◌, [], length, min, slice_index_or, IfOk, OnOk, None};
+ghost use Rattle.std.specs.Duration.{as_nanos, max_nanos};
+ghost use Rattle.gw_core.specs.Wire.{IsHandedIn, Tells, failures_of, receive_answer, receive_call, send_call};
+ghost use Rattle.gw_ports.specs.declared.sock_pair.SockPair.{SockPair};
+ghost use Rattle.gw_ports.specs.Timed.{ComesNext, IsCounted, IsReceived, IsReceivedLater, is_idle, rest_between, second, seconds_between, with_due};
+
+use crate::ports::Ports;
+use crate::socket::Sock;
+use crate::timepiece::Timepiece;
+use crate::waiter::Waiter;
+use gw_addr::BipAddr;
+use gw_core::{Got, RECEIVE_ROOM, Wire, WireFault};
+use std::io;
+use std::time::Duration;
+
+/// The ports as a wire in time. Before each receive the whole seconds are counted that passed since
+/// the last look at the clock, and so many ticks are due. Where nothing waits it waits for a
+/// datagram, up to the next second, and then asks once more.
+#[derive(Drop)]
+pub struct TimedPorts<S, C, P> {
+    /// The sockets of all ports, and the ticks that are due.
+    pub ports: Ports<S>,
+    /// What tells the time.
+    pub clock: C,
+    /// What waits where nothing has come.
+    pub waiter: P,
+    /// The moment of the clock up to which each whole second was counted.
+    pub counted: Duration,
+}
+
+impl<S: Sock, C: Timepiece, P: Waiter> TimedPorts<S, C, P> {
+    /// The ports, from now on: no second that passed before is a tick. An `Err` where the clock can't
+    /// be read.
+    pub fn start(ports: Ports<S>, mut clock: C, waiter: P) -> io::Result<Self>
+    where
+        S: Drop,
+        C: Drop,
+        P: Drop,
+        ensures ports { IfOk result (λ timed. timed.ports ≡ ports) }
+        ensures waiter { IfOk result (λ timed. timed.waiter ≡ waiter) }
+        ensures now { IfOk result (λ timed. C.Told timed.clock (as_nanos timed.counted)) }
+    {
+        let counted = clock.elapsed()?;
+        Ok(TimedPorts {
+            ports,
+            clock,
+            waiter,
+            counted,
+        })
+    }
+
+    /// Counts the whole seconds that passed until this moment of the clock, each as a tick that is
+    /// due, and answers how long it is to the next one.
+    fn advance(&mut self, now: Duration) -> Duration
+        ensures ticks { let seconds = seconds_between (as_nanos self.old.counted) (as_nanos now) in
+            self.new.ports ≡ with_due seconds self.old.ports }
+        ensures counted { let seconds = seconds_between (as_nanos self.old.counted) (as_nanos now) in
+            as_nanos self.new.counted
+            ≡ min (as_nanos self.old.counted + seconds * second) max_nanos }
+        ensures left { as_nanos result
+            ≡ second - rest_between (as_nanos self.old.counted) (as_nanos now) }
+        ensures clock { self.new.clock ≡ self.old.clock }
+        ensures waiter { self.new.waiter ≡ self.old.waiter }
+    {
+        let passed = now.saturating_sub(self.counted);
+        let seconds = passed.as_secs();
+        self.ports.due(seconds);
+        self.counted = self.counted.saturating_add(Duration::from_secs(seconds));
+        let rest = Duration::from_nanos(u64::from(passed.subsec_nanos()));
+        Duration::from_secs(1).saturating_sub(rest)
+    }
+
+    /// Counts the whole seconds that passed, and answers how long it is to the next one.
+    fn count_seconds(&mut self) -> io::Result<Duration>
+        ensures counts { IfOk result (λ left. IsCounted C.Told self.old self.new (as_nanos left)) }
+        ensures waiter { self.new.waiter ≡ self.old.waiter }
+        ensures count { length self.new.ports.pairs ≡ length self.old.ports.pairs }
+        ensures failures { self.new.ports.failures ≡ self.old.ports.failures }
+    {
+        let now = self.clock.elapsed()?;
+        Ok(self.advance(now))
+    }
+
+    /// Waits for a datagram, so long at most, and receives what has come then.
+    fn recv_later(&mut self, most: Duration, buf: &mut [u8; RECEIVE_ROOM]) -> Result<Got, WireFault>
+        requires { self.old.ports.failures < 2 ^ 128 - 1 }
+        ensures later { IfOk result (IsReceivedLater C.Told P.Waited
+            (ComesNext S.look_count S.is_empty S.Answered) self.old self.new (as_nanos most) buf.new) }
+        ensures count { length self.new.ports.pairs ≡ length self.old.ports.pairs }
+        ensures handed_in { IfOk result (IsHandedIn (length self.new.ports.pairs)) }
+        ensures failures { self.new.ports.failures
+            ≡ self.old.ports.failures + failures_of result }
+    {
+        let Ok(()) = self.waiter.wait(most) else {
+            return Err(self.ports.fail());
+        };
+        let Ok(_left) = self.count_seconds() else {
+            return Err(self.ports.fail());
+        };
+        self.ports.next(buf)
+    }
+}
+
+/// Whether nothing came.
+fn is_idle(given: &Result<Got, WireFault>) -> bool
+    ensures { result ≡ is_idle given.now }
+{
+    matches!(given, Ok(Got::Idle))
+}
+
+impl<S: Sock, C: Timepiece, P: Waiter> Wire for TimedPorts<S, C, P> {
+    ghost port_count = { λ timed. length timed.ports.pairs };
+
+    ghost failure_count = { λ timed. timed.ports.failures };
+
+    ghost calls = { λ _. None };
+
+    fn ports(&self) -> u8 {
+        self.ports.ports()
+    }
+
+    fn failures(&self) -> u128 {
+        self.ports.failures()
+    }
+
+    fn recv(&mut self, buf: &mut [u8; RECEIVE_ROOM]) -> Result<Got, WireFault>
+        requires { self.old.ports.failures < 2 ^ 128 - 1 }
+        ensures received { IfOk result (IsReceived C.Told P.Waited
+            (ComesNext S.look_count S.is_empty S.Answered) self.old self.new buf.new) }
+        ensures ports { length self.new.ports.pairs ≡ length self.old.ports.pairs }
+        ensures handed_in { IfOk result (IsHandedIn (length self.new.ports.pairs)) }
+        ensures calls { let call = receive_call (receive_answer result buf.new) in
+            Tells None None (call ∷ []) }
+        ensures failures { self.new.ports.failures
+            ≡ self.old.ports.failures + failures_of result }
+    {
+        let Ok(most) = self.count_seconds() else {
+            return Err(self.ports.fail());
+        };
+        let given = self.ports.next(buf);
+        if is_idle(&given) {
+            self.recv_later(most, buf)
+        } else {
+            given
+        }
+    }
+
+    fn send(&mut self, port: u8, to: BipAddr, octets: &[u8]) -> Result<(), WireFault>
+        requires { self.old.ports.failures < 2 ^ 128 - 1 }
+        ensures sent { (d : SockPair S) →
+            OnOk result (S.Sent (slice_index_or self.new.ports.pairs (port - 1) d).own to octets.now) }
+        ensures ports { length self.new.ports.pairs ≡ length self.old.ports.pairs }
+        ensures calls { let call = send_call result (record { port = port; to = to; octets = octets.now }) in
+            Tells None None (call ∷ []) }
+        ensures failures { self.new.ports.failures
+            ≡ self.old.ports.failures + failures_of result }
+    {
+        self.ports.send(port, to, octets)
+    }
+}

@@ -1,0 +1,17 @@
+//! What tells the time.
+
+ghost use Rattle.std.specs.Prelude.{ℕ, IfOk};
+ghost use Rattle.std.specs.Duration.{as_nanos};
+
+use std::io;
+use std::time::Duration;
+
+/// What tells the time.
+pub trait Timepiece {
+    /// What it may have told when it was last asked, in nanoseconds since a start of its own.
+    ghost Told: { Self → ℕ → Type 0 };
+
+    /// How long it is since a start of its own.
+    fn elapsed(&mut self) -> io::Result<Duration>
+        ensures { IfOk result (λ elapsed. Told self.new (as_nanos elapsed)) };
+}

@@ -1,0 +1,16 @@
+-- What was done by a choice that tells nothing at the start.
+use Rattle.std.proofs.Common.{◌≡◌, ℕ, List, [], Result, sym, subst}
+use Rattle.gw_shell.specs.Program.{IsFollowed, IsQuiet}
+use Rattle.gw_shell.specs.declared.command_line.Choice.{Choice}
+use Rattle.gw_shell.specs.declared.fault.Fault.{Fault}
+
+pub followed : (Leaves : List ℕ → Result Choice Fault → Result (Unit {0}) Fault → Type 0) (Adds : List ℕ → Type 0)
+    (choice chosen : Result Choice Fault) (outcome : Result (Unit {0}) Fault)
+    → choice ≡ chosen → IsQuiet chosen [] → Leaves [] chosen outcome → Adds [] → IsFollowed Leaves Adds choice outcome
+followed Leaves Adds choice chosen outcome is quiet leaves adds =
+    subst (λ (c : Result Choice Fault). IsFollowed Leaves Adds c outcome) (sym is) (record {
+      told = [];
+      output = leaves;
+      quiet = quiet;
+      errors = adds;
+    })

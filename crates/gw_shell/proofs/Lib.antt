@@ -1,0 +1,7 @@
+mod AnnouncementLemmas
+mod AppendLemmas
+mod ChoiceLemmas
+mod NumberedLemmas
+mod ReplayLemmas
+mod ServingLemmas
+mod WordsLemmas

@@ -1,0 +1,321 @@
+-- What the program makes of words, from what a parse of them gives.
+use Rattle.std.proofs.Common.{◌≡◌, ◌≢◌, ◌∙◌, ◌⊎◌, ℕ, IfSome, IsSomeAnd, inl, inr, refl, sym, ap, subst, rules, true, false, Bool, List, Option, Some, None, Result, Ok, Err, codes, [], ◌∷◌, option_map, Box}
+use Rattle.std.specs.Prelude.{⊤}
+use Rattle.clap.specs.Words.{IsAmong, Kinds, Row, Text, fault_of, is_simple, is_simple_and_free}
+use Rattle.std.specs.Box.{box_value}
+use Rattle.clap.specs.Simple.{subcommand_rows}
+use Rattle.clap.specs.declared.parser.matches.ArgMatches.TheViews.{out-SubCommand}
+use Rattle.clap.specs.declared.parser.matches.SubCommand.{SubCommand}
+use Rattle.clap.specs.declared.error.kind.ErrorKind.{ErrorKind}
+use Rattle.clap.specs.declared.error.kind.ErrorKind.TheVariants as parse
+use Rattle.clap.proofs.OnLiterals.{clap_on_literals}
+use Rattle.clap.proofs.ValueTestLemmas.{accepts-Accepts}
+use Rattle.clap.specs.declared.builder.value_parser.ValueParser.TheVariants.{Unsigned}
+use Rattle.gw_shell.specs.CommandLine.{Asks, AsksNothing, Call, call_by, called, commands, most_turns, CallsCheck, CallsExplain, CallsReplay, CallsRun, CallsRunWhole, IsAnswer, IsCheck, IsChosen, IsRefusal, IsReplay, IsServing, IsTurns}
+use Rattle.gw_shell.specs.declared.command_line.Choice.{Choice}
+use Rattle.gw_shell.specs.declared.command_line.Choice.TheVariants as choice
+use Rattle.gw_shell.specs.declared.fault.Fault.{Fault}
+use Rattle.gw_shell.specs.declared.fault.Fault.TheVariants as fault
+
+-- clap says exactly which kinds of fault the program's words have
+pub commands_are_simple : is_simple_and_free commands ≡ true
+unfolding clap_on_literals
+commands_are_simple = refl
+
+pub parse_is_simple : is_simple commands ≡ true
+unfolding clap_on_literals
+parse_is_simple = refl
+
+-- a word of help comes among the kinds
+help_among : (kinds : Kinds) (k : ErrorKind) → (k ≡ parse.OutOfMemory) ⊎ IsAmong k kinds → k ≡ parse.DisplayHelp → IsAmong parse.DisplayHelp kinds
+help_among kinds k (inl memory) help = let bad : parse.OutOfMemory ≡ parse.DisplayHelp = sym memory ∙ help in search rules
+help_among kinds k (inr among) help = subst (λ (x : ErrorKind). IsAmong x kinds) help among
+
+-- a kind that is not want of memory is among the kinds
+mistake_among : (kinds : Kinds) (k : ErrorKind) → (k ≡ parse.OutOfMemory) ⊎ IsAmong k kinds → k ≢ parse.OutOfMemory → IsAmong k kinds
+mistake_among kinds k (inl memory) other = absurd (other memory)
+mistake_among kinds k (inr among) other = among
+
+-- what is made of a failed parse answers the kinds of fault that it may have
+pub refusal_answers : (words : List Text) (k : ErrorKind) (r : Result Choice Fault) → (k ≡ parse.OutOfMemory) ⊎ IsAmong k (fault_of commands words) → IsRefusal k r → IsAnswer words r
+refusal_answers words k (Ok (choice.Check file explains)) among is = absurd is
+refusal_answers words k (Ok (choice.Replay file)) among is = absurd is
+refusal_answers words k (Ok (choice.Run options)) among is = absurd is
+refusal_answers words k (Ok (choice.Help text)) among is = help_among (fault_of commands words) k among is
+refusal_answers words k (Err fault.CommandLine) among is = inl (k, mistake_among (fault_of commands words) k among is.1, is.0)
+refusal_answers words k (Err fault.Memory) among is = tt
+refusal_answers words k (Err fault.Unreadable) among is = absurd is
+refusal_answers words k (Err (fault.Configuration f)) among is = absurd is
+refusal_answers words k (Err (fault.Line n)) among is = absurd is
+refusal_answers words k (Err fault.Read) among is = absurd is
+refusal_answers words k (Err fault.Write) among is = absurd is
+refusal_answers words k (Err fault.Log) among is = absurd is
+refusal_answers words k (Err (fault.Socket port)) among is = absurd is
+refusal_answers words k (Err fault.CountEnd) among is = absurd is
+
+-- nothing holds of a value of which nothing can hold
+in_nothing : {B : Type 0} (o : Option Call) → IsSomeAnd o (λ c. ⊥) → B
+in_nothing None holds = absurd holds
+in_nothing (Some c) holds = absurd holds
+
+-- what is chosen of words that the parser takes answers them
+pub taken_answers : (words : List Text) (r : Result Choice Fault) → fault_of commands words ≡ [] → IsChosen (called words) r → IsAnswer words r
+taken_answers words (Ok (choice.Check file explains)) none is = (none, is)
+taken_answers words (Ok (choice.Replay file)) none is = (none, is)
+taken_answers words (Ok (choice.Run options)) none is = (none, is)
+taken_answers words (Ok (choice.Help text)) none is = in_nothing (called words) is
+taken_answers words (Err fault.CommandLine) none is = inr (none, is)
+taken_answers words (Err fault.Memory) none is = tt
+taken_answers words (Err fault.Unreadable) none is = absurd is
+taken_answers words (Err (fault.Configuration f)) none is = absurd is
+taken_answers words (Err (fault.Line n)) none is = absurd is
+taken_answers words (Err fault.Read) none is = absurd is
+taken_answers words (Err fault.Write) none is = absurd is
+taken_answers words (Err fault.Log) none is = absurd is
+taken_answers words (Err (fault.Socket port)) none is = absurd is
+taken_answers words (Err fault.CountEnd) none is = absurd is
+
+some_same : {A : Type 0} (x y : A) → Some x ≡ Some y → x ≡ y
+some_same x y e = cc
+
+-- the call of a command rests on the values of its options alone
+pub same_call : (name : Text) (one other : Text → Option Text) → ((id : Text) → one id ≡ other id) → call_by name one ≡ call_by name other
+same_call name one other same =
+    rw (same (codes "config"), same (codes "log"), same (codes "turns"), same (codes "explain"), same (codes "verbose")) refl
+
+-- the call that a parse entered, by its name and its rows
+pub entered_call : {Z : Type 0} (s : Option (Box SubCommand Z)) (name : Text) (rows : List Row)
+    → Some name ≡ option_map (λ b. (out-SubCommand (box_value b)).name.now) s → Some rows ≡ option_map (λ p. p.1) (subcommand_rows s)
+    → subcommand_rows s ≡ Some (name, rows)
+entered_call None name rows named has = search rules
+entered_call (Some b) name rows named has =
+    let same_name = some_same _ _ named in
+    let same_rows = some_same _ _ has in
+    rw (same_name, same_rows) refl
+
+no_kind : (kinds : Kinds) (k : ErrorKind) → kinds ≡ [] → IsAmong k kinds → ⊥
+no_kind [] k none among = among
+no_kind (x ∷ kinds) k none among = search rules
+
+-- the names of the commands are different
+check_replay : codes "check" ≡ codes "replay" → ⊥
+check_replay e = search rules
+
+run_replay : codes "run" ≡ codes "replay" → ⊥
+run_replay e = search rules
+
+run_check : codes "run" ≡ codes "check" → ⊥
+run_check e = search rules
+
+-- what is said of the call that words make is said of the call that it is known to be
+asked : (words : List Text) (c : Call) (choice : Choice) → called words ≡ Some c → IsSomeAnd (called words) (Asks choice) → Asks choice c
+asked words c choice calls asks = subst (λ (o : Option Call). IsSomeAnd o (Asks choice)) calls asks
+
+refused : (words : List Text) (c : Call) → called words ≡ Some c → IfSome (called words) AsksNothing → AsksNothing c
+refused words c calls nothing = subst (λ (o : Option Call). IfSome o AsksNothing) calls nothing
+
+-- A parse of words that have no fault and make this call gives this answer, which is a choice that the call asks for, or memory ran out.
+-- A bad command line it is only where the call asks for nothing.
+abbrev pub IsOfCall : Call → Result Choice Fault → Type 0
+IsOfCall c (Ok choice) = Asks choice c
+IsOfCall c (Err fault.CommandLine) = AsksNothing c
+IsOfCall c (Err fault.Memory) = ⊤
+IsOfCall c (Err _) = ⊥
+
+of_call : (words : List Text) (c : Call) (r : Result Choice Fault) → fault_of commands words ≡ [] → called words ≡ Some c → IsAnswer words r → IsOfCall c r
+of_call words c (Ok (choice.Check file explains)) none calls is = asked words c (choice.Check file explains) calls is.1
+of_call words c (Ok (choice.Replay file)) none calls is = asked words c (choice.Replay file) calls is.1
+of_call words c (Ok (choice.Run options)) none calls is = asked words c (choice.Run options) calls is.1
+of_call words c (Ok (choice.Help text)) none calls is = absurd (no_kind (fault_of commands words) parse.DisplayHelp none is)
+of_call words c (Err fault.CommandLine) none calls (inl is) = absurd (no_kind (fault_of commands words) is.0 none is.1)
+of_call words c (Err fault.CommandLine) none calls (inr is) = refused words c calls is.1
+of_call words c (Err fault.Memory) none calls is = tt
+of_call words c (Err fault.Unreadable) none calls is = absurd is
+of_call words c (Err (fault.Configuration f)) none calls is = absurd is
+of_call words c (Err (fault.Line n)) none calls is = absurd is
+of_call words c (Err fault.Read) none calls is = absurd is
+of_call words c (Err fault.Write) none calls is = absurd is
+of_call words c (Err fault.Log) none calls is = absurd is
+of_call words c (Err (fault.Socket port)) none calls is = absurd is
+of_call words c (Err fault.CountEnd) none calls is = absurd is
+
+-- ---- a call that plays a script
+
+abbrev replay_call : Call
+replay_call = record {
+  name = codes "replay";
+  config = None;
+  log = None;
+  turns = None;
+  explains = false;
+  verbose = false;
+}
+
+abbrev replay_words : Text → List Text
+replay_words program = program ∷ codes "replay" ∷ []
+
+replay_no_fault : (program : Text) → fault_of commands (replay_words program) ≡ []
+unfolding clap_on_literals
+replay_no_fault program = refl
+
+calls_replay : (program : Text) → called (replay_words program) ≡ Some replay_call
+unfolding clap_on_literals
+calls_replay program = refl
+
+replay_or_memory : (c : Call) (r : Result Choice Fault) → c.name ≡ codes "replay" → IsOfCall c r → IsReplay c.config r
+replay_or_memory c (Ok (choice.Check file explains)) named is = absurd (check_replay (sym is.0 ∙ named))
+replay_or_memory c (Ok (choice.Replay file)) named is = is.1
+replay_or_memory c (Ok (choice.Run options)) named is = absurd (run_replay (sym is.0 ∙ named))
+replay_or_memory c (Ok (choice.Help text)) named is = absurd is
+replay_or_memory c (Err fault.CommandLine) named is = absurd (is.replay named)
+replay_or_memory c (Err fault.Memory) named is = tt
+replay_or_memory c (Err fault.Unreadable) named is = absurd is
+replay_or_memory c (Err (fault.Configuration f)) named is = absurd is
+replay_or_memory c (Err (fault.Line n)) named is = absurd is
+replay_or_memory c (Err fault.Read) named is = absurd is
+replay_or_memory c (Err fault.Write) named is = absurd is
+replay_or_memory c (Err fault.Log) named is = absurd is
+replay_or_memory c (Err (fault.Socket port)) named is = absurd is
+replay_or_memory c (Err fault.CountEnd) named is = absurd is
+
+pub replay_is_taken : (words : List Text) (r : Result Choice Fault) → IsAnswer words r → CallsReplay words → IsReplay None r
+replay_is_taken words r is call =
+    replay_or_memory replay_call r refl
+    (of_call words replay_call r (ap (λ (w : List Text). fault_of commands w) call.1 ∙ replay_no_fault call.0)
+    (ap called call.1 ∙ calls_replay call.0) is)
+
+-- ---- a call that checks a file
+
+abbrev check_call : Bool → Call
+check_call explains = record {
+  name = codes "check";
+  config = Some (codes "site.toml");
+  log = None;
+  turns = None;
+  explains = explains;
+  verbose = false;
+}
+
+abbrev check_words : Text → List Text
+check_words program = program ∷ codes "check" ∷ codes "--config" ∷ codes "site.toml" ∷ []
+
+abbrev explain_words : Text → List Text
+explain_words program = program ∷ codes "check" ∷ codes "--config" ∷ codes "site.toml" ∷ codes "--explain" ∷ []
+
+check_no_fault : (program : Text) → fault_of commands (check_words program) ≡ []
+unfolding clap_on_literals
+check_no_fault program = refl
+
+calls_check : (program : Text) → called (check_words program) ≡ Some (check_call false)
+unfolding clap_on_literals
+calls_check program = refl
+
+explain_no_fault : (program : Text) → fault_of commands (explain_words program) ≡ []
+unfolding clap_on_literals
+explain_no_fault program = refl
+
+calls_explain : (program : Text) → called (explain_words program) ≡ Some (check_call true)
+unfolding clap_on_literals
+calls_explain program = refl
+
+check_or_memory : (c : Call) (file : Text) (r : Result Choice Fault) → c.name ≡ codes "check" → c.config ≡ Some file → IsOfCall c r → IsCheck file c.explains r
+check_or_memory c file (Ok (choice.Check name explains)) named has is = (some_same _ _ (sym is.1 ∙ has), is.2)
+check_or_memory c file (Ok (choice.Replay name)) named has is = absurd (check_replay (sym named ∙ is.0))
+check_or_memory c file (Ok (choice.Run options)) named has is = absurd (run_check (sym is.0 ∙ named))
+check_or_memory c file (Ok (choice.Help text)) named has is = absurd is
+check_or_memory c file (Err fault.CommandLine) named has is = absurd (is.check file named has)
+check_or_memory c file (Err fault.Memory) named has is = tt
+check_or_memory c file (Err fault.Unreadable) named has is = absurd is
+check_or_memory c file (Err (fault.Configuration f)) named has is = absurd is
+check_or_memory c file (Err (fault.Line n)) named has is = absurd is
+check_or_memory c file (Err fault.Read) named has is = absurd is
+check_or_memory c file (Err fault.Write) named has is = absurd is
+check_or_memory c file (Err fault.Log) named has is = absurd is
+check_or_memory c file (Err (fault.Socket port)) named has is = absurd is
+check_or_memory c file (Err fault.CountEnd) named has is = absurd is
+
+pub check_is_taken : (words : List Text) (r : Result Choice Fault) → IsAnswer words r → CallsCheck words → IsCheck (codes "site.toml") false r
+check_is_taken words r is call =
+    check_or_memory (check_call false) (codes "site.toml") r refl refl
+    (of_call words (check_call false) r (ap (λ (w : List Text). fault_of commands w) call.1 ∙ check_no_fault call.0)
+    (ap called call.1 ∙ calls_check call.0) is)
+
+pub explain_is_taken : (words : List Text) (r : Result Choice Fault) → IsAnswer words r → CallsExplain words → IsCheck (codes "site.toml") true r
+explain_is_taken words r is call =
+    check_or_memory (check_call true) (codes "site.toml") r refl refl
+    (of_call words (check_call true) r (ap (λ (w : List Text). fault_of commands w) call.1 ∙ explain_no_fault call.0)
+    (ap called call.1 ∙ calls_explain call.0) is)
+
+-- ---- a call that serves the ports of a file
+
+abbrev run_call : Option Text → Option Text → Bool → Call
+run_call log turns verbose = record {
+  name = codes "run";
+  config = Some (codes "site.toml");
+  log = log;
+  turns = turns;
+  explains = false;
+  verbose = verbose;
+}
+
+abbrev run_words : Text → List Text
+run_words program = program ∷ codes "run" ∷ codes "--config" ∷ codes "site.toml" ∷ []
+
+abbrev run_whole_words : Text → List Text
+run_whole_words program =
+    program ∷ codes "run" ∷ codes "--config" ∷ codes "site.toml" ∷ codes "--log" ∷ codes "denials.log" ∷ codes "--turns" ∷ codes "100"
+    ∷ codes "--verbose" ∷ []
+
+run_no_fault : (program : Text) → fault_of commands (run_words program) ≡ []
+unfolding clap_on_literals
+run_no_fault program = refl
+
+calls_run : (program : Text) → called (run_words program) ≡ Some (run_call None None false)
+unfolding clap_on_literals
+calls_run program = refl
+
+run_whole_no_fault : (program : Text) → fault_of commands (run_whole_words program) ≡ []
+unfolding clap_on_literals
+run_whole_no_fault program = refl
+
+calls_run_whole : (program : Text) → called (run_whole_words program) ≡ Some (run_call (Some (codes "denials.log")) (Some (codes "100")) true)
+unfolding clap_on_literals
+calls_run_whole program = refl
+
+-- the number of turns that a text says is one
+turns_same : (given : Option Text) (n m : ℕ) → IsTurns given n → IsTurns given m → n ≡ m
+turns_same None n m one other = one ∙ sym other
+turns_same (Some text) n m one other = one.1 ∙ sym other.1
+
+a_hundred : IsTurns (Some (codes "100")) 100
+a_hundred = (accepts-Accepts false (Unsigned 1 most_turns) (codes "100") refl, refl)
+
+run_or_memory : (c : Call) (file : Text) (n : ℕ) (r : Result Choice Fault) → c.name ≡ codes "run" → c.config ≡ Some file → IsTurns c.turns n → IsOfCall c r → IsServing file c.log n c.verbose r
+run_or_memory c file n (Ok (choice.Check name explains)) named has turns is = absurd (run_check (sym named ∙ is.0))
+run_or_memory c file n (Ok (choice.Replay name)) named has turns is = absurd (run_replay (sym named ∙ is.0))
+run_or_memory c file n (Ok (choice.Run options)) named has turns is =
+    (some_same _ _ (sym is.1 ∙ has), is.2, turns_same c.turns options.turns n is.3 turns, is.4)
+run_or_memory c file n (Ok (choice.Help text)) named has turns is = absurd is
+run_or_memory c file n (Err fault.CommandLine) named has turns is = absurd (is.run file n named has turns)
+run_or_memory c file n (Err fault.Memory) named has turns is = tt
+run_or_memory c file n (Err fault.Unreadable) named has turns is = absurd is
+run_or_memory c file n (Err (fault.Configuration f)) named has turns is = absurd is
+run_or_memory c file n (Err (fault.Line m)) named has turns is = absurd is
+run_or_memory c file n (Err fault.Read) named has turns is = absurd is
+run_or_memory c file n (Err fault.Write) named has turns is = absurd is
+run_or_memory c file n (Err fault.Log) named has turns is = absurd is
+run_or_memory c file n (Err (fault.Socket port)) named has turns is = absurd is
+run_or_memory c file n (Err fault.CountEnd) named has turns is = absurd is
+
+pub run_is_taken : (words : List Text) (r : Result Choice Fault) → IsAnswer words r → CallsRun words → IsServing (codes "site.toml") None most_turns false r
+run_is_taken words r is call =
+    run_or_memory (run_call None None false) (codes "site.toml") most_turns r refl refl refl
+    (of_call words (run_call None None false) r (ap (λ (w : List Text). fault_of commands w) call.1 ∙ run_no_fault call.0)
+    (ap called call.1 ∙ calls_run call.0) is)
+
+pub run_whole_is_taken : (words : List Text) (r : Result Choice Fault) → IsAnswer words r → CallsRunWhole words → IsServing (codes "site.toml") (Some (codes "denials.log")) 100 true r
+run_whole_is_taken words r is call =
+    run_or_memory (run_call (Some (codes "denials.log")) (Some (codes "100")) true) (codes "site.toml") 100 r refl refl a_hundred
+    (of_call words (run_call (Some (codes "denials.log")) (Some (codes "100")) true) r
+    (ap (λ (w : List Text). fault_of commands w) call.1 ∙ run_whole_no_fault call.0)
+    (ap called call.1 ∙ calls_run_whole call.0) is)

@@ -1,0 +1,44 @@
+-- What `run --verbose` tells at the start: one line on what is served.
+use Rattle.std.specs.Prelude.{ℕ, ◌+◌, Bool, true, false, List, [], ◌∷◌, ◌++◌, length, map, if◌then◌else◌, Option, Some, None, codes, decimal}
+use Rattle.gw_addr.specs.Address.{text_of}
+use Rattle.gw_policy_text.specs.Configuration.{Configuration}
+use Rattle.gw_policy_text.specs.Explanation.{is_printed}
+use Rattle.gw_policy_text.specs.declared.device.Device.{Device}
+use Rattle.gw_policy_text.specs.declared.port.Port.{Port}
+use Rattle.gw_shell.specs.Numbered.{numbered}
+
+-- a port by its number, and its two addresses
+abbrev pub port_text : ℕ → Port → List ℕ
+port_text number port =
+    codes "port " ++ decimal number ++ codes " at " ++ text_of port.address ++ codes ", broadcast " ++ text_of port.broadcast ++ codes "; "
+
+-- how many rules there are
+abbrev pub rules_text : Configuration → List ℕ
+rules_text c = decimal (length c.rules) ++ codes " rules; log to "
+
+-- how many objects there are
+abbrev pub objects_text : Configuration → List ℕ
+objects_text c = codes " with " ++ decimal (length c.objects) ++ codes " objects; "
+
+-- the device
+abbrev pub device_text : Device → List ℕ
+device_text device = codes "device " ++ decimal device.instance ++ codes " on network " ++ decimal device.network
+
+-- an octet of a name as it is shown on a line: a question mark in the place of a control character
+abbrev pub shown : ℕ → ℕ
+shown octet = if is_printed octet then octet else 63
+
+-- where the log goes: to the file of this name, or to standard output
+abbrev pub log_text : Option (List ℕ) → List ℕ
+log_text (Some name) = map shown name
+log_text None = codes "standard output"
+
+-- the line
+abbrev pub announcement : Configuration → Option (List ℕ) → List ℕ
+announcement c log =
+    codes "bacgw: serving " ++ numbered port_text 1 c.ports ++ device_text c.device ++ objects_text c ++ rules_text c ++ log_text log ++ 10 ∷ []
+
+-- what is told at the start: the line where that is asked for, and else nothing
+abbrev pub told_text : Bool → Configuration → Option (List ℕ) → List ℕ
+told_text true c log = announcement c log
+told_text false c log = []

@@ -1,0 +1,215 @@
+-- Which words the program takes. `fault_of` of the crate `clap` lists the kinds of fault that a parser finds at some words, and is
+-- empty where it takes them; `subcommand_of` has the command that they name and the rows of its options.
+use Rattle.std.specs.Prelude.{◌≡◌, ◌≢◌, ◌⊎◌, ⊤, ℕ, Bool, true, false, List, [], ◌∷◌, nat_eq, Option, Some, None, Result, Ok, Err, codes, option_map, string_bytes, IfSome, IsSomeAnd}
+use Rattle.std.specs.Cmp.Lexicographic.{pointwise}
+use Rattle.std.specs.Str.Parse.{digits_value, without_leading_plus}
+use Rattle.clap.specs.Words.{App, IsAmong, IsUnsignedIn, Row, Rule, Text, fault_of, first_of, new_app, new_rule, subcommand_of, with_rule, with_subcommand}
+use Rattle.clap.specs.Simple.{on_top}
+use Rattle.clap.specs.declared.builder.action.ArgAction.TheVariants.{SetTrue}
+use Rattle.clap.specs.declared.error.kind.ErrorKind.{ErrorKind}
+use Rattle.clap.specs.declared.error.kind.ErrorKind.TheVariants as parse
+use Rattle.gw_shell.specs.declared.command_line.Choice.{Choice}
+use Rattle.gw_shell.specs.declared.options.RunOptions.{RunOptions}
+use Rattle.gw_shell.specs.declared.command_line.Choice.TheVariants as choice
+use Rattle.gw_shell.specs.declared.fault.Fault.{Fault}
+use Rattle.gw_shell.specs.declared.fault.Fault.TheVariants as fault
+
+-- `--config FILE`
+abbrev pub config : Rule
+config = record (new_rule (codes "config")) { long = Some (codes "config"); value_names = 1 }
+
+-- `--explain`, which has no value
+abbrev pub explain : Rule
+explain = record (new_rule (codes "explain")) { long = Some (codes "explain"); action = Some SetTrue }
+
+-- `check`, which needs a file
+abbrev pub check_of_file : App
+check_of_file = with_rule (new_app (codes "check")) (record config { required = true })
+
+-- and may have to explain
+abbrev pub check : App
+check = with_rule check_of_file explain
+
+-- `replay`, which may have a file
+abbrev pub replay : App
+replay = with_rule (new_app (codes "replay")) config
+
+-- `--config FILE` where it has to be given, `--log FILE`, `--turns N`, and `--verbose`, which has no value
+abbrev pub needed_config : Rule
+needed_config = record config { required = true }
+
+abbrev pub log : Rule
+log = record (new_rule (codes "log")) { long = Some (codes "log"); value_names = 1 }
+
+abbrev pub turns : Rule
+turns = record (new_rule (codes "turns")) { long = Some (codes "turns"); value_names = 1 }
+
+abbrev pub verbose : Rule
+verbose = record (new_rule (codes "verbose")) { long = Some (codes "verbose"); action = Some SetTrue }
+
+-- `run`, which needs a file and may have another for the log,
+abbrev pub run_of_files : App
+run_of_files = with_rule (with_rule (new_app (codes "run")) needed_config) log
+
+-- and may have a number of turns, and may have to tell what is served
+abbrev pub run : App
+run = with_rule (with_rule run_of_files turns) verbose
+
+-- the commands of the program, of which the call has to name one
+abbrev pub commands : App
+commands =
+    with_subcommand
+    (with_subcommand
+    (with_subcommand (on_top (λ top. record top { subcommand_required = true }) (new_app (codes "bacgw"))) check.top)
+    replay.top)
+    run.top
+
+-- a call: the command's name, the values of its options, and whether those without a value are given
+pub record Call : Type 0 where
+  pub name : Text
+  pub config : Option Text
+  pub log : Option Text
+  pub turns : Option Text
+  pub explains : Bool
+  pub verbose : Bool
+
+-- an option without a value has the text `true` where it is given
+abbrev pub is_given : Option Text → Bool
+is_given None = false
+is_given (Some text) = pointwise nat_eq text (codes "true")
+
+-- the call of a command whose options have these values
+abbrev pub call_by : Text → (Text → Option Text) → Call
+call_by name value = record {
+  name = name;
+  config = value (codes "config");
+  log = value (codes "log");
+  turns = value (codes "turns");
+  explains = is_given (value (codes "explain"));
+  verbose = is_given (value (codes "verbose"));
+}
+
+abbrev pub call_of : Text × List Row → Call
+call_of entered = call_by entered.0 (λ id. first_of id entered.1)
+
+-- the call that the words make
+abbrev pub called : List Text → Option Call
+called words = option_map call_of (subcommand_of commands words)
+
+-- the most turns
+abbrev pub most_turns : ℕ
+most_turns = 9223372036854775807
+
+-- the number of turns: a decimal from 1 to the most, and the most where none is given
+abbrev pub IsTurns : Option Text → ℕ → Type 0
+IsTurns None n = n ≡ most_turns
+IsTurns (Some text) n = IsUnsignedIn 1 most_turns text × (n ≡ digits_value 10 (without_leading_plus text))
+
+-- The text is no number of turns, which makes a bad command line.
+abbrev pub IsNoTurns : Option Text → Fault → Type 0
+IsNoTurns given f = (f ≡ fault.CommandLine) × ((n : ℕ) → ¬ (IsTurns given n))
+
+-- what `run` is asked for by the values of its options
+pub record AreOptions (file : Text) (value : Text → Option Text) (options : RunOptions) : Type 0 where
+  pub config : string_bytes options.config ≡ file
+  pub log : option_map string_bytes options.log ≡ value (codes "log")
+  pub turns : IsTurns (value (codes "turns")) options.turns
+  pub verbose : options.verbose ≡ is_given (value (codes "verbose"))
+
+-- Its options ask for nothing, or memory ran out.
+abbrev pub AreNoOptions : (Text → Option Text) → Fault → Type 0
+AreNoOptions value fault.CommandLine = (n : ℕ) → ¬ (IsTurns (value (codes "turns")) n)
+AreNoOptions value fault.Memory = ⊤
+AreNoOptions value _ = ⊥
+
+-- what a call asks for
+abbrev pub Asks : Choice → Call → Type 0
+Asks (choice.Check file explains) call =
+    (call.name ≡ codes "check") × (call.config ≡ Some (string_bytes file)) × (explains ≡ call.explains)
+Asks (choice.Replay file) call = (call.name ≡ codes "replay") × (option_map string_bytes file ≡ call.config)
+Asks (choice.Run options) call =
+    (call.name ≡ codes "run") × (call.config ≡ Some (string_bytes options.config)) × (option_map string_bytes options.log ≡ call.log)
+    × IsTurns call.turns options.turns × (options.verbose ≡ call.verbose)
+Asks (choice.Help text) call = ⊥
+
+-- A call of `replay` asks for something, one of `check` where a file is named, and one of `run` where a file is named and the text of
+-- the turns is a number of them; other calls ask for nothing.
+pub record AsksNothing (call : Call) : Type 0 where
+  pub replay : call.name ≢ codes "replay"
+  pub check : (file : Text) → call.name ≡ codes "check" → call.config ≢ Some file
+  pub run : (file : Text) (n : ℕ) → call.name ≡ codes "run" → call.config ≡ Some file → ¬ (IsTurns call.turns n)
+
+-- a choice is what the call asks for, and a bad command line is a call that asks for nothing; memory may run out at any
+abbrev pub IsChosen : Option Call → Result Choice Fault → Type 0
+IsChosen call (Ok choice) = IsSomeAnd call (Asks choice)
+IsChosen call (Err fault.CommandLine) = IfSome call AsksNothing
+IsChosen call (Err fault.Memory) = ⊤
+IsChosen call _ = ⊥
+
+-- what the program makes of a parse that failed: help where that was asked for, and else a bad command line
+abbrev pub IsRefusal : ErrorKind → Result Choice Fault → Type 0
+IsRefusal kind (Ok (choice.Help text)) = kind ≡ parse.DisplayHelp
+IsRefusal kind (Err fault.CommandLine) = (kind ≢ parse.DisplayHelp) × (kind ≢ parse.OutOfMemory)
+IsRefusal kind (Err fault.Memory) = ⊤
+IsRefusal kind _ = ⊥
+
+-- the parser takes the words, and this is what they call
+abbrev pub IsTaken : List Text → Result Choice Fault → Type 0
+IsTaken words chosen = (fault_of commands words ≡ []) × IsChosen (called words) chosen
+
+-- the parser finds a fault in the words that is no request for help
+abbrev pub IsMistake : List Text → Type 0
+IsMistake words = (k : ErrorKind) × IsAmong k (fault_of commands words) × (k ≢ parse.DisplayHelp)
+
+-- what the program makes of words: what they call where the parser takes them, help where that was asked for, a bad command line where
+-- there is another fault; memory may run out at any words
+abbrev pub IsAnswer : List Text → Result Choice Fault → Type 0
+IsAnswer words (Ok (choice.Check file explains)) = IsTaken words (Ok (choice.Check file explains))
+IsAnswer words (Ok (choice.Replay file)) = IsTaken words (Ok (choice.Replay file))
+IsAnswer words (Ok (choice.Run options)) = IsTaken words (Ok (choice.Run options))
+IsAnswer words (Ok (choice.Help text)) = IsAmong parse.DisplayHelp (fault_of commands words)
+IsAnswer words (Err fault.CommandLine) = IsMistake words ⊎ IsTaken words (Err fault.CommandLine)
+IsAnswer words (Err fault.Memory) = ⊤
+IsAnswer words _ = ⊥
+
+-- the words of a call that plays a script under the built-in configuration: the program's name, whatever it is, and `replay`
+abbrev pub CallsReplay : List Text → Type 0
+CallsReplay words = (program : Text) × (words ≡ program ∷ codes "replay" ∷ [])
+
+-- the words of a call that checks the file `site.toml`
+abbrev pub CallsCheck : List Text → Type 0
+CallsCheck words = (program : Text) × (words ≡ program ∷ codes "check" ∷ codes "--config" ∷ codes "site.toml" ∷ [])
+
+-- the words of a call that also explains its fault
+abbrev pub CallsExplain : List Text → Type 0
+CallsExplain words =
+    (program : Text) × (words ≡ program ∷ codes "check" ∷ codes "--config" ∷ codes "site.toml" ∷ codes "--explain" ∷ [])
+
+-- the words of a call that serves the ports of the file `site.toml`, and of one with all options
+abbrev pub CallsRun : List Text → Type 0
+CallsRun words = (program : Text) × (words ≡ program ∷ codes "run" ∷ codes "--config" ∷ codes "site.toml" ∷ [])
+
+abbrev pub CallsRunWhole : List Text → Type 0
+CallsRunWhole words = (program : Text)
+    × (words ≡ program ∷ codes "run" ∷ codes "--config" ∷ codes "site.toml" ∷ codes "--log" ∷ codes "denials.log" ∷ codes "--turns"
+    ∷ codes "100" ∷ codes "--verbose" ∷ [])
+
+-- the script is played under the configuration of that file, or memory ran out
+abbrev pub IsReplay : Option Text → Result Choice Fault → Type 0
+IsReplay file (Ok (choice.Replay chosen)) = option_map string_bytes chosen ≡ file
+IsReplay file (Err fault.Memory) = ⊤
+IsReplay file _ = ⊥
+
+-- that file is checked, its fault explained or not, or memory ran out
+abbrev pub IsCheck : Text → Bool → Result Choice Fault → Type 0
+IsCheck file is_explained (Ok (choice.Check chosen explains)) = (string_bytes chosen ≡ file) × (explains ≡ is_explained)
+IsCheck file is_explained (Err fault.Memory) = ⊤
+IsCheck file is_explained _ = ⊥
+
+-- The ports of that file are served with that log for so many turns, and it is told what is served or not; or memory ran out.
+abbrev pub IsServing : Text → Option Text → ℕ → Bool → Result Choice Fault → Type 0
+IsServing file denials count tells (Ok (choice.Run options)) =
+    (string_bytes options.config ≡ file) × (option_map string_bytes options.log ≡ denials) × (options.turns ≡ count)
+    × (options.verbose ≡ tells)
+IsServing file denials count tells (Err fault.Memory) = ⊤
+IsServing file denials count tells _ = ⊥

@@ -1,0 +1,82 @@
+-- What the program tells of a fault: the line on standard error, and the exit status.
+use Rattle.std.specs.Prelude.{ℕ, Bool, true, false, List, [], ◌∷◌, ◌++◌, codes, decimal, Result, Ok, Err}
+use Rattle.gw_shell.specs.declared.fault.Fault.{Fault}
+use Rattle.gw_shell.specs.declared.fault.Fault.TheVariants as fault
+use Rattle.gw_policy_text.specs.declared.fault.ConfigFault.{ConfigFault}
+use Rattle.gw_policy_text.specs.declared.fault.ConfigFault.TheVariants as config
+use Rattle.gw_core.specs.declared.replaying.RunFault.{RunFault}
+use Rattle.gw_core.specs.declared.replaying.RunFault.TheVariants as run
+use Rattle.gw_core.specs.declared.serving.ServeFault.{ServeFault}
+use Rattle.gw_core.specs.declared.serving.ServeFault.TheVariants as serving
+
+-- the name of a fault of a configuration
+abbrev pub name_of : ConfigFault → List ℕ
+name_of config.NotToml = codes "NotToml"
+name_of config.UnknownKey = codes "UnknownKey"
+name_of config.Missing = codes "Missing"
+name_of config.Kind = codes "Kind"
+name_of config.Range = codes "Range"
+name_of config.Duplicate = codes "Duplicate"
+name_of config.TooMany = codes "TooMany"
+name_of config.Memory = codes "Memory"
+
+-- the line on standard error, without its line feed
+abbrev pub text_of : Fault → List ℕ
+text_of fault.CommandLine = codes "bacgw: bad command line"
+text_of fault.Unreadable = codes "bacgw: cannot read configuration"
+text_of (fault.Configuration f) = codes "bacgw: configuration: " ++ name_of f
+text_of (fault.Line n) = codes "bacgw: line " ++ decimal n
+text_of fault.Read = codes "bacgw: read failed"
+text_of fault.Write = codes "bacgw: write failed"
+text_of fault.Log = codes "bacgw: log failed"
+text_of (fault.Socket port) = codes "bacgw: socket failed on port " ++ decimal port
+text_of fault.Memory = codes "bacgw: out of memory"
+text_of fault.CountEnd = codes "bacgw: count at its end"
+
+-- 2 where what the program was given is wrong, 1 where what it stands on failed
+abbrev pub status_of : Fault → ℕ
+status_of fault.CommandLine = 2
+status_of fault.Unreadable = 1
+status_of (fault.Configuration f) = 2
+status_of (fault.Line n) = 2
+status_of fault.Read = 1
+status_of fault.Write = 1
+status_of fault.Log = 1
+status_of (fault.Socket port) = 1
+status_of fault.Memory = 1
+status_of fault.CountEnd = 1
+
+-- the fault of a configuration, as the program tells it
+abbrev pub fault_of_configuration : ConfigFault → Fault
+fault_of_configuration config.Memory = fault.Memory
+fault_of_configuration f = fault.Configuration f
+
+-- the fault of a run, as the program tells it
+abbrev pub fault_of : RunFault → Fault
+fault_of run.Read = fault.Read
+fault_of (run.Line n) = fault.Line n
+fault_of run.Write = fault.Write
+fault_of run.Memory = fault.Memory
+fault_of run.CountEnd = fault.CountEnd
+
+-- the fault of serving, as the program tells it
+abbrev pub fault_of_serving : ServeFault → Fault
+fault_of_serving serving.Log = fault.Log
+fault_of_serving serving.Memory = fault.Memory
+fault_of_serving serving.CountEnd = fault.CountEnd
+
+-- the first fault of a run and of the flush behind it
+abbrev pub first_fault : Result (Unit {0}) RunFault → Bool → Result (Unit {0}) Fault
+first_fault (Ok done) true = Ok done
+first_fault (Ok done) false = Err fault.Write
+first_fault (Err of_run) flushed = Err (fault_of of_run)
+
+-- what standard error is given: nothing, or the fault's line and a line feed
+abbrev pub error_text : Result (Unit {0}) Fault → List ℕ
+error_text (Ok done) = []
+error_text (Err of_program) = text_of of_program ++ 10 ∷ []
+
+-- the exit status: 0, or the fault's
+abbrev pub status_after : Result (Unit {0}) Fault → ℕ
+status_after (Ok done) = 0
+status_after (Err of_program) = status_of of_program

@@ -1,0 +1,41 @@
+-- What `check --explain` tells of the policy: from which of the ports' networks it hides each object.
+use Rattle.std.specs.Prelude.{ℕ, Bool, true, false, List, [], ◌∷◌, ◌++◌, map, if◌then◌else◌, codes, decimal}
+use Rattle.std.specs.List.{flat_map}
+use Rattle.gw_policy_text.specs.Configuration.{Configuration}
+use Rattle.gw_policy_text.specs.Duplicates.{type_number}
+use Rattle.gw_policy_text.specs.declared.object.Object.{Object}
+use Rattle.gw_policy_text.specs.declared.port.Port.{Port}
+use Rattle.gw_rules.specs.Hides.{hides_from_network}
+use Rattle.gw_rules.specs.declared.rule.Rule.{Rule}
+use Rattle.gw_shell.specs.Announcement.{shown}
+use Rattle.gw_shell.specs.Configured.{summary}
+use Rattle.gw_shell.specs.Numbered.{numbered}
+
+-- an object by its number from 1, its type and instance, and its name
+abbrev pub object_text : ℕ → Object → List ℕ
+object_text number object =
+    codes "object " ++ decimal number ++ codes " (" ++ decimal (type_number object.value) ++ codes "," ++ decimal object.instance
+    ++ codes ") \"" ++ map shown object.name
+
+-- the line that an object is hidden from a network
+abbrev pub hidden_line : ℕ → Object → ℕ → List ℕ
+hidden_line number object network =
+    object_text number object ++ codes "\" is hidden from network " ++ decimal network ++ 10 ∷ []
+
+-- that line where the policy hides the object from every source of the network
+abbrev pub network_line : List Rule → ℕ → Object → ℕ → List ℕ
+network_line rules number object network =
+    if hides_from_network rules network (type_number object.value) object.instance then hidden_line number object network else []
+
+-- the lines of an object, in order of the ports
+abbrev pub object_lines : List Rule → List Port → ℕ → Object → List ℕ
+object_lines rules ports number object = flat_map (λ port. network_line rules number object port.network) ports
+
+-- the lines of the objects, in their order
+abbrev pub hidden_lines : Configuration → List ℕ
+hidden_lines c = numbered (object_lines c.rules c.ports) 1 c.objects
+
+-- what `check` prints of a configuration: its summary, and what is hidden where that is asked for
+abbrev pub checked_text : Bool → Configuration → List ℕ
+checked_text true c = summary c ++ hidden_lines c
+checked_text false c = summary c

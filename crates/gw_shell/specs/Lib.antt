@@ -1,0 +1,11 @@
+pub mod Announcement
+pub mod CommandLine
+pub mod Configured
+pub mod Ending
+pub mod Files
+pub mod Hidden
+pub mod Host
+pub mod Numbered
+pub mod Program
+pub mod Replay
+pub mod Serving

@@ -1,0 +1,112 @@
+-- The program as a whole: what the words chose, what stands on standard output then, the line on standard error and the exit status.
+use Rattle.std.specs.Prelude.{◌≡◌, ◌⊎◌, ⊤, Bool, true, IsTrue, ℕ, List, [], ◌∷◌, ◌++◌, Option, Some, Result, Ok, Err, OnOk, option_map, string_bytes}
+use Rattle.std.specs.List.{list_all}
+use Rattle.std.specs.Io.KnownBytes.{Appends}
+use Rattle.gw_core.specs.Replay.{OnKnown}
+use Rattle.gw_policy_text.specs.Configuration.{Configuration}
+use Rattle.gw_policy_text.specs.Explanation.{is_printed}
+use Rattle.gw_shell.specs.declared.command_line.Choice.{Choice}
+use Rattle.gw_shell.specs.declared.command_line.Choice.TheVariants as choice
+use Rattle.gw_shell.specs.declared.fault.Fault.{Fault}
+use Rattle.gw_shell.specs.declared.fault.Fault.TheVariants as fault
+use Rattle.gw_shell.specs.Configured.{IsConfigurationOf, IsConfigured}
+use Rattle.gw_shell.specs.Ending.{error_text, status_after}
+use Rattle.gw_shell.specs.Hidden.{checked_text}
+use Rattle.gw_shell.specs.Replay.{Plays}
+use Rattle.gw_shell.specs.Serving.{IsFlushedFor, LeavesRun, Machine}
+
+-- known octets grow by a front of a text
+pub record AppendsFront (held holds : Option (List ℕ)) (text : List ℕ) : Type 0 where
+  pub front : List ℕ
+  pub unwritten : List ℕ
+  pub parts : text ≡ front ++ unwritten
+  pub appends : Appends held holds front
+
+-- one line, with no control character but its line feed
+pub record IsLine (text : List ℕ) : Type 0 where
+  pub line : List ℕ
+  pub printed : IsTrue (list_all is_printed line)
+  pub parts : text ≡ line ++ 10 ∷ []
+
+-- What an explanation leaves: one line, of which a failed write may leave a front, or nothing.
+abbrev pub LeavesLine : Option (List ℕ) → Option (List ℕ) → Type 0
+LeavesLine held holds = (holds ≡ held) ⊎ ((text : List ℕ) × IsLine text × AppendsFront held holds text)
+
+-- What is left at a fault: an explanation where one is asked for and the fault is of the configuration, and else nothing.
+abbrev pub LeavesFault : Bool → Fault → Option (List ℕ) → Option (List ℕ) → Type 0
+LeavesFault true (fault.Configuration f) held holds = LeavesLine held holds
+LeavesFault _ _ held holds = holds ≡ held
+
+-- What `check` leaves of the configuration that was read: its text, of which a failed write may leave a front. Where there is none
+-- the outcome is why, whatever became of the explanation.
+abbrev pub LeavesChecked : Bool → Option (List ℕ) → Option (List ℕ)
+    → Result Configuration Fault → Result (Unit {0}) Fault → Type 0
+LeavesChecked explains held holds (Ok c) (Ok done) = Appends held holds (checked_text explains c)
+LeavesChecked explains held holds (Ok c) (Err fault.Write) = AppendsFront held holds (checked_text explains c)
+LeavesChecked explains held holds (Ok c) (Err fault.Memory) = holds ≡ held
+LeavesChecked explains held holds (Ok c) (Err _) = ⊥
+LeavesChecked explains held holds (Err f) outcome = (outcome ≡ Err f) × LeavesFault explains f held holds
+
+-- what `check` leaves of a text that was read, or of why none was
+abbrev pub LeavesOfText : Bool → Result (List ℕ) Fault → Option (List ℕ) → Option (List ℕ)
+    → Result (Unit {0}) Fault → Type 0
+LeavesOfText explains text held holds outcome =
+    (c : Result Configuration Fault) × IsConfigurationOf text c × LeavesChecked explains held holds c outcome
+
+-- What `replay` leaves under the configuration that was read. Where there is none the script isn't played, and the outcome is why.
+abbrev pub LeavesPlayed : Option (List ℕ) → Option (List ℕ) → Option (List ℕ)
+    → Result Configuration Fault → Result (Unit {0}) Fault → Type 0
+LeavesPlayed input held holds (Ok c) outcome = OnKnown input held holds (λ script before. Plays c script before outcome)
+LeavesPlayed input held holds (Err f) outcome = (outcome ≡ Err f) × (holds ≡ held)
+
+-- What stands on standard output, which held `held` before, where files give what `Reads` says and `run` opens what the machine says: at
+-- `check` and `replay` what they leave of some configuration that is the one they name, at `run` also what was told at the start, and at
+-- help its text, of which a failed write may leave a front. Words that choose nothing leave it as it was, and their fault is the outcome.
+abbrev pub LeavesOutput : {Log Sockets : Type 0} → (Reads : List ℕ → Result (List ℕ) Fault → Type 0) → Machine Log Sockets
+    → Option (List ℕ) → Option (List ℕ) → Option (List ℕ) → List ℕ → Result Choice Fault → Result (Unit {0}) Fault → Type 0
+LeavesOutput Reads machine input held holds told (Ok (choice.Check file explains)) outcome =
+    (c : Result Configuration Fault) × IsConfigured Reads (Some (string_bytes file)) c × LeavesChecked explains held holds c outcome
+LeavesOutput Reads machine input held holds told (Ok (choice.Replay file)) outcome =
+    (c : Result Configuration Fault) × IsConfigured Reads (option_map string_bytes file) c × LeavesPlayed input held holds c outcome
+LeavesOutput Reads machine input held holds told (Ok (choice.Run options)) outcome =
+    (c : Result Configuration Fault) × IsConfigured Reads (Some (string_bytes options.config)) c
+    × LeavesRun machine held holds options c told outcome
+LeavesOutput Reads machine input held holds told (Ok (choice.Help text)) (Ok done) = Appends held holds (string_bytes text)
+LeavesOutput Reads machine input held holds told (Ok (choice.Help text)) (Err f) =
+    (f ≡ fault.Write) × AppendsFront held holds (string_bytes text)
+LeavesOutput Reads machine input held holds told (Err f) outcome = (outcome ≡ Err f) × (holds ≡ held)
+
+-- Only `run` tells something at the start.
+abbrev pub IsQuiet : Result Choice Fault → List ℕ → Type 0
+IsQuiet (Ok (choice.Run options)) told = ⊤
+IsQuiet _ told = told ≡ []
+
+-- What of standard output isn't flushed after a choice that was done: nothing, but that `run` leaves what was so before where its log is
+-- in a file.
+abbrev pub IsFlushed : Result Choice Fault → (was is : List ℕ) → Type 0
+IsFlushed (Ok (choice.Run options)) was is = IsFlushedFor (option_map string_bytes options.log) was is
+IsFlushed _ was is = is ≡ []
+
+-- What was done by a choice. `Leaves` is what stands on standard output, with what was told at the start, and `Adds` what standard error
+-- is given.
+pub record IsFollowed (Leaves : List ℕ → Result Choice Fault → Result (Unit {0}) Fault → Type 0) (Adds : List ℕ → Type 0)
+    (choice : Result Choice Fault) (outcome : Result (Unit {0}) Fault) : Type 0 where
+  pub told : List ℕ
+  pub output : Leaves told choice outcome
+  pub quiet : IsQuiet choice told
+  pub errors : Adds told
+
+-- One run of the program. `Chooses` is what the words ask for, `Leaves` what stands on standard output at a choice and an outcome, with
+-- what was told at the start, `was` and `is` what of it wasn't flushed before and isn't then, and `Adds` what standard error is given.
+pub record IsRun (Chooses : Result Choice Fault → Type 0)
+    (Leaves : List ℕ → Result Choice Fault → Result (Unit {0}) Fault → Type 0) (was is : List ℕ) (Adds : List ℕ → Type 0)
+    (exit : ℕ) : Type 0 where
+  pub choice : Result Choice Fault
+  pub outcome : Result (Unit {0}) Fault
+  pub told : List ℕ
+  pub words : Chooses choice
+  pub output : Leaves told choice outcome
+  pub quiet : IsQuiet choice told
+  pub flush : OnOk outcome (IsFlushed choice was is)
+  pub errors : Adds (told ++ error_text outcome)
+  pub status : exit ≡ status_after outcome

@@ -1,0 +1,143 @@
+-- What `run` leaves: what was opened, and what came of serving it from the gateway's first state, over the definitions of `gw_core`.
+use Rattle.std.specs.Prelude.{◌≡◌, ◌⊎◌, ⊤, ℕ, List, [], Option, Some, None, Result, Ok, Err, option_map, string_bytes}
+use Rattle.std.specs.Io.KnownBytes.{Keeps}
+use Rattle.gw_core.specs.History.{state_after}
+use Rattle.gw_core.specs.Replay.{no_counts}
+use Rattle.gw_core.specs.Serve.{Scene, ServesAll, Stops, scene}
+use Rattle.gw_core.specs.State.{State}
+use Rattle.gw_core.specs.Wire.{Call}
+use Rattle.gw_core.specs.declared.serving.Served.{Served}
+use Rattle.gw_core.specs.declared.serving.ServeFault.{ServeFault}
+use Rattle.gw_core.specs.declared.serving.ServeFault.TheVariants as serving
+use Rattle.gw_core.specs.declared.serving.ServeStop.{ServeStop}
+use Rattle.gw_policy_text.specs.Configuration.{Configuration}
+use Rattle.gw_policy_text.specs.declared.port.Port.{Port}
+use Rattle.gw_shell.specs.Announcement.{told_text}
+use Rattle.gw_shell.specs.Ending.{fault_of_serving}
+use Rattle.gw_shell.specs.declared.options.RunOptions.{RunOptions}
+use Rattle.gw_shell.specs.declared.fault.Fault.{Fault}
+use Rattle.gw_shell.specs.declared.fault.Fault.TheVariants as fault
+
+-- what a log holds and what a wire tells, where they are known
+pub record Ends : Type 0 where
+  pub log : Option (List ℕ)
+  pub calls : Option (List Call)
+
+abbrev pub ends : Option (List ℕ) → Option (List Call) → Ends
+ends log calls = record { log = log; calls = calls }
+
+-- the gateway of a configuration that nothing came to, between these ends
+abbrev pub first_scene : Configuration → Ends → Scene
+first_scene c ends = scene (state_after c no_counts []) ends.log ends.calls
+
+-- so many turns were served, and the gateway stands as they left it
+pub record ServesWhole (c : Configuration) (turns : ℕ) (before after : Ends) : Type 0 where
+  pub gateway : State
+  pub served : Served
+  pub serves : ServesAll turns (first_scene c before) served (scene gateway after.log after.calls)
+
+-- serving stopped by this fault, before so many turns were done
+pub record StopsBy (by : ServeFault) (c : Configuration) (turns : ℕ) (before after : Ends) : Type 0 where
+  pub gateway : State
+  pub served : Served
+  pub stops : Stops turns (first_scene c before) (record { fault = by; served = served }) (scene gateway after.log after.calls)
+
+-- What serving from the gateway's first state leaves at each outcome. Memory may run out before the first turn too, and then nothing was
+-- received.
+abbrev pub Serves : Configuration → ℕ → Ends → Ends → Result (Unit {0}) Fault → Type 0
+Serves c turns before after (Ok done) = ServesWhole c turns before after
+Serves c turns before after (Err fault.Log) = StopsBy serving.Log c turns before after
+Serves c turns before after (Err fault.Memory) = StopsBy serving.Memory c turns before after ⊎ (after ≡ before)
+Serves c turns before after (Err fault.CountEnd) = StopsBy serving.CountEnd c turns before after
+Serves c turns before after (Err _) = ⊥
+
+-- What serving from a state leaves at each outcome: all turns, or a stop by the fault.
+pub data ServesFrom (turns : ℕ) (before after : Scene) (outcome : Result (Unit {0}) Fault) : Type 0 where
+  whole : (served : Served) → ServesAll turns before served after → outcome ≡ Ok tt → ServesFrom turns before after outcome
+  stopped : (stop : ServeStop) → Stops turns before stop after → outcome ≡ Err (fault_of_serving stop.fault) →
+      ServesFrom turns before after outcome
+
+-- what opening the log of a name may give
+abbrev pub LogOpening : Type 0 → Type 1
+LogOpening Log = List ℕ → Result Log Fault → Type 0
+
+-- What opening and closing may give: of a machine, the log of a name, the sockets of some ports, and both when they are closed, the log
+-- where one was opened; and what a log holds and sockets tell.
+pub record Machine (Log Sockets : Type 0) : Type 1 where
+  pub LogOpens : LogOpening Log
+  pub SocketsOpen : List Port → Result Sockets Fault → Type 0
+  pub Closes : Sockets → Option Log → Type 0
+  pub held : Log → Option (List ℕ)
+  pub calls : Sockets → Option (List Call)
+
+abbrev pub machine : {Log Sockets : Type 0} → LogOpening Log → (List Port → Result Sockets Fault → Type 0)
+    → (Sockets → Option Log → Type 0) → (Log → Option (List ℕ)) → (Sockets → Option (List Call)) → Machine Log Sockets
+machine LogOpens SocketsOpen Closes held calls = record {
+  LogOpens = LogOpens;
+  SocketsOpen = SocketsOpen;
+  Closes = Closes;
+  held = held;
+  calls = calls;
+}
+
+-- The log is open: it is in the file of this name, and standard output is as it was; or it is standard output, whose buffer was flushed.
+abbrev pub LogIsOpen : {Log : Type 0} → (LogOpens : LogOpening Log) → (name held holds : Option (List ℕ)) → Option Log → Type 0
+LogIsOpen LogOpens (Some name) held holds (Some log) = LogOpens name (Ok log) × (holds ≡ held)
+LogIsOpen LogOpens None held holds None = Keeps held holds
+LogIsOpen LogOpens _ held holds _ = ⊥
+
+-- The log can't be opened. On standard output that is where its buffer can't be flushed.
+abbrev pub LogIsShut : {Log : Type 0} → (LogOpens : LogOpening Log) → (name held holds : Option (List ℕ)) → Fault → Type 0
+LogIsShut LogOpens (Some name) held holds f = LogOpens name (Err f) × (holds ≡ held)
+LogIsShut LogOpens None held holds f = (f ≡ fault.Log) × Keeps held holds
+
+-- what the log holds, which is a file or standard output
+abbrev pub log_held : {Log : Type 0} → (Log → Option (List ℕ)) → Option Log → Option (List ℕ) → Option (List ℕ)
+log_held held (Some log) output = held log
+log_held held None output = output
+
+-- While it is served a log in a file stays one, and standard output is as it was then; and a log on standard output stays there.
+abbrev pub LogStays : {Log : Type 0} → (log log_then : Option Log) → (held holds : Option (List ℕ)) → Type 0
+LogStays (Some log) (Some log_then) held holds = holds ≡ held
+LogStays None None held holds = ⊤
+LogStays _ _ held holds = ⊥
+
+-- What of standard output isn't flushed when the log is open: nothing where it is the log, and else what was so before.
+abbrev pub IsFlushedFor : (name : Option (List ℕ)) → (was is : List ℕ) → Type 0
+IsFlushedFor (Some name) was is = is ≡ was
+IsFlushedFor None was is = is ≡ []
+
+-- The log and the sockets are open.
+pub record AreOpen {Log Sockets : Type 0} (LogOpens : LogOpening Log) (SocketsOpen : Result Sockets Fault → Type 0)
+    (name held holds : Option (List ℕ)) (log : Option Log) (sockets : Sockets) : Type 0 where
+  pub log_is : LogIsOpen LogOpens name held holds log
+  pub sockets_are : SocketsOpen (Ok sockets)
+
+-- Why they aren't: memory ran out before either, or the log can't be opened, or the sockets can't, when the log is open.
+pub data ArentOpen {Log Sockets : Type 0} (LogOpens : LogOpening Log) (SocketsOpen : Result Sockets Fault → Type 0)
+    (name held holds : Option (List ℕ)) (f : Fault) : Type 0 where
+  no_memory : f ≡ fault.Memory → holds ≡ held → ArentOpen LogOpens SocketsOpen name held holds f
+  no_log : LogIsShut LogOpens name held holds f → ArentOpen LogOpens SocketsOpen name held holds f
+  no_sockets : (log : Option Log) → LogIsOpen LogOpens name held holds log → SocketsOpen (Err f) →
+      ArentOpen LogOpens SocketsOpen name held holds f
+
+-- What `run` leaves under a configuration: not all can be opened; or all was opened, this line was told, and then it was served and
+-- closed.
+pub data LeavesServed {Log Sockets : Type 0} (machine : Machine Log Sockets) (name : Option (List ℕ)) (held holds : Option (List ℕ))
+    (c : Configuration) (turns : ℕ) (line told : List ℕ) (outcome : Result (Unit {0}) Fault) : Type 0 where
+  shut : (f : Fault) → ArentOpen machine.LogOpens (machine.SocketsOpen c.ports) name held holds f → outcome ≡ Err f → told ≡ [] →
+      LeavesServed machine name held holds c turns line told outcome
+  served : (log log_then : Option Log) (sockets sockets_then : Sockets) (output : Option (List ℕ)) →
+      AreOpen machine.LogOpens (machine.SocketsOpen c.ports) name held output log sockets →
+      machine.Closes sockets_then log_then → LogStays log log_then output holds →
+      Serves c turns (ends (log_held machine.held log output) (machine.calls sockets))
+      (ends (log_held machine.held log_then holds) (machine.calls sockets_then)) outcome →
+      told ≡ line → LeavesServed machine name held holds c turns line told outcome
+
+-- What `run` leaves under the configuration that was read. Where there is none nothing is opened, and the outcome is why.
+abbrev pub LeavesRun : {Log Sockets : Type 0} → Machine Log Sockets → (held holds : Option (List ℕ)) → RunOptions
+    → Result Configuration Fault → (told : List ℕ) → Result (Unit {0}) Fault → Type 0
+LeavesRun machine held holds options (Ok c) told outcome =
+    let name = option_map string_bytes options.log in
+    LeavesServed machine name held holds c options.turns (told_text options.verbose c name) told outcome
+LeavesRun machine held holds options (Err f) told outcome = (outcome ≡ Err f) × (holds ≡ held) × (told ≡ [])

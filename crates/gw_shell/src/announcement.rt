@@ -1,0 +1,139 @@
+//! What `run --verbose` tells at the start: one line on what is served.
+
+ghost use Rattle.std.specs.Prelude.{◌≡◌, ◌++◌, ◌≤◌, length, map, option_map, string_bytes, IfOk, OnOk};
+ghost use Rattle.gw_shell.specs.Announcement.{announcement, device_text, log_text, objects_text, port_text, rules_text, shown, told_text};
+ghost use Rattle.gw_shell.specs.Numbered.{numbered};
+
+use gw_policy_text::{Config, Device, Port};
+use itoa::{Buffer, Integer};
+use std::alloc::{AllocError, Global};
+
+/// The one control character of ASCII behind the printed ones.
+const DELETE: u8 = 127;
+
+/// The line that tells what is served, with the log in the file of this name or on standard output.
+fn announcement(alloc: Global, config: &Config, log: &Option<String>) -> Result<Vec<u8>, AllocError>
+    ensures { let log = option_map string_bytes log.now in
+        IfOk result (λ line. line.items ≡ announcement config.now log) }
+{
+    let mut line = Vec::from_slice(alloc, b"bacgw: serving ")?;
+    put_ports(&mut line, config.ports())?;
+    put_device(&mut line, config.device())?;
+    put_objects(&mut line, config)?;
+    put_rules(&mut line, config)?;
+    put_log(&mut line, log)?;
+    line.push(b'\n')?;
+    Ok(line)
+}
+
+/// What is told at the start: what is served, where that is asked for, and else nothing.
+pub fn told_text(
+    alloc: Global,
+    config: &Config,
+    log: &Option<String>,
+    is_asked: bool,
+) -> Result<Vec<u8>, AllocError>
+    ensures { let log = option_map string_bytes log.now in
+        IfOk result (λ told. told.items ≡ told_text is_asked config.now log) }
+{
+    if is_asked {
+        announcement(alloc, config, log)
+    } else {
+        Ok(Vec::new(alloc))
+    }
+}
+
+/// Appends a number in decimal digits.
+fn put_decimal<N: Integer>(out: &mut Vec<u8>, number: N) -> Result<(), AllocError>
+    ensures { OnOk result (out.new.items ≡ out.old.items ++ N.text number) }
+{
+    out.extend_from_slice(Buffer::new().format(number).as_bytes())
+}
+
+/// Appends a port and its addresses.
+fn put_port(out: &mut Vec<u8>, number: usize, port: &Port) -> Result<(), AllocError>
+    ensures { OnOk result (out.new.items ≡ out.old.items ++ port_text number port.now) }
+{
+    out.extend_from_slice(b"port ")?;
+    put_decimal(out, number)?;
+    out.extend_from_slice(b" at ")?;
+    port.address.put_text(out)?;
+    out.extend_from_slice(b", broadcast ")?;
+    port.broadcast.put_text(out)?;
+    out.extend_from_slice(b"; ")
+}
+
+/// Appends the ports in order.
+fn put_ports(out: &mut Vec<u8>, ports: &[Port]) -> Result<(), AllocError>
+    requires { length ports.now ≤ 8 }
+    ensures { OnOk result (out.new.items ≡ out.old.items ++ numbered port_text 1 ports.now) }
+{
+    for place in 0..ports.len() {
+        put_port(out, place + 1, &ports[place])?;
+    }
+    Ok(())
+}
+
+/// Appends a text and a number behind it in decimal digits.
+pub fn put_number<N: Integer>(out: &mut Vec<u8>, text: &str, number: N) -> Result<(), AllocError>
+    ensures { OnOk result (out.new.items ≡ out.old.items ++ text.now ++ N.text number) }
+{
+    out.extend_from_slice(text.as_bytes())?;
+    put_decimal(out, number)
+}
+
+/// Appends the device and its network.
+fn put_device(out: &mut Vec<u8>, device: &Device) -> Result<(), AllocError>
+    ensures { OnOk result (out.new.items ≡ out.old.items ++ device_text device.now) }
+{
+    put_number(out, "device ", device.instance.get())?;
+    put_number(out, " on network ", device.network.get())
+}
+
+/// Appends how many objects there are.
+fn put_objects(out: &mut Vec<u8>, config: &Config) -> Result<(), AllocError>
+    ensures { OnOk result (out.new.items ≡ out.old.items ++ objects_text config.now) }
+{
+    put_number(out, " with ", config.objects().len())?;
+    out.extend_from_slice(b" objects; ")
+}
+
+/// Appends how many rules there are.
+fn put_rules(out: &mut Vec<u8>, config: &Config) -> Result<(), AllocError>
+    ensures { OnOk result (out.new.items ≡ out.old.items ++ rules_text config.now) }
+{
+    put_decimal(out, config.rules().rules().len())?;
+    out.extend_from_slice(b" rules; log to ")
+}
+
+/// Appends where the log goes.
+fn put_log(out: &mut Vec<u8>, log: &Option<String>) -> Result<(), AllocError>
+    ensures { let log = option_map string_bytes log.now in
+        OnOk result (out.new.items ≡ out.old.items ++ log_text log) }
+{
+    match log {
+        Some(name) => put_shown(out, name.as_bytes()),
+        None => out.extend_from_slice(b"standard output"),
+    }
+}
+
+/// Appends a name, with a question mark in the place of each control character.
+pub fn put_shown(out: &mut Vec<u8>, name: &[u8]) -> Result<(), AllocError>
+    ensures { OnOk result (out.new.items ≡ out.old.items ++ map shown name.now) }
+{
+    for octet in name {
+        out.push(shown(*octet))?;
+    }
+    Ok(())
+}
+
+/// An octet as it is shown on a line.
+fn shown(octet: u8) -> u8
+    ensures { result ≡ shown octet }
+{
+    if octet < b' ' || octet == DELETE {
+        b'?'
+    } else {
+        octet
+    }
+}

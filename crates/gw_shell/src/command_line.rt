@@ -1,0 +1,236 @@
+//! The command line: which command the words choose, read with `clap`.
+
+ghost use Rattle.std.specs.Prelude.{◌≡◌, Some, None, true, false, IfOk, MatchResult, map, codes, option_map, string_bytes};
+ghost use Rattle.clap.specs.Words.{app_of, first_value, found_of, kind_of, rule_of, subcommand_rows_of};
+ghost use Rattle.clap.specs.declared.builder.command.Command.TheViews.{out-Command};
+ghost use Rattle.gw_shell.specs.CommandLine.{call_by, call_of, check, check_of_file, commands, config, is_given, replay, run, run_of_files, needed_config, AreOptions, CallsCheck, CallsExplain, CallsReplay, CallsRun, CallsRunWhole, IsAnswer, IsCheck, IsChosen, IsNoTurns, AreNoOptions, IsRefusal, IsReplay, IsServing, IsTurns};
+
+use crate::fault::Fault;
+use crate::options::RunOptions;
+use clap::error::ErrorKind;
+use clap::{Arg, ArgAction, ArgMatches, Command, Error};
+use std::alloc::{AllocError, Global};
+
+/// How many turns are served at most, and where no number of them is given.
+const MAX_TURNS: u64 = i64::MAX as u64;
+
+/// What stands below the help on `run`.
+const RUN_EXAMPLE: &str = "Example:
+  bacgw run --config site.toml --log /var/log/bacgw.log --verbose";
+
+/// What the words ask for.
+#[derive(Debug, Drop)]
+pub enum Choice {
+    /// Judge the configuration in the file of this name, and explain its fault if that is asked for.
+    Check { file: String, explains: bool },
+    /// Play the script on standard input, under the configuration in the file of this name or the
+    /// built-in one.
+    Replay(Option<String>),
+    /// Serve the ports of a configuration over UDP.
+    Run(RunOptions),
+    /// Print this text.
+    Help(String),
+}
+
+fn make_check<'a>(alloc: Global) -> Result<Command<'a>, AllocError>
+    ensures app { IfOk result (λ command. app_of command ≡ check) }
+    ensures local { IfOk result (λ command. (out-Command command).has_globals ≡ false) }
+{
+    let explain = Arg::new(alloc, "explain")
+        .long("explain")
+        .help("Also prints where the fault is, or what the policy hides from whom")
+        .action(ArgAction::SetTrue);
+    make_check_of_file(alloc)?.arg(explain)
+}
+
+fn make_check_of_file<'a>(alloc: Global) -> Result<Command<'a>, AllocError>
+    ensures app { IfOk result (λ command. app_of command ≡ check_of_file) }
+    ensures local { IfOk result (λ command. (out-Command command).has_globals ≡ false) }
+{
+    Command::new(alloc, "check")
+        .about("Says what a configuration has, or its first fault")
+        .arg(make_config(alloc))
+}
+
+/// `--config FILE`, which has to be given.
+fn make_config<'a>(alloc: Global) -> Arg<'a>
+    ensures rule { rule_of result ≡ needed_config }
+    ensures local { result.global ≡ false }
+{
+    Arg::new(alloc, "config")
+        .long("config")
+        .value_name("FILE")
+        .help("The configuration, in TOML")
+        .required(true)
+}
+
+fn make_replay<'a>(alloc: Global) -> Result<Command<'a>, AllocError>
+    ensures app { IfOk result (λ command. app_of command ≡ replay) }
+    ensures local { IfOk result (λ command. (out-Command command).has_globals ≡ false) }
+{
+    let config = Arg::new(alloc, "config")
+        .long("config")
+        .value_name("FILE")
+        .help("The configuration, in TOML; without it the built-in one");
+    Command::new(alloc, "replay")
+        .about("Plays the events of standard input and prints what the gateway gives for each")
+        .arg(config)
+}
+
+fn make_run<'a>(alloc: Global) -> Result<Command<'a>, AllocError>
+    ensures app { IfOk result (λ command. app_of command ≡ run) }
+    ensures local { IfOk result (λ command. (out-Command command).has_globals ≡ false) }
+{
+    let turns = Arg::new(alloc, "turns").long("turns").value_name("N").help(
+        "How many turns are served, from 1 to 9223372036854775807, the default",
+    );
+    let verbose = Arg::new(alloc, "verbose")
+        .long("verbose")
+        .help("Tells at the start what is served")
+        .action(ArgAction::SetTrue);
+    make_run_of_files(alloc)?.arg(turns)?.arg(verbose)
+}
+
+fn make_run_of_files<'a>(alloc: Global) -> Result<Command<'a>, AllocError>
+    ensures app { IfOk result (λ command. app_of command ≡ run_of_files) }
+    ensures local { IfOk result (λ command. (out-Command command).has_globals ≡ false) }
+{
+    let log = Arg::new(alloc, "log")
+        .long("log")
+        .value_name("FILE")
+        .help("What the log is appended to; without it standard output");
+    Command::new(alloc, "run")
+        .about("Serves the ports of a configuration over UDP")
+        .after_help(RUN_EXAMPLE)
+        .arg(make_config(alloc))?
+        .arg(log)
+}
+
+/// The commands of the program.
+fn make_commands<'a>(alloc: Global) -> Result<Command<'a>, AllocError>
+    ensures { IfOk result (λ command. app_of command ≡ commands) }
+{
+    let check = make_check(alloc)?;
+    let replay = make_replay(alloc)?;
+    let run = make_run(alloc)?;
+    Command::new(alloc, "bacgw")
+        .about("A gateway of BACnet/IP")
+        .subcommand_required(true)
+        .subcommand(check)?
+        .subcommand(replay)?
+        .subcommand(run)
+}
+
+/// What is made of a parse that gave no matches.
+fn refusal_of(alloc: Global, error: Error) -> Result<Choice, Fault>
+    ensures { IsRefusal (kind_of error) result }
+{
+    match error.kind() {
+        ErrorKind::DisplayHelp => Ok(Choice::Help(error.to_string(alloc)?)),
+        ErrorKind::OutOfMemory => Err(Fault::Memory),
+        _ => Err(Fault::CommandLine),
+    }
+}
+
+/// The file that the option of this name names.
+fn file_of(
+    alloc: Global,
+    matches: &ArgMatches<'_>,
+    option: &str,
+) -> Result<Option<String>, AllocError>
+    ensures { IfOk result
+        (λ file. option_map string_bytes file ≡ first_value (found_of matches.now) option.now) }
+{
+    match matches.get_str(option) {
+        Some(file) => Ok(Some(String::from_str(alloc, file)?)),
+        None => Ok(None),
+    }
+}
+
+/// Whether the option of this name, which has no value, is given.
+fn is_given(matches: &ArgMatches<'_>, option: &str) -> bool
+    ensures { result ≡ is_given (first_value (found_of matches.now) option.now) }
+{
+    match matches.get_str(option) {
+        Some(text) => text == "true",
+        None => false,
+    }
+}
+
+/// The number of turns that this text says, or the most where there is none.
+fn turns_of(text: Option<&str>) -> Result<u64, Fault>
+    ensures { let given = option_map (λ t. t.now) text.entry in
+        MatchResult result (IsTurns given) (IsNoTurns given) }
+{
+    let Some(text) = text else {
+        return Ok(MAX_TURNS);
+    };
+    match text.parse::<u64>() {
+        Ok(turns) if 1 <= turns && turns <= MAX_TURNS => Ok(turns),
+        Ok(_) | Err(_) => Err(Fault::CommandLine),
+    }
+}
+
+/// What `run` is asked for under the configuration in this file.
+fn run_options(alloc: Global, matches: &ArgMatches<'_>, config: String) -> Result<RunOptions, Fault>
+    ensures { let value = first_value (found_of matches.now) in
+        MatchResult result (AreOptions (string_bytes config) value) (AreNoOptions value) }
+{
+    let turns = turns_of(matches.get_str("turns"))?;
+    Ok(RunOptions {
+        config,
+        log: file_of(alloc, matches, "log")?,
+        turns,
+        verbose: is_given(matches, "verbose"),
+    })
+}
+
+/// What the command of this name asks for, by what its words match.
+fn choice_for(alloc: Global, name: &str, matches: &ArgMatches<'_>) -> Result<Choice, Fault>
+    ensures { IsChosen (Some (call_by name.now (first_value (found_of matches.now)))) result }
+{
+    let config = file_of(alloc, matches, "config")?;
+    if name == "replay" {
+        return Ok(Choice::Replay(config));
+    }
+    let Some(file) = config else {
+        return Err(Fault::CommandLine);
+    };
+    if name == "check" {
+        let explains = is_given(matches, "explain");
+        return Ok(Choice::Check { file, explains });
+    }
+    if name == "run" {
+        return Ok(Choice::Run(run_options(alloc, matches, file)?));
+    }
+    Err(Fault::CommandLine)
+}
+
+/// What words that the parser takes ask for.
+fn choice_among(alloc: Global, matches: &ArgMatches<'_>) -> Result<Choice, Fault>
+    ensures { IsChosen (option_map call_of (subcommand_rows_of matches.now)) result }
+{
+    match matches.subcommand() {
+        Some((name, matches)) => choice_for(alloc, name, matches),
+        None => Err(Fault::CommandLine),
+    }
+}
+
+/// What the words ask for, the program's name first. Faults: `CommandLine` where they are no command
+/// line of the program, and `Memory`.
+pub fn choice_of(alloc: Global, words: &[String]) -> Result<Choice, Fault>
+    ensures answers { IsAnswer (map string_bytes words.now) result }
+    ensures replay { CallsReplay (map string_bytes words.now) → IsReplay None result }
+    ensures check { CallsCheck (map string_bytes words.now) → IsCheck (codes "site.toml") false result }
+    ensures explain { CallsExplain (map string_bytes words.now) → IsCheck (codes "site.toml") true result }
+    ensures run { CallsRun (map string_bytes words.now) →
+        IsServing (codes "site.toml") None 9223372036854775807 false result }
+    ensures run_whole { CallsRunWhole (map string_bytes words.now) →
+        IsServing (codes "site.toml") (Some (codes "denials.log")) 100 true result }
+{
+    let command = make_commands(alloc)?;
+    match command.try_get_matches_from(words) {
+        Ok(matches) => choice_among(alloc, &matches),
+        Err(error) => refusal_of(alloc, error),
+    }
+}

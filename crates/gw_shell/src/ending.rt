@@ -1,0 +1,86 @@
+//! How the program ends: the line on standard error, and the exit status.
+
+ghost use Rattle.std.specs.Prelude.{◌≡◌, ◌++◌, ◌∷◌, [], codes, decimal, IsOk, OnOk};
+ghost use Rattle.std.specs.Io.KnownBytes.{Appends};
+ghost use Rattle.std.specs.Process.{exit_status};
+ghost use Rattle.gw_shell.specs.Ending.{error_text, name_of, status_after, text_of};
+
+use crate::fault::{Fault, name_of};
+use gw_policy_text::ConfigFault;
+use gw_script::{OctetSink, WriteFailed, write_whole};
+use itoa::Buffer;
+use std::process::ExitCode;
+
+/// Writes a text, this number, and a line feed.
+fn write_number<E: OctetSink>(text: &str, number: u64, errors: &mut E) -> Result<(), WriteFailed>
+    ensures ok { OnOk result (Appends (E.held errors.old) (E.held errors.new)
+        (text.now ++ (decimal number ++ 10 ∷ []))) }
+    ensures sure { E.NeverFails errors.old → IsOk result }
+{
+    match write_whole(errors, text.as_bytes()) {
+        Ok(()) => {}
+        Err(failed) => return Err(failed),
+    }
+    match write_whole(errors, Buffer::new().format(number).as_bytes()) {
+        Ok(()) => {}
+        Err(failed) => return Err(failed),
+    }
+    write_whole(errors, b"\n")
+}
+
+/// Writes `bacgw: configuration: ` and the name of this fault, and a line feed.
+fn write_configuration_fault<E: OctetSink>(
+    fault: ConfigFault,
+    errors: &mut E,
+) -> Result<(), WriteFailed>
+    ensures ok { let line = codes "bacgw: configuration: " ++ name_of fault ++ 10 ∷ [] in
+        OnOk result (Appends (E.held errors.old) (E.held errors.new) line) }
+    ensures sure { E.NeverFails errors.old → IsOk result }
+{
+    match write_whole(errors, b"bacgw: configuration: ") {
+        Ok(()) => {}
+        Err(failed) => return Err(failed),
+    }
+    match write_whole(errors, name_of(fault).as_bytes()) {
+        Ok(()) => {}
+        Err(failed) => return Err(failed),
+    }
+    write_whole(errors, b"\n")
+}
+
+/// Writes the line of a fault.
+fn write_fault<E: OctetSink>(fault: Fault, errors: &mut E) -> Result<(), WriteFailed>
+    ensures ok { OnOk result (Appends (E.held errors.old) (E.held errors.new) (text_of fault ++ 10 ∷ [])) }
+    ensures sure { E.NeverFails errors.old → IsOk result }
+{
+    match fault {
+        Fault::CommandLine => write_whole(errors, b"bacgw: bad command line\n"),
+        Fault::Unreadable => write_whole(errors, b"bacgw: cannot read configuration\n"),
+        Fault::Configuration(fault) => write_configuration_fault(fault, errors),
+        Fault::Line(number) => write_number("bacgw: line ", number, errors),
+        Fault::Read => write_whole(errors, b"bacgw: read failed\n"),
+        Fault::Write => write_whole(errors, b"bacgw: write failed\n"),
+        Fault::Log => write_whole(errors, b"bacgw: log failed\n"),
+        Fault::Socket(port) => {
+            write_number("bacgw: socket failed on port ", u64::from(port), errors)
+        }
+        Fault::Memory => write_whole(errors, b"bacgw: out of memory\n"),
+        Fault::CountEnd => write_whole(errors, b"bacgw: count at its end\n"),
+    }
+}
+
+/// Writes the line of a fault, and nothing where there is none. It answers the exit status: 0 where there is no fault, and else the
+/// fault's.
+pub fn end<E: OctetSink>(outcome: Result<(), Fault>, errors: &mut E) -> ExitCode
+    ensures line { E.NeverFails errors.old → Appends (E.held errors.old) (E.held errors.new) (error_text outcome) }
+    ensures status { exit_status result ≡ status_after outcome }
+{
+    match outcome {
+        Ok(()) => ExitCode::SUCCESS,
+        Err(fault) => {
+            // Where standard error takes nothing the exit status alone says that there was a fault.
+            let _ = write_fault(fault, errors);
+            ExitCode::from(fault.status())
+        }
+    }
+}

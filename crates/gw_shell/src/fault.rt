@@ -1,0 +1,149 @@
+//! Why the program ends without success: its line on standard error, and its exit status.
+
+ghost use Rattle.std.specs.Prelude.{◌≡◌, ◌≢◌, Some};
+ghost use Rattle.gw_shell.specs.Ending.{fault_of, fault_of_configuration, fault_of_serving, name_of, status_of, text_of};
+ghost use Rattle.gw_shell.specs.declared.fault.Fault.TheVariants.{CommandLine, Memory};
+
+use gw_core::{RunFault, ServeFault};
+use gw_policy_text::ConfigFault;
+use std::alloc::AllocError;
+use std::fmt;
+use std::io::ErrorKind;
+use thiserror::Error;
+
+/// Why the program ends without success. `Display` gives its line on standard error, without the line feed.
+#[derive(Clone, Copy, Debug, PartialEq, Eq, Error)]
+pub enum Fault {
+    /// The words that the program was called with are none that it takes.
+    CommandLine,
+    /// The file of the configuration can't be read.
+    Unreadable,
+    /// What the file of the configuration says is none, and why.
+    Configuration(ConfigFault),
+    /// Line `n` of the script, counted from 1, is no event.
+    Line(u64),
+    /// A read of standard input failed.
+    Read,
+    /// A write to standard output failed.
+    Write,
+    /// The log can't be opened, or a write to it failed.
+    Log,
+    /// A socket of the port of this number can't be opened; with 1 also what waits, or the clock.
+    Socket(u8),
+    /// A growth was refused.
+    Memory,
+    /// The count of ticks or the number of the last denial is at its end.
+    CountEnd,
+}
+
+impl Fault {
+    /// The fault where the words can't be had: `Memory`, or else a word that is no UTF-8.
+    pub fn of_words(kind: ErrorKind) -> Fault
+        ensures memory { kind ≡ ErrorKind.OutOfMemory → result ≡ Memory }
+        ensures other { kind ≢ ErrorKind.OutOfMemory → result ≡ CommandLine }
+    {
+        match kind {
+            ErrorKind::OutOfMemory => Fault::Memory,
+            _ => Fault::CommandLine,
+        }
+    }
+
+    /// The exit status: 2 where what the program was given is wrong, and 1 where what it stands on failed.
+    pub fn status(self) -> u8
+        ensures { result ≡ status_of self }
+    {
+        match self {
+            Fault::CommandLine | Fault::Configuration(_) | Fault::Line(_) => 2,
+            Fault::Unreadable
+            | Fault::Read
+            | Fault::Write
+            | Fault::Log
+            | Fault::Socket(_)
+            | Fault::Memory
+            | Fault::CountEnd => 1,
+        }
+    }
+}
+
+impl fmt::Display for Fault {
+    ghost output = { λ fault. Some (text_of fault) };
+
+    fn fmt<W: fmt::Write>(&self, f: &mut fmt::Formatter<W>) -> fmt::Result {
+        match self {
+            Fault::CommandLine => f.write_str("bacgw: bad command line"),
+            Fault::Unreadable => f.write_str("bacgw: cannot read configuration"),
+            Fault::Configuration(fault) => {
+                f.write_str("bacgw: configuration: ")?;
+                f.write_str(name_of(*fault))
+            }
+            Fault::Line(number) => write!(f, "bacgw: line {number}"),
+            Fault::Read => f.write_str("bacgw: read failed"),
+            Fault::Write => f.write_str("bacgw: write failed"),
+            Fault::Log => f.write_str("bacgw: log failed"),
+            Fault::Socket(port) => write!(f, "bacgw: socket failed on port {port}"),
+            Fault::Memory => f.write_str("bacgw: out of memory"),
+            Fault::CountEnd => f.write_str("bacgw: count at its end"),
+        }
+    }
+}
+
+/// The name of a fault of a configuration.
+pub fn name_of(fault: ConfigFault) -> &'static str
+    ensures { result.now ≡ name_of fault }
+{
+    match fault {
+        ConfigFault::NotToml => "NotToml",
+        ConfigFault::UnknownKey => "UnknownKey",
+        ConfigFault::Missing => "Missing",
+        ConfigFault::Kind => "Kind",
+        ConfigFault::Range => "Range",
+        ConfigFault::Duplicate => "Duplicate",
+        ConfigFault::TooMany => "TooMany",
+        ConfigFault::Memory => "Memory",
+    }
+}
+
+impl From<ConfigFault> for Fault {
+    ghost from_gives = { λ config fault. fault ≡ fault_of_configuration config };
+
+    fn from(fault: ConfigFault) -> Fault {
+        match fault {
+            ConfigFault::Memory => Fault::Memory,
+            _ => Fault::Configuration(fault),
+        }
+    }
+}
+
+impl From<RunFault> for Fault {
+    ghost from_gives = { λ run fault. fault ≡ fault_of run };
+
+    fn from(run: RunFault) -> Fault {
+        match run {
+            RunFault::Read => Fault::Read,
+            RunFault::Line(number) => Fault::Line(number),
+            RunFault::Write => Fault::Write,
+            RunFault::Memory => Fault::Memory,
+            RunFault::CountEnd => Fault::CountEnd,
+        }
+    }
+}
+
+impl From<ServeFault> for Fault {
+    ghost from_gives = { λ serving fault. fault ≡ fault_of_serving serving };
+
+    fn from(serving: ServeFault) -> Fault {
+        match serving {
+            ServeFault::Log => Fault::Log,
+            ServeFault::Memory => Fault::Memory,
+            ServeFault::CountEnd => Fault::CountEnd,
+        }
+    }
+}
+
+impl From<AllocError> for Fault {
+    ghost from_gives = { λ _ fault. fault ≡ Memory };
+
+    fn from(_refused: AllocError) -> Fault {
+        Fault::Memory
+    }
+}

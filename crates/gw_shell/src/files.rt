@@ -1,0 +1,52 @@
+//! The files that configurations are read from.
+
+ghost use Rattle.std.specs.Prelude.{ℕ, List, Result};
+ghost use Rattle.gw_shell.specs.Files.{IsTold, result_map};
+ghost use Rattle.gw_shell.specs.declared.fault.Fault.{Fault};
+
+use crate::fault::Fault;
+use gw_policy_text::MAX_OCTETS;
+use std::alloc::Global;
+use std::io::{ErrorKind, Read};
+use std::rt::Files;
+use std::{fs, io};
+
+/// Where configurations are read from.
+pub trait ConfigFiles {
+    /// What a read of the file of a name may give: its octets, or a fault.
+    ghost Reads: { Self → List ℕ → Result (List ℕ) Fault → Type 0 };
+
+    /// The octets of the file of this name, or so many of its first ones that no configuration has
+    /// more. Faults: `Unreadable`, and `Memory`.
+    fn read(&self, alloc: Global, name: &str) -> Result<Vec<u8>, Fault>
+        ensures { Reads self.now name.now (result_map (λ octets. octets.items) result) };
+}
+
+/// The files of the system.
+#[derive(Drop)]
+pub struct SystemFiles<'a, R> {
+    /// By what they are opened.
+    pub rt: &'a R,
+}
+
+impl<R: Files> ConfigFiles for SystemFiles<'_, R> {
+    ghost Reads = { λ _ _ octets. IsTold octets };
+
+    fn read(&self, alloc: Global, name: &str) -> Result<Vec<u8>, Fault> {
+        match read_front(self.rt, alloc, name) {
+            Ok(octets) => Ok(octets),
+            Err(error) => match error.kind() {
+                ErrorKind::OutOfMemory => Err(Fault::Memory),
+                _ => Err(Fault::Unreadable),
+            },
+        }
+    }
+}
+
+/// The first octets of a file: one more than a configuration has at most, where there are so many.
+fn read_front<R: Files>(rt: &R, alloc: Global, name: &str) -> io::Result<Vec<u8>> {
+    let file = fs::open(rt, name)?;
+    let mut octets = Vec::new(alloc);
+    file.take(MAX_OCTETS as u64 + 1).read_to_end(&mut octets)?;
+    Ok(octets)
+}

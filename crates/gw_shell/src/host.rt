@@ -1,0 +1,125 @@
+//! What `run` takes of the machine: a log, and a wire over the sockets of the ports.
+
+ghost use Rattle.std.specs.Prelude.{◌≡◌, ◌≤◌, ℕ, List, length, ⊤, Result, Option, IfOk, IfErr};
+ghost use Rattle.gw_policy_text.specs.declared.port.Port.{Port};
+ghost use Rattle.gw_shell.specs.declared.fault.Fault.{Fault};
+ghost use Rattle.gw_shell.specs.Host.{IsLogFault, IsSocketFault};
+
+use crate::fault::Fault;
+use crate::poll_waiter::PollWaiter;
+use crate::system_clock::SystemClock;
+use crate::udp::{UdpSock, open_pairs, socket_fault};
+use gw_core::Wire;
+use gw_policy_text::Port;
+use gw_ports::{Ports, SockPair, TimedPorts};
+use gw_script::OctetSink;
+use std::alloc::Global;
+use std::fs::File;
+use std::io;
+use std::io::ErrorKind;
+use std::net::Net;
+use std::rt::Files;
+use std::time::Clock;
+
+/// What `run` takes of a machine.
+pub trait Host {
+    /// A log that can be appended to.
+    type Log: OctetSink + Drop;
+
+    /// A wire over the sockets of some ports.
+    type Sockets: Wire + Drop;
+
+    /// What opening the log of a name may give.
+    ghost LogOpens: { Self → List ℕ → Result Self.Log Fault → Type 0 };
+
+    /// What opening the sockets of some ports may give.
+    ghost SocketsOpen: { Self → List Port → Result Self.Sockets Fault → Type 0 };
+
+    /// How the sockets, and the log where one was opened, may have been when they were closed.
+    ghost Closes: { Self → Self.Sockets → Option Self.Log → Type 0 };
+
+    /// Opens the log of this name, to append to it. Faults: `Log`, and `Memory`.
+    fn open_log(&self, name: &str) -> Result<Self::Log, Fault>
+        ensures opens { LogOpens self.now name.now result }
+        ensures fault { IfErr result IsLogFault };
+
+    /// Opens the sockets of these ports, from 1 to 8, in their order, of each port that of its own
+    /// address first. Faults: `Socket` with the number of the port, and `Memory`.
+    fn open_sockets(&self, alloc: Global, ports: &[Port]) -> Result<Self::Sockets, Fault>
+        requires least { 1 ≤ length ports.now }
+        requires most { length ports.now ≤ 8 }
+        ensures opens { SocketsOpen self.now ports.now result }
+        ensures ports { IfOk result (λ wire. Self.Sockets.port_count wire ≡ length ports.now) }
+        ensures fresh { IfOk result (λ wire. Self.Sockets.failure_count wire ≡ 0) }
+        ensures fault { IfErr result (IsSocketFault (length ports.now)) };
+
+    /// Closes the sockets and the log.
+    fn close(&mut self, sockets: Self::Sockets, log: Option<Self::Log>)
+        ensures { Closes self.new sockets log };
+}
+
+/// The machine of the process.
+#[derive(Drop)]
+pub struct SystemHost<'a, R> {
+    /// By what files and sockets are opened, and the clock.
+    pub rt: &'a R,
+}
+
+impl<'a, R: Net + Clock> SystemHost<'a, R> {
+    /// The ports of these sockets, from now on.
+    fn start(
+        &self,
+        alloc: Global,
+        mut pairs: Vec<SockPair<UdpSock>>,
+    ) -> io::Result<TimedPorts<UdpSock, SystemClock<'a, R>, PollWaiter>>
+        requires { length pairs.items ≤ 8 }
+        ensures ports { IfOk result
+            (λ timed. length timed.ports.pairs ≡ length pairs.items) }
+        ensures fresh { IfOk result (λ timed. timed.ports.failures ≡ 0) }
+    {
+        let waiter = PollWaiter::open(alloc, self.rt, &mut pairs)?;
+        TimedPorts::start(Ports::new(pairs), SystemClock { rt: self.rt }, waiter)
+    }
+}
+
+impl<'a, R: Files + Net + Clock> Host for SystemHost<'a, R> {
+    type Log = R::File;
+
+    type Sockets = TimedPorts<UdpSock, SystemClock<'a, R>, PollWaiter>;
+
+    ghost LogOpens = { λ _ _ _. ⊤ };
+
+    ghost SocketsOpen = { λ _ _ _. ⊤ };
+
+    ghost Closes = { λ _ _ _. ⊤ };
+
+    fn open_log(&self, name: &str) -> Result<R::File, Fault> {
+        match File::options()
+            .append(true)
+            .create(true)
+            .open(self.rt, name)
+        {
+            Ok(file) => Ok(file),
+            Err(error) => match error.kind() {
+                ErrorKind::OutOfMemory => Err(Fault::Memory),
+                _ => Err(Fault::Log),
+            },
+        }
+    }
+
+    fn open_sockets(
+        &self,
+        alloc: Global,
+        ports: &[Port],
+    ) -> Result<TimedPorts<UdpSock, SystemClock<'a, R>, PollWaiter>, Fault> {
+        let pairs = open_pairs(alloc, self.rt, ports)?;
+        match self.start(alloc, pairs) {
+            Ok(timed) => Ok(timed),
+            Err(error) => Err(socket_fault(1, &error)),
+        }
+    }
+
+    fn close(&mut self, _sockets: TimedPorts<UdpSock, SystemClock<'a, R>, PollWaiter>, _log: Option<R::File>)
+        ensures { self.new ≡ self.old }
+    {}
+}

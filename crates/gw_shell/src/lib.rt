@@ -1,0 +1,34 @@
+//! The program `bacgw` over any words, files, streams and machine, and the sockets of the system.
+//!
+//! [`run`] is the whole program: the words choose a command, the file that they name has the configuration, and `check`, `replay`,
+//! `run` or help is done under it. A fault is one line on standard error, and the exit status says of which kind it is.
+#![tactic(auto)]
+
+mod announcement;
+mod command_line;
+mod configured;
+mod ending;
+mod fault;
+mod files;
+mod hidden;
+mod host;
+mod options;
+mod poll_waiter;
+mod program;
+mod script;
+mod serving;
+mod system_clock;
+mod udp;
+
+pub use command_line::{Choice, choice_of};
+pub use ending::end;
+pub use fault::Fault;
+pub use files::{ConfigFiles, SystemFiles};
+pub use host::{Host, SystemHost};
+pub use options::RunOptions;
+pub use poll_waiter::PollWaiter;
+pub use program::run;
+pub use script::replay;
+pub use serving::serve_fresh;
+pub use system_clock::SystemClock;
+pub use udp::UdpSock;

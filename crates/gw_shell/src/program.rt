@@ -1,0 +1,264 @@
+//! The whole program, over any words, reader and writers.
+
+ghost use Rattle.std.specs.Prelude.{◌≡◌, ◌++◌, [], Bool, List, ℕ, Ok, map, option_map, string_bytes, MatchResult, IfErr, IfOk, IfSome, OnOk, OnErr};
+ghost use Rattle.std.specs.Io.Buffered.{writer_buffer, writer_contents};
+ghost use Rattle.std.specs.Io.KnownBytes.{Appends};
+ghost use Rattle.std.specs.Process.{exit_status};
+ghost use Rattle.gw_policy_text.specs.Configuration.{Configuration};
+ghost use Rattle.gw_shell.specs.CommandLine.{IsAnswer};
+ghost use Rattle.gw_shell.specs.Configured.{IsConfigured};
+ghost use Rattle.gw_shell.specs.Files.{result_map};
+ghost use Rattle.gw_shell.specs.Program.{AppendsFront, IsFlushed, IsFollowed, IsLine, IsRun, LeavesChecked, LeavesFault, LeavesLine, LeavesOfText, LeavesOutput, LeavesPlayed};
+ghost use Rattle.gw_shell.specs.Serving.{IsFlushedFor, LeavesRun, machine};
+ghost use Rattle.gw_shell.specs.declared.fault.Fault.{Fault};
+ghost use Rattle.gw_shell.specs.declared.fault.Fault.TheVariants as fault;
+
+use crate::command_line::{Choice, choice_of};
+use crate::configured::{configuration, configuration_in, configuration_of};
+use crate::ending::end;
+use crate::fault::Fault;
+use crate::files::ConfigFiles;
+use crate::hidden::checked_text;
+use crate::host::Host;
+use crate::options::RunOptions;
+use crate::script::replay;
+use crate::serving::serve_ports;
+use gw_policy_text::{Config, ConfigFault, Explanation, explain};
+use gw_script::{OctetSink, OctetSource, write_whole};
+use std::alloc::{AllocError, Global};
+use std::io::{BufWriter, Write};
+use std::process::ExitCode;
+
+/// Prints octets and flushes them. `Write` where a write or the flush fails; then a front of the text
+/// is written.
+fn print<W: Write + Drop>(text: &[u8], output: &mut BufWriter<W>) -> Result<(), Fault>
+    ensures ok { OnOk result
+        (Appends (writer_contents W.contents output.old) (writer_contents W.contents output.new)
+        text.now) }
+    ensures front { OnErr result
+        (AppendsFront (writer_contents W.contents output.old)
+        (writer_contents W.contents output.new) text.now) }
+    ensures fault { IfErr result (λ f. f ≡ fault.Write) }
+    ensures flush { OnOk result (writer_buffer output.new ≡ []) }
+{
+    let Ok(()) = write_whole(output, text) else {
+        return Err(Fault::Write);
+    };
+    match output.flush() {
+        Ok(()) => Ok(()),
+        Err(_) => Err(Fault::Write),
+    }
+}
+
+/// What the words ask for, or the fault for which there are none.
+fn choice_from(alloc: Global, words: Result<Vec<String>, Fault>) -> Result<Choice, Fault>
+    ensures { MatchResult words
+        (λ w. IsAnswer (map string_bytes w.items) result)
+        (λ f. result ≡ Err f) }
+{
+    match words {
+        Ok(words) => choice_of(alloc, words.as_slice()),
+        Err(fault) => Err(fault),
+    }
+}
+
+/// Prints what a configuration has, and what its policy hides where that is asked for.
+fn print_checked<W: Write + Drop>(
+    alloc: Global,
+    explains: bool,
+    config: &Config,
+    output: &mut BufWriter<W>,
+) -> Result<(), Fault>
+    ensures output { let held = writer_contents W.contents output.old in
+        let holds = writer_contents W.contents output.new in
+        LeavesChecked explains held holds (Ok config.now) result }
+    ensures flush { OnOk result (writer_buffer output.new ≡ []) }
+{
+    let text = checked_text(alloc, explains, config)?;
+    print(&text, output)
+}
+
+/// The line that explains this fault of a text, where there is one.
+fn explanation(
+    alloc: Global,
+    text: &[u8],
+    fault: ConfigFault,
+) -> Result<Option<Vec<u8>>, AllocError>
+    ensures { IfOk result (λ line. IfSome line (λ octets. IsLine octets.items)) }
+{
+    match explain(alloc, text, fault)? {
+        Some(explanation) => Ok(Some(line_of(alloc, &explanation)?)),
+        None => Ok(None),
+    }
+}
+
+/// An explanation with its line feed.
+fn line_of(alloc: Global, explanation: &Explanation) -> Result<Vec<u8>, AllocError>
+    ensures { IfOk result (λ octets. IsLine octets.items) }
+{
+    let mut line = Vec::from_slice(alloc, explanation.as_bytes())?;
+    line.push(b'\n')?;
+    Ok(line)
+}
+
+/// Prints where this fault of a text is. Where that fails the fault is still told.
+fn print_explanation<W: Write + Drop>(
+    alloc: Global,
+    text: &[u8],
+    fault: ConfigFault,
+    output: &mut BufWriter<W>,
+)
+    ensures { LeavesLine (writer_contents W.contents output.old) (writer_contents W.contents output.new) }
+{
+    match explanation(alloc, text, fault) {
+        Ok(Some(line)) => {
+            let _ = print(&line, output);
+        }
+        Ok(None) | Err(_) => {}
+    }
+}
+
+/// Prints what is wrong with the text that was read, where that is asked for.
+fn print_fault<W: Write + Drop>(
+    alloc: Global,
+    explains: bool,
+    text: &Result<Vec<u8>, Fault>,
+    fault: Fault,
+    output: &mut BufWriter<W>,
+)
+    ensures { LeavesFault explains fault (writer_contents W.contents output.old) (writer_contents W.contents output.new) }
+{
+    if let (true, Ok(text), Fault::Configuration(fault)) = (explains, text, fault) {
+        print_explanation(alloc, text, fault, output);
+    }
+}
+
+/// Prints what the configuration has that was read, or what is wrong with it where that is asked for.
+fn check<W: Write + Drop>(
+    alloc: Global,
+    explains: bool,
+    text: &Result<Vec<u8>, Fault>,
+    output: &mut BufWriter<W>,
+) -> Result<(), Fault>
+    ensures output { let held = writer_contents W.contents output.old in
+        let holds = writer_contents W.contents output.new in
+        LeavesOfText explains (result_map (λ octets. octets.items) text.now) held holds result }
+    ensures flush { OnOk result (writer_buffer output.new ≡ []) }
+{
+    match configuration_of(alloc, text) {
+        Ok(config) => print_checked(alloc, explains, &config, output),
+        Err(fault) => {
+            print_fault(alloc, explains, text, fault, output);
+            Err(fault)
+        }
+    }
+}
+
+/// Plays the script under a configuration.
+fn play<R: OctetSource, W: Write + Drop>(
+    alloc: Global,
+    config: Result<Config, Fault>,
+    input: &mut R,
+    output: &mut BufWriter<W>,
+) -> Result<(), Fault>
+    ensures output { LeavesPlayed (R.left input.old) (writer_contents W.contents output.old)
+        (writer_contents W.contents output.new) config result }
+    ensures flush { OnOk result (writer_buffer output.new ≡ []) }
+{
+    match config {
+        Ok(config) => replay(alloc, config, input, output),
+        Err(fault) => Err(fault),
+    }
+}
+
+/// Serves the ports of the configuration that was read.
+fn serve<H: Host, W: Write + Drop, E: OctetSink>(
+    alloc: Global,
+    config: Result<Config, Fault>,
+    options: &RunOptions,
+    host: &mut H,
+    output: &mut BufWriter<W>,
+    errors: &mut E,
+) -> Result<(), Fault>
+    ensures served { (told : List ℕ)
+        × LeavesRun (machine (H.LogOpens host.old) (H.SocketsOpen host.old) (H.Closes host.new)
+        H.Log.held H.Sockets.calls) (writer_contents W.contents output.old)
+        (writer_contents W.contents output.new) options.now config told result
+        × (E.NeverFails errors.old → Appends (E.held errors.old) (E.held errors.new) told) }
+    ensures lasting { E.NeverFails errors.old → E.NeverFails errors.new }
+    ensures flush { OnOk result (IsFlushedFor (option_map string_bytes options.now.log)
+        (writer_buffer output.old) (writer_buffer output.new)) }
+{
+    match config {
+        Ok(config) => serve_ports(alloc, config, options, host, output, errors),
+        Err(fault) => Err(fault),
+    }
+}
+
+/// Does what was chosen.
+fn follow<F: ConfigFiles, H: Host, R: OctetSource, W: Write + Drop, E: OctetSink>(
+    alloc: Global,
+    choice: Result<Choice, Fault>,
+    files: &F,
+    host: &mut H,
+    input: &mut R,
+    output: &mut BufWriter<W>,
+    errors: &mut E,
+) -> Result<(), Fault>
+    ensures followed { IsFollowed
+        (LeavesOutput (F.Reads files.now) (machine (H.LogOpens host.old) (H.SocketsOpen host.old)
+        (H.Closes host.new) H.Log.held H.Sockets.calls) (R.left input.old)
+        (writer_contents W.contents output.old) (writer_contents W.contents output.new))
+        (λ told. E.NeverFails errors.old → Appends (E.held errors.old) (E.held errors.new) told)
+        choice result }
+    ensures lasting { E.NeverFails errors.old → E.NeverFails errors.new }
+    ensures flush { OnOk result
+        (IsFlushed choice (writer_buffer output.old) (writer_buffer output.new)) }
+{
+    match choice {
+        Ok(Choice::Check { file, explains }) => {
+            let text = files.read(alloc, &file);
+            check(alloc, explains, &text, output)
+        }
+        Ok(Choice::Replay(file)) => {
+            let config = configuration(alloc, files, &file);
+            play(alloc, config, input, output)
+        }
+        Ok(Choice::Run(options)) => {
+            let config = configuration_in(alloc, files, &options.config);
+            serve(alloc, config, &options, host, output, errors)
+        }
+        Ok(Choice::Help(text)) => print(text.as_bytes(), output),
+        Err(fault) => Err(fault),
+    }
+}
+
+/// Runs the program on these words, or on the fault for which there are none: the configuration that
+/// they name is read from `files`, what it has is printed to `output`, or the script of `input` is
+/// replayed there, or what `host` opens is served, or help is printed; what is served may be told on
+/// `errors`, a fault is one line there, and the exit status says of which kind it is. The words begin
+/// with the program's name.
+pub fn run<F: ConfigFiles, H: Host, R: OctetSource, W: Write + Drop, E: OctetSink>(
+    alloc: Global,
+    words: Result<Vec<String>, Fault>,
+    files: &F,
+    host: &mut H,
+    input: &mut R,
+    output: &mut BufWriter<W>,
+    errors: &mut E,
+) -> ExitCode
+    ensures run { IsRun
+        (λ choice. MatchResult words
+        (λ w. IsAnswer (map string_bytes w.items) choice)
+        (λ f. choice ≡ Err f))
+        (LeavesOutput (F.Reads files.now) (machine (H.LogOpens host.old) (H.SocketsOpen host.old)
+        (H.Closes host.new) H.Log.held H.Sockets.calls) (R.left input.old)
+        (writer_contents W.contents output.old) (writer_contents W.contents output.new))
+        (writer_buffer output.old) (writer_buffer output.new)
+        (λ line. E.NeverFails errors.old → Appends (E.held errors.old) (E.held errors.new) line)
+        (exit_status result) }
+{
+    let choice = choice_from(alloc, words);
+    let outcome = follow(alloc, choice, files, host, input, output, errors);
+    end(outcome, errors)
+}

@@ -1,0 +1,213 @@
+//! The gateway at work: what `run` opens, and a fresh gateway that serves it.
+//!
+//! What owns a configuration or a gateway has nothing behind it that can fail, and lends it to the
+//! functions that can: each way out of such a function drops a large value.
+
+ghost use Rattle.std.specs.Prelude.{◌≡◌, ◌⊎◌, ◌≤◌, ◌<◌, ◌^◌, [], ℕ, List, Ok, Err, None, Some, MatchResult, length, option_map, string_bytes, IfErr, IfOk, OnErr, OnOk};
+ghost use Rattle.std.specs.Io.Buffered.{writer_buffer, writer_contents};
+ghost use Rattle.std.specs.Io.KnownBytes.{Appends, Keeps};
+ghost use Rattle.gw_core.specs.History.{state_after};
+ghost use Rattle.gw_core.specs.Replay.{no_counts};
+ghost use Rattle.gw_core.specs.Serve.{scene};
+ghost use Rattle.gw_shell.specs.Announcement.{told_text};
+ghost use Rattle.gw_shell.specs.Serving.{AreOpen, ArentOpen, IsFlushedFor, LeavesRun, LogIsOpen, LogIsShut, LogStays, Serves, ServesFrom, ends, log_held, machine};
+ghost use Rattle.gw_shell.specs.declared.fault.Fault.TheVariants as fault;
+
+use crate::announcement::told_text;
+use crate::fault::Fault;
+use crate::host::Host;
+use crate::options::RunOptions;
+use gw_core::{Counts, Gateway, Wire, serve};
+use gw_policy_text::Config;
+use gw_script::{OctetSink, write_whole};
+use std::alloc::Global;
+use std::io::{BufWriter, Write};
+
+/// A gateway of this configuration that nothing came to yet.
+fn fresh_gateway(alloc: Global, config: Config) -> Result<Gateway, Fault>
+    ensures state { IfOk result (λ gateway. gateway ≡ state_after config no_counts []) }
+    ensures fault { IfErr result (λ f. f ≡ fault.Memory) }
+{
+    let counts = Counts {
+        ticks: 0,
+        denials: 0,
+    };
+    match Gateway::new(alloc, config, counts) {
+        Ok(gateway) => Ok(gateway),
+        Err(_) => Err(Fault::Memory),
+    }
+}
+
+/// Serves sockets for so many turns. Faults: `Log`, `Memory` and `CountEnd`.
+fn serve_by<S: Wire, L: OctetSink>(
+    alloc: Global,
+    gateway: &mut Gateway,
+    sockets: &mut S,
+    log: &mut L,
+    turns: u64,
+) -> Result<(), Fault>
+    requires turns { turns < 2 ^ 63 }
+    requires failures { S.failure_count sockets.old < 2 ^ 127 }
+    ensures { let before = scene gateway.old (L.held log.old) (S.calls sockets.old) in
+        let after = scene gateway.new (L.held log.new) (S.calls sockets.new) in
+        ServesFrom turns before after result }
+{
+    match serve(alloc, gateway, sockets, log, turns) {
+        Ok(_) => Ok(()),
+        Err(stop) => Err(Fault::from(stop.fault)),
+    }
+}
+
+/// Serves sockets for so many turns, by a gateway of this configuration that nothing came to yet.
+/// Faults: `Log`, `Memory` and `CountEnd`.
+pub fn serve_fresh<S: Wire, L: OctetSink>(
+    alloc: Global,
+    config: Config,
+    sockets: &mut S,
+    log: &mut L,
+    turns: u64,
+) -> Result<(), Fault>
+    requires turns { turns < 2 ^ 63 }
+    requires failures { S.failure_count sockets.old < 2 ^ 127 }
+    ensures { let before = ends (L.held log.old) (S.calls sockets.old) in
+        let after = ends (L.held log.new) (S.calls sockets.new) in
+        Serves config turns before after result }
+{
+    match fresh_gateway(alloc, config) {
+        Ok(mut gateway) => serve_by(alloc, &mut gateway, sockets, log, turns),
+        Err(fault) => Err(fault),
+    }
+}
+
+/// Opens the log: the file of this name, or standard output, whose buffer is flushed.
+fn open_log<H: Host, W: Write + Drop>(
+    log: &Option<String>,
+    host: &H,
+    output: &mut BufWriter<W>,
+) -> Result<Option<H::Log>, Fault>
+    ensures log { let name = option_map string_bytes log.now in
+        let held = writer_contents W.contents output.old in
+        let holds = writer_contents W.contents output.new in
+        MatchResult result (LogIsOpen (H.LogOpens host.now) name held holds)
+        (LogIsShut (H.LogOpens host.now) name held holds) }
+    ensures unbuffered { IfOk result (λ opened. opened ≡ None → writer_buffer output.new ≡ []) }
+    ensures buffer { OnOk result (IsFlushedFor (option_map string_bytes log.now)
+        (writer_buffer output.old) (writer_buffer output.new)) }
+{
+    match log {
+        Some(name) => match host.open_log(name) {
+            Ok(log) => Ok(Some(log)),
+            Err(fault) => Err(fault),
+        },
+        None => match output.flush() {
+            Ok(()) => Ok(None),
+            Err(_) => Err(Fault::Log),
+        },
+    }
+}
+
+/// What is told at the start, and what is open then: the log where it is a file, and the sockets.
+#[derive(Drop)]
+struct Opening<L, S> {
+    line: Vec<u8>,
+    log: Option<L>,
+    sockets: S,
+}
+
+/// Makes the line that is told at the start, opens the log and then the sockets. Faults: `Memory`,
+/// `Log` and `Socket`.
+fn open<H: Host, W: Write + Drop>(
+    alloc: Global,
+    config: &Config,
+    options: &RunOptions,
+    host: &H,
+    output: &mut BufWriter<W>,
+) -> Result<Opening<H::Log, H::Sockets>, Fault>
+    ensures line { let name = option_map string_bytes options.now.log in
+        IfOk result (λ opening. opening.line.items ≡ told_text options.now.verbose config.now name) }
+    ensures open { let name = option_map string_bytes options.now.log in
+        let held = writer_contents W.contents output.old in
+        let holds = writer_contents W.contents output.new in
+        let SocketsOpen = H.SocketsOpen host.now config.now.ports in
+        MatchResult result
+        (λ opening. AreOpen (H.LogOpens host.now) SocketsOpen name held holds opening.log opening.sockets)
+        (ArentOpen (H.LogOpens host.now) SocketsOpen name held holds) }
+    ensures unbuffered { IfOk result (λ opening. opening.log ≡ None → writer_buffer output.new ≡ []) }
+    ensures fresh { IfOk result (λ opening. H.Sockets.failure_count opening.sockets ≡ 0) }
+    ensures buffer { OnOk result (IsFlushedFor (option_map string_bytes options.now.log)
+        (writer_buffer output.old) (writer_buffer output.new)) }
+{
+    let line = told_text(alloc, config, &options.log, options.verbose)?;
+    let log = match open_log(&options.log, host, output) {
+        Ok(log) => log,
+        Err(fault) => return Err(fault),
+    };
+    match host.open_sockets(alloc, config.ports()) {
+        Ok(sockets) => Ok(Opening { line, log, sockets }),
+        Err(fault) => Err(fault),
+    }
+}
+
+/// Serves what is open. Each event's lines are written to standard output at once where the log is
+/// there.
+fn serve_open<L: OctetSink, S: Wire, W: Write + Drop>(
+    alloc: Global,
+    config: Config,
+    turns: u64,
+    log: &mut Option<L>,
+    sockets: &mut S,
+    output: &mut BufWriter<W>,
+) -> Result<(), Fault>
+    requires turns { turns < 2 ^ 63 }
+    requires failures { S.failure_count sockets.old < 2 ^ 127 }
+    requires unbuffered { log.old ≡ None → writer_buffer output.old ≡ [] }
+    ensures serves { let held = writer_contents W.contents output.old in
+        let holds = writer_contents W.contents output.new in
+        Serves config turns (ends (log_held L.held log.old held) (S.calls sockets.old))
+        (ends (log_held L.held log.new holds) (S.calls sockets.new)) result }
+    ensures log { LogStays log.old log.new (writer_contents W.contents output.old)
+        (writer_contents W.contents output.new) }
+    ensures buffer { writer_buffer output.new ≡ writer_buffer output.old }
+{
+    match log {
+        Some(log) => serve_fresh(alloc, config, sockets, log, turns),
+        None => serve_fresh(alloc, config, sockets, output.get_mut(), turns),
+    }
+}
+
+/// Serves the ports of a configuration as the options ask, and tells at the start what is served
+/// where they ask for that. Faults: `Log`, `Socket`, `Memory` and `CountEnd`.
+pub fn serve_ports<H: Host, W: Write + Drop, E: OctetSink>(
+    alloc: Global,
+    config: Config,
+    options: &RunOptions,
+    host: &mut H,
+    output: &mut BufWriter<W>,
+    errors: &mut E,
+) -> Result<(), Fault>
+    ensures served { (told : List ℕ)
+        × LeavesRun (machine (H.LogOpens host.old) (H.SocketsOpen host.old)
+        (H.Closes host.new) H.Log.held H.Sockets.calls) (writer_contents W.contents output.old)
+        (writer_contents W.contents output.new) options.now (Ok config) told result
+        × (E.NeverFails errors.old → Appends (E.held errors.old) (E.held errors.new) told) }
+    ensures lasting { E.NeverFails errors.old → E.NeverFails errors.new }
+    ensures flush { OnOk result (IsFlushedFor (option_map string_bytes options.now.log)
+        (writer_buffer output.old) (writer_buffer output.new)) }
+{
+    match open(alloc, &config, options, host, output) {
+        Ok(
+            Opening {
+                line,
+                mut log,
+                mut sockets,
+            },
+        ) => {
+            // Where standard error takes nothing the ports are served all the same.
+            let _ = write_whole(errors, &line);
+            let outcome = serve_open(alloc, config, options.turns, &mut log, &mut sockets, output);
+            host.close(sockets, log);
+            outcome
+        }
+        Err(fault) => Err(fault),
+    }
+}

@@ -1,0 +1,214 @@
+//! Whose turn it is, and how time passes, over sockets, a clock and a waiter in memory.
+
+ghost use Rattle.std.specs.Prelude.{◌≡◌, ⊤};
+ghost use Rattle.std.specs.Duration.{as_nanos};
+ghost use Rattle.gw_ports.specs.Socket.{FitsBuffer};
+
+use gw_addr::BipAddr;
+use gw_core::{Got, RECEIVE_ROOM, Wire, WireFault};
+use gw_ports::{Ports, Sock, SockFault, SockPair, TimedPorts, Timepiece, Waiter};
+use std::alloc::{AllocError, Global};
+use std::io;
+use std::io::ErrorKind;
+use std::time::Duration;
+
+/// Whom all datagrams come from.
+const SENDER: BipAddr = BipAddr {
+    ip: [192, 168, 1, 5],
+    udp: 47808,
+};
+
+/// How many calls a course over time has.
+const TIMED_CALLS: u64 = 8;
+
+/// A socket in memory at which so many datagrams wait, which fails at one of its calls.
+#[derive(Drop)]
+struct MemSock {
+    waiting: u64,
+    failing: Option<u64>,
+    looks: u64,
+    empty: bool,
+}
+
+impl MemSock {
+    fn with(waiting: u64, failing: Option<u64>) -> Self {
+        MemSock {
+            waiting,
+            failing,
+            looks: 0,
+            empty: false,
+        }
+    }
+
+    fn take(&mut self) -> Result<Option<(usize, BipAddr)>, SockFault>
+        ensures fits { FitsBuffer result }
+        ensures looks { self.new.looks ≡ self.old.looks }
+    {
+        if self.failing == Some(self.looks) {
+            return Err(SockFault::Failed);
+        }
+        if self.waiting == 0 {
+            return Ok(None);
+        }
+        self.waiting -= 1;
+        Ok(Some((1, SENDER)))
+    }
+}
+
+impl Sock for MemSock {
+    ghost look_count = { λ s. s.looks };
+
+    ghost is_empty = { λ s. s.empty };
+
+    ghost Answered = { λ _ _ _. ⊤ };
+
+    ghost Sent = { λ _ _ _. ⊤ };
+
+    fn receive(
+        &mut self,
+        _buf: &mut [u8; RECEIVE_ROOM],
+    ) -> Result<Option<(usize, BipAddr)>, SockFault> {
+        let answer = self.take();
+        self.looks = self.looks.wrapping_add(1);
+        self.empty = matches!(answer, Ok(None));
+        answer
+    }
+
+    fn send_to(&mut self, _to: BipAddr, _octets: &[u8]) -> Result<(), SockFault> {
+        Err(SockFault::Failed)
+    }
+
+    fn looks(&self) -> u64 {
+        self.looks
+    }
+
+    fn empty(&self) -> bool {
+        self.empty
+    }
+}
+
+/// Two ports with so many datagrams at their own sockets and none at the others. The socket of one
+/// place, from 0, may fail at one of its calls.
+fn two_ports(
+    alloc: Global,
+    waiting: u64,
+    failing: Option<(u64, u64)>,
+) -> Result<Ports<MemSock>, AllocError> {
+    let call_of = |place: u64| match failing {
+        Some((failing, call)) if failing == place => Some(call),
+        _ => None,
+    };
+    let mut pairs = Vec::with_capacity(alloc, 2)?;
+    for port in 0..2 {
+        let own = MemSock::with(waiting, call_of(2 * port));
+        let broadcast = MemSock::with(0, call_of(2 * port + 1));
+        pairs.push(SockPair::new(own, broadcast))?;
+    }
+    if pairs.len() > 2 {
+        return Err(AllocError);
+    }
+    Ok(Ports::new(pairs))
+}
+
+/// What comes next, by a letter: the port of a datagram, `t` for a tick, `f` for a fault and `-` for
+/// nothing.
+fn next_of(wire: &mut impl Wire) -> u8 {
+    let mut buf = [0; RECEIVE_ROOM];
+    if wire.failures() > 9 {
+        return b'?';
+    }
+    match wire.recv(&mut buf) {
+        Ok(Got::Datagram { port: 1, .. }) => b'1',
+        Ok(Got::Datagram { .. }) => b'2',
+        Ok(Got::Tick) => b't',
+        Ok(Got::Idle) => b'-',
+        Err(WireFault::Failed) => b'f',
+    }
+}
+
+/// What comes in so many calls.
+fn put_course(wire: &mut impl Wire, calls: u64, out: &mut Vec<u8>) -> io::Result<()> {
+    for _ in 0..calls {
+        out.push(next_of(wire))?;
+    }
+    Ok(())
+}
+
+/// The number behind a name and an equals sign, in a line of such.
+fn number_of(line: &str, name: &str) -> Option<u64> {
+    let text = line.split(' ').find_map(|word| word.strip_prefix(name))?;
+    text.parse().ok()
+}
+
+/// The socket that fails, and at which of its calls.
+fn failing_of(line: &str) -> Option<(u64, u64)> {
+    Some((number_of(line, "socket=")?, number_of(line, "fails=")?))
+}
+
+/// What comes of two ports, with so many datagrams waiting and ticks due as the line says.
+pub fn turns(alloc: Global, line: &str, out: &mut Vec<u8>) -> io::Result<()> {
+    let waiting = number_of(line, "waiting=").unwrap_or(0);
+    let mut ports = two_ports(alloc, waiting, failing_of(line))?;
+    ports.due(number_of(line, "ticks=").unwrap_or(0));
+    put_course(&mut ports, number_of(line, "calls=").unwrap_or(0), out)
+}
+
+/// A clock on which 0.3 seconds pass from each look to the next, and which fails at one of them.
+#[derive(Drop)]
+struct SlowClock {
+    looks: u64,
+    failing: Option<u64>,
+}
+
+impl Timepiece for SlowClock {
+    ghost Told = { λ _ _. ⊤ };
+
+    fn elapsed(&mut self) -> io::Result<Duration> {
+        let look = self.looks;
+        self.looks = look.wrapping_add(1);
+        if self.failing == Some(look) {
+            return Err(ErrorKind::Other.into());
+        }
+        Ok(Duration::from_millis(look.wrapping_mul(300)))
+    }
+}
+
+/// Waits for nothing, and fails at one of its calls, from 1. It tells how long it was let wait.
+#[derive(Drop)]
+struct MemWaiter {
+    waits: u64,
+    failing: Option<u64>,
+    last: Duration,
+}
+
+impl Waiter for MemWaiter {
+    ghost Waited = { λ waiter most. as_nanos waiter.last ≡ most };
+
+    fn wait(&mut self, most: Duration) -> io::Result<()> {
+        self.waits = self.waits.wrapping_add(1);
+        if self.failing == Some(self.waits) || most > Duration::from_secs(1) {
+            return Err(ErrorKind::Other.into());
+        }
+        self.last = most;
+        Ok(())
+    }
+}
+
+/// What comes of two ports with two datagrams each in eight receives, where the clock and the waiter
+/// fail as the line says. The looks at the clock are at 0.0, 0.3, 0.6, .. seconds; a receive looks
+/// once, and where nothing waits again.
+pub fn seconds(alloc: Global, line: &str, out: &mut Vec<u8>) -> io::Result<()> {
+    let clock = SlowClock {
+        looks: 0,
+        failing: number_of(line, "look="),
+    };
+    let waiter = MemWaiter {
+        waits: 0,
+        failing: number_of(line, "wait="),
+        last: Duration::from_secs(0),
+    };
+    match TimedPorts::start(two_ports(alloc, 2, None)?, clock, waiter) {
+        Ok(mut timed) => put_course(&mut timed, TIMED_CALLS, out),
+        Err(_) => Ok(out.extend_from_slice(b"not started")?),
+    }
+}

@@ -1,0 +1,106 @@
+//! Words of a command line, and what they choose; and how the program ends at each fault.
+
+use gw_policy_text::ConfigFault;
+use gw_shell::{Choice, Fault, RunOptions, choice_of, end};
+use itoa::Buffer;
+use std::alloc::{AllocError, Global};
+use std::io;
+use std::process::ExitCode;
+
+/// The words of a call, the program's name first, from a line with a bar between two words. In a
+/// word `\n` is a line feed. An empty line has none but the name.
+pub fn call(alloc: Global, line: &str) -> Result<Vec<String>, AllocError> {
+    let mut call = Vec::new(alloc);
+    call.push(String::from_str(alloc, "bacgw")?)?;
+    if line.is_empty() {
+        return Ok(call);
+    }
+    for word in line.split('|') {
+        call.push(word.replace(alloc, "\\n", "\n")?)?;
+    }
+    Ok(call)
+}
+
+/// What words choose: the command, the file of the configuration and what else is asked for, `help`,
+/// or the fault.
+pub fn words(alloc: Global, line: &str, out: &mut Vec<u8>) -> io::Result<()> {
+    let call = call(alloc, line)?;
+    Ok(put_choice(&choice_of(alloc, call.as_slice()), out)?)
+}
+
+/// What is chosen.
+fn put_choice(choice: &Result<Choice, Fault>, out: &mut Vec<u8>) -> Result<(), AllocError> {
+    match choice {
+        Ok(Choice::Check { file, explains }) => {
+            put(
+                out,
+                &[
+                    "check ",
+                    file.as_str(),
+                    if *explains { " explain" } else { "" },
+                ],
+            )
+        }
+        Ok(Choice::Replay(None)) => put(out, &["replay"]),
+        Ok(Choice::Replay(Some(file))) => put(out, &["replay ", file.as_str()]),
+        Ok(Choice::Run(options)) => put_options(options, out),
+        Ok(Choice::Help(_)) => put(out, &["help"]),
+        Err(Fault::CommandLine) => put(out, &["refused"]),
+        Err(_) => put(out, &["another fault"]),
+    }
+}
+
+/// What `run` is asked for.
+fn put_options(options: &RunOptions, out: &mut Vec<u8>) -> Result<(), AllocError> {
+    put(out, &["run ", options.config.as_str()])?;
+    if let Some(log) = &options.log {
+        put(out, &[" log=", log.as_str()])?;
+    }
+    put(out, &[" turns=", Buffer::new().format(options.turns)])?;
+    put(out, &[if options.verbose { " verbose" } else { "" }])
+}
+
+/// Appends texts.
+pub fn put(out: &mut Vec<u8>, texts: &[&str]) -> Result<(), AllocError> {
+    for text in texts {
+        out.extend_from_slice(text.as_bytes())?;
+    }
+    Ok(())
+}
+
+/// The exit status of each fault, and its line on standard error.
+pub fn faults(alloc: Global, out: &mut Vec<u8>) -> io::Result<()> {
+    let faults = [
+        Fault::CommandLine,
+        Fault::Unreadable,
+        Fault::Configuration(ConfigFault::UnknownKey),
+        Fault::Line(1),
+        Fault::Line(u64::MAX),
+        Fault::Read,
+        Fault::Write,
+        Fault::Log,
+        Fault::Socket(8),
+        Fault::Memory,
+        Fault::CountEnd,
+    ];
+    for fault in faults {
+        let mut errors = Vec::new(alloc);
+        let code = end(Err(fault), &mut errors);
+        put(out, &[status_text(code), " "])?;
+        out.extend_from_slice(&errors)?;
+    }
+    Ok(())
+}
+
+/// An exit status in digits.
+pub fn status_text(code: ExitCode) -> &'static str {
+    if code == ExitCode::SUCCESS {
+        "0"
+    } else if code == ExitCode::FAILURE {
+        "1"
+    } else if code == ExitCode::from(2) {
+        "2"
+    } else {
+        "neither 0 nor 1 nor 2"
+    }
+}
