@@ -81,8 +81,11 @@ pub fn unfolded(alloc: Global, text: &str) -> io::Result<Vec<u8>> {
     Ok(out)
 }
 
-/// Appends a text of octets with `~` for each line feed.
-pub fn put_folded(text: &[u8], out: &mut Vec<u8>) -> io::Result<()> {
+/// Appends a space and a text, with `~` for each line feed; nothing where the text is empty.
+pub fn put_word(text: &[u8], out: &mut Vec<u8>) -> io::Result<()> {
+    if !text.is_empty() {
+        out.push(b' ')?;
+    }
     for octet in text {
         out.push(if *octet == b'\n' { b'~' } else { *octet })?;
     }
@@ -108,12 +111,7 @@ pub fn put_octets(alloc: Global, octets: &[u8], out: &mut Vec<u8>) -> io::Result
 }
 
 /// Appends the digits of the octets that a message is written in, where they aren't those that it was read of.
-pub fn put_other(
-    alloc: Global,
-    read: &[u8],
-    written: &[u8],
-    out: &mut Vec<u8>,
-) -> io::Result<()> {
+pub fn put_other(alloc: Global, read: &[u8], written: &[u8], out: &mut Vec<u8>) -> io::Result<()> {
     if read == written {
         return Ok(());
     }

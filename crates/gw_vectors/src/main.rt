@@ -90,12 +90,7 @@ fn answer_lines(
 }
 
 /// What a section comes to, behind its first line.
-fn answer_section(
-    alloc: Global,
-    config: &str,
-    section: &str,
-    out: &mut Vec<u8>,
-) -> io::Result<()> {
+fn answer_section(alloc: Global, config: &str, section: &str, out: &mut Vec<u8>) -> io::Result<()> {
     let (head, body) = section.split_once('\n').unwrap_or((section, ""));
     let (kind, _name) = head.split_once(' ').unwrap_or((head, ""));
     writeln!(out, "== {head}")?;

@@ -35,8 +35,9 @@ fn property_of(word: &str) -> io::Result<(u32, Option<u32>)> {
 
 /// Appends the numbers of the properties of an object.
 fn put_set(kind: Option<ObjectType>, set: PropertySet, out: &mut Vec<u8>) -> io::Result<()> {
-    for property in properties(wanted(kind)?, set) {
-        write!(out, " {}", property.number())?;
+    for (place, property) in properties(wanted(kind)?, set).iter().enumerate() {
+        let space = if place > 0 { " " } else { "" };
+        write!(out, "{space}{}", property.number())?;
     }
     Ok(())
 }
@@ -44,16 +45,16 @@ fn put_set(kind: Option<ObjectType>, set: PropertySet, out: &mut Vec<u8>) -> io:
 /// Appends the number of an object's type.
 fn put_type(kind: Option<ObjectType>, out: &mut Vec<u8>) -> io::Result<()> {
     match kind {
-        Some(kind) => write!(out, " {}", kind.number()),
-        None => write!(out, " none"),
+        Some(kind) => write!(out, "{}", kind.number()),
+        None => write!(out, "none"),
     }
 }
 
 /// Appends the object of a name.
 fn put_named(id: Option<ObjectId>, out: &mut Vec<u8>) -> io::Result<()> {
     match id {
-        Some(id) => write!(out, " {}/{}", id.kind, id.instance),
-        None => write!(out, " none"),
+        Some(id) => write!(out, "{}/{}", id.kind, id.instance),
+        None => write!(out, "none"),
     }
 }
 
@@ -67,7 +68,6 @@ fn read(
 ) -> io::Result<()> {
     let (property, index) = property_of(property)?;
     let mut value = Vec::new(alloc);
-    write!(out, " ")?;
     match db.read(object_of(object)?, property, index, &mut value) {
         Ok(()) if value.len() > SHOWN => {
             put_octets(alloc, &value[..6], out)?;
@@ -96,9 +96,9 @@ fn write(
     match db.check(alloc, object, property, index, priority, &value) {
         Ok(put) => {
             db.put(put);
-            write!(out, " ok")
+            write!(out, "ok")
         },
-        Err(fault) => write!(out, " {fault}"),
+        Err(fault) => write!(out, "{fault}"),
     }
 }
 
@@ -124,7 +124,7 @@ fn step(alloc: Global, db: &mut ObjectDb, asked: &str, out: &mut Vec<u8>) -> io:
 fn put_steps(alloc: Global, db: &mut ObjectDb, line: &str, out: &mut Vec<u8>) -> io::Result<()> {
     for (place, asked) in line.split("; ").enumerate() {
         if place > 0 {
-            write!(out, ";")?;
+            write!(out, "; ")?;
         }
         step(alloc, db, asked, out)?;
     }

@@ -163,12 +163,7 @@ pub fn again(alloc: Global, config: &str, body: &str, out: &mut Vec<u8>) -> io::
 }
 
 /// What a list of three events does: the one of a line, a tick, and the first again.
-fn run_list(
-    alloc: Global,
-    gateway: &mut Gateway,
-    line: &str,
-    out: &mut Vec<u8>,
-) -> io::Result<()> {
+fn run_list(alloc: Global, gateway: &mut Gateway, line: &str, out: &mut Vec<u8>) -> io::Result<()> {
     let mut datagram = [0; MAX_DATAGRAM];
     let event = event_of(gateway.ports(), line, &mut datagram)?;
     match run(alloc, gateway, &[event, Event::Tick, event]) {

@@ -1,7 +1,7 @@
 //! Serving a wire over memory, with a log over memory: every count, and what stands where a receive, a send, a write or a growth
 //! fails.
 
-use crate::case::{number, number_or_none, put_folded, unfolded};
+use crate::case::{number, number_or_none, put_word, unfolded};
 use crate::configurations::read;
 use crate::streams::Narrow;
 use crate::wire::MemWire;
@@ -13,7 +13,8 @@ use std::io::{ErrorKind, Write};
 /// Appends the turns, the events taken, those dropped for want of memory, the receives that failed, the sends that succeeded and those
 /// that failed.
 fn put_served(served: &Served, out: &mut Vec<u8>) -> io::Result<()> {
-    write!(out,
+    write!(
+        out,
         "{} {} {} {} {} {}",
         served.turns,
         served.taken,
@@ -80,8 +81,6 @@ pub fn call(alloc: Global, config: &str, line: &str, out: &mut Vec<u8>) -> io::R
     };
     let end = end_of(alloc, &mut gateway, &mut wire, &mut log, turns)?;
     put_end(&end, out)?;
-    write!(out, " ")?;
-    out.extend_from_slice(wire.calls())?;
-    write!(out, " ")?;
-    put_folded(&log.held, out)
+    put_word(wire.calls(), out)?;
+    put_word(&log.held, out)
 }

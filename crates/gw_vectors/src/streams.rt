@@ -2,7 +2,7 @@
 
 ghost use Rattle.std.specs.Prelude.{Some};
 
-use crate::case::{number, number_or_none, put_folded, unfolded};
+use crate::case::{number, number_or_none, put_word, unfolded};
 use crate::replays::{end_of, put_end};
 use std::alloc::Global;
 use std::io;
@@ -74,6 +74,6 @@ pub fn stream(alloc: Global, config: &str, line: &str, out: &mut Vec<u8>) -> io:
         octets: octets as usize,
     };
     let end = end_of(alloc, config, &mut reader, &mut writer)?;
-    put_folded(&writer.held, out)?;
-    put_end(end, out)
+    put_end(end, out)?;
+    put_word(&writer.held, out)
 }

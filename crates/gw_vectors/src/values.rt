@@ -11,7 +11,11 @@ pub fn tag(alloc: Global, line: &str, out: &mut Vec<u8>) -> io::Result<()> {
     match read_tag(&octets_of(alloc, line)?) {
         Ok(header) => {
             let tag = header.tag;
-            let class = if tag.context { "context" } else { "application" };
+            let class = if tag.context {
+                "context"
+            } else {
+                "application"
+            };
             write!(out, "number {} {class} {:?}: ", tag.number, tag.kind)?;
             let mut encoding = Vec::new(alloc);
             write_tag(&mut encoding, tag)?;
