@@ -4,6 +4,7 @@ use hex::FromHexError;
 use std::alloc::Global;
 use std::io;
 use std::io::{ErrorKind, Write};
+use std::str::FromStr;
 
 /// Whether a line is a case: it isn't empty, and no comment.
 pub fn is_case(line: &str) -> bool {
@@ -19,7 +20,11 @@ pub fn wanted<T: Drop>(found: Option<T>) -> io::Result<T> {
 }
 
 /// A number.
-pub fn number(word: Option<&str>) -> io::Result<u64> {
+pub fn number<T>(word: Option<&str>) -> io::Result<T>
+where
+    T: FromStr + Drop,
+    T::Err: Drop,
+{
     match wanted(word)?.parse() {
         Ok(number) => Ok(number),
         Err(_) => Err(ErrorKind::InvalidData.into()),
@@ -60,7 +65,7 @@ fn put_numbered(text: &str, number: u64, out: &mut Vec<u8>) -> io::Result<()> {
 /// Appends a text so many times, numbered from 0.
 fn put_repeated(repetition: &str, out: &mut Vec<u8>) -> io::Result<()> {
     let (count, text) = wanted(repetition.split_once(' '))?;
-    for place in 0..number(Some(count))? {
+    for place in 0..number::<u64>(Some(count))? {
         put_numbered(text, place, out)?;
     }
     Ok(())

@@ -27,7 +27,7 @@ fn ask(fields: &str) -> io::Result<Ask> {
 fn station(alloc: Global, network: Option<&str>, digits: Option<&str>) -> io::Result<Source> {
     let octets = octets_of(alloc, wanted(digits)?)?;
     Ok(Source {
-        net: wanted(NetNum::new(number(network)? as u16))?,
+        net: wanted(NetNum::new(number(network)?))?,
         mac: wanted(Mac::new(&octets))?,
     })
 }
@@ -47,7 +47,7 @@ pub fn denial(alloc: Global, case: &str, out: &mut Vec<u8>) -> io::Result<()> {
     let denial = Denial {
         number: number(words.next())?,
         tick: number(words.next())?,
-        port: number(words.next())? as u8,
+        port: number(words.next())?,
         source: station(alloc, words.next(), words.next())?,
         ask: ask(fields)?,
         rule: rule(alloc, words.next())?,

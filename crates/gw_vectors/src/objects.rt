@@ -11,25 +11,17 @@ use std::io::{ErrorKind, Write};
 /// How many octets are shown whole.
 const SHOWN: usize = 40;
 
-/// A small number.
-fn narrow(word: Option<&str>) -> io::Result<u32> {
-    match number(word)?.try_into() {
-        Ok(number) => Ok(number),
-        Err(_) => Err(ErrorKind::InvalidData.into()),
-    }
-}
-
 /// The object that a word names, as `5/1`.
 fn object_of(word: &str) -> io::Result<ObjectId> {
     let (kind, instance) = wanted(word.split_once('/'))?;
-    wanted(ObjectId::new(narrow(Some(kind))? as u16, narrow(Some(instance))?))
+    wanted(ObjectId::new(number(Some(kind))?, number(Some(instance))?))
 }
 
 /// The property that a word names and the index, as `87` or `87/16`.
 fn property_of(word: &str) -> io::Result<(u32, Option<u32>)> {
     match word.split_once('/') {
-        Some((property, index)) => Ok((narrow(Some(property))?, Some(narrow(Some(index))?))),
-        None => Ok((narrow(Some(word))?, None)),
+        Some((property, index)) => Ok((number(Some(property))?, Some(number(Some(index))?))),
+        None => Ok((number(Some(word))?, None)),
     }
 }
 

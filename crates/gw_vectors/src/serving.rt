@@ -77,7 +77,7 @@ pub fn call(alloc: Global, config: &str, line: &str, out: &mut Vec<u8>) -> io::R
     let mut log = Narrow {
         held: Vec::new(alloc),
         fails: failing_write,
-        octets: octets as usize,
+        octets,
     };
     let end = end_of(alloc, &mut gateway, &mut wire, &mut log, turns)?;
     put_end(&end, out)?;

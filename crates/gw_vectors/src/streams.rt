@@ -71,7 +71,7 @@ pub fn stream(alloc: Global, config: &str, line: &str, out: &mut Vec<u8>) -> io:
     let mut writer = Narrow {
         held: Vec::new(alloc),
         fails: write,
-        octets: octets as usize,
+        octets,
     };
     let end = end_of(alloc, config, &mut reader, &mut writer)?;
     put_end(end, out)?;
