@@ -1,0 +1,204 @@
+//! Scripts under a configuration: what replay writes, and the same through the gateway's own calls.
+
+use crate::case::{is_case, put_octets};
+use crate::configurations::read;
+use gw_addr::BipAddr;
+use gw_core::{Counts, Denial, Effects, Event, Gateway, RunFault, Sends, StepFault, replay, run};
+use gw_script::{MAX_DATAGRAM, append_end, append_send, parse_line};
+use std::alloc::Global;
+use std::io;
+use std::io::{ErrorKind, Read, Write};
+
+/// How many octets a line of a script has at most.
+const MAX_LINE: usize = 4096;
+
+/// The event lines of a script, without comments and empty lines.
+fn event_lines(alloc: Global, body: &str) -> io::Result<Vec<u8>> {
+    let mut lines = Vec::new(alloc);
+    for line in body.lines() {
+        if is_case(line) {
+            writeln!(&mut lines, "{line}")?;
+        }
+    }
+    Ok(lines)
+}
+
+/// Appends how a replay ended.
+pub fn put_end(end: Result<(), RunFault>, out: &mut Vec<u8>) -> io::Result<()> {
+    match end {
+        Ok(()) => write!(out, "ok"),
+        Err(fault) => write!(out, "{fault}"),
+    }
+}
+
+/// How a replay ends.
+pub fn end_of<R: Read, W: Write>(
+    alloc: Global,
+    config: &str,
+    reader: &mut R,
+    writer: &mut W,
+) -> io::Result<Result<(), RunFault>> {
+    let config = read(alloc, config)?;
+    Ok(replay(alloc, config, reader, writer))
+}
+
+/// What the replay of a script writes, and how it ends.
+pub fn script(alloc: Global, config: &str, body: &str, out: &mut Vec<u8>) -> io::Result<()> {
+    let lines = event_lines(alloc, body)?;
+    let mut reader = lines.as_slice();
+    let end = end_of(alloc, config, &mut reader, out)?;
+    put_end(end, out)?;
+    writeln!(out)
+}
+
+/// A gateway to which nothing has come yet.
+fn make_gateway(alloc: Global, config: &str) -> io::Result<Gateway> {
+    Ok(Gateway::new(alloc, read(alloc, config)?, Counts::default())?)
+}
+
+/// The event that a line writes.
+fn event_of<'a>(
+    ports: u8,
+    line: &str,
+    datagram: &'a mut [u8; MAX_DATAGRAM],
+) -> io::Result<Event<'a>> {
+    if line.len() > MAX_LINE {
+        return Err(ErrorKind::InvalidData.into());
+    }
+    match parse_line(ports.min(8), line.as_bytes(), datagram) {
+        Some(event) => Ok(event),
+        None => Err(ErrorKind::InvalidData.into()),
+    }
+}
+
+/// Appends the line of each denial.
+fn put_denials(denials: &[Denial], out: &mut Vec<u8>) -> io::Result<()> {
+    for denial in denials {
+        out.extend_from_slice(b"deny ")?;
+        gw_audit::line(denial, out)?;
+    }
+    Ok(())
+}
+
+/// Appends the line of each datagram that is sent.
+fn put_sends(sends: &Sends, out: &mut Vec<u8>) -> io::Result<()> {
+    for batch in sends.batches() {
+        for to in batch.targets() {
+            append_send(out, batch.port(), *to, batch.octets())?;
+        }
+    }
+    Ok(())
+}
+
+/// Appends what an event does.
+fn put_effects(effects: &Effects, out: &mut Vec<u8>) -> io::Result<()> {
+    put_denials(effects.denials.as_slice(), out)?;
+    put_sends(&effects.sends, out)?;
+    append_end(out)?;
+    Ok(())
+}
+
+fn stopped(fault: StepFault) -> io::Error {
+    match fault {
+        StepFault::Memory => ErrorKind::OutOfMemory.into(),
+        StepFault::CountEnd => ErrorKind::InvalidData.into(),
+    }
+}
+
+/// What a datagram does. Where a growth is refused, it isn't taken, and is given again.
+fn step(
+    alloc: Global,
+    gateway: &mut Gateway,
+    port: u8,
+    from: BipAddr,
+    octets: &[u8],
+) -> Result<Effects, StepFault> {
+    match gateway.step(alloc, port, from, octets) {
+        Err(StepFault::Memory) => gateway.step(alloc, port, from, octets),
+        stepped => stepped,
+    }
+}
+
+/// What the event of a line does.
+fn take_line(
+    alloc: Global,
+    gateway: &mut Gateway,
+    line: &str,
+    out: &mut Vec<u8>,
+) -> io::Result<()> {
+    let mut datagram = [0; MAX_DATAGRAM];
+    let taken = match event_of(gateway.ports(), line, &mut datagram)? {
+        Event::Tick => match gateway.tick() {
+            Ok(()) => Ok(Effects::none(alloc)),
+            Err(fault) => Err(fault),
+        },
+        Event::Datagram { port, from, octets } => step(alloc, gateway, port, from, octets),
+    };
+    match taken {
+        Ok(effects) => put_effects(&effects, out),
+        Err(fault) => Err(stopped(fault)),
+    }
+}
+
+/// What each event of a script does.
+fn take_lines(
+    alloc: Global,
+    gateway: &mut Gateway,
+    body: &str,
+    out: &mut Vec<u8>,
+) -> io::Result<()> {
+    for line in body.lines() {
+        if is_case(line) {
+            take_line(alloc, gateway, line, out)?;
+        }
+    }
+    Ok(())
+}
+
+/// What a script does where each event that found no memory is given again: with memory, what its replay writes.
+pub fn again(alloc: Global, config: &str, body: &str, out: &mut Vec<u8>) -> io::Result<()> {
+    let mut gateway = make_gateway(alloc, config)?;
+    take_lines(alloc, &mut gateway, body, out)?;
+    writeln!(out, "ok")
+}
+
+/// What a list of three events does: the one of a line, a tick, and the first again.
+fn run_list(alloc: Global, gateway: &mut Gateway, line: &str, out: &mut Vec<u8>) -> io::Result<()> {
+    let mut datagram = [0; MAX_DATAGRAM];
+    let event = event_of(gateway.ports(), line, &mut datagram)?;
+    match run(alloc, gateway, &[event, Event::Tick, event]) {
+        Ok(all) => put_all(&all, out),
+        Err(fault) => Err(stopped(fault)),
+    }
+}
+
+/// Appends what each event of a list does.
+fn put_all(all: &[Effects], out: &mut Vec<u8>) -> io::Result<()> {
+    for effects in all {
+        put_effects(effects, out)?;
+    }
+    Ok(())
+}
+
+/// A line's event, a tick, and that event again, given as one list.
+pub fn list(alloc: Global, config: &str, body: &str, out: &mut Vec<u8>) -> io::Result<()> {
+    let mut gateway = make_gateway(alloc, config)?;
+    run_list(alloc, &mut gateway, body.trim(), out)?;
+    writeln!(out, "ok")
+}
+
+/// What a line writes under two ports.
+pub fn line(alloc: Global, line: &str, out: &mut Vec<u8>) -> io::Result<()> {
+    let mut datagram = [0; MAX_DATAGRAM];
+    match event_of(2, line.trim_matches('"'), &mut datagram) {
+        Ok(Event::Tick) => write!(out, "tick"),
+        Ok(Event::Datagram { port, from, octets }) => {
+            write!(out, "port {port}, {from}, ")?;
+            if octets.is_empty() {
+                return write!(out, "no octets");
+            }
+            put_octets(alloc, octets, out)
+        },
+        Err(_) => write!(out, "nothing"),
+    }
+}

@@ -1,0 +1,79 @@
+//! Replays from a reader of one octet a call, to a writer of some octets a call, each of which fails at a call of the case's choice.
+
+ghost use Rattle.std.specs.Prelude.{Some};
+
+use crate::case::{number, number_or_none, put_word, unfolded};
+use crate::replays::{end_of, put_end};
+use std::alloc::Global;
+use std::io;
+use std::io::{ErrorKind, Read, Write};
+
+/// Gives one octet a call, and fails at the call of this number, from 0.
+#[derive(Drop)]
+struct Slow<'a> {
+    octets: &'a [u8],
+    fails: Option<u64>,
+}
+
+impl Read for Slow<'_> {
+    ghost remaining = { λ reader. Some reader.octets.now };
+
+    fn read(&mut self, buf: &mut [u8]) -> io::Result<usize> {
+        if self.fails == Some(0) {
+            return Err(ErrorKind::Other.into());
+        }
+        self.fails = self.fails.map(|number| number.saturating_sub(1));
+        let count = buf.len().min(1);
+        self.octets.read(&mut buf[..count])
+    }
+}
+
+/// Takes so many octets a call at most, and fails at the call of this number, from 0.
+#[derive(Drop)]
+pub struct Narrow {
+    pub held: Vec<u8>,
+    pub fails: Option<u64>,
+    pub octets: usize,
+}
+
+impl Write for Narrow {
+    ghost contents = { λ writer. Some writer.held.items };
+
+    fn write(&mut self, buf: &[u8]) -> io::Result<usize> {
+        if self.fails == Some(0) {
+            return Err(ErrorKind::Other.into());
+        }
+        self.fails = self.fails.map(|number| number.saturating_sub(1));
+        let count = buf.len().min(self.octets);
+        if self.held.extend_from_slice(&buf[..count]).is_err() {
+            return Err(ErrorKind::OutOfMemory.into());
+        }
+        Ok(count)
+    }
+
+    fn flush(&mut self) -> io::Result<()> {
+        Ok(())
+    }
+}
+
+/// What a replay writes, and how it ends. A case has the call of the reader that fails, or `-`, that of the writer, how many octets
+/// that takes a call, and the script.
+pub fn stream(alloc: Global, config: &str, line: &str, out: &mut Vec<u8>) -> io::Result<()> {
+    let mut words = line.splitn(4, ' ');
+    let fails = number_or_none(words.next())?;
+    let write = number_or_none(words.next())?;
+    let octets = number(words.next())?;
+    let script = unfolded(alloc, words.next().unwrap_or(""))?;
+    let mut reader = Slow {
+        octets: &script,
+        fails,
+    };
+    let mut writer = Narrow {
+        held: Vec::new(alloc),
+        fails: write,
+        octets,
+    };
+    let end = end_of(alloc, config, &mut reader, &mut writer)?;
+    put_end(end, out)?;
+    put_word(&writer.held, out)
+}

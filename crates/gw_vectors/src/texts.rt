@@ -1,0 +1,19 @@
+//! The texts of faults that no other case shows.
+
+use gw_bdt_fdt::{BdtFault, DeleteFault, RegisterFault};
+use gw_npdu::{EncodeFault, NpduFault};
+use gw_priority::PriorityFault;
+use gw_rules::RuleFault;
+use std::io;
+use std::io::Write;
+
+/// A line for each fault.
+pub fn texts(out: &mut Vec<u8>) -> io::Result<()> {
+    writeln!(out, "{}", NpduFault::Short)?;
+    writeln!(out, "{}", EncodeFault::TooLong)?;
+    writeln!(out, "{}", RuleFault::Memory)?;
+    writeln!(out, "{}", BdtFault::Duplicate)?;
+    writeln!(out, "{}", DeleteFault::Absent)?;
+    writeln!(out, "{}", RegisterFault::Full)?;
+    writeln!(out, "{}", PriorityFault::Reserved)
+}
