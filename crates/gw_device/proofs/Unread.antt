@@ -1,5 +1,5 @@
 -- What the device does doesn't rest on an object that nobody may read.
-use Rattle.std.proofs.Common.{◌≡◌, ◌≢◌, ℕ, Bool, true, false, List, [], ◌∷◌, ◌++◌, Option, Some, None, Result, Ok, Err, refl, ap, ◌∙◌}
+use Rattle.std.proofs.Common.{◌≡◌, ◌≢◌, ℕ, Bool, true, false, List, [], ◌∷◌, Option, Some, None, Result, Ok, Err, refl, ap, ◌∙◌}
 use Rattle.std.specs.Prelude.{◌==◌, if◌then◌else◌, is_some}
 use Rattle.gw_addr.specs.Reading.{◌>>=◌}
 use Rattle.gw_apdu.specs.declared.fault.ApduFault.{ApduFault}
@@ -39,9 +39,9 @@ use Rattle.gw_device.specs.Device.{apdu_response, confirmed_response, device_ask
 use Rattle.gw_device.specs.Errors.{read_denied}
 use Rattle.gw_device.specs.Laws.{AsksToRead, DifferIn, NoReadAllowed}
 use Rattle.gw_device.specs.Multi.{Part, asked, enclosed, item, joined, members_part, multi_ack, multi_ask, multi_part, multi_response, named_part, properties_part, property_part, reference_part, set_part}
-use Rattle.gw_device.specs.Read.{named_read, or_error, plain_read_response, read_answer, read_ask, read_response, read_value}
+use Rattle.gw_device.specs.Read.{named_read, or_error, read_answer, read_ask, read_response, read_value}
 use Rattle.gw_device.specs.Response.{Response, fitted, to_client, unchanged}
-use Rattle.gw_device.specs.Services.{read_property, read_property_multiple, set_of, write_property}
+use Rattle.gw_device.specs.Services.{read_property, read_property_multiple, set_of}
 
 -- what another object reads as
 read_other : (o : Object) (c : Configured) (s t : List Slots) (other : Object) (p : ℕ) (index : Option ℕ) → DifferIn o c s t → other ≢ o → read_of (standing c s) other p index ≡ read_of (standing c t) other p index

@@ -1,5 +1,5 @@
 -- What the device asks of the policy, and the object that a read names.
-use Rattle.std.specs.Prelude.{ℕ, ◌==◌, ◌&&◌, if◌then◌else◌, Option, Some}
+use Rattle.std.specs.Prelude.{ℕ, ◌==◌, ◌&&◌, if◌then◌else◌, Some}
 use Rattle.gw_objects.specs.declared.configured.Configured.{Configured}
 use Rattle.gw_objects.specs.declared.property.ObjectType.TheVariants as types
 use Rattle.gw_objects.specs.Objects.{device_id}

@@ -3,7 +3,7 @@
 -- project's choice.
 use Rattle.std.specs.Prelude.{ℕ}
 use Rattle.gw_apdu.specs.declared.writing.ServiceError.{ServiceError}
-use Rattle.gw_apdu.specs.Reasons.{invalid_tag, missing_required_parameter, parameter_out_of_range, too_many_arguments, inconsistent_parameters, unrecognized_service}
+use Rattle.gw_apdu.specs.Reasons.{invalid_tag, missing_required_parameter, parameter_out_of_range, too_many_arguments, inconsistent_parameters}
 use Rattle.gw_objects.specs.declared.fault.ReadFault.{ReadFault}
 use Rattle.gw_objects.specs.declared.fault.ReadFault.TheVariants as read
 use Rattle.gw_objects.specs.declared.fault.WriteFault.{WriteFault}

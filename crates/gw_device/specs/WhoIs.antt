@@ -14,7 +14,7 @@ use Rattle.gw_services.specs.IAm.{i_am_encoding, segmentation_number}
 use Rattle.gw_services.specs.WhoIs.{Limits, WhoIs}
 use Rattle.gw_device.specs.declared.context.Context.{Context}
 use Rattle.gw_device.specs.Asks.{property_ask}
-use Rattle.gw_device.specs.Response.{Response, Answer, silence, unchanged, told}
+use Rattle.gw_device.specs.Response.{Response, silence, unchanged, told}
 use Rattle.gw_device.specs.Services.{who_is, i_am}
 
 -- an unconfirmed request: its type and its service (clause 20.1.3)
