@@ -1,6 +1,6 @@
 //! The foreign device table.
 ghost use Rattle.std.specs.Prelude.{◌≡◌, ◌<◌, ◌≤◌, ◌↔◌, ◌∷◌, ◌^◌, [], length, map};
-ghost use Rattle.std.specs.Prelude.{IsTrue, IsFalse, IfOk, OnOk, OnErr, IsErrOf};
+ghost use Rattle.std.specs.Prelude.{IsTrue, IsFalse, IfOk, IsOk, OnOk, OnErr, IsErrOf};
 ghost use Rattle.std.specs.List.{IsDistinct};
 ghost use Rattle.std.specs.Map.{keys_of};
 ghost use Rattle.std.specs.Iterator.{YieldsFirstRef, item_count};
@@ -153,9 +153,11 @@ impl Fdt {
     }
 
     /// The foreign devices in their order, each with its time to live and the seconds that remain,
-    /// the grace among them, shown as at most 65535. The only fault is want of memory for the list.
+    /// the grace among them, shown as at most 65535. The only fault is want of memory for the list,
+    /// and none is wanted where nobody is registered.
     pub fn rows(&self, alloc: Global) -> Result<Vec<FdtEntry>, AllocError>
-        ensures { IfOk result (λ rows. rows.items ≡ map shown self.now.rows) }
+        ensures rows { IfOk result (λ rows. rows.items ≡ map shown self.now.rows) }
+        ensures none { self.now.rows ≡ [] → IsOk result }
     {
         let mut rows = Vec::with_capacity(alloc, self.leases.len())?;
         for (address, lease) in self.leases.by_address() {

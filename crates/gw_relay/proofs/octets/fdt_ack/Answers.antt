@@ -13,7 +13,7 @@ put_length-requires-clause-most c =
     omega (
       arith,
       ap length c.deref.ensures.value,
-      ap length c.in_ok-rows.ensures,
+      ap length c.in_ok-rows.ensures.rows,
       length-map c.args.fdt.now.rows shown,
       c.count.ensures.count,
       c.count.ensures.few,
