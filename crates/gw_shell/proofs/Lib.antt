@@ -1,6 +1,7 @@
 mod AnnouncementLemmas
 mod AppendLemmas
 mod ChoiceLemmas
+mod HiddenLemmas
 mod NumberedLemmas
 mod ReplayLemmas
 mod ServingLemmas

@@ -146,11 +146,12 @@ IsChosen call (Err fault.CommandLine) = IfSome call AsksNothing
 IsChosen call (Err fault.Memory) = ⊤
 IsChosen call _ = ⊥
 
--- what the program makes of a parse that failed: help where that was asked for, and else a bad command line
+-- what the program makes of a parse that failed: help where that was asked for, and else a bad command line; memory may have run out
+-- in the parse, or for the help
 abbrev pub IsRefusal : ErrorKind → Result Choice Fault → Type 0
 IsRefusal kind (Ok (choice.Help text)) = kind ≡ parse.DisplayHelp
 IsRefusal kind (Err fault.CommandLine) = (kind ≢ parse.DisplayHelp) × (kind ≢ parse.OutOfMemory)
-IsRefusal kind (Err fault.Memory) = ⊤
+IsRefusal kind (Err fault.Memory) = (kind ≡ parse.OutOfMemory) ⊎ (kind ≡ parse.DisplayHelp)
 IsRefusal kind _ = ⊥
 
 -- the parser takes the words, and this is what they call

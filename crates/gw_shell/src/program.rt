@@ -1,6 +1,6 @@
 //! The whole program, over any words, reader and writers.
 
-ghost use Rattle.std.specs.Prelude.{◌≡◌, ◌++◌, [], Bool, List, ℕ, Ok, map, option_map, string_bytes, MatchResult, IfErr, IfOk, IfSome, OnOk, OnErr};
+ghost use Rattle.std.specs.Prelude.{◌≡◌, ◌++◌, ◌∷◌, [], Bool, List, ℕ, Ok, map, option_map, string_bytes, MatchResult, IfErr, IfOk, IfSome, IsOk, OnOk, OnErr};
 ghost use Rattle.std.specs.Io.Buffered.{writer_buffer, writer_contents};
 ghost use Rattle.std.specs.Io.KnownBytes.{Appends};
 ghost use Rattle.std.specs.Process.{exit_status};
@@ -29,6 +29,19 @@ use std::alloc::{AllocError, Global};
 use std::io::{BufWriter, Write};
 use std::process::ExitCode;
 
+/// Writes a text. `Write` where a write fails; then a front of the text is written.
+fn write_text<S: OctetSink>(text: &[u8], sink: &mut S) -> Result<(), Fault>
+    ensures ok { OnOk result (Appends (S.held sink.old) (S.held sink.new) text.now) }
+    ensures front { OnErr result (AppendsFront (S.held sink.old) (S.held sink.new) text.now) }
+    ensures fault { IfErr result (λ f. f ≡ fault.Write) }
+    ensures sure_writer { S.NeverFails sink.old → IsOk result }
+{
+    match write_whole(sink, text) {
+        Ok(()) => Ok(()),
+        Err(_) => Err(Fault::Write),
+    }
+}
+
 /// Prints octets and flushes them. `Write` where a write or the flush fails; then a front of the text
 /// is written.
 fn print<W: Write + Drop>(text: &[u8], output: &mut BufWriter<W>) -> Result<(), Fault>
@@ -41,7 +54,7 @@ fn print<W: Write + Drop>(text: &[u8], output: &mut BufWriter<W>) -> Result<(), 
     ensures fault { IfErr result (λ f. f ≡ fault.Write) }
     ensures flush { OnOk result (writer_buffer output.new ≡ []) }
 {
-    let Ok(()) = write_whole(output, text) else {
+    let Ok(()) = write_text(text, output) else {
         return Err(Fault::Write);
     };
     match output.flush() {
@@ -94,7 +107,7 @@ fn explanation(
 
 /// An explanation with its line feed.
 fn line_of(alloc: Global, explanation: &Explanation) -> Result<Vec<u8>, AllocError>
-    ensures { IfOk result (λ octets. IsLine octets.items) }
+    ensures { IfOk result (λ octets. octets.items ≡ explanation.now ++ 10 ∷ []) }
 {
     let mut line = Vec::from_slice(alloc, explanation.as_bytes())?;
     line.push(b'\n')?;
