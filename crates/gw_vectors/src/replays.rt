@@ -1,6 +1,9 @@
 //! Scripts under a configuration: what replay writes, and the same through the gateway's own calls.
 
-use crate::case::{is_case, put_octets};
+ghost use Rattle.std.specs.Prelude.{◌≤◌, IfSome};
+ghost use Rattle.gw_script.specs.Event.{IsOnPort, event_view};
+
+use crate::case::{is_case, put_octets, wanted};
 use crate::configurations::read;
 use gw_addr::BipAddr;
 use gw_core::{Counts, Denial, Effects, Event, Gateway, RunFault, Sends, StepFault, replay, run};
@@ -56,19 +59,19 @@ fn make_gateway(alloc: Global, config: &str) -> io::Result<Gateway> {
     Ok(Gateway::new(alloc, read(alloc, config)?, Counts::default())?)
 }
 
-/// The event that a line writes.
-fn event_of<'a>(
+/// The event that a line writes under so many ports, if it writes one.
+pub fn event_of<'a>(
     ports: u8,
-    line: &str,
+    line: &[u8],
     datagram: &'a mut [u8; MAX_DATAGRAM],
-) -> io::Result<Event<'a>> {
+) -> Option<Event<'a>>
+    requires { ports ≤ 8 }
+    ensures { IfSome result (λ event. IsOnPort ports (event_view event)) }
+{
     if line.len() > MAX_LINE {
-        return Err(ErrorKind::InvalidData.into());
+        return None;
     }
-    match parse_line(ports.min(8), line.as_bytes(), datagram) {
-        Some(event) => Ok(event),
-        None => Err(ErrorKind::InvalidData.into()),
-    }
+    parse_line(ports, line, datagram)
 }
 
 /// Appends the line of each denial.
@@ -127,7 +130,7 @@ fn take_line(
     out: &mut Vec<u8>,
 ) -> io::Result<()> {
     let mut datagram = [0; MAX_DATAGRAM];
-    let taken = match event_of(gateway.ports(), line, &mut datagram)? {
+    let taken = match wanted(event_of(gateway.ports(), line.as_bytes(), &mut datagram))? {
         Event::Tick => match gateway.tick() {
             Ok(()) => Ok(Effects::none(alloc)),
             Err(fault) => Err(fault),
@@ -165,7 +168,7 @@ pub fn again(alloc: Global, config: &str, body: &str, out: &mut Vec<u8>) -> io::
 /// What a list of three events does: the one of a line, a tick, and the first again.
 fn run_list(alloc: Global, gateway: &mut Gateway, line: &str, out: &mut Vec<u8>) -> io::Result<()> {
     let mut datagram = [0; MAX_DATAGRAM];
-    let event = event_of(gateway.ports(), line, &mut datagram)?;
+    let event = wanted(event_of(gateway.ports(), line.as_bytes(), &mut datagram))?;
     match run(alloc, gateway, &[event, Event::Tick, event]) {
         Ok(all) => put_all(&all, out),
         Err(fault) => Err(stopped(fault)),
@@ -190,15 +193,15 @@ pub fn list(alloc: Global, config: &str, body: &str, out: &mut Vec<u8>) -> io::R
 /// What a line writes under two ports.
 pub fn line(alloc: Global, line: &str, out: &mut Vec<u8>) -> io::Result<()> {
     let mut datagram = [0; MAX_DATAGRAM];
-    match event_of(2, line.trim_matches('"'), &mut datagram) {
-        Ok(Event::Tick) => write!(out, "tick"),
-        Ok(Event::Datagram { port, from, octets }) => {
+    match event_of(2, line.trim_matches('"').as_bytes(), &mut datagram) {
+        Some(Event::Tick) => write!(out, "tick"),
+        Some(Event::Datagram { port, from, octets }) => {
             write!(out, "port {port}, {from}, ")?;
             if octets.is_empty() {
                 return write!(out, "no octets");
             }
             put_octets(alloc, octets, out)
         },
-        Err(_) => write!(out, "nothing"),
+        None => write!(out, "nothing"),
     }
 }

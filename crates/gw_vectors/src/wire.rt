@@ -1,18 +1,15 @@
 //! A wire over memory, whose calls fail at the choice of a case.
 
-ghost use Rattle.std.specs.Prelude.{◌≡◌, None, IfSome};
-ghost use Rattle.gw_script.specs.Event.{IsOnPort, event_view};
+ghost use Rattle.std.specs.Prelude.{◌≡◌, None};
 
+use crate::replays::event_of;
 use gw_addr::BipAddr;
 use gw_core::{Event, Got, RECEIVE_ROOM, Wire, WireFault};
-use gw_script::{MAX_DATAGRAM, parse_line};
+use gw_script::MAX_DATAGRAM;
 use std::alloc::{AllocError, Global};
 
 /// How many ports a wire over memory has.
 const PORTS: u8 = 2;
-
-/// How many octets a line of a script may have.
-const MAX_LINE: usize = 4096;
 
 /// How many calls are noted.
 const NOTED: usize = 64;
@@ -90,16 +87,6 @@ impl<'a> MemWire<'a> {
     }
 }
 
-/// The event that a line writes, if it writes one.
-fn event_of_line<'a>(line: &[u8], datagram: &'a mut [u8; MAX_DATAGRAM]) -> Option<Event<'a>>
-    ensures { IfSome result (λ event. IsOnPort 2 (event_view event)) }
-{
-    if line.len() > MAX_LINE {
-        return None;
-    }
-    parse_line(PORTS, line, datagram)
-}
-
 impl Wire for MemWire<'_> {
     ghost port_count = { λ wire. 2 };
 
@@ -122,7 +109,7 @@ impl Wire for MemWire<'_> {
             return Err(WireFault::Failed);
         }
         let line = self.next_line();
-        match event_of_line(line, &mut self.datagram) {
+        match event_of(PORTS, line, &mut self.datagram) {
             Some(Event::Datagram { port, from, octets }) => {
                 let len = octets.len().min(RECEIVE_ROOM);
                 buf[..len].copy_from_slice(&octets[..len]);
