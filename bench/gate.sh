@@ -140,8 +140,8 @@ lines() {
 }
 crates=$(grep -c '^[a-z]' crates.txt)
 edits=$(git ls-files 'crates/*/must-fail/*.edit' | wc -l)
-tests=$(git ls-files 'crates/*/src/*.rt' | xargs -r cat | grep -c '^ *#\[test\]' || true)
-row="| $(date +%F) | $crates | $(lines rt src) | $(lines antt specs) | $(lines antt proofs) | $edits | $tests | $minutes | $wall | $processors | $peak | $dearest |"
+cases=$(grep -cE ' => |^== (script|again|list|check|texts|run|fronts|faults)( |$)' crates/gw_vectors/stdout || true)
+row="| $(date +%F) | $crates | $(lines rt src) | $(lines antt specs) | $(lines antt proofs) | $edits | $cases | $minutes | $wall | $processors | $peak | $dearest |"
 
 # The newest row is the last of the page's first table.
 awk -v row="$row" '

@@ -6,10 +6,10 @@
 # It goes over the cases of gw_vectors, each in a run of its own, and over `bacgw replay` on each script of the folder; with --only
 # over the cases of one kind alone, as `again` or `edits`. A case then comes to what it does with ample memory; or it tells that
 # there was none, in its line or behind whole blocks of a script; or the program ends with status 1. Of a case of `serve` the events
-# that found no memory may be dropped. A replay does what it does with ample memory, or ends with `bacgw: out of memory` and status
-# 1, and what it wrote is whole blocks, each up to its line `end`, from the front of the right output. NAME.out has the right output;
-# NAME.toml, where it is there, is the configuration. A script of another folder whose right output the program doesn't print yet
-# is left out.
+# that found no memory may be dropped. A case of `run` may end as the program does then; one of `fronts` is runs over and over, so it
+# is passed by. A replay does what it does with ample memory, or ends with `bacgw: out of memory` and status 1, and what it wrote is
+# whole blocks, each up to its line `end`, from the front of the right output. NAME.out has the right output; NAME.toml, where it is
+# there, is the configuration. A script of another folder whose right output the program doesn't print yet is left out.
 #
 # It wants gcc and python3, and both built: (cd crates/gw_vectors && rt run < stdin) and ./bacgw --help. Where all agree with
 # examples/ it writes the date to docs/GATE.md. The last line says how many refused growths were met well.
@@ -42,7 +42,9 @@ folder, top, only = Path(sys.argv[4]).resolve(), Path(sys.argv[5]), sys.argv[6]
 is_examples = folder == top / "examples"
 
 # The kinds whose section is one case.
-WHOLE = {"script", "again", "list", "check", "texts"}
+WHOLE = {"script", "again", "list", "check", "texts", "run", "fronts", "faults"}
+# The kinds that play a case of another kind again and again.
+REPEATED = {"fronts"}
 
 
 def run(words, given, growth=0):
@@ -77,6 +79,9 @@ def is_well_answered(answer, right):
     lines, wanted = output.splitlines(), right[1].splitlines()
     if status != 0 or not lines:
         return False
+    if b"err bacgw: out of memory" in lines:
+        told = [line for line in lines if line.startswith(b"out ")]
+        return b"status 1" in lines and told == [line for line in wanted if line.startswith(b"out ")][:len(told)]
     if lines[-1] == b"out of memory":
         return lines[:-1] == wanted[:len(lines) - 1] and (len(lines) < 4 or lines[-2] == b"end")
     return len(lines) == len(wanted) and all(map(tells_it, lines, wanted))
@@ -119,6 +124,8 @@ def cases_of(text):
         config, *sections = group.split("== ")
         for section in sections:
             head, body = section.split("\n", 1)
+            if head.split(" ")[0] in REPEATED:
+                continue
             front = f"== config {config}== {head}\n"
             if head.split(" ")[0] in WHOLE:
                 yield head, front + body
