@@ -14,11 +14,7 @@ use std::alloc::{AllocError, Global};
 
 /// What `check` prints of a configuration: its summary, and behind it what the policy hides where
 /// that is asked for.
-pub fn checked_text(
-    alloc: Global,
-    explains: bool,
-    config: &Config,
-) -> Result<Vec<u8>, AllocError>
+pub fn checked_text(alloc: Global, explains: bool, config: &Config) -> Result<Vec<u8>, AllocError>
     ensures { IfOk result (λ text. text.items ≡ checked_text explains config.now) }
 {
     let mut text = summary(alloc, config)?.into_bytes();

@@ -119,7 +119,11 @@ impl<'a, R: Files + Net + Clock> Host for SystemHost<'a, R> {
         }
     }
 
-    fn close(&mut self, _sockets: TimedPorts<UdpSock, SystemClock<'a, R>, PollWaiter>, _log: Option<R::File>)
+    fn close(
+        &mut self,
+        _sockets: TimedPorts<UdpSock, SystemClock<'a, R>, PollWaiter>,
+        _log: Option<R::File>,
+    )
         ensures { self.new ≡ self.old }
     {}
 }
