@@ -77,7 +77,7 @@ def is_well_answered(answer, right):
     lines, wanted = output.splitlines(), right[1].splitlines()
     if status != 0 or not lines:
         return False
-    if lines[-1] == b"out of memory":
+    if lines[-1] in (b"out of memory", b"write failed"):  # the second where what is written to had to grow
         return lines[:-1] == wanted[:len(lines) - 1] and (len(lines) < 4 or lines[-2] == b"end")
     return len(lines) == len(wanted) and all(map(tells_it, lines, wanted))
 
