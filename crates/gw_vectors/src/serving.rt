@@ -74,13 +74,9 @@ pub fn call(alloc: Global, config: &str, line: &str, out: &mut Vec<u8>) -> io::R
     let mut gateway = make_gateway(alloc, config, number(words.next())?)?;
     let script = unfolded(alloc, words.next().unwrap_or(""))?;
     let mut wire = MemWire::new(alloc, &script, failing_call)?;
-    let mut log = Narrow {
-        held: Vec::new(alloc),
-        fails: failing_write,
-        octets,
-    };
+    let mut log = Narrow::new(alloc, failing_write, octets)?;
     let end = end_of(alloc, &mut gateway, &mut wire, &mut log, turns)?;
     put_end(&end, out)?;
     put_word(wire.calls(), out)?;
-    put_word(&log.held, out)
+    put_word(log.held(), out)
 }

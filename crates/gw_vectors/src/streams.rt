@@ -4,9 +4,12 @@ ghost use Rattle.std.specs.Prelude.{Some};
 
 use crate::case::{number, number_or_none, put_word, unfolded};
 use crate::replays::{end_of, put_end};
-use std::alloc::Global;
+use std::alloc::{AllocError, Global};
 use std::io;
 use std::io::{ErrorKind, Read, Write};
+
+/// For how many octets a writer has room at the start.
+const ROOM: usize = 4096;
 
 /// Gives one octet a call, and fails at the call of this number, from 0.
 #[derive(Drop)]
@@ -31,9 +34,25 @@ impl Read for Slow<'_> {
 /// Takes so many octets a call at most, and fails at the call of this number, from 0.
 #[derive(Drop)]
 pub struct Narrow {
-    pub held: Vec<u8>,
-    pub fails: Option<u64>,
-    pub octets: usize,
+    held: Vec<u8>,
+    fails: Option<u64>,
+    octets: usize,
+}
+
+impl Narrow {
+    /// One that holds nothing yet, and has room.
+    pub fn new(alloc: Global, fails: Option<u64>, octets: usize) -> Result<Self, AllocError> {
+        Ok(Narrow {
+            held: Vec::with_capacity(alloc, ROOM)?,
+            fails,
+            octets,
+        })
+    }
+
+    /// What it holds.
+    pub fn held(&self) -> &[u8] {
+        &self.held
+    }
 }
 
 impl Write for Narrow {
@@ -68,12 +87,8 @@ pub fn stream(alloc: Global, config: &str, line: &str, out: &mut Vec<u8>) -> io:
         octets: &script,
         fails,
     };
-    let mut writer = Narrow {
-        held: Vec::new(alloc),
-        fails: write,
-        octets,
-    };
+    let mut writer = Narrow::new(alloc, write, octets)?;
     let end = end_of(alloc, config, &mut reader, &mut writer)?;
     put_end(end, out)?;
-    put_word(&writer.held, out)
+    put_word(writer.held(), out)
 }
