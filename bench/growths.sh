@@ -79,14 +79,10 @@ def is_well_answered(answer, right):
     lines, wanted = output.splitlines(), right[1].splitlines()
     if status != 0 or not lines:
         return False
-<<<<<<< HEAD
     if b"err bacgw: out of memory" in lines:
         told = [line for line in lines if line.startswith(b"out ")]
         return b"status 1" in lines and told == [line for line in wanted if line.startswith(b"out ")][:len(told)]
-    if lines[-1] == b"out of memory":
-=======
     if lines[-1] in (b"out of memory", b"write failed"):  # the second where what is written to had to grow
->>>>>>> c9c5d473db290d2c11edee1ec80441568c189f10
         return lines[:-1] == wanted[:len(lines) - 1] and (len(lines) < 4 or lines[-2] == b"end")
     return len(lines) == len(wanted) and all(map(tells_it, lines, wanted))
 
