@@ -157,9 +157,13 @@ python3 "$here/loopback.py" serve "$program" "$work/served.toml" "$work/log" > "
 status=$?
 tells 'a client is served' 0 "bacgw: serving port 1 at 127.3.0.10:47808, broadcast 127.3.0.255:47808; port 2 at 127.4.0.10:47808, \
 broadcast 127.4.0.255:47808; device 1234 on network 100 with 2 objects; 2 rules; log to $work/log"
-same 'the fan is read, the door is denied, and SIGTERM ends it' "$(cat "$work/out")" \
+same 'the fan is read by each socket, the door is denied, a pause takes no processor, and SIGTERM ends it' "$(cat "$work/out")" \
     '127.3.0.10 810A001801080064010130070C0C0140000119553E91013F
 127.3.0.10 810A001101080064010150080C9102911B
+idle without a datagram
+127.4.0.10 810A001801080064010130090C0C0140000119553E91013F
+127.4.0.10 810A0018010800640101300A0C0C0140000119553E91013F
+127.3.0.10 810A0018010800640101300B0C0C0140000119553E91013F
 status -15'
 same 'the log has the denial behind what stood there' "$(sed 's/^1 [0-9]* /1 . /' "$work/log")" \
     'a line of before
@@ -176,6 +180,19 @@ taken 127.3.0.10 1
 taken 127.3.0.255 1
 taken 127.4.0.10 2
 taken 127.4.0.255 2
+printf '[[port]]\nnetwork = 3\naddress = "127.5.0.10:47808"\nbroadcast = "127.5.0.255:47808"\n' >> "$work/served.toml"
+taken 127.5.0.10 3
+taken 127.5.0.255 3
+
+# A configuration of many octets is read whole: its last rule stands behind them.
+for octets in 4000 900000; do
+    { cat "$here/two_subnets.toml"; head -c "$octets" /dev/zero | tr '\0' '#'; printf '\n[[rule]]\nname = "last"\nallow = true\n'; } > "$work/long.toml"
+    checked "$work/long.toml"
+    echo 'ok 2 ports 1 objects 4 rules' > "$work/line"
+    agrees "a configuration behind $octets octets" 0 "$work/line" /dev/null
+done
+checked "$work"
+tells 'a folder in the place of a configuration' 1 'bacgw: cannot read configuration'
 
 # What the policy hides is told behind the first line, where that is asked for.
 hiding '' > "$work/hiding.toml"

@@ -1,17 +1,21 @@
 """Tries `bacgw run` on the loopback device, by the standard library alone.
 
-    loopback.py serve PROGRAM FILE LOG       reads two points from a port of its own, and ends the gateway by SIGTERM
+    loopback.py serve PROGRAM FILE LOG       reads points by each of its sockets, also behind a pause, and ends it by SIGTERM
     loopback.py taken PROGRAM FILE ADDRESS   runs it while a socket stands at this address
 
 It prints the answers in hexadecimal and the exit status; what the gateway tells goes to standard error.
 """
 
+import os
 import signal
 import socket
 import subprocess
 import sys
+import time
 
-CLIENT, PORT_1, UDP = "127.3.0.5", "127.3.0.10", 47808
+CLIENT, PORT_1, PORT_2, UDP = "127.3.0.5", "127.3.0.10", "127.4.0.10", 47808
+BROADCAST_1, BROADCAST_2 = "127.3.0.255", "127.4.0.255"
+PAUSE = 2.5  # seconds without a datagram
 
 
 def open_line(address):
@@ -22,24 +26,37 @@ def open_line(address):
     return line
 
 
-def read(line, number, instance):
-    """Reads Present_Value of a Binary Value of the device on network 100, and prints the answer (clause 15.5)."""
+def read(line, number, instance, to):
+    """Reads Present_Value of a Binary Value of the device on network 100 by this socket, and prints the answer (clause 15.5)."""
     npdu = bytes.fromhex("0124006401" "01FF")
     apdu = bytes([0x00, 0x05, number, 0x0C, 0x0C]) + (5 << 22 | instance).to_bytes(4, "big") + b"\x19\x55"
-    line.sendto(b"\x81\x0a" + (len(npdu + apdu) + 4).to_bytes(2, "big") + npdu + apdu, (PORT_1, UDP))
+    line.sendto(b"\x81\x0a" + (len(npdu + apdu) + 4).to_bytes(2, "big") + npdu + apdu, (to, UDP))
     message, sender = line.recvfrom(1508)
     print(sender[0], message.hex().upper())
 
 
+def processor_time(process):
+    """The seconds of a processor that a process has taken."""
+    with open(f"/proc/{process}/stat", "rb") as file:
+        fields = file.read().rpartition(b")")[2].split()
+    return (int(fields[11]) + int(fields[12])) / os.sysconf("SC_CLK_TCK")
+
+
 def serve(program, file, log):
-    """Reads the fan and the door of a gateway that serves, and ends it."""
+    """Reads the fan and the door of a gateway that serves, and the fan again by each socket behind a pause, and ends it."""
     words = [program, "run", "--config", file, "--log", log, "--verbose"]
     gateway = subprocess.Popen(words, stdin=subprocess.DEVNULL, stderr=subprocess.PIPE)
     try:
         sys.stderr.buffer.write(gateway.stderr.readline())
         line = open_line(CLIENT)
-        read(line, 7, 1)
-        read(line, 8, 2)
+        read(line, 7, 1, PORT_1)
+        read(line, 8, 2, PORT_1)
+        before = processor_time(gateway.pid)
+        time.sleep(PAUSE)
+        print("idle" if processor_time(gateway.pid) - before < 0.1 else "busy", "without a datagram")
+        for number, to in enumerate((BROADCAST_2, PORT_2, BROADCAST_1), 9):
+            read(line, number, 1, to)
+            time.sleep(1.2)
     finally:
         gateway.send_signal(signal.SIGTERM)
         print("status", gateway.wait(timeout=10))
