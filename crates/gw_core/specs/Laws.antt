@@ -163,6 +163,10 @@ NothingAskedIsChanged = (w : State) (port : ℕ) (from : BipAddr) (octets : List
 abbrev pub NothingAskedIsWritten : Type 0
 NothingAskedIsWritten = (w : State) (e : Event) → asks w e ≡ [] → change_at w e ≡ None
 
+-- A gateway has the ports of its configuration, whatever comes.
+abbrev pub PortsStay : Type 0
+PortsStay = (c : Configuration) (k : Counts) (h : List Event) → length (state_after c k h).relay.links ≡ length c.ports
+
 -- What is configured of the device never changes.
 abbrev pub ConfigurationStays : Type 0
 ConfigurationStays = (c : Configuration) (k : Counts) (h : List Event) →

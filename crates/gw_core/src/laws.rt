@@ -2,13 +2,14 @@
 
 ghost use Rattle.gw_core.specs.Examples.{AllArePlaced, BroadcastIsDistributed, CountsEnd, DeniedWriteIsUnseen, DenialsAreCountedOn, EachCutIsDropped, GlobalWhoIsGoesOn, HiddenObjectIsUntold, HiddenReadIsDenied, HiddenWriteIsUnseen, HidingIsSeen, LearnedRouteIsTaken, LocalReadIsUnheard, ReadIsAnswered, RegistrationEnds, RelinquishIsSeen, RoutedReadIsAnswered, UnknownNetworkIsSought, UnknownObjectIsTold, WhoIsIsAnswered, WriteIsSeen, WrongLengthsAreDropped};
 ghost use Rattle.gw_core.specs.NoLeak.{AsksCarryTheirClaim, QuietIsUnseen, WritesAreHidden, WritesAreUnread};
-ghost use Rattle.gw_core.specs.Laws.{AllowedTrafficIsSent, ConfigurationStays, DeniedAsksAreLogged, DeniedBroadcastsAreKept, DeniedReadsAreRefused, DeniedWritesAreRefused, DenialsAreCounted, DenialsHaveTheirTick, DroppedNeedsNoMemory, LogIsNumbered, NothingAskedIsChanged, NothingAskedIsLogged, NothingAskedIsWritten, RelayTicksAreCounted, RunsExtendHistories, StepsExtendHistories, TicksAreCounted, TicksOnlyCount};
+ghost use Rattle.gw_core.specs.Laws.{AllowedTrafficIsSent, ConfigurationStays, DeniedAsksAreLogged, DeniedBroadcastsAreKept, DeniedReadsAreRefused, DeniedWritesAreRefused, DenialsAreCounted, DenialsHaveTheirTick, DroppedNeedsNoMemory, LogIsNumbered, NothingAskedIsChanged, NothingAskedIsLogged, NothingAskedIsWritten, PortsStay, RelayTicksAreCounted, RunsExtendHistories, StepsExtendHistories, TicksAreCounted, TicksOnlyCount};
 
-/// What holds after every history: each step extends it, and so does each list of events; and what is
-/// configured of the device stays.
+/// What holds after every history: each step extends it, and so does each list of events; and the ports
+/// and what is configured of the device stay.
 pub fn histories()
     ensures steps { StepsExtendHistories }
     ensures runs { RunsExtendHistories }
+    ensures ports { PortsStay }
     ensures configuration { ConfigurationStays }
 {}
 

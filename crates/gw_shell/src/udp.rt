@@ -43,7 +43,7 @@ impl UdpSock {
         self.socket.set_broadcast(true)
     }
 
-    /// Lets those be told who wait at the registry that a datagram has come.
+    /// Registers the socket for readability.
     pub fn register(&mut self, registry: &Registry) -> io::Result<()> {
         registry.register(&mut self.socket, TOKEN, Interest::READABLE)
     }

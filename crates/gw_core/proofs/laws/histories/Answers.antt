@@ -1,4 +1,4 @@
-use Rattle.gw_core.proofs.HistoryLemmas.{configuration_stays, steps_extend, runs_extend}
+use Rattle.gw_core.proofs.HistoryLemmas.{configuration_stays, ports_stay, runs_extend, steps_extend}
 use Rattle.gw_core.proofs.laws.histories.Goals as goal
 
 pub returns-clause-steps : goal.returns-clause-steps
@@ -6,6 +6,9 @@ returns-clause-steps c = steps_extend
 
 pub returns-clause-runs : goal.returns-clause-runs
 returns-clause-runs c = runs_extend
+
+pub returns-clause-ports : goal.returns-clause-ports
+returns-clause-ports c = ports_stay
 
 pub returns-clause-configuration : goal.returns-clause-configuration
 returns-clause-configuration c = configuration_stays
