@@ -2,6 +2,7 @@ pub mod DenialLemmas
 pub mod SilenceLemmas
 pub mod EffectLemmas
 pub mod HistoryLemmas
+pub mod StandLemmas
 pub mod ExampleRuns
 pub mod LogLemmas
 pub mod ShownLemmas

@@ -11,7 +11,7 @@ use Rattle.gw_objects.specs.Write.{Write}
 use Rattle.gw_routes.specs.History.{History as Learned}
 use Rattle.gw_routes.specs.History.{IsStateAfter as IsTableAfter}
 use Rattle.gw_relay.specs.History.{Acts as PortActs}
-use Rattle.gw_relay.specs.History.{StandAfter, acts_moved, learned_moved, ports_from}
+use Rattle.gw_relay.specs.History.{StandAfter, acts_moved, initial_acts, learned_moved, ports_from}
 use Rattle.gw_relay.specs.Initial.{direct_of, initial, routed_of}
 use Rattle.gw_relay.specs.State.{Move, moved, moved_by}
 use Rattle.gw_core.specs.Denials.{denials_at}
@@ -126,6 +126,18 @@ abbrev pub RoutesGoOn : State → Event → State → Type 0
 RoutesGoOn before event after = (c : Configuration) (learned : Learned) →
     RoutesStand c learned before
     → RoutesStand c (learned_moved (move_at before event) before.relay.routes learned) after
+
+-- What came of a history on each port: the entries of the last granted table of peers, or the configured ones,
+-- and the granted registrations and deletions and the ticks, newest first.
+unfoldable pub port_acts : Configuration → Counts → List Event → List PortActs
+port_acts c k [] = map initial_acts c.ports
+port_acts c k (e ∷ h) = acts_moved (move_at (state_after c k h) e) (port_acts c k h)
+
+-- the networks that were granted to be learned in a history, each with its route, newest first
+unfoldable pub learnings : Configuration → Counts → List Event → Learned
+learnings c k [] = []
+learnings c k (e ∷ h) =
+    learned_moved (move_at (state_after c k h) e) (state_after c k h).relay.routes (learnings c k h)
 
 -- ---- from a state
 

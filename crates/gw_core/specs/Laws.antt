@@ -14,7 +14,7 @@ use Rattle.gw_core.specs.declared.event.Counts.{Counts}
 use Rattle.gw_script.specs.Event.{Event}
 use Rattle.gw_script.specs.Event.{Datagram, Tick}
 use Rattle.gw_policy_text.specs.Configuration.{Configuration}
-use Rattle.gw_core.specs.History.{state_after, run, history_after, IsStep, IsStateAfter, effects, run_after, run_from, state_from, next}
+use Rattle.gw_core.specs.History.{RoutesStand, TablesStand, learnings, port_acts, state_after, run, history_after, IsStep, IsStateAfter, effects, run_after, run_from, state_from, next}
 use Rattle.gw_rules.specs.Ask.{Ask}
 use Rattle.gw_rules.specs.declared.rule.Rule.{Rule}
 use Rattle.gw_rules.specs.RuleList.{first, allows}
@@ -162,6 +162,15 @@ NothingAskedIsChanged = (w : State) (port : ℕ) (from : BipAddr) (octets : List
 -- An event that asks nothing writes nothing.
 abbrev pub NothingAskedIsWritten : Type 0
 NothingAskedIsWritten = (w : State) (e : Event) → asks w e ≡ [] → change_at w e ≡ None
+
+-- After every history the ports' tables are those that its granted acts and its ticks left.
+abbrev pub ActsLeaveTheTables : Type 0
+ActsLeaveTheTables = (c : Configuration) (k : Counts) (h : List Event) → TablesStand c (port_acts c k h) (state_after c k h)
+
+-- And the routes are the configured ones, and those of the networks that were granted to be learned.
+abbrev pub LearningsLeaveTheRoutes : Type 0
+LearningsLeaveTheRoutes =
+    (c : Configuration) (k : Counts) (h : List Event) → RoutesStand c (learnings c k h) (state_after c k h)
 
 -- A gateway has the ports of its configuration, whatever comes.
 abbrev pub PortsStay : Type 0

@@ -2,13 +2,16 @@
 
 ghost use Rattle.gw_core.specs.Examples.{AllArePlaced, BroadcastIsDistributed, CountsEnd, DeniedWriteIsUnseen, DenialsAreCountedOn, EachCutIsDropped, GlobalWhoIsGoesOn, HiddenObjectIsUntold, HiddenReadIsDenied, HiddenWriteIsUnseen, HidingIsSeen, LearnedRouteIsTaken, LocalReadIsUnheard, ReadIsAnswered, RegistrationEnds, RelinquishIsSeen, RoutedReadIsAnswered, UnknownNetworkIsSought, UnknownObjectIsTold, WhoIsIsAnswered, WriteIsSeen, WrongLengthsAreDropped};
 ghost use Rattle.gw_core.specs.NoLeak.{AsksCarryTheirClaim, QuietIsUnseen, WritesAreHidden, WritesAreUnread};
-ghost use Rattle.gw_core.specs.Laws.{AllowedTrafficIsSent, ConfigurationStays, DeniedAsksAreLogged, DeniedBroadcastsAreKept, DeniedReadsAreRefused, DeniedWritesAreRefused, DenialsAreCounted, DenialsHaveTheirTick, DroppedNeedsNoMemory, LogIsNumbered, NothingAskedIsChanged, NothingAskedIsLogged, NothingAskedIsWritten, PortsStay, RelayTicksAreCounted, RunsExtendHistories, StepsExtendHistories, TicksAreCounted, TicksOnlyCount};
+ghost use Rattle.gw_core.specs.Laws.{ActsLeaveTheTables, AllowedTrafficIsSent, ConfigurationStays, DeniedAsksAreLogged, DeniedBroadcastsAreKept, DeniedReadsAreRefused, DeniedWritesAreRefused, DenialsAreCounted, DenialsHaveTheirTick, DroppedNeedsNoMemory, LearningsLeaveTheRoutes, LogIsNumbered, NothingAskedIsChanged, NothingAskedIsLogged, NothingAskedIsWritten, PortsStay, RelayTicksAreCounted, RunsExtendHistories, StepsExtendHistories, TicksAreCounted, TicksOnlyCount};
 
-/// What holds after every history: each step extends it, and so does each list of events; and the ports
-/// and what is configured of the device stay.
+/// What holds after every history: each step extends it, and so does each list of events; the ports'
+/// tables and the routes are what the acts left that it granted; and the ports and what is configured
+/// of the device stay.
 pub fn histories()
     ensures steps { StepsExtendHistories }
     ensures runs { RunsExtendHistories }
+    ensures tables { ActsLeaveTheTables }
+    ensures routes { LearningsLeaveTheRoutes }
     ensures ports { PortsStay }
     ensures configuration { ConfigurationStays }
 {}

@@ -1,0 +1,74 @@
+-- The ports' tables and the routes stand after every history as its granted acts left them.
+use Rattle.std.proofs.Common.{◌≡◌, ℕ, List, [], ◌∷◌, map, Option, Some, None, refl, sym, subst}
+use Rattle.gw_policy_text.specs.Configuration.{Configuration}
+use Rattle.gw_relay.proofs.Histories.{changes_extend, configured_stand, ticks_extend}
+use Rattle.gw_relay.specs.History.{StandAfter, acts_moved, learned_moved, ports_from}
+use Rattle.gw_relay.specs.History.{Acts as PortActs}
+use Rattle.gw_relay.specs.Initial.{direct_of, routed_of}
+use Rattle.gw_relay.specs.State.{Move, Commit, Relay, moved, moved_by}
+use Rattle.gw_relay.specs.State.{Tick as Later}
+use Rattle.gw_relay.specs.declared.change.Change.TheVariants.{Entries, Registration, Deletion, Learnings}
+use Rattle.gw_relay.specs.declared.port.Port.{Port}
+use Rattle.gw_routes.proofs.Learning.{after_each}
+use Rattle.gw_routes.specs.History.{History as Learned}
+use Rattle.gw_routes.specs.History.{IsStateAfter as IsTableAfter}
+use Rattle.gw_routes.specs.History.{learned_after, networks_learned}
+use Rattle.gw_routes.specs.Table.{Routed, route_by}
+use Rattle.gw_script.specs.Event.{Event}
+use Rattle.gw_core.specs.Effects.{move_at}
+use Rattle.gw_core.specs.History.{RoutesStand, TablesStand, acts_of, learnings, next, port_acts, state_after}
+use Rattle.gw_core.specs.Laws.{ActsLeaveTheTables, LearningsLeaveTheRoutes}
+use Rattle.gw_core.specs.State.{State}
+use Rattle.gw_core.specs.declared.event.Counts.{Counts}
+use Rattle.gw_core.proofs.HistoryLemmas.{state_next}
+
+tables_moved : (m : Option Move) (relay : Relay) (ports : List Port) (acts : List PortActs) → StandAfter relay.links ports acts
+    → StandAfter (moved m relay).links ports (acts_moved m acts)
+tables_moved None relay ports acts stand = stand
+tables_moved (Some (Commit change)) relay ports acts stand = changes_extend change relay.links ports acts stand
+tables_moved (Some Later) relay ports acts stand = ticks_extend relay.links ports acts stand
+
+routes_moved : (m : Option Move) (relay : Relay) (direct : List ℕ) (configured : Routed) (h : Learned)
+    → IsTableAfter relay.routes direct configured h
+    → IsTableAfter (moved m relay).routes direct configured (learned_moved m relay.routes h)
+routes_moved None relay direct configured h stand = stand
+routes_moved (Some (Commit (Entries port entries))) relay direct configured h stand = stand
+routes_moved (Some (Commit (Registration port address time_to_live))) relay direct configured h stand = stand
+routes_moved (Some (Commit (Deletion port address))) relay direct configured h stand = stand
+routes_moved (Some (Commit (Learnings port router networks))) relay direct configured h stand =
+    after_each networks relay.routes _ direct configured h (route_by port router) refl stand
+routes_moved (Some Later) relay direct configured h stand = stand
+
+-- the tables of the next state
+tables_next : (c : Configuration) (w : State) (e : Event) (acts : List PortActs) → TablesStand c acts w
+    → TablesStand c (acts_moved (move_at w e) acts) (next w e)
+unfolding next
+tables_next c w e acts stand = tables_moved (move_at w e) w.relay (ports_from 1 c.ports) acts stand
+
+routes_next : (c : Configuration) (w : State) (e : Event) (h : Learned) → RoutesStand c h w
+    → RoutesStand c (learned_moved (move_at w e) w.relay.routes h) (next w e)
+unfolding next
+routes_next c w e h stand = routes_moved (move_at w e) w.relay (direct_of c) (map routed_of c.routes) h stand
+
+-- before any event
+tables_first : (c : Configuration) (k : Counts) → TablesStand c (port_acts c k []) (state_after c k [])
+unfolding acts_of moved_by port_acts
+tables_first c k = configured_stand 1 c.ports
+
+routes_first : (c : Configuration) (k : Counts) → RoutesStand c (learnings c k []) (state_after c k [])
+unfolding acts_of learned_after learnings moved_by networks_learned
+routes_first c k = refl
+
+pub acts_leave_the_tables : ActsLeaveTheTables
+unfolding port_acts
+acts_leave_the_tables c k [] = tables_first c k
+acts_leave_the_tables c k (e ∷ h) =
+    subst (TablesStand c (port_acts c k (e ∷ h))) (sym (state_next c k h e))
+    (tables_next c (state_after c k h) e (port_acts c k h) (acts_leave_the_tables c k h))
+
+pub learnings_leave_the_routes : LearningsLeaveTheRoutes
+unfolding learnings
+learnings_leave_the_routes c k [] = routes_first c k
+learnings_leave_the_routes c k (e ∷ h) =
+    subst (RoutesStand c (learnings c k (e ∷ h))) (sym (state_next c k h e))
+    (routes_next c (state_after c k h) e (learnings c k h) (learnings_leave_the_routes c k h))
