@@ -46,7 +46,8 @@ use Rattle.gw_script.specs.Event.{Datagram}
 use Rattle.gw_core.specs.Asks.{apdu_asks, asks, asks_for, cast_asks, link_asks, manage_asks, message_asks, route_asks}
 use Rattle.gw_core.specs.Effects.{answer_sends, apdu_change, change_at, change_for, message_sends, move_at, relay_change_for, sends, sends_for}
 use Rattle.gw_core.specs.Laws.{DroppedNeedsNoMemory, NothingAskedIsChanged, NothingAskedIsWritten}
-use Rattle.gw_core.specs.Receive.{Message, Received, dropped, managed, unregistered, message, receive}
+use Rattle.gw_relay.specs.Message.{Message}
+use Rattle.gw_core.specs.Receive.{Received, dropped, managed, unregistered, message, receive}
 use Rattle.gw_core.specs.Reply.{apdu_for, context_of, reply_npdu, reply_sends, max_reply_apdu}
 use Rattle.gw_core.specs.State.{device_network}
 use Rattle.gw_core.proofs.DenialLemmas.{answer_put, asks_put}
@@ -275,7 +276,7 @@ unchanged rules relay d (unregistered m) none = refl
 unchanged rules relay d (message m) none =
     let parts = five_empty [] (cast_asks (message m)) (route_asks relay (message m)) (manage_asks relay (message m))
     (message_asks rules d m) none in
-    unasked_learning rules relay.links relay.routes m.here m.link m.npdu parts.3
+    unasked_learning rules relay m parts.3
 
 pub nothing_asked_is_changed : NothingAskedIsChanged
 unfolding asks move_at

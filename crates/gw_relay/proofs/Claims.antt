@@ -3,13 +3,11 @@ use Rattle.std.proofs.Common.{◌≡◌, ap, refl, subst, ℕ, Bool, true, false
 use Rattle.std.specs.Prelude.{◌&&◌, if◌then◌else◌}
 use Rattle.std.specs.Int.{w16, from_be_bytes}
 use Rattle.std.specs.Option.{option_map, option_map_or}
-use Rattle.gw_addr.specs.declared.bip.BipAddr.{BipAddr}
 use Rattle.gw_addr.specs.declared.station.Source.{Source}
 use Rattle.gw_addr.specs.Station.{key_of, network_of}
-use Rattle.gw_bvll.specs.Bvll.{Message as Frame}
 use Rattle.gw_bvll.specs.Bvll as bvll
-use Rattle.gw_npdu.specs.Npdu.{Destination, Fields, payload_octets}
-use Rattle.gw_routes.specs.Table.{Table, way}
+use Rattle.gw_npdu.specs.Npdu.{Destination, payload_octets}
+use Rattle.gw_routes.specs.Table.{way}
 use Rattle.gw_routes.specs.declared.route.Way.{Way}
 use Rattle.gw_routes.specs.declared.route.Way.TheVariants as ways
 use Rattle.gw_rules.specs.Allowed.{NoneAllowed}
@@ -19,10 +17,10 @@ use Rattle.gw_rules.specs.declared.operation.Operation.TheVariants as operations
 use Rattle.gw_rules.specs.declared.rule.Rule.{Rule}
 use Rattle.gw_relay.specs.Asks.{link_ask}
 use Rattle.gw_relay.specs.Cast.{cast_asks, goes_on, is_broadcast}
-use Rattle.gw_relay.specs.Claim.{claimed, link_source}
 use Rattle.gw_relay.specs.Laws.{AreFrom, BroadcastsCarryTheirClaim, NetworkMessagesCarryTheirClaim, RoutesAreKept, RoutingCarriesTheClaim, TableAsksReadNothing, TablesAreKept}
 use Rattle.gw_relay.specs.Link.{link_change}
-use Rattle.gw_relay.specs.Manage.{is_i_am_router, is_what_is_network_number, is_who_is_router, learn_ask, learn_steps, learned, manage_asks, networks_in, question_of, question_steps}
+use Rattle.gw_relay.specs.Manage.{is_i_am_router, is_what_is_network_number, is_who_is_router, learn_ask, learn_steps, learned, manage_asks, named_networks, question_of, question_steps}
+use Rattle.gw_relay.specs.Message.{Message}
 use Rattle.gw_relay.specs.Route.{copy, is_local, leaves, others, steps_by}
 use Rattle.gw_relay.specs.State.{Commit, Relay, after, moved}
 use Rattle.gw_relay.specs.Steps.{Step, asks_of}
@@ -79,24 +77,23 @@ table_asks_read_nothing port from (bvll.original_broadcast npdu) = tt
 
 -- ---- the routes
 
-none_learned : (rules : List Rule) (here : PortState) (from : BipAddr) (npdu : Fields) (networks : List ℕ)
-    → NoneAllowed (IsFor operations.Learn) rules (map (learn_ask here from npdu) networks) → learned rules here from npdu networks ≡ []
-none_learned rules here from npdu [] h = refl
-none_learned rules here from npdu (n ∷ networks) h =
-    let denied : allows rules (learn_ask here from npdu n) ≡ false = h.0 refl in
-    rw denied (none_learned rules here from npdu networks h.1)
+none_learned : (rules : List Rule) (m : Message) (networks : List ℕ)
+    → NoneAllowed (IsFor operations.Learn) rules (map (learn_ask m) networks) → learned rules m networks ≡ []
+none_learned rules m [] h = refl
+none_learned rules m (n ∷ networks) h =
+    let denied : allows rules (learn_ask m n) ≡ false = h.0 refl in
+    rw denied (none_learned rules m networks h.1)
 
-moved_by : (b : Bool) (rules : List Rule) (relay : Relay) (here : PortState) (from : BipAddr) (npdu : Fields) → is_i_am_router npdu ≡ b
-    → NoneAllowed (IsFor operations.Learn) rules (manage_asks relay.links relay.routes here from npdu)
-    → moved (option_map Commit (if b then Some (Learnings here.port.number from (learned rules here from npdu (networks_in (payload_octets npdu.payload)))) else None)) relay ≡ relay
-moved_by true rules relay here from npdu is h =
-    ap (λ (networks : List ℕ). after (Learnings here.port.number from networks) relay)
-    (none_learned rules here from npdu (networks_in (payload_octets npdu.payload))
-    (subst (NoneAllowed (IsFor operations.Learn) rules) (learned_asks relay.links relay.routes here from npdu is) h))
-moved_by false rules relay here from npdu is h = refl
+moved_by : (b : Bool) (rules : List Rule) (relay : Relay) (m : Message) → is_i_am_router m.npdu ≡ b
+    → NoneAllowed (IsFor operations.Learn) rules (manage_asks relay m)
+    → moved (option_map Commit (if b then Some (Learnings m.here.port.number m.link (learned rules m (named_networks m))) else None)) relay ≡ relay
+moved_by true rules relay m is h =
+    ap (λ (networks : List ℕ). after (Learnings m.here.port.number m.link networks) relay)
+    (none_learned rules m (named_networks m) (subst (NoneAllowed (IsFor operations.Learn) rules) (learned_asks relay m is) h))
+moved_by false rules relay m is h = refl
 
 pub routes_are_kept : RoutesAreKept
-routes_are_kept rules relay here from npdu h = moved_by (is_i_am_router npdu) rules relay here from npdu refl h
+routes_are_kept rules relay m h = moved_by (is_i_am_router m.npdu) rules relay m refl h
 
 -- ---- whose asks
 
@@ -116,57 +113,48 @@ steps_if source false xs ys f g = g
 
 pub broadcasts_carry_their_claim : BroadcastsCarryTheirClaim
 unfolding cast_asks
-broadcasts_carry_their_claim here from frame npdu =
-    let source = claimed here.port.network (link_source from frame) npdu in
-    asks_if source (goes_on here from frame && is_broadcast frame) _ [] (said source _ refl refl, tt) tt
+broadcasts_carry_their_claim m =
+    asks_if m.claim (goes_on m.here m.from m.frame && is_broadcast m.frame) _ [] (said m.claim _ refl refl, tt) tt
 
-from_copies : (on : PortState) (from : BipAddr) (npdu : Fields) (d : Destination) (links : List PortState)
-    → AreFrom (claimed on.port.network from npdu) (asks_of (map (copy on from npdu d) links))
-from_copies on from npdu d [] = tt
-from_copies on from npdu d (link ∷ links) = (said (claimed on.port.network from npdu) _ refl refl, from_copies on from npdu d links)
+from_copies : (m : Message) (d : Destination) (links : List PortState) → AreFrom m.claim (asks_of (map (copy m d) links))
+from_copies m d [] = tt
+from_copies m d (link ∷ links) = (said m.claim _ refl refl, from_copies m d links)
 
-from_way : (links : List PortState) (on : PortState) (from : BipAddr) (npdu : Fields) (d : Destination) (by : Way)
-    → AreFrom (claimed on.port.network from npdu) (asks_of (steps_by links on from npdu d by))
-from_way links on from npdu d ways.Everywhere = from_copies on from npdu d (others on.port.number links)
-from_way links on from npdu d (ways.Port other) =
-    let source = claimed on.port.network from npdu in
-    steps_if source (leaves on.port.number (ways.Port other)) _ [] (said source _ refl refl, tt) tt
-from_way links on from npdu d (ways.Router route) =
-    let source = claimed on.port.network from npdu in
-    steps_if source (leaves on.port.number (ways.Router route)) _ [] (said source _ refl refl, tt) tt
-from_way links on from npdu d ways.Device = tt
-from_way links on from npdu d ways.Unknown = (said (claimed on.port.network from npdu) _ refl refl, tt)
+from_way : (relay : Relay) (m : Message) (d : Destination) (by : Way) → AreFrom m.claim (asks_of (steps_by relay m d by))
+from_way relay m d ways.Everywhere = from_copies m d (others m.here.port.number relay.links)
+from_way relay m d (ways.Port other) =
+    steps_if m.claim (leaves m.here.port.number (ways.Port other)) _ [] (said m.claim _ refl refl, tt) tt
+from_way relay m d (ways.Router route) =
+    steps_if m.claim (leaves m.here.port.number (ways.Router route)) _ [] (said m.claim _ refl refl, tt) tt
+from_way relay m d ways.Device = tt
+from_way relay m d ways.Unknown = (said m.claim _ refl refl, tt)
 
 pub routing_carries_the_claim : RoutingCarriesTheClaim
-routing_carries_the_claim relay on from npdu =
-    steps_if (claimed on.port.network from npdu) (is_local npdu.payload) [] _ tt (by npdu.destination)
+routing_carries_the_claim relay m = steps_if m.claim (is_local m.npdu.payload) [] _ tt (by m.npdu.destination)
   where
-    by : (d : Option Destination) → AreFrom (claimed on.port.network from npdu)
-        (asks_of (option_map_or (λ d. steps_by relay.links on from npdu d (way relay.routes d.address.network)) d []))
+    by : (d : Option Destination) → AreFrom m.claim
+        (asks_of (option_map_or (λ d. steps_by relay m d (way relay.routes d.address.network)) d []))
     by None = tt
-    by (Some d) = from_way relay.links on from npdu d (way relay.routes d.address.network)
+    by (Some d) = from_way relay m d (way relay.routes d.address.network)
 
-from_learning : (on : PortState) (from : BipAddr) (npdu : Fields) (networks : List ℕ)
-    → AreFrom (claimed on.port.network from npdu) (asks_of (map (λ n. record { asks = learn_ask on from npdu n ∷ []; sends = [] }) networks))
-from_learning on from npdu [] = tt
-from_learning on from npdu (n ∷ networks) = (said (claimed on.port.network from npdu) _ refl refl, from_learning on from npdu networks)
+from_learning : (m : Message) (networks : List ℕ)
+    → AreFrom m.claim (asks_of (map (λ n. record { asks = learn_ask m n ∷ []; sends = [] }) networks))
+from_learning m [] = tt
+from_learning m (n ∷ networks) = (said m.claim _ refl refl, from_learning m networks)
 
-from_question : (links : List PortState) (routes : Table) (on : PortState) (from : BipAddr) (npdu : Fields) (octets : List ℕ)
-    → AreFrom (claimed on.port.network from npdu) (asks_of (question_steps links routes on from npdu octets))
-from_question links routes on from npdu [] = (said (claimed on.port.network from npdu) _ refl refl, tt)
-from_question links routes on from npdu (a ∷ []) = tt
-from_question links routes on from npdu (a ∷ b ∷ []) = by (network_of (from_be_bytes w16 (a ∷ b ∷ [])))
+from_question : (relay : Relay) (m : Message) (octets : List ℕ) → AreFrom m.claim (asks_of (question_steps relay m octets))
+from_question relay m [] = (said m.claim _ refl refl, tt)
+from_question relay m (a ∷ []) = tt
+from_question relay m (a ∷ b ∷ []) = by (network_of (from_be_bytes w16 (a ∷ b ∷ [])))
   where
-    by : (network : Option ℕ) → AreFrom (claimed on.port.network from npdu)
-        (asks_of (option_map_or (λ n. question_of links routes on from npdu n ∷ []) network []))
+    by : (network : Option ℕ) → AreFrom m.claim (asks_of (option_map_or (λ n. question_of relay m n ∷ []) network []))
     by None = tt
-    by (Some n) = (said (claimed on.port.network from npdu) _ refl refl, tt)
-from_question links routes on from npdu (a ∷ b ∷ c ∷ octets) = tt
+    by (Some n) = (said m.claim _ refl refl, tt)
+from_question relay m (a ∷ b ∷ c ∷ octets) = tt
 
 pub network_messages_carry_their_claim : NetworkMessagesCarryTheirClaim
-network_messages_carry_their_claim relay on from npdu =
-    let source = claimed on.port.network from npdu in
-    steps_if source (is_i_am_router npdu) (learn_steps on from npdu) _ (from_learning on from npdu (networks_in (payload_octets npdu.payload)))
-    (steps_if source (is_who_is_router npdu) (question_steps relay.links relay.routes on from npdu (payload_octets npdu.payload)) _
-    (from_question relay.links relay.routes on from npdu (payload_octets npdu.payload))
-    (steps_if source (is_what_is_network_number npdu) _ [] (said source _ refl refl, tt) tt))
+network_messages_carry_their_claim relay m =
+    steps_if m.claim (is_i_am_router m.npdu) (learn_steps m) _ (from_learning m (named_networks m))
+    (steps_if m.claim (is_who_is_router m.npdu) (question_steps relay m (payload_octets m.npdu.payload)) _
+    (from_question relay m (payload_octets m.npdu.payload))
+    (steps_if m.claim (is_what_is_network_number m.npdu) _ [] (said m.claim _ refl refl, tt) tt))

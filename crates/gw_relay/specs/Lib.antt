@@ -3,6 +3,8 @@ pub mod State
 pub mod Initial
 pub mod History
 pub mod Claim
+pub mod Message
+pub mod Response
 pub mod Asks
 pub mod Link
 pub mod Cast
