@@ -31,7 +31,8 @@ use Rattle.gw_device.specs.Device.{apdu_response, confirmed_response, device_ans
 use Rattle.gw_device.specs.Multi.{Part, asked, joined, multi_ack, multi_ask, multi_part, multi_response, named_part}
 use Rattle.gw_device.specs.Read.{read_response}
 use Rattle.gw_device.specs.Response.{Answer, Response, fits, silence, turned_down}
-use Rattle.gw_device.specs.Services.{read_property, read_property_multiple, set_of, write_property, who_has, who_is}
+use Rattle.gw_services.specs.Choices.{read_property, read_property_multiple, write_property, who_has, who_is}
+use Rattle.gw_device.specs.Services.{set_of}
 use Rattle.gw_device.specs.WhoHas.{object_response, sought_object, who_has_response}
 use Rattle.gw_device.specs.WhoIs.{is_within, who_is_response}
 use Rattle.gw_device.specs.Write.{write_response}

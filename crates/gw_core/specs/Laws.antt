@@ -27,7 +27,7 @@ use Rattle.gw_device.specs.declared.context.Context.{Context}
 use Rattle.gw_device.specs.Errors.{error_of}
 use Rattle.gw_device.specs.Read.{named_read, read_ask, read_response}
 use Rattle.gw_device.specs.Response.{to_client}
-use Rattle.gw_device.specs.Services.{read_property, write_property}
+use Rattle.gw_services.specs.Choices.{read_property, write_property}
 use Rattle.gw_device.specs.Write.{write_ask, write_response}
 use Rattle.gw_core.specs.Asks.{asks, cast_asks, manage_asks, route_asks}
 use Rattle.gw_core.specs.Denials.{rule_name}

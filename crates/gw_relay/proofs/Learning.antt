@@ -1,5 +1,5 @@
 -- A router's networks that are learned: what its message is, and that no send hangs on their asks.
-use Rattle.std.proofs.Common.{◌≡◌, ◌∙◌, sym, ap, refl, None, Some, ℕ, Bool, true, false, ◌&&◌, not, List, [], ◌∷◌, ◌++◌, map, length}
+use Rattle.std.proofs.Common.{◌≡◌, ◌∙◌, sym, ap, refl, None, ℕ, Bool, true, false, ◌&&◌, not, List, [], ◌∷◌, ◌++◌, map, length}
 use Rattle.std.specs.Prelude.{◌==◌, if◌then◌else◌, is_some}
 use Rattle.std.specs.List.{list_all}
 use Rattle.gw_npdu.specs.declared.kind.MessageKind.TheVariants.{IAmRouterToNetwork}
@@ -7,14 +7,13 @@ use Rattle.gw_npdu.specs.Npdu.{Fields, payload_octets}
 use Rattle.gw_rules.specs.Ask.{Ask}
 use Rattle.gw_rules.specs.RuleList.{allows}
 use Rattle.gw_rules.specs.declared.rule.Rule.{Rule}
-use Rattle.gw_relay.specs.Manage.{answer_steps, are_networks, is_for_all, is_i_am_router, learn_ask, learn_steps, learned, manage_asks, manage_change, manage_response, manage_sends, named_networks, networks_in}
+use Rattle.gw_relay.specs.Manage.{answer_steps, are_networks, is_for_all, is_i_am_router, learn_ask, learn_steps, manage_asks, manage_change, manage_response, manage_sends, named_networks, networks_in}
 use Rattle.gw_relay.specs.Message.{Message}
-use Rattle.gw_relay.specs.Response.{Response}
 use Rattle.gw_relay.specs.Route.{is_kind}
 use Rattle.gw_relay.specs.Sends.{Sending}
 use Rattle.gw_relay.specs.State.{Relay}
 use Rattle.gw_relay.specs.Steps.{Step, asks_of, sends_of, step, taken}
-use Rattle.gw_relay.specs.declared.change.Change.TheVariants.{Learnings}
+use Rattle.gw_relay.specs.internal.Serving.{learn_response}
 
 and_last : (a b : Bool) → (a && b) ≡ true → b ≡ true
 and_last true b e = e
@@ -93,11 +92,7 @@ unasked_learning rules relay m none = unasked_by (is_i_am_router m.npdu) rules r
 
 -- what is answered to a router's message is what is learned of it
 pub learned_due : (rules : List Rule) (relay : Relay) (m : Message) → is_i_am_router m.npdu ≡ true
-    → manage_response rules relay m ≡ record {
-      asks = map (learn_ask m) (named_networks m);
-      sends = [];
-      change = Some (Learnings m.here.port.number m.link (learned rules m (named_networks m)));
-    }
+    → manage_response rules relay m ≡ learn_response rules m
 learned_due rules relay m h = rw (learned_asks relay m h, learned_sends rules relay m h, h) refl
 
 -- and of another it is the answer's steps

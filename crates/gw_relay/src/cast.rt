@@ -379,7 +379,8 @@ fn distribute<J: Judge>(
         return Ok(RelayResponse::nothing(alloc));
     }
     let mut authorizer = Authorizer::new(alloc, judge);
-    let is_allowed = authorizer.authorize(&cast_ask(message))?;
+    let ask = cast_ask(message);
+    let is_allowed = authorizer.authorize(&ask)?;
     let sends = message
         .here
         .judged_sends(alloc, message.from, &message.frame, is_allowed)?;

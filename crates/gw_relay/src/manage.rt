@@ -10,8 +10,8 @@ ghost use Rattle.gw_relay.specs.Manage.{answer_steps, are_networks, is_for_all, 
 ghost use Rattle.gw_relay.specs.Message.{message_view};
 ghost use Rattle.gw_relay.specs.Response.{IsRelayed};
 ghost use Rattle.gw_relay.specs.Route.{made};
-ghost use Rattle.gw_relay.specs.State.{Relay as RelayState};
 ghost use Rattle.gw_relay.specs.Steps.{asks_of, broadcast};
+ghost use Rattle.gw_relay.specs.internal.Serving.{learn_response};
 ghost use Rattle.gw_relay.specs.internal.Taken.{AreTaken};
 ghost use Rattle.gw_npdu.specs.Kind.{kind_number};
 
@@ -320,8 +320,8 @@ fn learn<J: Judge>(
     message: &Message<'_>,
 ) -> Result<RelayResponse, AllocError>
     requires { is_i_am_router (message_view message.now).npdu ≡ true }
-    ensures relayed { (rules : List Rule) (relay : RelayState) → J.StandsFor judge.now rules →
-        IfOk result (IsRelayed rules (manage_response rules relay (message_view message.now))) }
+    ensures { (rules : List Rule) → J.StandsFor judge.now rules →
+        IfOk result (IsRelayed rules (learn_response rules (message_view message.now))) }
 {
     let mut authorizer = Authorizer::new(alloc, judge);
     let mut networks = Sequence::new(alloc);
