@@ -6,6 +6,7 @@ use Rattle.gw_rules.specs.declared.range.Range.{Range}
 use Rattle.gw_rules.specs.declared.rule.Rule.{Rule}
 use Rattle.gw_rules.specs.Rule.{rule_without_fields, with_range}
 use Rattle.gw_policy_text.specs.declared.device.Device.{Device}
+use Rattle.gw_policy_text.specs.declared.format.Format.TheVariants.{One}
 use Rattle.gw_policy_text.specs.declared.object.Object.{Object}
 use Rattle.gw_policy_text.specs.declared.object.ObjectValue.{ObjectValue}
 use Rattle.gw_policy_text.specs.declared.object.ObjectValue.TheVariants.{BinaryValue, MultiStateValue, CharacterStringValue, IntegerValue, PositiveIntegerValue}
@@ -78,6 +79,7 @@ all_else = rule_without_fields (codes "all") true
 -- two ports, a route to network 300, the device with an object of each type and one more, and three rules
 abbrev pub setting : Configuration
 setting = record {
+  format = One;
   device = device;
   ports = port_on 1 ∷ port_on 2 ∷ [];
   routes = record { network = 300; port = 2; next = node 2 20 } ∷ [];

@@ -13,6 +13,8 @@ use Rattle.gw_rules.specs.RuleList.{keeps_counts, keeps_order}
 use Rattle.gw_policy_text.specs.declared.device.Device.{Device}
 use Rattle.gw_policy_text.specs.declared.fault.ConfigFault.{ConfigFault}
 use Rattle.gw_policy_text.specs.declared.fault.ConfigFault.TheVariants.{Missing, Range, TooMany}
+use Rattle.gw_policy_text.specs.declared.format.Format.{Format}
+use Rattle.gw_policy_text.specs.declared.format.Format.TheVariants as formats
 use Rattle.gw_policy_text.specs.declared.object.Object.{Object}
 use Rattle.gw_policy_text.specs.declared.object.ObjectKind.{ObjectKind}
 use Rattle.gw_policy_text.specs.declared.object.ObjectKind.TheVariants as kinds
@@ -288,11 +290,19 @@ rule_in value = table_in value >>= rule_of
 
 -- what contracts see of a configuration
 pub record Configuration : Type 0 where
+  pub format : Format
   pub device : Device
   pub ports : List Port
   pub routes : List Route
   pub objects : List Object
   pub rules : List Rule
+
+-- the format of a number
+abbrev pub format_of : ℕ → Format
+format_of number = if number == 1 then formats.One else formats.Two
+
+abbrev pub format_at : List ℕ → Members → Read Format
+format_at key table = number_at 1 2 key table >>= λ number. Ok (format_of number)
 
 abbrev pub device_at : List ℕ → Members → Read Device
 device_at key table = at key table >>= table_in >>= device_of
@@ -314,13 +324,17 @@ abbrev pub policy_of : List Rule → Read (List Rule)
 policy_of rules =
     if not (keeps_counts rules) then Err TooMany else if not (keeps_order rules) then Err Range else Ok rules
 
--- the tables in their order
-abbrev pub parts_of : Members → Read Configuration
-parts_of top = do
+-- the tables in their order, behind the format
+abbrev pub parts_of_format : Format → Members → Read Configuration
+parts_of_format format top = do
   device ← device_at (codes "device") top
   ports ← ports_at (codes "port") top
   routes ← routes_at (length ports) (codes "route") top
   objects ← objects_at (codes "object") top
   rules ← rules_at (codes "rule") top
   policy ← policy_of rules
-  Ok (record { device = device; ports = ports; routes = routes; objects = objects; rules = policy })
+  Ok (record { format = format; device = device; ports = ports; routes = routes; objects = objects; rules = policy })
+
+-- the format, and then the tables
+abbrev pub parts_of : Members → Read Configuration
+parts_of top = format_at (codes "format") top >>= λ format. parts_of_format format top

@@ -37,7 +37,7 @@ tables least most = Listing Table least most
 
 abbrev pub top_fields : List Field
 top_fields =
-    needs (codes "format") (number 1 1)
+    needs (codes "format") (number 1 2)
     ∷ needs (codes "device") (One Table)
     ∷ needs (codes "port") (tables 1 8)
     ∷ may (codes "route") (tables 0 512)

@@ -7,7 +7,7 @@ ghost use Rattle.gw_policy_text.specs.Reading.{Gives};
 
 use crate::duplicates::has_duplicates;
 use crate::parts::Parts;
-use crate::{ConfigFault, Device, Object, Port, Route};
+use crate::{ConfigFault, Device, Format, Object, Port, Route};
 use gw_rules::RuleList;
 use std::alloc::Global;
 use std::marker::Model;
@@ -58,6 +58,13 @@ impl Config {
         Ok(Config { parts })
     }
 
+    /// The format of the policy.
+    pub fn format(&self) -> Format
+        ensures { result ≡ self.now.format }
+    {
+        self.parts.format()
+    }
+
     /// The gateway's own device.
     pub fn device(&self) -> &Device
         ensures device { result.now ≡ self.now.device }
@@ -72,6 +79,8 @@ impl Config {
         ensures ports { result.now ≡ self.now.ports }
         ensures some { 1 ≤ length self.now.ports }
         ensures most { length self.now.ports ≤ 8 }
+        // No network, address, identifier or name stands twice in the whole configuration.
+        ensures once { IsFalse (has_duplicates self.now) }
     {
         self.parts.ports()
     }

@@ -3,6 +3,7 @@ ghost use Rattle.std.specs.Prelude.{◌≡◌, ◌++◌, ◌∷◌, map, nat_eq,
 ghost use Rattle.std.specs.Cmp.Lexicographic.{pointwise};
 ghost use Rattle.std.specs.List.{list_any};
 ghost use Rattle.gw_policy_text.specs.Configuration.{Configuration};
+ghost use Rattle.gw_policy_text.specs.declared.format.Format.{Format};
 ghost use Rattle.gw_policy_text.specs.Duplicates.{has_duplicates, has_twice, identifier, identifiers, names, networks, peer_addresses, port_addresses, rule_names, type_number};
 
 use crate::{Device, Object, ObjectValue, Port, Route};
@@ -21,7 +22,8 @@ pub(crate) fn has_duplicates(
     objects: &[Object],
     rules: &[Rule],
 ) -> Result<bool, AllocError>
-    ensures { let parts : Configuration = record {
+    ensures { (format : Format) → let parts : Configuration = record {
+      format = format;
       device = device.now;
       ports = ports.now;
       routes = routes.now;

@@ -1,6 +1,8 @@
-//! Laws of the limits that contracts cite. The function does nothing: its contract is the laws.
+//! Laws of the limits and the numbers that contracts cite. Each function does nothing: its contract is the laws.
 
 ghost use Rattle.std.specs.Prelude.{◌≡◌};
+ghost use Rattle.gw_policy_text.specs.Configuration.{format_of};
+ghost use Rattle.gw_policy_text.specs.declared.format.Format.TheVariants.{One, Two};
 
 use crate::instance::MAX_INSTANCE;
 use crate::object::MAX_STATES;
@@ -23,4 +25,10 @@ pub fn limits()
     ensures text { MAX_TEXT ≡ 255 }
     ensures rule_name { MAX_RULE_NAME ≡ 32 }
     ensures instance { MAX_INSTANCE ≡ 4194302 }
+{}
+
+/// The number 1 is the first format, 2 the second.
+pub fn formats()
+    ensures one { format_of 1 ≡ One }
+    ensures two { format_of 2 ≡ Two }
 {}

@@ -4,7 +4,7 @@ ghost use Rattle.gw_addr.specs.Reading as plain;
 ghost use Rattle.toml.specs.View.{table_view, view};
 ghost use Rattle.gw_policy_text.specs.Configuration.{binary_value, character_string_value, count_at, each, integer_value, kind_at, multi_state_value, object_in, object_of, object_of_kind, object_parts, positive_integer_value, signed_at, states_with, value_of};
 ghost use Rattle.gw_policy_text.specs.Field as field;
-ghost use Rattle.gw_policy_text.specs.Reading.{Gives, TellsFault};
+ghost use Rattle.gw_policy_text.specs.Reading.{Gives, Tells, TellsFault};
 ghost use Rattle.gw_policy_text.specs.Tables.{object_fields};
 ghost use Rattle.gw_policy_text.specs.Value.{text_in};
 
@@ -160,7 +160,8 @@ fn texts(alloc: Global, values: &[Value]) -> Result<Sequence<Text>, ConfigFault>
 }
 
 fn text(alloc: Global, value: &Value) -> Result<Text, ConfigFault>
-    ensures { Gives (λ t. t) result (text_in 0 (view value.now)) }
+    ensures text { Gives (λ t. t) result (text_in 0 (view value.now)) }
+    ensures told { Tells result (text_in 0 (view value.now)) }
 {
     match string(value) {
         Some(text) => Text::new(alloc, 0, text),

@@ -2,11 +2,12 @@
 ghost use Rattle.std.specs.Prelude.{◌≡◌, ◌≤◌, codes, length, IfOk, IsTrue};
 ghost use Rattle.std.specs.List.{list_all};
 ghost use Rattle.toml.specs.View.{table_view};
-ghost use Rattle.gw_policy_text.specs.Configuration.{device_at, is_by, objects_at, parts_of, policy_of, ports_at, routes_at, rules_at};
+ghost use Rattle.gw_policy_text.specs.Configuration.{device_at, is_by, objects_at, parts_of, parts_of_format, policy_of, ports_at, routes_at, rules_at};
 ghost use Rattle.gw_policy_text.specs.Reading.{Gives};
 
+use crate::format::format_at;
 use crate::reading::{at, list_at};
-use crate::{ConfigFault, Device, Object, Port, Route, objects, port, route, rules, value};
+use crate::{ConfigFault, Device, Format, Object, Port, Route, objects, port, route, rules, value};
 use gw_addr::Sequence;
 use gw_rules::{MAX_RULES, Rule, RuleFault, RuleList};
 use std::alloc::Global;
@@ -23,6 +24,7 @@ pub const MAX_OBJECTS: usize = 256;
 /// The parts of a configuration, each in the order of the text. Contracts see them.
 #[derive(Debug)]
 pub(crate) struct Parts {
+    format: Format,
     device: Device,
     ports: Sequence<Port>,
     routes: Sequence<Route>,
@@ -34,6 +36,7 @@ pub(crate) struct Parts {
 impl Drop for Parts {
     fn drop(self) {
         let Parts {
+            format: _,
             device: _,
             ports: _,
             routes: _,
@@ -50,13 +53,19 @@ impl Model for Parts {
 
     ghost Value = { Configuration };
 
-    ghost view = { λ c. record { device = c.device; ports = c.ports; routes = c.routes; objects = c.objects; rules = c.rules } };
+    ghost view = { λ c. record { format = c.format; device = c.device; ports = c.ports; routes = c.routes; objects = c.objects; rules = c.rules } };
 
     ghost invariant = { λ c. (1 ≤ length c.ports) × ((length c.ports ≤ 8) × ((length c.routes ≤ 512)
         × ((length c.objects ≤ 256) × IsTrue (list_all (is_by (length c.ports)) c.routes)))) };
 }
 
 impl Parts {
+    pub(crate) fn format(&self) -> Format
+        ensures { result ≡ self.now.format }
+    {
+        self.format
+    }
+
     pub(crate) fn device(&self) -> &Device
         ensures { result.now ≡ self.now.device }
     {
@@ -96,6 +105,7 @@ impl Parts {
         ensures { result ≡ self.rules }
     {
         let Parts {
+            format: _,
             device: _,
             ports: _,
             routes: _,
@@ -109,12 +119,20 @@ impl Parts {
     pub(crate) fn read(alloc: Global, top: &Table) -> Result<Self, ConfigFault>
         ensures { Gives (λ c. c) result (parts_of (table_view top.now)) }
     {
+        Parts::of_format(alloc, format_at("format", top)?, top)
+    }
+
+    /// The parts of a configuration of this format.
+    fn of_format(alloc: Global, format: Format, top: &Table) -> Result<Self, ConfigFault>
+        ensures { Gives (λ c. c) result (parts_of_format format (table_view top.now)) }
+    {
         let device = device_at(alloc, top)?;
         let ports = ports_at(alloc, top)?;
         let routes = routes_at(alloc, ports.len() as u8, top)?;
         let objects = objects_at(alloc, top)?;
         let rules = policy_of(rules_at(alloc, top)?)?;
         Ok(Parts {
+            format,
             device,
             ports,
             routes,

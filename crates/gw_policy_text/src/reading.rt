@@ -103,7 +103,8 @@ pub(crate) fn optional_text(
     key: &str,
     table: &Table,
 ) -> Result<Text, ConfigFault>
-    ensures { Gives (λ t. t) result (optional_text default.now key.now (table_view table.now)) }
+    ensures text { Gives (λ t. t) result (optional_text default.now key.now (table_view table.now)) }
+    ensures told { Tells result (optional_text default.now key.now (table_view table.now)) }
 {
     match member(table, key) {
         Some(value) => match string(value) {

@@ -62,7 +62,7 @@ pub(crate) fn top_fields() -> [Field; 6]
     ensures { result ≡ spec.top_fields }
 {
     [
-        Field::needs("format", Shape::One(Scalar::Number { low: 1, high: 1 })),
+        Field::needs("format", Shape::One(Scalar::Number { low: 1, high: 2 })),
         Field::needs("device", Shape::One(Scalar::Table)),
         Field::needs("port", tables(1, MAX_PORTS)),
         Field::may("route", tables(0, MAX_ROUTES)),

@@ -1,6 +1,6 @@
 //! The texts of a configuration.
 ghost use Rattle.std.specs.Prelude.{◌≡◌, ◌≤◌, length, IfOk};
-ghost use Rattle.gw_policy_text.specs.Reading.{Gives};
+ghost use Rattle.gw_policy_text.specs.Reading.{Gives, Tells};
 ghost use Rattle.gw_policy_text.specs.Value.{text_within};
 
 use crate::ConfigFault;
@@ -30,7 +30,8 @@ impl Text {
     /// A copy of the text, which has at least so many octets. `Range` where it has fewer, or more
     /// than 255; `Memory` where there is none for it.
     pub fn new(alloc: Global, least: usize, text: &str) -> Result<Self, ConfigFault>
-        ensures { Gives (λ t. t) result (text_within least text.now) }
+        ensures text { Gives (λ t. t) result (text_within least text.now) }
+        ensures told { Tells result (text_within least text.now) }
     {
         if text.len() < least || MAX_TEXT < text.len() {
             return Err(ConfigFault::Range);
