@@ -30,7 +30,8 @@ use Rattle.gw_services.specs.MultiReading.{multi_at}
 use Rattle.gw_services.specs.Read.{read_at}
 use Rattle.gw_services.specs.WhoHas.{who_has_at}
 use Rattle.gw_services.specs.WhoIs.{who_is_at}
-use Rattle.gw_services.specs.Write.{Write as Request, priority_of, write_at}
+use Rattle.gw_services.specs.Limits.{priority_of}
+use Rattle.gw_services.specs.Write.{Write as Request, write_at}
 use Rattle.gw_tags.specs.Object.{Object}
 use Rattle.gw_device.specs.declared.context.Context.{Context}
 use Rattle.gw_device.specs.Asks.{named_object}

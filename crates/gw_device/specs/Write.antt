@@ -10,7 +10,8 @@ use Rattle.gw_rules.specs.declared.rule.Rule.{Rule}
 use Rattle.gw_rules.specs.declared.service.Service.TheVariants.{Confirmed}
 use Rattle.gw_rules.specs.Ask.{Ask}
 use Rattle.gw_rules.specs.RuleList.{allows}
-use Rattle.gw_services.specs.Write.{Write, priority_of}
+use Rattle.gw_services.specs.Limits.{priority_of}
+use Rattle.gw_services.specs.Write.{Write}
 use Rattle.gw_device.specs.declared.context.Context.{Context}
 use Rattle.gw_device.specs.Asks.{property_ask}
 use Rattle.gw_device.specs.Errors.{write_denied, write_error}

@@ -4,7 +4,8 @@ ghost use Rattle.std.specs.Prelude.{◌≡◌, ◌++◌, ◌∷◌, [], ◌<◌,
 ghost use Rattle.gw_rules.specs.declared.rule.Rule.{Rule};
 ghost use Rattle.gw_rules.specs.Authorizer.{denied_of};
 ghost use Rattle.gw_addr.specs.Reading.{Gives};
-ghost use Rattle.gw_services.specs.Write.{priority_of, write_view};
+ghost use Rattle.gw_services.specs.Limits.{priority_of};
+ghost use Rattle.gw_services.specs.Write.{write_view};
 ghost use Rattle.gw_objects.specs.Write.{write_of};
 ghost use Rattle.gw_device.specs.Write.{or_error, write_answer, write_ask, write_decision, write_response};
 ghost use Rattle.gw_device.specs.Response.{HasPlace, IsReply};

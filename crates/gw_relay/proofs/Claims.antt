@@ -1,27 +1,45 @@
 -- What changes a table or a route, and whose asks a message raises.
-use Rattle.std.proofs.Common.{◌≡◌, ap, refl, subst, ℕ, Bool, true, false, List, [], ◌∷◌, map, Option, Some, None}
-use Rattle.std.specs.Prelude.{◌&&◌, if◌then◌else◌}
+use Rattle.std.proofs.Common.{◌≡◌, ap, refl, subst, ℕ, Bool, true, false, List, [], ◌∷◌, ◌++◌, map, Option, Some, None, Result, Ok, Err}
+use Rattle.std.specs.Prelude.{◌&&◌, ◌||◌, ◌==◌, is_some, if◌then◌else◌}
 use Rattle.std.specs.Int.{w16, from_be_bytes}
 use Rattle.std.specs.Option.{option_map, option_map_or}
 use Rattle.gw_addr.specs.declared.station.Source.{Source}
 use Rattle.gw_addr.specs.Station.{key_of, network_of}
 use Rattle.gw_bvll.specs.Bvll as bvll
-use Rattle.gw_npdu.specs.Npdu.{Destination, payload_octets}
+use Rattle.gw_apdu.specs.Apdu.{Fields as Apdu}
+use Rattle.gw_apdu.specs.Reading.{apdu_at}
+use Rattle.gw_apdu.specs.declared.fault.ApduFault.{ApduFault}
+use Rattle.gw_apdu.specs.declared.header.ConfirmedRequest.{ConfirmedRequest as Request}
+use Rattle.gw_apdu.specs.declared.header.Header.{Header}
+use Rattle.gw_apdu.specs.declared.header.Header.TheVariants as header
+use Rattle.gw_npdu.specs.Npdu.{Destination, Payload, apdu, message, payload_octets}
+use Rattle.gw_policy_text.specs.declared.format.Format.{Format}
+use Rattle.gw_policy_text.specs.declared.format.Format.TheVariants.{One, Two}
+use Rattle.gw_services.specs.Choices.{read_property, read_property_multiple, write_property}
+use Rattle.gw_services.specs.Limits.{priority_of}
+use Rattle.gw_services.specs.Multi.{Reference}
+use Rattle.gw_services.specs.MultiReading.{multi_at}
+use Rattle.gw_services.specs.Read.{Read, read_at}
+use Rattle.gw_services.specs.Write.{Write, write_at}
+use Rattle.gw_services.specs.declared.fault.BodyFault.{BodyFault}
+use Rattle.gw_tags.specs.Object.{Object}
 use Rattle.gw_routes.specs.Table.{way}
 use Rattle.gw_routes.specs.declared.route.Way.{Way}
 use Rattle.gw_routes.specs.declared.route.Way.TheVariants as ways
 use Rattle.gw_rules.specs.Allowed.{NoneAllowed}
 use Rattle.gw_rules.specs.Ask.{Ask, IsFor, IsFrom}
 use Rattle.gw_rules.specs.RuleList.{allows}
+use Rattle.gw_rules.specs.declared.operation.Operation.{Operation}
 use Rattle.gw_rules.specs.declared.operation.Operation.TheVariants as operations
 use Rattle.gw_rules.specs.declared.rule.Rule.{Rule}
-use Rattle.gw_relay.specs.Asks.{link_ask}
+use Rattle.gw_relay.specs.Asks.{bound_for, link_ask}
 use Rattle.gw_relay.specs.Cast.{cast_asks, goes_on, is_broadcast}
 use Rattle.gw_relay.specs.Laws.{AreFrom, BroadcastsCarryTheirClaim, NetworkMessagesCarryTheirClaim, RoutesAreKept, RoutingCarriesTheClaim, TableAsksReadNothing, TablesAreKept}
 use Rattle.gw_relay.specs.Link.{link_change}
 use Rattle.gw_relay.specs.Manage.{is_i_am_router, is_what_is_network_number, is_who_is_router, learn_ask, learn_steps, learned, manage_asks, named_networks, question_of, question_steps}
 use Rattle.gw_relay.specs.Message.{Message}
-use Rattle.gw_relay.specs.Route.{copy, is_local, leaves, others, steps_by}
+use Rattle.gw_relay.specs.Named.{apdu_asks, forward_asks, header_asks, multi_asks, named_ask, named_asks, read_asks, reference_ask, request_asks, unnamed_ask, write_asks}
+use Rattle.gw_relay.specs.Route.{copy, is_local, leaves, others, route_ask, steps_by}
 use Rattle.gw_relay.specs.State.{Commit, Relay, after, moved}
 use Rattle.gw_relay.specs.Steps.{Step, asks_of}
 use Rattle.gw_relay.specs.declared.change.Change.{Change}
@@ -116,18 +134,100 @@ unfolding cast_asks
 broadcasts_carry_their_claim m =
     asks_if m.claim (goes_on m.here m.from m.frame && is_broadcast m.frame) _ [] (said m.claim _ refl refl, tt) tt
 
-from_copies : (m : Message) (d : Destination) (links : List PortState) → AreFrom m.claim (asks_of (map (copy m d) links))
-from_copies m d [] = tt
-from_copies m d (link ∷ links) = (said m.claim _ refl refl, from_copies m d links)
+-- what is asked behind a `route` ask is of its source
+from_unnamed : (source : Source) (route : Ask) (operation : Operation) → IsFrom source.net (key_of source.mac) route
+    → AreFrom source (unnamed_ask route operation ∷ [])
+from_unnamed source route operation is = (said source _ is.source_network is.source_key, tt)
+
+from_named : (source : Source) (route : Ask) (operation : Operation) (object : Object) (property : ℕ) (priority : Option ℕ)
+    → IsFrom source.net (key_of source.mac) route → AreFrom source (named_ask route operation object property priority ∷ [])
+from_named source route operation object property priority is = (said source _ is.source_network is.source_key, tt)
+
+from_references : (source : Source) (route : Ask) (rs : List Reference) → IsFrom source.net (key_of source.mac) route
+    → AreFrom source (map (reference_ask route) rs)
+from_references source route [] is = tt
+from_references source route (r ∷ rs) is = (said source _ is.source_network is.source_key, from_references source route rs is)
+
+from_read : (source : Source) (route : Ask) (read : Result Read BodyFault) → IsFrom source.net (key_of source.mac) route
+    → AreFrom source (read_asks route read)
+from_read source route (Ok r) is = from_named source route operations.Read r.object r.property None is
+from_read source route (Err fault) is = from_unnamed source route operations.Read is
+
+from_multi : (source : Source) (route : Ask) (read : Result (List Reference) BodyFault) → IsFrom source.net (key_of source.mac) route
+    → AreFrom source (multi_asks route read)
+from_multi source route (Ok rs) is = from_references source route rs is
+from_multi source route (Err fault) is = from_unnamed source route operations.Read is
+
+from_write : (source : Source) (route : Ask) (read : Result Write BodyFault) → IsFrom source.net (key_of source.mac) route
+    → AreFrom source (write_asks route read)
+from_write source route (Ok w) is = from_named source route operations.Write w.object w.property (Some (priority_of w.priority)) is
+from_write source route (Err fault) is = from_unnamed source route operations.Write is
+
+from_request : (source : Source) (route : Ask) (request : Request) (body : List ℕ) → IsFrom source.net (key_of source.mac) route
+    → AreFrom source (request_asks route request body)
+from_request source route request body is =
+    let reads = from_unnamed source route operations.Read is in
+    let writes = from_unnamed source route operations.Write is in
+    asks_if source (is_some request.segment) _ _
+    (asks_if source (request.service == read_property || request.service == read_property_multiple) _ _ reads
+    (asks_if source (request.service == write_property) _ [] writes tt))
+    (asks_if source (request.service == read_property) _ _ (from_read source route (read_at body) is)
+    (asks_if source (request.service == read_property_multiple) _ _ (from_multi source route (multi_at body) is)
+    (asks_if source (request.service == write_property) _ [] (from_write source route (write_at body) is) tt)))
+
+from_header : (source : Source) (route : Ask) (h : Header) (body : List ℕ) → IsFrom source.net (key_of source.mac) route
+    → AreFrom source (header_asks route h body)
+from_header source route (header.ConfirmedRequest request) body is = from_request source route request body is
+from_header source route (header.UnconfirmedRequest service) body is = tt
+from_header source route (header.SimpleAck invoke service) body is = tt
+from_header source route (header.ComplexAck segment invoke service) body is = tt
+from_header source route (header.SegmentAck invoke sequence window) body is = tt
+from_header source route (header.Error invoke service) body is = tt
+from_header source route (header.Reject invoke reason) body is = tt
+from_header source route (header.Abort invoke reason) body is = tt
+
+from_apdu : (source : Source) (route : Ask) (read : Result Apdu ApduFault) → IsFrom source.net (key_of source.mac) route
+    → AreFrom source (apdu_asks route read)
+from_apdu source route (Ok a) is = from_header source route a.header a.rest is
+from_apdu source route (Err fault) is = tt
+
+from_behind : (source : Source) (format : Format) (route : Ask) (payload : Payload) → IsFrom source.net (key_of source.mac) route
+    → AreFrom source (named_asks format route payload)
+unfolding named_asks
+from_behind source One route payload is = tt
+from_behind source Two route (message m) is = tt
+from_behind source Two route (apdu octets) is = from_apdu source route (apdu_at octets) is
+
+-- a message's asks for one way
+from_forward : (m : Message) (format : Format) (network : Option ℕ)
+    → AreFrom m.claim (forward_asks format (route_ask m network) m.npdu.payload)
+from_forward m format network =
+    let is = said m.claim (route_ask m network) refl refl in
+    (is, from_behind m.claim format (route_ask m network) m.npdu.payload is)
+
+from_both : (source : Source) (xs ys : List Ask) → AreFrom source xs → AreFrom source ys → AreFrom source (xs ++ ys)
+from_both source [] ys f g = g
+from_both source (x ∷ xs) ys f g = (f.0, from_both source xs ys f.1 g)
+
+from_one : (m : Message) (format : Format) (network : Option ℕ)
+    → AreFrom m.claim (forward_asks format (route_ask m network) m.npdu.payload ++ [])
+from_one m format network = from_both m.claim (forward_asks format (route_ask m network) m.npdu.payload) [] (from_forward m format network) tt
+
+from_copies : (format : Format) (m : Message) (d : Destination) (links : List PortState)
+    → AreFrom m.claim (asks_of (map (copy format m d) links))
+from_copies format m d [] = tt
+from_copies format m d (link ∷ links) =
+    from_both m.claim (forward_asks format (route_ask m (Some link.port.network)) m.npdu.payload) _
+    (from_forward m format (Some link.port.network)) (from_copies format m d links)
 
 from_way : (relay : Relay) (m : Message) (d : Destination) (by : Way) → AreFrom m.claim (asks_of (steps_by relay m d by))
-from_way relay m d ways.Everywhere = from_copies m d (others m.here.port.number relay.links)
+from_way relay m d ways.Everywhere = from_copies relay.format m d (others m.here.port.number relay.links)
 from_way relay m d (ways.Port other) =
-    steps_if m.claim (leaves m.here.port.number (ways.Port other)) _ [] (said m.claim _ refl refl, tt) tt
+    steps_if m.claim (leaves m.here.port.number (ways.Port other)) _ [] (from_one m relay.format (bound_for m.npdu)) tt
 from_way relay m d (ways.Router route) =
-    steps_if m.claim (leaves m.here.port.number (ways.Router route)) _ [] (said m.claim _ refl refl, tt) tt
+    steps_if m.claim (leaves m.here.port.number (ways.Router route)) _ [] (from_one m relay.format (bound_for m.npdu)) tt
 from_way relay m d ways.Device = tt
-from_way relay m d ways.Unknown = (said m.claim _ refl refl, tt)
+from_way relay m d ways.Unknown = from_one m relay.format (bound_for m.npdu)
 
 pub routing_carries_the_claim : RoutingCarriesTheClaim
 routing_carries_the_claim relay m = steps_if m.claim (is_local m.npdu.payload) [] _ tt (by m.npdu.destination)

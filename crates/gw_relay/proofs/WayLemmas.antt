@@ -4,6 +4,7 @@ use Rattle.std.specs.Prelude.{OnOk}
 use Rattle.std.specs.declared.alloc.AllocError.{AllocError}
 use Rattle.gw_addr.specs.declared.bip.BipAddr.{BipAddr}
 use Rattle.gw_npdu.specs.Npdu.{Destination}
+use Rattle.gw_policy_text.specs.declared.format.Format.{Format}
 use Rattle.gw_routes.specs.History.{IsStateAfter, history_with, networks_learned}
 use Rattle.gw_routes.specs.History.{History as Learned}
 use Rattle.gw_routes.specs.History.{learned_after as learned_after_all}
@@ -20,14 +21,15 @@ use Rattle.gw_relay.specs.declared.change.Change.TheVariants.{Learnings}
 use Rattle.gw_relay.specs.declared.port.PortState.{PortState}
 
 -- each copy of a global broadcast is asked for
-pub each_copy_asks : (m : Message) (d : Destination) (links : List PortState) → asks_of (map (copy m d) links) ≡ [] → links ≡ []
-each_copy_asks m d [] none = refl
-each_copy_asks m d (link ∷ links) none = absurd cc
+pub each_copy_asks : (format : Format) (m : Message) (d : Destination) (links : List PortState) → asks_of (map (copy format m d) links) ≡ []
+    → links ≡ []
+each_copy_asks format m d [] none = refl
+each_copy_asks format m d (link ∷ links) none = absurd cc
 
 pub everywhere_silent : (relay : Relay) (m : Message) (d : Destination) (to : Way) → to ≡ Everywhere
     → asks_of (steps_by relay m d to) ≡ [] → others m.here.port.number relay.links ≡ []
 everywhere_silent relay m d to is none =
-    each_copy_asks m d (others m.here.port.number relay.links) (sym (ap (λ (w : Way). asks_of (steps_by relay m d w)) is) ∙ none)
+    each_copy_asks relay.format m d (others m.here.port.number relay.links) (sym (ap (λ (w : Way). asks_of (steps_by relay m d w)) is) ∙ none)
 
 -- networks that are learned are more of the learnings
 pub learnings_made : (result : Result (Unit {0}) AllocError) (old new : Table) (change : Change) (port : ℕ) (next : BipAddr)

@@ -6,6 +6,7 @@ pub mod Claim
 pub mod Message
 pub mod Response
 pub mod Asks
+pub mod Named
 pub mod Link
 pub mod Cast
 pub mod Steps

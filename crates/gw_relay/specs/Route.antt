@@ -12,6 +12,8 @@ use Rattle.gw_npdu.specs.Kind.{kind_number}
 use Rattle.gw_npdu.specs.Npdu.{Address, Destination, Fields, Payload, apdu, message}
 use Rattle.gw_npdu.specs.Onward.{onward}
 use Rattle.gw_routes.specs.Table.{way}
+use Rattle.gw_policy_text.specs.declared.format.Format.{Format}
+use Rattle.gw_routes.specs.declared.route.Route.{Route}
 use Rattle.gw_routes.specs.declared.route.Way.{Way}
 use Rattle.gw_routes.specs.declared.route.Way.TheVariants.{Port, Router, Everywhere, Unknown}
 use Rattle.gw_rules.specs.Ask.{Ask}
@@ -19,10 +21,11 @@ use Rattle.gw_rules.specs.declared.operation.Operation.TheVariants as operations
 use Rattle.gw_rules.specs.declared.rule.Rule.{Rule}
 use Rattle.gw_relay.specs.Asks.{bound_for, message_ask}
 use Rattle.gw_relay.specs.Message.{Message}
+use Rattle.gw_relay.specs.Named.{forward_asks}
 use Rattle.gw_relay.specs.Response.{Response}
 use Rattle.gw_relay.specs.Sends.{Sending}
 use Rattle.gw_relay.specs.State.{Relay, at_port}
-use Rattle.gw_relay.specs.Steps.{Step, asks_of, broadcast, sends_of, step, taken, unicast}
+use Rattle.gw_relay.specs.Steps.{Step, asks_of, broadcast, sends_of, taken, unicast}
 use Rattle.gw_relay.specs.declared.port.PortState.{PortState}
 use Rattle.gw_relay.specs.declared.port.Port.{Port as RelayPort}
 
@@ -110,12 +113,16 @@ sought relay m network =
     else unicast m.here.port.number m.link (reject network m.npdu)
     ++ flat_map (broadcast (who_is_router None network)) (others m.here.port.number relay.links)
 
+-- to the next router
+abbrev pub routed : Message → Destination → Route → List Sending
+routed m d route =
+    if has_hops d then unicast route.port route.next (next_hop m) else []
+
 -- by the way of the destination's network, which is one
 abbrev pub sent_on : Relay → Message → Destination → Way → List Sending
 sent_on relay m d (Port number) =
     at_port [] (delivered d.address.mac (last_hop m)) relay.links number
-sent_on relay m d (Router route) =
-    if has_hops d then unicast route.port route.next (next_hop m) else []
+sent_on relay m d (Router route) = routed m d route
 sent_on relay m d Unknown = sought relay m d.address.network
 sent_on relay m d other = []
 
@@ -132,19 +139,27 @@ leaves number (Router route) = not (route.port == number)
 leaves number Unknown = true
 leaves number other = false
 
--- one ask, and what hangs on it
+-- one way, and what hangs on its asks
 abbrev pub on_way : Relay → Message → Destination → Way → Step
-on_way relay m d way = step (route_ask m (bound_for m.npdu)) (sent_on relay m d way)
+on_way relay m d way = record {
+  asks = forward_asks relay.format (route_ask m (bound_for m.npdu)) m.npdu.payload;
+  sends = sent_on relay m d way;
+}
+
+-- what is sent on another port of a global broadcast
+abbrev pub copied : Message → Destination → PortState → List Sending
+copied m d link = if has_hops d then broadcast (next_hop m) link else []
 
 -- the copy of a global broadcast for another port
-abbrev pub copy : Message → Destination → PortState → Step
-copy m d link =
-    step (route_ask m (Some link.port.network))
-    (if has_hops d then broadcast (next_hop m) link else [])
+abbrev pub copy : Format → Message → Destination → PortState → Step
+copy format m d link = record {
+  asks = forward_asks format (route_ask m (Some link.port.network)) m.npdu.payload;
+  sends = copied m d link;
+}
 
--- by the way of DNET: a copy for each other port, or one ask and what hangs on it
+-- by the way of DNET: a copy for each other port, or one way
 abbrev pub steps_by : Relay → Message → Destination → Way → List Step
-steps_by relay m d Everywhere = map (copy m d) (others m.here.port.number relay.links)
+steps_by relay m d Everywhere = map (copy relay.format m d) (others m.here.port.number relay.links)
 steps_by relay m d way =
     if leaves m.here.port.number way then on_way relay m d way ∷ [] else []
 

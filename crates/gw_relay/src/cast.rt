@@ -352,7 +352,7 @@ pub(crate) fn cast<J: Judge>(
         });
     }
     Ok(CastResponse {
-        given: distribute(alloc, judge, message)?,
+        given: cast_accepted(alloc, judge, message)?,
         goes_on: true,
     })
 }
@@ -365,7 +365,7 @@ fn cast_ask(message: &Message<'_>) -> Ask
 }
 
 /// Distributes a broadcast that is accepted, and no unregistered sender's.
-fn distribute<J: Judge>(
+fn cast_accepted<J: Judge>(
     alloc: Global,
     judge: &J,
     message: &Message<'_>,

@@ -14,6 +14,7 @@ mod link;
 mod links;
 mod manage;
 mod message;
+mod named;
 mod npdu;
 mod octets;
 mod outgoing;

@@ -32,15 +32,16 @@ use crate::route::route;
 use crate::sends::Sends;
 use gw_addr::BipAddr;
 use gw_bvll::Bvll;
-use gw_policy_text::Config;
+use gw_policy_text::{Config, Format};
 use gw_routes::Routes;
 use gw_rules::Judge;
 use std::alloc::{AllocError, Global};
 use std::marker::Model;
 
-/// The ports of a gateway with their tables, and the routes. Contracts see the links in order of
-/// ports, the table of routes, and how many ticks have passed.
+/// The ports of a gateway with their tables, the routes, and the format of its policy. Contracts see
+/// the format, the links in order of ports, the table of routes, and how many ticks have passed.
 pub struct Relay {
+    format: Format,
     links: Vec<PortState>,
     routes: Routes,
     ticks: u64,
@@ -50,6 +51,7 @@ pub struct Relay {
 impl Drop for Relay {
     fn drop(self) {
         let Relay {
+            format: _,
             links: _,
             routes: _,
             ticks: _,
@@ -63,7 +65,12 @@ impl Model for Relay {
 
     ghost Value = { Relay };
 
-    ghost view = { λ r. record { links = r.links.items; routes = r.routes; ticks = r.ticks } };
+    ghost view = { λ r. record {
+      format = r.format;
+      links = r.links.items;
+      routes = r.routes;
+      ticks = r.ticks;
+    } };
 
     ghost invariant = { λ r. AreAlike r.ticks r.links.items };
 }
@@ -80,11 +87,10 @@ impl Relay {
         ensures learnings { let configured = map routed_of config.now.routes in
             IfOk result (λ relay. IsStateAfter relay.routes (direct_of config.now) configured []) }
     {
-        // With the device comes that nothing stands twice in a configuration.
-        let _device = config.device();
         let links = links_of(alloc, config.ports())?;
         let routes = routes_of(alloc, config)?;
         Ok(Relay {
+            format: config.format(),
             links,
             routes,
             ticks: 0,
@@ -156,6 +162,13 @@ impl Relay {
         ensures { result.now ≡ self.now.links }
     {
         self.links.as_slice()
+    }
+
+    /// The format of the policy, by which routing asks.
+    pub(crate) fn format(&self) -> Format
+        ensures { result ≡ self.now.format }
+    {
+        self.format
     }
 
     /// The table of routes.

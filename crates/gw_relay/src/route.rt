@@ -7,13 +7,13 @@ ghost use Rattle.gw_npdu.specs.Npdu.{view as npdu_view, address_view, destinatio
 ghost use Rattle.gw_rules.specs.declared.rule.Rule.{Rule};
 ghost use Rattle.gw_relay.specs.Message.{message_view};
 ghost use Rattle.gw_relay.specs.Response.{IsRelayed};
-ghost use Rattle.gw_relay.specs.Route.{copy, delivered, has_hops, hop, is_local, last_hop, leaves, on_way, others, reject, route_ask, route_asks, route_response, sent_on, sought, steps_by, who_is_router};
+ghost use Rattle.gw_relay.specs.Route.{copied, copy, delivered, has_hops, hop, is_local, last_hop, leaves, on_way, others, reject, route_ask, route_asks, route_response, routed, sent_on, sought, steps_by, who_is_router};
 ghost use Rattle.gw_relay.specs.Steps.{asks_of, broadcast, npdu_octets, unicast};
-ghost use Rattle.gw_relay.specs.State.{Relay as RelayState};
 ghost use Rattle.gw_relay.specs.internal.Taken.{AreTaken};
 
 use crate::ask::{bound_for, message_ask};
 use crate::message::Message;
+use crate::named::authorize_forward;
 use crate::npdu::{is_kind, message_of, put_broadcast, put_unicast};
 use crate::outgoing::Outgoing;
 use crate::port::{PortState, link_at};
@@ -22,6 +22,7 @@ use crate::response::RelayResponse;
 use crate::sends::Sends;
 use crate::step::StepState;
 use gw_npdu::{AddressRef, Destination, MessageKind, Npdu, Onward, Payload};
+use gw_policy_text::Format;
 use gw_routes::{Route, Way};
 use gw_rules::{Ask, Judge, Operation};
 use std::alloc::{AllocError, Global};
@@ -119,8 +120,7 @@ fn put_routed(
     route: &Route,
     sends: &mut Sends,
 ) -> Result<(), AllocError>
-    ensures { (relay : RelayState) → let way = Way.Router route.now in
-        let sent = sent_on relay (message_view message.now) (destination_view destination.now) way in
+    ensures { let sent = routed (message_view message.now) (destination_view destination.now) route.now in
         OnOk result (sends.new ≡ sends.old ++ sent) }
 {
     if !has_hops(destination) {
@@ -138,8 +138,8 @@ fn copy_to_port(
     link: &PortState,
     sends: &mut Sends,
 ) -> Result<(), AllocError>
-    ensures { let copy = copy (message_view message.now) (destination_view destination.now) link.now in
-        OnOk result (sends.new ≡ sends.old ++ copy.sends) }
+    ensures { let sent = copied (message_view message.now) (destination_view destination.now) link.now in
+        OnOk result (sends.new ≡ sends.old ++ sent) }
 {
     if !has_hops(destination) {
         return Ok(());
@@ -266,13 +266,14 @@ fn forward(
 /// Asks for each other port, and adds the copies of a global broadcast.
 fn put_copies<J: Judge>(
     alloc: Global,
+    format: Format,
     message: &Message<'_>,
     destination: &Destination<'_>,
     links: &[PortState],
     state: &mut StepState<'_, J>,
 ) -> Result<(), AllocError>
     ensures steps { (rules : List Rule) → J.StandsFor state.old.authorizer.judge rules →
-        let copy = copy (message_view message.now) (destination_view destination.now) in
+        let copy = copy format (message_view message.now) (destination_view destination.now) in
         let steps = map copy (others message.now.here.now.port.number links.now) in
         OnOk result (AreTaken rules steps state.old state.new) }
     ensures judge { state.new.authorizer.judge ≡ state.old.authorizer.judge }
@@ -282,35 +283,37 @@ fn put_copies<J: Judge>(
         return Ok(());
     };
     if link.port.number == message.here.port.number {
-        return put_copies(alloc, message, destination, rest, state);
+        return put_copies(alloc, format, message, destination, rest, state);
     }
-    put_copy(alloc, message, destination, link, state)?;
-    put_copies(alloc, message, destination, rest, state)
+    put_copy(alloc, format, message, destination, link, state)?;
+    put_copies(alloc, format, message, destination, rest, state)
 }
 
 /// Asks for another port, and adds the copy of a global broadcast where it is allowed.
 fn put_copy<J: Judge>(
     alloc: Global,
+    format: Format,
     message: &Message<'_>,
     destination: &Destination<'_>,
     link: &PortState,
     state: &mut StepState<'_, J>,
 ) -> Result<(), AllocError>
     ensures steps { (rules : List Rule) → J.StandsFor state.old.authorizer.judge rules →
-        let copy = copy (message_view message.now) (destination_view destination.now) link.now in
+        let d = destination_view destination.now in
+        let copy = copy format (message_view message.now) d link.now in
         OnOk result (AreTaken rules (copy ∷ []) state.old state.new) }
     ensures judge { state.new.authorizer.judge ≡ state.old.authorizer.judge }
 {
     let network = Some(u64::from(link.port.network.get()));
     let ask = route_ask(message, network);
-    if state.authorizer.authorize(&ask)? {
+    if authorize_forward(&mut state.authorizer, format, &ask, &message.npdu.payload)? {
         copy_to_port(alloc, message, destination, link, &mut state.sends)
     } else {
         Ok(())
     }
 }
 
-/// Asks once, and adds what is sent where it is allowed.
+/// Asks for one way, and adds what is sent where it is allowed.
 fn put_allowed<J: Judge>(
     alloc: Global,
     relay: &Relay,
@@ -326,7 +329,8 @@ fn put_allowed<J: Judge>(
     ensures judge { state.new.authorizer.judge ≡ state.old.authorizer.judge }
 {
     let ask = route_ask(message, bound_for(&message.npdu));
-    if state.authorizer.authorize(&ask)? {
+    let payload = &message.npdu.payload;
+    if authorize_forward(&mut state.authorizer, relay.format(), &ask, payload)? {
         forward(alloc, relay, message, destination, way, &mut state.sends)
     } else {
         Ok(())
@@ -352,7 +356,8 @@ fn put_by_way<J: Judge>(
         asks_of steps ≡ [] → IsOk result }
 {
     if *way == Way::Everywhere {
-        return put_copies(alloc, message, destination, relay.links(), state);
+        let format = relay.format();
+        return put_copies(alloc, format, message, destination, relay.links(), state);
     }
     if !leaves(message.here.port.number, way) {
         return Ok(());

@@ -1,5 +1,5 @@
 -- WriteProperty (ISO 16484-5, clause 15.9).
-use Rattle.std.specs.Prelude.{ℕ, List, ◌∷◌, ◌++◌, Option, Some, None, Result}
+use Rattle.std.specs.Prelude.{ℕ, List, ◌∷◌, ◌++◌, Option, Result}
 use Rattle.gw_addr.specs.Reading.{◌>>=◌}
 use Rattle.gw_tags.specs.declared.tag.Kind.TheVariants.{Opening, Closing}
 use Rattle.gw_tags.specs.Tag.{canonical}
@@ -41,11 +41,6 @@ write_view w = record {
   value = w.value.now;
   priority = w.priority;
 }
-
--- a write that names no priority has the lowest (clause 19.2)
-abbrev pub priority_of : Option ℕ → ℕ
-priority_of None = last_priority
-priority_of (Some priority) = priority
 
 -- what its parameters hold
 abbrev pub write_held : Write → List Content

@@ -2,8 +2,7 @@
 
 ghost use Rattle.std.specs.Prelude.{◌≡◌, ◌≤◌, IfSome};
 ghost use Rattle.std.proofs.Props.{props};
-ghost use Rattle.gw_services.specs.Limits.{last_property, last_priority};
-ghost use Rattle.gw_services.specs.Write.{priority_of};
+ghost use Rattle.gw_services.specs.Limits.{last_property, last_priority, priority_of};
 
 use gw_tags::ObjectId;
 

@@ -5,7 +5,7 @@ use Rattle.gw_rules.specs.RuleList.{allows}
 use Rattle.gw_rules.specs.declared.refusal.Refusal.{Refusal}
 use Rattle.gw_relay.specs.Message.{message_view}
 use Rattle.gw_relay.proofs.Asking.{cast_asked, cast_judged, cast_loud, goes_on_accepted, goes_on_registered, quiet_asks, quiet_sends}
-use Rattle.gw_relay.proofs.cast.distribute.Goals as goal
+use Rattle.gw_relay.proofs.cast.cast_accepted.Goals as goal
 
 pub returns-then-not-is_broadcast-clause-relayed : goal.returns-then-not-is_broadcast-clause-relayed
 returns-then-not-is_broadcast-clause-relayed g c = λ rules stands.
