@@ -100,6 +100,7 @@ accepts() {
 accepts two_subnets.toml 'ok 2 ports 1 objects 3 rules'
 accepts workstation.toml 'ok 1 ports 1 objects 4 rules'
 accepts plant_room.toml 'ok 1 ports 4 objects 3 rules'
+accepts routed.toml 'ok 2 ports 0 objects 6 rules'
 
 # faulty TEXT NAME: `check` tells this fault of a text, and `replay` tells it before the script
 faulty() {
@@ -220,9 +221,11 @@ explained '\xff' NotToml 'the text: is no TOML document'
 explained 'colour = 1' UnknownKey 'colour: is no key of this table'
 explained 'format = 1\nport = []\n[device]\n' Range 'port: at least 1'
 
-# Each recipe of the cookbook: its rules behind base.toml are accepted, and its line, marked by `> `, prints what stands under it.
+# Each recipe of the cookbook: its rules behind base.toml, of another format where they begin with one, are accepted, and its lines,
+# marked by `> `, print what stands under them.
 recipe() {
-    cat "$here/base.toml" "$work/rules" > "$work/recipe.toml"
+    format=$(grep '^format = ' "$work/rules" || echo 'format = 1')
+    { sed "s/^format = .*/$format/" "$here/base.toml"; grep -v '^format = ' "$work/rules"; } > "$work/recipe.toml"
     checked "$work/recipe.toml"
     agrees "recipe: $(head -1 "$work/lines")" 0 "$work/out" /dev/null
     sed -n 's/^> //p' "$work/lines" > "$work/script"
