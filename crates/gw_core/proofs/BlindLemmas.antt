@@ -28,7 +28,8 @@ use Rattle.gw_script.specs.Event.{Event, Datagram, Tick}
 use Rattle.gw_tags.specs.Object.{Object}
 use Rattle.gw_core.specs.Asks.{apdu_asks, asks, asks_for, cast_asks, link_asks, manage_asks, message_asks, route_asks}
 use Rattle.gw_core.specs.NoLeak.{AreBlind, AsksCarryTheirClaim, WritesAreHidden, claim, kept, state_before}
-use Rattle.gw_core.specs.Receive.{Message, Received, comes_in, dropped, managed, unregistered, manages, message, message_of, npdu_of, payload_of, receive, receive_datagram, receive_frame, receive_npdu, receive_on}
+use Rattle.gw_relay.specs.Message.{Message, message_of}
+use Rattle.gw_core.specs.Receive.{Received, comes_in, dropped, managed, unregistered, manages, message, npdu_of, payload_of, receive, receive_datagram, receive_frame, receive_npdu, receive_on}
 use Rattle.gw_core.specs.Reply.{apdu_for, context_of}
 use Rattle.gw_core.specs.State.{State, device_network}
 use Rattle.gw_core.proofs.WriteLemmas.{writes_are_unread}
@@ -114,22 +115,13 @@ from_apdu : (rules : List Rule) (d : Database) (context : Context) (x : Option (
 from_apdu rules d context None = tt
 from_apdu rules d context (Some octets) = asks_have_their_source rules d context octets
 
-from_message : (rules : List Rule) (relay : Relay) (d : Database) (m : Message) → IsClaimed m
-    → AreFrom m.claim (asks_for rules relay d (message m))
-from_message rules relay d m is =
+from_message : (rules : List Rule) (relay : Relay) (d : Database) (m : Message) → AreFrom m.claim (asks_for rules relay d (message m))
+from_message rules relay d m =
     let each = IsFrom m.claim.net (key_of m.claim.mac) in
     let network = device_network d in
-    let link : claimed m.here.port.network m.link m.npdu ≡ m.claim =
-    ap (λ (x : BipAddr). claimed m.here.port.network x m.npdu) is.link ∙ sym is.claim in
-    let cast : AreFrom m.claim (cast_asks (message m)) =
-    subst (λ (source : Source). AreFrom source (cast_asks (message m))) (sym is.claim)
-    (broadcasts_carry_their_claim m.here m.from m.frame m.npdu) in
-    let routed : AreFrom m.claim (route_asks relay (message m)) =
-    subst (λ (source : Source). AreFrom source (route_asks relay (message m))) link
-    (routing_carries_the_claim relay m.here m.link m.npdu) in
-    let answered : AreFrom m.claim (manage_asks relay (message m)) =
-    subst (λ (source : Source). AreFrom source (manage_asks relay (message m))) link
-    (network_messages_carry_their_claim relay m.here m.link m.npdu) in
+    let cast = broadcasts_carry_their_claim m in
+    let routed = routing_carries_the_claim relay m in
+    let answered = network_messages_carry_their_claim relay m in
     each_both each (cast_asks (message m) ++ route_asks relay (message m) ++ manage_asks relay (message m)) (message_asks rules d m)
     (each_both each (cast_asks (message m) ++ route_asks relay (message m)) (manage_asks relay (message m))
     (each_both each (cast_asks (message m)) (route_asks relay (message m)) cast routed) answered)
@@ -144,7 +136,7 @@ asks_carry_their_claim w e m is =
     let so = claimed_so w e m is in (
       so.claim,
       subst (λ (received : Received). AreFrom m.claim (asks_for w.rules w.relay w.device received)) (sym is)
-          (from_message w.rules w.relay w.device m so),
+          (from_message w.rules w.relay w.device m),
     )
 
 -- ---- who is blind
@@ -178,7 +170,7 @@ blind_asks rules sources o relay d (managed on from frame) blind is claims =
     let both = none_both (AsksToRead o) rules in
     both (asked ++ [] ++ [] ++ []) [] (both (asked ++ [] ++ []) [] (both (asked ++ []) [] (both asked [] (blind_table rules o on from frame) tt) tt) tt) tt
 blind_asks rules sources o relay d (message m) blind is claims =
-    blind_source rules sources o m.claim (asks_for rules relay d (message m)) blind claims (from_message rules relay d m is)
+    blind_source rules sources o m.claim (asks_for rules relay d (message m)) blind claims (from_message rules relay d m)
 
 blind_at : (w : State) (sources : List Source) (o : Object) (e : Event) → AreBlind w.rules sources o → IfSome (claim (receive w e)) (Contains sources)
     → NoReadAllowed w.rules o (asks w e)

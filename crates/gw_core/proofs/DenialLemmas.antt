@@ -12,10 +12,12 @@ use Rattle.gw_script.specs.Event.{Event}
 use Rattle.gw_core.specs.Asks.{apdu_asks, asks, asks_for, message_asks}
 use Rattle.gw_core.specs.Effects.{apdu_answer, apdu_change}
 use Rattle.gw_core.specs.Denials.{denials_at, denials_from, denials_of, denials_for}
-use Rattle.gw_core.specs.Receive.{Message, Origin, Received, dropped, managed, unregistered, message, message_origin, node_origin, origin, receive}
+use Rattle.gw_relay.specs.Message.{Message}
+use Rattle.gw_core.specs.Receive.{Origin, Received, dropped, managed, unregistered, message, message_origin, node_origin, origin, receive}
 use Rattle.gw_core.specs.Reply.{apdu_for, context_of}
 use Rattle.gw_core.specs.State.{State, device_network}
-use Rattle.gw_core.specs.View.{judged, message_view, origin_of, received_view}
+use Rattle.gw_relay.specs.Message.{message_view}
+use Rattle.gw_core.specs.View.{judged, origin_of, received_view}
 use Rattle.gw_core.specs.declared.receive.Received.{Received as LentReceived}
 use Rattle.gw_core.specs.declared.receive.Received.TheVariants as lent
 use Rattle.gw_relay.specs.Cast.{accepts, is_unregistered}

@@ -96,7 +96,7 @@ quiet_relay rules relay d (managed on from frame) h =
     (front_quiet rules asked [] (front_quiet rules (asked ++ []) [] (front_quiet rules (asked ++ [] ++ []) []
     (front_quiet rules (asked ++ [] ++ [] ++ []) [] h)))))
 quiet_relay rules relay d (message m) h =
-    routes_are_kept rules relay m.here m.link m.npdu
+    routes_are_kept rules relay m
     (part_quiet rules (cast_asks (message m) ++ route_asks relay (message m)) (asks_managed relay (message m)) (message_asks rules d m) h
     operations.Learn refl)
 

@@ -1,20 +1,18 @@
 -- What is done about a message, by whether it goes on to the network layer.
-use Rattle.std.proofs.Common.{◌≡◌, ◌∙◌, sym, ap, refl, ℕ, ◌+◌, Bool, true, false, List, [], ◌∷◌, ◌++◌, length, length-append, append_assoc, Option, Some, None}
+use Rattle.std.proofs.Common.{◌≡◌, ◌∙◌, sym, ap, refl, ℕ, ◌+◌, Bool, true, false, List, [], ◌∷◌, ◌++◌, length, length-append, map, append_assoc, Option, Some, None}
 use Rattle.std.specs.Prelude.{if◌then◌else◌}
 use Rattle.std.specs.Option.{option_or}
 use Rattle.std.proofs.lemmas.List.{append-nil}
-use Rattle.gw_addr.specs.declared.bip.BipAddr.{BipAddr}
 use Rattle.gw_bvll.specs.Bvll.{Message as Frame}
 use Rattle.gw_bvll.specs.Bvll as bvll
-use Rattle.gw_npdu.specs.Npdu.{Fields}
 use Rattle.gw_objects.specs.Objects.{Database}
 use Rattle.gw_relay.specs.Cast.{cast_asks, cast_sends, goes_on, accepts, is_unregistered}
+use Rattle.gw_relay.specs.Link.{answer_to, refused}
 use Rattle.gw_relay.specs.Manage.{manage_asks, manage_sends}
 use Rattle.gw_relay.specs.Route.{route_asks, route_sends}
 use Rattle.gw_relay.specs.Sends.{Sending}
 use Rattle.gw_relay.specs.State.{Relay}
 use Rattle.gw_relay.specs.declared.change.Change.{Change}
-use Rattle.gw_relay.specs.declared.port.PortState.{PortState}
 use Rattle.gw_relay.proofs.Asking.{strange_asks, strange_sends, unheard_asks, unheard_sends}
 use Rattle.gw_rules.specs.Ask.{Ask}
 use Rattle.gw_rules.specs.Authorizer.{denied_of}
@@ -23,7 +21,8 @@ use Rattle.gw_rules.specs.declared.rule.Rule.{Rule}
 use Rattle.gw_rules.proofs.Denials.{denied_of-append}
 use Rattle.gw_core.specs.Asks.{asks_for, message_asks}
 use Rattle.gw_core.specs.Effects.{change_for, message_change, message_sends, relay_change_for, sends_for}
-use Rattle.gw_core.specs.Receive.{Message, dropped, unregistered, message}
+use Rattle.gw_relay.specs.Message.{Message}
+use Rattle.gw_core.specs.Receive.{dropped, unregistered, message}
 use Rattle.gw_core.specs.Respond.{passed_asks, passed_change, passed_sends}
 use Rattle.gw_core.specs.View.{judged}
 
@@ -49,65 +48,67 @@ five {A = A} a b c d = append_assoc a (b ++ c) d ∙ ap (λ (l : List A). a ++ l
 -- ---- what is passed on
 
 pub asks_on : (relay : Relay) (m : Message) → on m ≡ true
-    → passed_asks relay m ≡ cast_asks m.here m.from m.frame m.npdu
-    ++ (route_asks relay.links relay.routes m.here m.link m.npdu ++ manage_asks relay.links relay.routes m.here m.link m.npdu)
+    → passed_asks relay m ≡ cast_asks m
+    ++ (route_asks relay m ++ manage_asks relay m)
 asks_on relay m h = rw h refl
 
 pub sends_on : (rules : List Rule) (relay : Relay) (m : Message) → on m ≡ true
-    → passed_sends rules relay m ≡ cast_sends rules m.here m.from m.frame m.npdu
-    ++ (route_sends rules relay.links relay.routes m.here m.link m.npdu ++ manage_sends rules relay.links relay.routes m.here m.link m.npdu)
+    → passed_sends rules relay m ≡ cast_sends rules m
+    ++ (route_sends rules relay m ++ manage_sends rules relay m)
 sends_on rules relay m h = rw h refl
 
-pub asks_off : (relay : Relay) (m : Message) → on m ≡ false → passed_asks relay m ≡ cast_asks m.here m.from m.frame m.npdu
-asks_off relay m h = rw h (append-nil (cast_asks m.here m.from m.frame m.npdu))
+pub asks_off : (relay : Relay) (m : Message) → on m ≡ false → passed_asks relay m ≡ cast_asks m
+asks_off relay m h = rw h (append-nil (cast_asks m))
 
 pub sends_off : (rules : List Rule) (relay : Relay) (m : Message) → on m ≡ false
-    → passed_sends rules relay m ≡ cast_sends rules m.here m.from m.frame m.npdu
-sends_off rules relay m h = rw h (append-nil (cast_sends rules m.here m.from m.frame m.npdu))
+    → passed_sends rules relay m ≡ cast_sends rules m
+sends_off rules relay m h = rw h (append-nil (cast_sends rules m))
 
 -- what is denied then, part by part
 pub denied_on : (rules : List Rule) (relay : Relay) (m : Message) → on m ≡ true
     → denied_of rules (passed_asks relay m)
-    ≡ denied_of rules (cast_asks m.here m.from m.frame m.npdu)
-    ++ (denied_of rules (route_asks relay.links relay.routes m.here m.link m.npdu)
-    ++ denied_of rules (manage_asks relay.links relay.routes m.here m.link m.npdu))
+    ≡ denied_of rules (cast_asks m)
+    ++ (denied_of rules (route_asks relay m)
+    ++ denied_of rules (manage_asks relay m))
 denied_on rules relay m h =
-    let cast = cast_asks m.here m.from m.frame m.npdu in
-    let route = route_asks relay.links relay.routes m.here m.link m.npdu in
-    let manage = manage_asks relay.links relay.routes m.here m.link m.npdu in
+    let cast = cast_asks m in
+    let route = route_asks relay m in
+    let manage = manage_asks relay m in
     ap (denied_of rules) (asks_on relay m h) ∙ denied_of-append rules cast (route ++ manage)
     ∙ ap (λ (l : List Refusal). denied_of rules cast ++ l) (denied_of-append rules route manage)
 
 -- an unregistered sender is told so
-told_so : (rules : List Rule) (link : PortState) (from : BipAddr) (frame : Frame) (npdu : Fields) → is_unregistered link from frame ≡ true
-    → cast_sends rules link from frame npdu ≡ [] → ⊥
-told_so rules link from (bvll.result_code code) npdu s none = absurd cc
-told_so rules link from (bvll.write_bdt entries) npdu s none = absurd cc
-told_so rules link from bvll.read_bdt npdu s none = absurd cc
-told_so rules link from (bvll.read_bdt_ack entries) npdu s none = absurd cc
-told_so rules link from (bvll.forwarded originator octets) npdu s none = absurd cc
-told_so rules link from (bvll.register time_to_live) npdu s none = absurd cc
-told_so rules link from bvll.read_fdt npdu s none = absurd cc
-told_so rules link from (bvll.read_fdt_ack entries) npdu s none = absurd cc
-told_so rules link from (bvll.delete address) npdu s none = absurd cc
-told_so rules link from (bvll.distribute octets) npdu s none =
-    let same = sym (strange_sends rules link from (bvll.distribute octets) npdu refl s) ∙ none in
+told_so : (rules : List Rule) (m : Message) (frame : Frame) → m.frame ≡ frame → is_unregistered m.here m.from frame ≡ true
+    → cast_sends rules m ≡ [] → ⊥
+told_so rules m (bvll.result_code code) is s none = absurd cc
+told_so rules m (bvll.write_bdt entries) is s none = absurd cc
+told_so rules m bvll.read_bdt is s none = absurd cc
+told_so rules m (bvll.read_bdt_ack entries) is s none = absurd cc
+told_so rules m (bvll.forwarded originator octets) is s none = absurd cc
+told_so rules m (bvll.register time_to_live) is s none = absurd cc
+told_so rules m bvll.read_fdt is s none = absurd cc
+told_so rules m (bvll.read_fdt_ack entries) is s none = absurd cc
+told_so rules m (bvll.delete address) is s none = absurd cc
+told_so rules m (bvll.distribute octets) is s none =
+    let heard : accepts m.here m.from m.frame ≡ true = ap (accepts m.here m.from) is in
+    let strange : is_unregistered m.here m.from m.frame ≡ true = ap (is_unregistered m.here m.from) is ∙ s in
+    let told : map (answer_to m.here.port m.from) (refused (bvll.distribute octets)) ≡ [] =
+    ap (λ (frame : Frame). map (answer_to m.here.port m.from) (refused frame)) (sym is) ∙ sym (strange_sends rules m heard strange) ∙ none in
     absurd cc
-told_so rules link from (bvll.original_unicast octets) npdu s none = absurd cc
-told_so rules link from (bvll.original_broadcast octets) npdu s none = absurd cc
+told_so rules m (bvll.original_unicast octets) is s none = absurd cc
+told_so rules m (bvll.original_broadcast octets) is s none = absurd cc
 
-no_stranger : (rules : List Rule) (link : PortState) (from : BipAddr) (frame : Frame) (npdu : Fields) (s : Bool) → is_unregistered link from frame ≡ s
-    → cast_sends rules link from frame npdu ≡ [] → s ≡ false
-no_stranger rules link from frame npdu true is none = absurd (told_so rules link from frame npdu is none)
-no_stranger rules link from frame npdu false is none = refl
+no_stranger : (rules : List Rule) (m : Message) (s : Bool) → is_unregistered m.here m.from m.frame ≡ s → cast_sends rules m ≡ []
+    → s ≡ false
+no_stranger rules m true is none = absurd (told_so rules m m.frame refl is none)
+no_stranger rules m false is none = refl
 
 -- nothing is asked or sent of a distribution
 pub cast_silent : (rules : List Rule) (relay : Relay) (m : Message) → passed_asks relay m ≡ [] → passed_sends rules relay m ≡ []
-    → (cast_asks m.here m.from m.frame m.npdu ≡ []) × (is_unregistered m.here m.from m.frame ≡ false)
+    → (cast_asks m ≡ []) × (is_unregistered m.here m.from m.frame ≡ false)
 cast_silent rules relay m asks sends = (
-  empty_left (cast_asks m.here m.from m.frame m.npdu) _ asks,
-  no_stranger rules m.here m.from m.frame m.npdu
-      (is_unregistered m.here m.from m.frame) refl (empty_left (cast_sends rules m.here m.from m.frame m.npdu) _ sends),
+  empty_left (cast_asks m) _ asks,
+  no_stranger rules m (is_unregistered m.here m.from m.frame) refl (empty_left (cast_sends rules m) _ sends),
 )
 
 -- ---- what a message is received as
@@ -133,23 +134,23 @@ three_none : {A : Type 0} (xs : List A) → xs ++ [] ++ [] ++ [] ≡ xs
 three_none xs = append-nil (xs ++ [] ++ []) ∙ append-nil (xs ++ []) ∙ append-nil xs
 
 stranger_sends : (rules : List Rule) (relay : Relay) (d : Database) (m : Message)
-    → sends_for rules relay d (unregistered m) ≡ cast_sends rules m.here m.from m.frame m.npdu
-stranger_sends rules relay d m = three_none (cast_sends rules m.here m.from m.frame m.npdu)
+    → sends_for rules relay d (unregistered m) ≡ cast_sends rules m
+stranger_sends rules relay d m = three_none (cast_sends rules m)
 
 stops_by : (rules : List Rule) (relay : Relay) (d : Database) (m : Message) (h s : Bool) → accepts m.here m.from m.frame ≡ h
     → is_unregistered m.here m.from m.frame ≡ s → on m ≡ false → Stops rules relay d m
 stops_by rules relay d m false s heard strange off =
     let is : judged m ≡ dropped = rw heard refl in record {
-      sends = ap (sends_for rules relay d) is ∙ sym (unheard_sends rules m.here m.from m.frame m.npdu heard)
+      sends = ap (sends_for rules relay d) is ∙ sym (unheard_sends rules m heard)
           ∙ sym (sends_off rules relay m off);
-      asks = ap (asks_for rules relay d) is ∙ sym (unheard_asks m.here m.from m.frame m.npdu heard) ∙ sym (asks_off relay m off);
+      asks = ap (asks_for rules relay d) is ∙ sym (unheard_asks m heard) ∙ sym (asks_off relay m off);
       change = ap (relay_change_for rules) is ∙ no_change (on m) _ off;
       write = ap (change_for rules d) is;
     }
 stops_by rules relay d m true true heard strange off =
     let is : judged m ≡ unregistered m = rw (heard, strange) refl in record {
       sends = ap (sends_for rules relay d) is ∙ stranger_sends rules relay d m ∙ sym (sends_off rules relay m off);
-      asks = ap (asks_for rules relay d) is ∙ sym (strange_asks m.here m.from m.frame m.npdu heard strange) ∙ sym (asks_off relay m off);
+      asks = ap (asks_for rules relay d) is ∙ sym (strange_asks m heard strange) ∙ sym (asks_off relay m off);
       change = ap (relay_change_for rules) is ∙ no_change (on m) _ off;
       write = ap (change_for rules d) is;
     }
@@ -176,13 +177,13 @@ goes_by rules relay d m true false heard strange goes =
     let is : judged m ≡ message m = rw (heard, strange) refl in record {
       sends = ap (sends_for rules relay d) is
           ∙ ap (λ (l : List Sending). l ++ message_sends rules d m)
-          (append_assoc (cast_sends rules m.here m.from m.frame m.npdu) (route_sends rules relay.links relay.routes m.here m.link m.npdu)
-          (manage_sends rules relay.links relay.routes m.here m.link m.npdu))
+          (append_assoc (cast_sends rules m) (route_sends rules relay m)
+          (manage_sends rules relay m))
           ∙ ap (λ (l : List Sending). l ++ message_sends rules d m) (sym (sends_on rules relay m goes));
       asks = ap (asks_for rules relay d) is
           ∙ ap (λ (l : List Ask). l ++ message_asks rules d m)
-          (append_assoc (cast_asks m.here m.from m.frame m.npdu) (route_asks relay.links relay.routes m.here m.link m.npdu)
-          (manage_asks relay.links relay.routes m.here m.link m.npdu))
+          (append_assoc (cast_asks m) (route_asks relay m)
+          (manage_asks relay m))
           ∙ ap (λ (l : List Ask). l ++ message_asks rules d m) (sym (asks_on relay m goes));
       change = ap (relay_change_for rules) is ∙ yes_change (on m) _ goes;
       write = ap (change_for rules d) is;
@@ -200,20 +201,20 @@ goes_denied rules relay d m is =
 
 -- how many are
 pub count_off : (rules : List Rule) (relay : Relay) (d : Database) (m : Message) → on m ≡ false
-    → length (denied_of rules (cast_asks m.here m.from m.frame m.npdu)) ≡ length (denied_of rules (asks_for rules relay d (judged m)))
+    → length (denied_of rules (cast_asks m)) ≡ length (denied_of rules (asks_for rules relay d (judged m)))
 count_off rules relay d m off =
     ap (λ (asks : List Ask). length (denied_of rules asks)) (sym (asks_off relay m off) ∙ sym (stops rules relay d m off).asks)
 
 pub count_on : (rules : List Rule) (relay : Relay) (d : Database) (m : Message) → on m ≡ true
-    → length (denied_of rules (cast_asks m.here m.from m.frame m.npdu))
-    + (length (denied_of rules (route_asks relay.links relay.routes m.here m.link m.npdu))
-    + (length (denied_of rules (manage_asks relay.links relay.routes m.here m.link m.npdu)) + length
+    → length (denied_of rules (cast_asks m))
+    + (length (denied_of rules (route_asks relay m))
+    + (length (denied_of rules (manage_asks relay m)) + length
     (denied_of rules (message_asks rules d m))))
     ≡ length (denied_of rules (asks_for rules relay d (judged m)))
 count_on rules relay d m is =
-    let cast = denied_of rules (cast_asks m.here m.from m.frame m.npdu) in
-    let route = denied_of rules (route_asks relay.links relay.routes m.here m.link m.npdu) in
-    let manage = denied_of rules (manage_asks relay.links relay.routes m.here m.link m.npdu) in
+    let cast = denied_of rules (cast_asks m) in
+    let route = denied_of rules (route_asks relay m) in
+    let manage = denied_of rules (manage_asks relay m) in
     let served = denied_of rules (message_asks rules d m) in
     let whole : denied_of rules (asks_for rules relay d (judged m)) ≡ cast ++ (route ++ (manage ++ served)) =
     goes_denied rules relay d m is ∙ ap (λ (l : List Refusal). l ++ served) (denied_on rules relay m is) ∙ five cast route manage served in
@@ -229,20 +230,20 @@ or_none (Some x) = refl
 -- ---- nothing is asked or sent
 
 pub record Silent (rules : List Rule) (relay : Relay) (m : Message) : Type 0 where
-  pub route_asks : route_asks relay.links relay.routes m.here m.link m.npdu ≡ []
-  pub manage_asks : manage_asks relay.links relay.routes m.here m.link m.npdu ≡ []
-  pub route_sends : route_sends rules relay.links relay.routes m.here m.link m.npdu ≡ []
-  pub manage_sends : manage_sends rules relay.links relay.routes m.here m.link m.npdu ≡ []
+  pub route_asks : route_asks relay m ≡ []
+  pub manage_asks : manage_asks relay m ≡ []
+  pub route_sends : route_sends rules relay m ≡ []
+  pub manage_sends : manage_sends rules relay m ≡ []
 
 pub on_silent : (rules : List Rule) (relay : Relay) (m : Message) → on m ≡ true → passed_asks relay m ≡ [] → passed_sends rules relay m ≡ []
     → Silent rules relay m
 on_silent rules relay m is asks sends =
-    let asked = both_empty (route_asks relay.links relay.routes m.here m.link m.npdu)
-    (manage_asks relay.links relay.routes m.here m.link m.npdu)
-    (empty_right (cast_asks m.here m.from m.frame m.npdu) _ (sym (asks_on relay m is) ∙ asks)) in
-    let sent = both_empty (route_sends rules relay.links relay.routes m.here m.link m.npdu)
-    (manage_sends rules relay.links relay.routes m.here m.link m.npdu)
-    (empty_right (cast_sends rules m.here m.from m.frame m.npdu) _ (sym (sends_on rules relay m is) ∙ sends)) in
+    let asked = both_empty (route_asks relay m)
+    (manage_asks relay m)
+    (empty_right (cast_asks m) _ (sym (asks_on relay m is) ∙ asks)) in
+    let sent = both_empty (route_sends rules relay m)
+    (manage_sends rules relay m)
+    (empty_right (cast_sends rules m) _ (sym (sends_on rules relay m is) ∙ sends)) in
     record { route_asks = asked.0; manage_asks = asked.1; route_sends = sent.0; manage_sends = sent.1 }
 
 -- a part of what is asked of what a message is received as is nothing where that is

@@ -31,7 +31,8 @@ use Rattle.gw_device.specs.Device.{apdu_response, confirmed_response, device_ans
 use Rattle.gw_device.specs.Multi.{Part, asked, joined, multi_ack, multi_ask, multi_part, multi_response, named_part}
 use Rattle.gw_device.specs.Read.{read_response}
 use Rattle.gw_device.specs.Response.{Answer, Response, fits, silence, turned_down}
-use Rattle.gw_device.specs.Services.{read_property, read_property_multiple, set_of, write_property, who_has, who_is}
+use Rattle.gw_services.specs.Choices.{read_property, read_property_multiple, write_property, who_has, who_is}
+use Rattle.gw_device.specs.Services.{set_of}
 use Rattle.gw_device.specs.WhoHas.{object_response, sought_object, who_has_response}
 use Rattle.gw_device.specs.WhoIs.{is_within, who_is_response}
 use Rattle.gw_device.specs.Write.{write_response}
@@ -46,7 +47,8 @@ use Rattle.gw_script.specs.Event.{Datagram}
 use Rattle.gw_core.specs.Asks.{apdu_asks, asks, asks_for, cast_asks, link_asks, manage_asks, message_asks, route_asks}
 use Rattle.gw_core.specs.Effects.{answer_sends, apdu_change, change_at, change_for, message_sends, move_at, relay_change_for, sends, sends_for}
 use Rattle.gw_core.specs.Laws.{DroppedNeedsNoMemory, NothingAskedIsChanged, NothingAskedIsWritten}
-use Rattle.gw_core.specs.Receive.{Message, Received, dropped, managed, unregistered, message, receive}
+use Rattle.gw_relay.specs.Message.{Message}
+use Rattle.gw_core.specs.Receive.{Received, dropped, managed, unregistered, message, receive}
 use Rattle.gw_core.specs.Reply.{apdu_for, context_of, reply_npdu, reply_sends, max_reply_apdu}
 use Rattle.gw_core.specs.State.{device_network}
 use Rattle.gw_core.proofs.DenialLemmas.{answer_put, asks_put}
@@ -275,7 +277,7 @@ unchanged rules relay d (unregistered m) none = refl
 unchanged rules relay d (message m) none =
     let parts = five_empty [] (cast_asks (message m)) (route_asks relay (message m)) (manage_asks relay (message m))
     (message_asks rules d m) none in
-    unasked_learning rules relay.links relay.routes m.here m.link m.npdu parts.3
+    unasked_learning rules relay m parts.3
 
 pub nothing_asked_is_changed : NothingAskedIsChanged
 unfolding asks move_at

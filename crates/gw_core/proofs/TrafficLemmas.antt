@@ -23,9 +23,9 @@ allowed_sent rules (step ∷ steps) =
 
 pub allowed_traffic_is_sent : AllowedTrafficIsSent
 allowed_traffic_is_sent rules relay m = (
-  allowed_sent rules (route_steps relay.links relay.routes m.here m.link m.npdu),
+  allowed_sent rules (route_steps relay m),
   refl,
-  allowed_sent rules (manage_steps relay.links relay.routes m.here m.link m.npdu),
+  allowed_sent rules (manage_steps relay m),
   refl,
 )
 

@@ -174,14 +174,14 @@ none_towards m (Some d) network = either _
     either true = refl
     either false = refl
 
-no_learning : (rules : List Rule) (on : PortState) (from : BipAddr) (network : ℕ) (f : Fields) (o : Object) → option_and_then object_written (apdu_for network f) ≡ Some o
-    → manage_change rules on from f ≡ None
-no_learning rules on from network f o names = by f.payload refl
+no_learning : (rules : List Rule) (m : Message) (network : ℕ) (o : Object)
+    → option_and_then object_written (apdu_for network m.npdu) ≡ Some o → manage_change rules m ≡ None
+no_learning rules m network o names = by m.npdu.payload refl
   where
-    by : (payload : Payload) → f.payload ≡ payload → manage_change rules on from f ≡ None
+    by : (payload : Payload) → m.npdu.payload ≡ payload → manage_change rules m ≡ None
     by (apdu octets) is = rw is refl
-    by (network_message m) is =
-        absurd (no_some o (sym (ap (option_and_then object_written) (ap (λ (p : Payload). apdu_towards network p f.destination) is ∙ none_towards m f.destination network)) ∙ names))
+    by (network_message n) is =
+        absurd (no_some o (sym (ap (option_and_then object_written) (ap (λ (p : Payload). apdu_towards network p m.npdu.destination) is ∙ none_towards n m.npdu.destination network)) ∙ names))
 
 puts_by : (o : Object) (rules : List Rule) (d : Database) (context : Context) (x : Option (List ℕ)) → option_and_then object_written x ≡ Some o
     → (write : Write) → apdu_change rules d context x ≡ Some write → place_of d.configured o ≡ Some write.place
@@ -203,10 +203,10 @@ left_by w t n o (message m) denials names agree =
       states = t;
       number = n;
       is = ap (λ (x : Option Change). stands w (moved (option_map Commit x) w.relay) (standing c t) w.ticks n)
-          (sym (no_learning w.rules m.here m.link c.device.network m.npdu o names))
-          ∙ ap (λ (d : Database). stands w (moved (option_map Commit (manage_change w.rules m.here m.link m.npdu)) w.relay) (standing d.configured t) w.ticks n)
+          (sym (no_learning w.rules m c.device.network o names))
+          ∙ ap (λ (d : Database). stands w (moved (option_map Commit (manage_change w.rules m)) w.relay) (standing d.configured t) w.ticks n)
           (sym (changed_standing g c s))
-          ∙ ap (λ (ticks : ℕ). stands w (moved (option_map Commit (manage_change w.rules m.here m.link m.npdu)) w.relay) (standing (changed g w.device).configured t) ticks n)
+          ∙ ap (λ (ticks : ℕ). stands w (moved (option_map Commit (manage_change w.rules m)) w.relay) (standing (changed g w.device).configured t) ticks n)
           (sym (add-zero w.ticks));
       agree = subst (λ (d : Database). AgreeBut o d.configured d.states t) (sym (changed_standing g c s))
           (agree_made o c s t g (puts_by o w.rules w.device (context_of c.device.network m) (apdu_for c.device.network m.npdu) names) agree);

@@ -11,7 +11,8 @@ use Rattle.gw_relay.specs.Manage as network
 use Rattle.gw_relay.specs.Route as routing
 use Rattle.gw_relay.specs.State.{Relay}
 use Rattle.gw_script.specs.Event.{Event}
-use Rattle.gw_core.specs.Receive.{Message, Received, dropped, managed, unregistered, message, receive}
+use Rattle.gw_relay.specs.Message.{Message}
+use Rattle.gw_core.specs.Receive.{Received, dropped, managed, unregistered, message, receive}
 use Rattle.gw_core.specs.Reply.{apdu_for, context_of}
 use Rattle.gw_core.specs.State.{State, device_network}
 
@@ -29,21 +30,21 @@ abbrev pub cast_asks : Received → List Ask
 cast_asks dropped = []
 cast_asks (managed on from frame) = []
 cast_asks (unregistered m) = []
-cast_asks (message m) = broadcast.cast_asks m.here m.from m.frame m.npdu
+cast_asks (message m) = broadcast.cast_asks m
 
 -- routing by the destination network (clause 6.5)
 abbrev pub route_asks : Relay → Received → List Ask
 route_asks relay dropped = []
 route_asks relay (managed on from frame) = []
 route_asks relay (unregistered m) = []
-route_asks relay (message m) = routing.route_asks relay.links relay.routes m.here m.link m.npdu
+route_asks relay (message m) = routing.route_asks relay m
 
 -- network layer messages to the gateway (clause 6.4)
 abbrev pub manage_asks : Relay → Received → List Ask
 manage_asks relay dropped = []
 manage_asks relay (managed on from frame) = []
 manage_asks relay (unregistered m) = []
-manage_asks relay (message m) = network.manage_asks relay.links relay.routes m.here m.link m.npdu
+manage_asks relay (message m) = network.manage_asks relay m
 
 -- the device, for an APDU where there is one
 abbrev pub apdu_asks : List Rule → Database → Context → Option (List ℕ) → List Ask

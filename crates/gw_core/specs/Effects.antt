@@ -21,7 +21,8 @@ use Rattle.gw_script.specs.Event.{Event}
 use Rattle.gw_script.specs.Event.{Datagram, Tick}
 use Rattle.gw_core.specs.Asks.{asks}
 use Rattle.gw_core.specs.Denials.{denials_at, denials_for}
-use Rattle.gw_core.specs.Receive.{Message, Received, dropped, managed, unregistered, message, receive}
+use Rattle.gw_relay.specs.Message.{Message}
+use Rattle.gw_core.specs.Receive.{Received, dropped, managed, unregistered, message, receive}
 use Rattle.gw_core.specs.Reply.{apdu_for, context_of, reply_sends}
 use Rattle.gw_core.specs.State.{State, device_network}
 
@@ -38,8 +39,8 @@ link_sends rules (message m) = []
 abbrev pub cast_sends : List Rule → Received → List Sending
 cast_sends rules dropped = []
 cast_sends rules (managed on from frame) = []
-cast_sends rules (unregistered m) = broadcast.cast_sends rules m.here m.from m.frame m.npdu
-cast_sends rules (message m) = broadcast.cast_sends rules m.here m.from m.frame m.npdu
+cast_sends rules (unregistered m) = broadcast.cast_sends rules m
+cast_sends rules (message m) = broadcast.cast_sends rules m
 
 -- what goes onward to another network (clause 6.5)
 abbrev pub route_sends : List Rule → Relay → Received → List Sending
@@ -47,7 +48,7 @@ route_sends rules relay dropped = []
 route_sends rules relay (managed on from frame) = []
 route_sends rules relay (unregistered m) = []
 route_sends rules relay (message m) =
-    routing.route_sends rules relay.links relay.routes m.here m.link m.npdu
+    routing.route_sends rules relay m
 
 -- answers to network layer messages (clause 6.4)
 abbrev pub manage_sends : List Rule → Relay → Received → List Sending
@@ -55,7 +56,7 @@ manage_sends rules relay dropped = []
 manage_sends rules relay (managed on from frame) = []
 manage_sends rules relay (unregistered m) = []
 manage_sends rules relay (message m) =
-    network.manage_sends rules relay.links relay.routes m.here m.link m.npdu
+    network.manage_sends rules relay m
 
 -- the datagrams of an answer, where there is one
 abbrev pub answer_sends : ℕ → Message → Option Answer → List Sending
@@ -96,7 +97,7 @@ abbrev pub relay_change_for : List Rule → Received → Option Change
 relay_change_for rules dropped = None
 relay_change_for rules (managed on from frame) = table.link_change rules on from frame
 relay_change_for rules (unregistered m) = None
-relay_change_for rules (message m) = network.manage_change rules m.here m.link m.npdu
+relay_change_for rules (message m) = network.manage_change rules m
 
 -- what happens to the ports' tables and the routes at an event: the change that is granted, if there is
 -- one; at a tick they are a tick later

@@ -27,12 +27,13 @@ use Rattle.gw_device.specs.declared.context.Context.{Context}
 use Rattle.gw_device.specs.Errors.{error_of}
 use Rattle.gw_device.specs.Read.{named_read, read_ask, read_response}
 use Rattle.gw_device.specs.Response.{to_client}
-use Rattle.gw_device.specs.Services.{read_property, write_property}
+use Rattle.gw_services.specs.Choices.{read_property, write_property}
 use Rattle.gw_device.specs.Write.{write_ask, write_response}
 use Rattle.gw_core.specs.Asks.{asks, cast_asks, manage_asks, route_asks}
 use Rattle.gw_core.specs.Denials.{rule_name}
 use Rattle.gw_core.specs.Effects.{NeedsNoMemory, cast_sends, change_at, effects_at, manage_sends, move_at, nothing, route_sends}
-use Rattle.gw_core.specs.Receive.{Message, dropped, message, receive}
+use Rattle.gw_relay.specs.Message.{Message}
+use Rattle.gw_core.specs.Receive.{dropped, message, receive}
 use Rattle.gw_core.specs.State.{State}
 
 -- a tick, and no datagram
@@ -137,11 +138,11 @@ is_allowed rules step = list_all (allows rules) step.asks
 abbrev pub AllowedTrafficIsSent : Type 0
 AllowedTrafficIsSent = (rules : List Rule) (relay : Relay) (m : Message) →
     (route_sends rules relay (message m)
-    ≡ flat_map (λ s. s.sends) (filter (is_allowed rules) (route_steps relay.links relay.routes m.here m.link m.npdu)))
-    × (route_asks relay (message m) ≡ flat_map (λ s. s.asks) (route_steps relay.links relay.routes m.here m.link m.npdu))
+    ≡ flat_map (λ s. s.sends) (filter (is_allowed rules) (route_steps relay m)))
+    × (route_asks relay (message m) ≡ flat_map (λ s. s.asks) (route_steps relay m))
     × (manage_sends rules relay (message m)
-    ≡ flat_map (λ s. s.sends) (filter (is_allowed rules) (manage_steps relay.links relay.routes m.here m.link m.npdu)))
-    × (manage_asks relay (message m) ≡ flat_map (λ s. s.asks) (manage_steps relay.links relay.routes m.here m.link m.npdu))
+    ≡ flat_map (λ s. s.sends) (filter (is_allowed rules) (manage_steps relay m)))
+    × (manage_asks relay (message m) ≡ flat_map (λ s. s.asks) (manage_steps relay m))
 
 -- A broadcast that the policy denies is distributed to nobody: a Distribute-Broadcast gets its refusal, and any
 -- other frame nothing.

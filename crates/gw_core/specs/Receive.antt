@@ -10,22 +10,13 @@ use Rattle.gw_bvll.specs.Bvll.{Message as Frame}
 use Rattle.gw_npdu.specs.Npdu.{Fields, Address}
 use Rattle.gw_npdu.specs.Reading.{npdu_at}
 use Rattle.gw_relay.specs.Cast.{accepts, is_unregistered}
-use Rattle.gw_relay.specs.Claim.{claimed, link_source, local_source}
+use Rattle.gw_relay.specs.Claim.{local_source}
+use Rattle.gw_relay.specs.Message.{Message, message_of}
 use Rattle.gw_relay.specs.State.{link_at}
 use Rattle.gw_relay.specs.declared.port.PortState.{PortState}
 use Rattle.gw_script.specs.Event.{Event}
 use Rattle.gw_script.specs.Event.{Datagram, Tick}
 use Rattle.gw_core.specs.State.{State, device_network}
-
--- A message of the network layer: the port that it came on with its tables, its sender and frame, the
--- link source, the claim, and the NPDU.
-pub record Message : Type 0 where
-  pub here : PortState
-  pub from : BipAddr
-  pub frame : Frame
-  pub link : BipAddr
-  pub claim : Source
-  pub npdu : Fields
 
 -- What an event is received as: nothing; a frame that manages a table of its port; a broadcast to be
 -- distributed, from someone who isn't registered; or a message of the network layer that is heard.
@@ -85,17 +76,6 @@ npdu_of links device octets =
     ]) else None
 
 -- ---- what is received
-
--- a message that a frame brings on a port
-abbrev pub message_of : PortState → BipAddr → Frame → Fields → Message
-message_of on from frame npdu = record {
-  here = on;
-  from = from;
-  frame = frame;
-  link = link_source from frame;
-  claim = claimed on.port.network (link_source from frame) npdu;
-  npdu = npdu;
-}
 
 -- a message is heard, or an unregistered sender's (Annex J.5)
 abbrev pub receive_npdu : List PortState → ℕ → PortState → BipAddr → Frame → List ℕ → Received

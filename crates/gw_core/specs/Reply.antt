@@ -10,7 +10,7 @@ use Rattle.gw_relay.specs.Sends.{Sending}
 use Rattle.gw_relay.specs.Steps.{broadcast, unicast}
 use Rattle.gw_device.specs.declared.context.Context.{Context}
 use Rattle.gw_device.specs.Response.{Answer}
-use Rattle.gw_core.specs.Receive.{Message}
+use Rattle.gw_relay.specs.Message.{Message}
 
 -- ---- to the device
 

@@ -5,6 +5,7 @@ use Rattle.gw_objects.specs.Objects.{Database}
 use Rattle.gw_relay.specs.Cast.{cast_asks, cast_sends, goes_on}
 use Rattle.gw_relay.specs.Manage.{manage_asks, manage_change, manage_sends}
 use Rattle.gw_relay.specs.Route.{route_asks, route_sends}
+use Rattle.gw_relay.specs.Response.{Response as RelayDue}
 use Rattle.gw_relay.specs.Sends.{Sending}
 use Rattle.gw_relay.specs.State.{Relay}
 use Rattle.gw_relay.specs.declared.change.Change.{Change}
@@ -14,31 +15,35 @@ use Rattle.gw_rules.specs.declared.rule.Rule.{Rule}
 use Rattle.gw_core.specs.declared.respond.Response.{Response}
 use Rattle.gw_core.specs.Asks.{asks_for}
 use Rattle.gw_core.specs.Effects.{change_for, relay_change_for, sends_for}
-use Rattle.gw_core.specs.Receive.{Message, Received}
+use Rattle.gw_relay.specs.Message.{Message}
+use Rattle.gw_core.specs.Receive.{Received}
 
--- what is asked before the device is: for the distribution, and where the frame goes on, for the routing
--- and the network layer
+-- What is asked before the device is: for the distribution, and where the frame goes on, for the routing
+-- and the network layer.
 abbrev pub passed_asks : Relay → Message → List Ask
 passed_asks relay m =
-    cast_asks m.here m.from m.frame m.npdu
-    ++ (if goes_on m.here m.from m.frame
-    then route_asks relay.links relay.routes m.here m.link m.npdu
-    ++ manage_asks relay.links relay.routes m.here m.link m.npdu
-    else [])
+    cast_asks m
+    ++ (if goes_on m.here m.from m.frame then route_asks relay m ++ manage_asks relay m else [])
 
 -- what is sent then
 abbrev pub passed_sends : List Rule → Relay → Message → List Sending
 passed_sends rules relay m =
-    cast_sends rules m.here m.from m.frame m.npdu
+    cast_sends rules m
     ++ (if goes_on m.here m.from m.frame
-    then route_sends rules relay.links relay.routes m.here m.link m.npdu
-    ++ manage_sends rules relay.links relay.routes m.here m.link m.npdu
-    else [])
+    then route_sends rules relay m ++ manage_sends rules relay m else [])
 
 -- what changes then
 abbrev pub passed_change : List Rule → Message → Option Change
 passed_change rules m =
-    if goes_on m.here m.from m.frame then manage_change rules m.here m.link m.npdu else None
+    if goes_on m.here m.from m.frame then manage_change rules m else None
+
+-- all of it
+abbrev pub passed_response : List Rule → Relay → Message → RelayDue
+passed_response rules relay m = record {
+  asks = passed_asks relay m;
+  sends = passed_sends rules relay m;
+  change = passed_change rules m;
+}
 
 -- a response of the code is what is due about what is received
 pub record IsResponse (rules : List Rule) (relay : Relay) (d : Database) (received : Received)

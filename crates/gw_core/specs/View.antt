@@ -4,17 +4,13 @@ use Rattle.gw_addr.specs.declared.bip.BipAddr.{BipAddr}
 use Rattle.gw_bvll.specs.Bvll.{view as frame_view}
 use Rattle.gw_bvll.specs.Bvll.{Message as Frame}
 use Rattle.gw_npdu.specs.Npdu.{Fields}
-use Rattle.gw_npdu.specs.Npdu.{view as npdu_view}
 use Rattle.gw_relay.specs.Cast.{accepts, is_unregistered}
+use Rattle.gw_relay.specs.Message.{Message, message_of, message_view}
 use Rattle.gw_relay.specs.declared.port.PortState.{PortState}
 use Rattle.gw_core.specs.declared.denial.Origin.{Origin as CodeOrigin}
-use Rattle.gw_core.specs.declared.message.Message.{Message as LentMessage}
 use Rattle.gw_core.specs.declared.receive.Received.{Received as LentReceived}
 use Rattle.gw_core.specs.declared.receive.Received.TheVariants as lent
-use Rattle.gw_core.specs.Receive.{Message, Origin, Received, message_of, message_origin, node_origin, dropped, managed, unregistered, message}
-
-abbrev pub message_view : LentMessage → Message
-message_view m = message_of m.here.now m.from (frame_view m.frame) (npdu_view m.npdu)
+use Rattle.gw_core.specs.Receive.{Origin, Received, message_origin, node_origin, dropped, managed, unregistered, message}
 
 -- A message is judged once it is passed on: it may be unheard, or an unregistered sender's.
 abbrev pub judged : Message → Received

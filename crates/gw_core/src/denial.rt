@@ -5,10 +5,10 @@ ghost use Rattle.std.specs.Option.{option_map};
 ghost use Rattle.gw_core.specs.Denials.{denials_from, denials_of, name_at, rule_name};
 ghost use Rattle.gw_core.specs.View.{origin_of, origin_view};
 
-use crate::message::local_source;
 use crate::receive::Received;
 use gw_addr::Source;
 use gw_audit::{Denial, Denials};
+use gw_relay::local_source;
 use gw_rules::{Refusal, RuleList, RuleName};
 use std::alloc::{AllocError, Global};
 

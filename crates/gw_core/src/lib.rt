@@ -9,7 +9,6 @@ mod event;
 mod fault;
 mod gateway;
 pub mod laws;
-mod message;
 mod receive;
 mod replaying;
 mod reply;

@@ -6,15 +6,13 @@ ghost use Rattle.std.specs.Option.{option_map};
 ghost use Rattle.gw_bvll.specs.Bvll.{view as frame_view};
 ghost use Rattle.gw_npdu.specs.Npdu.{view as npdu_view, address_view};
 ghost use Rattle.gw_relay.specs.Claim.{local_source};
-ghost use Rattle.gw_relay.specs.State.{link_at};
 ghost use Rattle.gw_core.specs.Receive.{claims_direct, comes_in, is_direct, manages, npdu_of, payload_of, receive_datagram, receive_frame, receive_on};
 ghost use Rattle.gw_core.specs.View.{received_npdu, received_view};
 
-use crate::message::Message;
 use gw_addr::{BipAddr, NetNum};
 use gw_bvll::Bvll;
 use gw_npdu::{AddressRef, Npdu};
-use gw_relay::PortState;
+use gw_relay::{Message, PortState, link_at};
 
 /// The longest datagram that is heard, in octets.
 const MAX_DATAGRAM: usize = gw_bvll::MAX_LEN;
@@ -168,16 +166,6 @@ fn receive_datagram<'a>(
     }
 }
 
-/// The link of the port of a number, which is counted from 1.
-fn link_at(links: &[PortState], number: u8) -> Option<&PortState>
-    ensures { option_map (λ link. link.now) result ≡ link_at links.now number }
-{
-    if number == 0 {
-        return None;
-    }
-    links.get(usize::from(number) - 1)
-}
-
 /// What a datagram is received as on the port of this number.
 #[tactic(auto, unfolding(crate::specs::Receive::receive_on))]
 pub fn receive_on<'a>(
@@ -189,7 +177,7 @@ pub fn receive_on<'a>(
 ) -> Received<'a>
     ensures { received_view result ≡ receive_on links.now device number from octets.now }
 {
-    match link_at(links, number) {
+    match link_at(links, usize::from(number)) {
         Some(on) => receive_datagram(links, device, on, from, octets),
         None => Received::Dropped,
     }

@@ -12,14 +12,13 @@ ghost use Rattle.gw_bvll.specs.Bvll.{original_unicast};
 ghost use Rattle.gw_bvll.specs.Bvll.{encoding as bvll_encoding};
 ghost use Rattle.gw_relay.specs.Steps.{broadcast, npdu_octets, unicast};
 ghost use Rattle.gw_core.specs.Reply.{apdu_for, apdu_of, context_of, goes_to_all, is_broadcast, is_device, is_local_broadcast, most_octets, reply_npdu, reply_sends, max_reply_apdu, reply_destination};
-ghost use Rattle.gw_core.specs.View.{message_view};
+ghost use Rattle.gw_relay.specs.Message.{message_view};
 
-use crate::message::Message;
 use gw_addr::NetNum;
 use gw_bvll::Bvll;
 use gw_device::{Answer, Context};
 use gw_npdu::{AddressRef, Destination, Npdu, Payload};
-use gw_relay::{Batch, Sends};
+use gw_relay::{Batch, Message, Sends};
 use std::alloc::{AllocError, Global};
 
 /// The one station of the device's network.

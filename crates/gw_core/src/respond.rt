@@ -10,19 +10,19 @@ ghost use Rattle.gw_rules.specs.declared.rule.Rule.{Rule};
 ghost use Rattle.gw_relay.specs.Cast.{goes_on};
 ghost use Rattle.gw_core.specs.Asks.{asks_for, message_asks};
 ghost use Rattle.gw_core.specs.Effects.{message_change, message_sends, sends_for};
-ghost use Rattle.gw_relay.specs.State.{Relay as RelayState};
+ghost use Rattle.gw_relay.specs.Response.{IsRelayed};
 ghost use Rattle.gw_core.specs.Receive.{managed};
-ghost use Rattle.gw_core.specs.Respond.{IsResponse, passed_asks, passed_change, passed_sends};
+ghost use Rattle.gw_core.specs.Respond.{IsResponse, passed_response};
 ghost use Rattle.gw_core.specs.State.{device_network};
-ghost use Rattle.gw_core.specs.View.{judged, message_view, received_view};
+ghost use Rattle.gw_relay.specs.Message.{message_view};
+ghost use Rattle.gw_core.specs.View.{judged, received_view};
 
-use crate::message::Message;
 use crate::receive::Received;
 use crate::reply::{answer_sends, apdu_for, context_of};
 use gw_addr::{BipAddr, NetNum};
 use gw_bvll::Bvll;
 use gw_device::{Change, Device, Reply};
-use gw_relay::{PortState, Relay, RelayResponse};
+use gw_relay::{CastResponse, Message, PortState, Relay, RelayResponse};
 use gw_rules::Judge;
 use std::alloc::{AllocError, Global};
 
@@ -48,36 +48,26 @@ fn pass_on<J: Judge>(
     judge: &J,
     relay: &Relay,
     message: &Message<'_>,
-) -> Result<RelayResponse, AllocError>
-    ensures sends { (rules : List Rule) → J.StandsFor judge.now rules →
-        let due = passed_sends rules relay.now (message_view message.now) in
-        IfOk result (λ given. given.sends ≡ due) }
-    ensures refusals { (rules : List Rule) → J.StandsFor judge.now rules →
-        let asks = passed_asks relay.now (message_view message.now) in
-        IfOk result (λ given. given.refusals ≡ denied_of rules asks) }
-    ensures change { (rules : List Rule) → J.StandsFor judge.now rules →
-        let due = passed_change rules (message_view message.now) in
-        IfOk result (λ given. given.change ≡ due) }
+) -> Result<CastResponse, AllocError>
+    ensures relayed { (rules : List Rule) → J.StandsFor judge.now rules →
+        let due = passed_response rules relay.now (message_view message.now) in
+        IfOk result (λ passed. IsRelayed rules due passed.given) }
     ensures goes_on { let m = message_view message.now in
-        IfOk result (λ given. given.goes_on ≡ goes_on m.here m.from m.frame) }
+        IfOk result (λ passed. passed.goes_on ≡ goes_on m.here m.from m.frame) }
     ensures silent { (rules : List Rule) → J.StandsFor judge.now rules →
-        let m = message_view message.now in
-        passed_asks relay.now m ≡ [] → passed_sends rules relay.now m ≡ [] → IsOk result }
+        let due = passed_response rules relay.now (message_view message.now) in
+        due.asks ≡ [] → due.sends ≡ [] → IsOk result }
 {
-    let Message {
-        here,
-        from,
-        frame,
-        npdu,
-    } = message;
-    let given = here.cast(alloc, judge, *from, frame, npdu)?;
-    if !given.goes_on {
-        return Ok(given);
+    let CastResponse { given, goes_on } = relay.cast(alloc, judge, message)?;
+    if !goes_on {
+        return Ok(CastResponse { given, goes_on });
     }
-    let link = message.link();
-    let routed = relay.route_from(alloc, judge, here, link, npdu)?;
-    let told = relay.manage_from(alloc, judge, here, link, npdu)?;
-    given.append(routed.append(told)?)
+    let routed = relay.route(alloc, judge, message)?;
+    let managed = relay.manage(alloc, judge, message)?;
+    Ok(CastResponse {
+        given: given.append(routed.append(managed)?)?,
+        goes_on,
+    })
 }
 
 /// What the device does about a message (step 10).
@@ -141,8 +131,8 @@ fn respond_to_message<J: Judge>(
         asks_for rules relay.now device.now due ≡ [] →
         sends_for rules relay.now device.now due ≡ [] → IsOk result }
 {
-    let given = pass_on(alloc, judge, relay, message)?;
-    if !given.goes_on {
+    let CastResponse { given, goes_on } = pass_on(alloc, judge, relay, message)?;
+    if !goes_on {
         return Ok(Response {
             relayed: given,
             write: None,
@@ -159,20 +149,20 @@ fn respond_to_message<J: Judge>(
 fn respond_to_managed<J: Judge>(
     alloc: Global,
     judge: &J,
+    relay: &Relay,
     on: &PortState,
     from: BipAddr,
     frame: &Bvll<'_>,
 ) -> Result<Response, AllocError>
-    ensures response { (rules : List Rule) (relay : RelayState) (device : Database) →
-        J.StandsFor judge.now rules →
+    ensures response { (rules : List Rule) (device : Database) → J.StandsFor judge.now rules →
         let due = managed on.now from (frame_view frame.now) in
-        IfOk result (IsResponse rules relay device due) }
-    ensures silent { (rules : List Rule) (relay : RelayState) (device : Database) →
+        IfOk result (IsResponse rules relay.now device due) }
+    ensures silent { (rules : List Rule) (device : Database) →
         let due = managed on.now from (frame_view frame.now) in
-        asks_for rules relay device due ≡ [] → IsOk result }
+        asks_for rules relay.now device due ≡ [] → IsOk result }
 {
     Ok(Response {
-        relayed: on.handle_table_message(alloc, judge, from, frame)?,
+        relayed: relay.link(alloc, judge, on, from, frame)?,
         write: None,
     })
 }
@@ -198,7 +188,7 @@ pub(crate) fn respond<J: Judge>(
             write: None,
         }),
         Received::Managed { on, from, frame } => {
-            respond_to_managed(alloc, judge, on, *from, frame)
+            respond_to_managed(alloc, judge, relay, on, *from, frame)
         }
         Received::Message(message) => respond_to_message(alloc, judge, relay, device, message),
     }

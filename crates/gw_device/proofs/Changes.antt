@@ -30,6 +30,7 @@ use Rattle.gw_services.specs.MultiReading.{multi_at}
 use Rattle.gw_services.specs.Read.{read_at}
 use Rattle.gw_services.specs.WhoHas.{who_has_at}
 use Rattle.gw_services.specs.WhoIs.{who_is_at}
+use Rattle.gw_services.specs.Limits.{priority_of}
 use Rattle.gw_services.specs.Write.{Write as Request, write_at}
 use Rattle.gw_tags.specs.Object.{Object}
 use Rattle.gw_device.specs.declared.context.Context.{Context}
@@ -40,10 +41,11 @@ use Rattle.gw_device.specs.Laws.{AsksHaveTheirSource, ChangesAreAllowed, Changes
 use Rattle.gw_device.specs.Multi.{Part, members_part, multi_ask, multi_part, multi_response, named_part, properties_part, reference_part}
 use Rattle.gw_device.specs.Read.{read_response}
 use Rattle.gw_device.specs.Response.{Response}
-use Rattle.gw_device.specs.Services.{read_property, read_property_multiple, set_of, write_property, who_has, who_is}
+use Rattle.gw_services.specs.Choices.{read_property, read_property_multiple, write_property, who_has, who_is}
+use Rattle.gw_device.specs.Services.{set_of}
 use Rattle.gw_device.specs.WhoHas.{object_response, sought_object, who_has_response}
 use Rattle.gw_device.specs.WhoIs.{is_within, who_is_response}
-use Rattle.gw_device.specs.Write.{change_of, or_error, priority_of, write_ask, write_response}
+use Rattle.gw_device.specs.Write.{change_of, or_error, write_ask, write_response}
 
 -- ---- of what
 

@@ -13,7 +13,7 @@ use Rattle.gw_device.specs.Device.{confirmed_response, or_reject, service_respon
 use Rattle.gw_device.specs.Multi.{multi_response}
 use Rattle.gw_device.specs.Read.{read_response}
 use Rattle.gw_device.specs.Response.{Response, silence}
-use Rattle.gw_device.specs.Services.{read_property, read_property_multiple, write_property}
+use Rattle.gw_services.specs.Choices.{read_property, read_property_multiple, write_property}
 use Rattle.gw_device.specs.Write.{write_response}
 
 -- a request of a known service is answered, also where its body can't be read

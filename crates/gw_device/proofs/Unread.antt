@@ -41,7 +41,8 @@ use Rattle.gw_device.specs.Laws.{AsksToRead, DifferIn, NoReadAllowed}
 use Rattle.gw_device.specs.Multi.{Part, asked, enclosed, item, joined, members_part, multi_ack, multi_ask, multi_part, multi_response, named_part, properties_part, property_part, reference_part, set_part}
 use Rattle.gw_device.specs.Read.{named_read, or_error, read_answer, read_ask, read_response, read_value}
 use Rattle.gw_device.specs.Response.{Response, fitted, to_client, unchanged}
-use Rattle.gw_device.specs.Services.{read_property, read_property_multiple, set_of}
+use Rattle.gw_services.specs.Choices.{read_property, read_property_multiple}
+use Rattle.gw_device.specs.Services.{set_of}
 
 -- what another object reads as
 read_other : (o : Object) (c : Configured) (s t : List Slots) (other : Object) (p : ℕ) (index : Option ℕ) → DifferIn o c s t → other ≢ o → read_of (standing c s) other p index ≡ read_of (standing c t) other p index

@@ -24,7 +24,7 @@ use Rattle.gw_device.specs.Errors.{reject_reason}
 use Rattle.gw_device.specs.Multi.{multi_response}
 use Rattle.gw_device.specs.Read.{read_response}
 use Rattle.gw_device.specs.Response.{Answer, Response, silence, turned_down}
-use Rattle.gw_device.specs.Services.{read_property, read_property_multiple, write_property, who_has, who_is}
+use Rattle.gw_services.specs.Choices.{read_property, read_property_multiple, write_property, who_has, who_is}
 use Rattle.gw_device.specs.WhoHas.{who_has_response}
 use Rattle.gw_device.specs.WhoIs.{who_is_response}
 use Rattle.gw_device.specs.Write.{write_response}

@@ -20,7 +20,7 @@ use Rattle.gw_services.specs.Write.{Write, write_at}
 use Rattle.gw_tags.specs.Object.{Object}
 use Rattle.gw_device.specs.declared.context.Context.{Context}
 use Rattle.gw_device.specs.Device.{device_asks, device_change, device_response}
-use Rattle.gw_device.specs.Services.{write_property}
+use Rattle.gw_services.specs.Choices.{write_property}
 
 -- ---- reads
 

@@ -23,7 +23,8 @@ use Rattle.gw_device.specs.Asks.{property_ask, named_object}
 use Rattle.gw_device.specs.Errors.{read_denied, unknown_object}
 use Rattle.gw_device.specs.Read.{read_value}
 use Rattle.gw_device.specs.Response.{Response, unchanged, to_client, fitted}
-use Rattle.gw_device.specs.Services.{read_property_multiple, set_of}
+use Rattle.gw_services.specs.Choices.{read_property_multiple}
+use Rattle.gw_device.specs.Services.{set_of}
 
 -- a part of the answer: what is asked for it, in order, and its octets
 pub record Part : Type 0 where

@@ -18,7 +18,7 @@ use Rattle.gw_device.specs.declared.context.Context.{Context}
 use Rattle.gw_device.specs.Asks.{property_ask, named_object}
 use Rattle.gw_device.specs.Errors.{read_denied, read_error}
 use Rattle.gw_device.specs.Response.{Response, unchanged, to_client, fitted}
-use Rattle.gw_device.specs.Services.{read_property}
+use Rattle.gw_services.specs.Choices.{read_property}
 
 -- the octets of a property, or the error that its fault is
 abbrev pub or_error : Result (List ℕ) ReadFault → Result (List ℕ) ServiceError

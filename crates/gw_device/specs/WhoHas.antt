@@ -15,7 +15,7 @@ use Rattle.gw_tags.specs.Object.{Object}
 use Rattle.gw_device.specs.declared.context.Context.{Context}
 use Rattle.gw_device.specs.Asks.{property_ask}
 use Rattle.gw_device.specs.Response.{Response, silence}
-use Rattle.gw_device.specs.Services.{who_has, i_have}
+use Rattle.gw_services.specs.Choices.{who_has, i_have}
 use Rattle.gw_device.specs.WhoIs.{unconfirmed, is_within, if_allowed}
 
 -- names are in character set 0

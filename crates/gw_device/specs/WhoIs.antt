@@ -15,7 +15,7 @@ use Rattle.gw_services.specs.WhoIs.{Limits, WhoIs}
 use Rattle.gw_device.specs.declared.context.Context.{Context}
 use Rattle.gw_device.specs.Asks.{property_ask}
 use Rattle.gw_device.specs.Response.{Response, silence, unchanged, told}
-use Rattle.gw_device.specs.Services.{who_is, i_am}
+use Rattle.gw_services.specs.Choices.{who_is, i_am}
 
 -- an unconfirmed request: its type and its service (clause 20.1.3)
 abbrev pub unconfirmed : ℕ → List ℕ

@@ -10,18 +10,13 @@ use Rattle.gw_rules.specs.declared.rule.Rule.{Rule}
 use Rattle.gw_rules.specs.declared.service.Service.TheVariants.{Confirmed}
 use Rattle.gw_rules.specs.Ask.{Ask}
 use Rattle.gw_rules.specs.RuleList.{allows}
-use Rattle.gw_services.specs.Limits.{last_priority}
+use Rattle.gw_services.specs.Limits.{priority_of}
 use Rattle.gw_services.specs.Write.{Write}
 use Rattle.gw_device.specs.declared.context.Context.{Context}
 use Rattle.gw_device.specs.Asks.{property_ask}
 use Rattle.gw_device.specs.Errors.{write_denied, write_error}
 use Rattle.gw_device.specs.Response.{Response, to_client}
-use Rattle.gw_device.specs.Services.{write_property}
-
--- a write that names no priority has the lowest (clause 19.2)
-abbrev pub priority_of : Option ℕ → ℕ
-priority_of None = last_priority
-priority_of (Some priority) = priority
+use Rattle.gw_services.specs.Choices.{write_property}
 
 -- the one ask of a request
 abbrev pub write_ask : Database → Context → Write → Ask

@@ -20,7 +20,6 @@ ghost use Rattle.gw_device.specs.Write.{write_response};
 use crate::error::reject_reason;
 use crate::multi::read_multiple;
 use crate::read::read;
-use crate::services::{READ_PROPERTY, READ_PROPERTY_MULTIPLE, WHO_HAS, WHO_IS, WRITE_PROPERTY};
 use crate::short::{abort, reject};
 use crate::who_has::who_has;
 use crate::who_is::who_is;
@@ -29,7 +28,10 @@ use crate::{Context, Reply};
 use gw_apdu::{AbortReason, Apdu, ConfirmedRequest, Header, RejectReason, decode};
 use gw_objects::ObjectDb;
 use gw_rules::Judge;
-use gw_services::{decode_multi, decode_read, decode_who_has, decode_who_is, decode_write};
+use gw_services::{
+    READ_PROPERTY, READ_PROPERTY_MULTIPLE, WHO_HAS, WHO_IS, WRITE_PROPERTY, decode_multi,
+    decode_read, decode_who_has, decode_who_is, decode_write,
+};
 use std::alloc::{AllocError, Global};
 
 /// A Reject.

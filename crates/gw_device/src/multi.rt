@@ -15,15 +15,15 @@ ghost use Rattle.gw_device.specs.Services.{set_of};
 
 use crate::ask::{named_object, property_ask};
 use crate::error::{READ_DENIED, UNKNOWN_OBJECT, read_error};
-use crate::services::{READ_PROPERTY_MULTIPLE, set_of};
+use crate::services::set_of;
 use crate::short::{fit, most_octets};
 use crate::{Answer, Context, Reply};
 use gw_apdu::{ConfirmedRequest, write_complex};
 use gw_objects::{ObjectDb, Property, PropertySet, properties};
 use gw_rules::{Ask, Authorizer, Judge, Operation, Service};
 use gw_services::{
-    MultiReq, Reference, write_error_item, write_object_head, write_object_tail,
-    write_value_item_head, write_value_item_tail,
+    MultiReq, READ_PROPERTY_MULTIPLE, Reference, write_error_item, write_object_head,
+    write_object_tail, write_value_item_head, write_value_item_tail,
 };
 use gw_tags::ObjectId;
 use std::alloc::{AllocError, Global};

@@ -11,13 +11,12 @@ ghost use Rattle.gw_device.specs.Response.{IsReply};
 
 use crate::ask::{named_object, property_ask};
 use crate::error::{READ_DENIED, read_error};
-use crate::services::READ_PROPERTY;
 use crate::short::{error, fit, most_octets};
 use crate::{Answer, Context, Reply};
 use gw_apdu::{ConfirmedRequest, write_complex, write_error};
 use gw_objects::ObjectDb;
 use gw_rules::{Ask, Authorizer, Judge, Operation, Service};
-use gw_services::{ReadReq, write_read_answer_head, write_read_answer_tail};
+use gw_services::{READ_PROPERTY, ReadReq, write_read_answer_head, write_read_answer_tail};
 use std::alloc::{AllocError, Global};
 
 /// The ask that a request raises.

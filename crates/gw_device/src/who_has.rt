@@ -13,12 +13,11 @@ ghost use Rattle.gw_device.specs.WhoHas.{i_have_apdu, object_response, sought_ob
 ghost use Rattle.gw_device.specs.WhoIs.{if_allowed};
 
 use crate::ask::property_ask;
-use crate::services::{I_HAVE, WHO_HAS};
 use crate::who_is::{is_within, put_unconfirmed};
 use crate::{Answer, Context, Reply};
 use gw_objects::{Configured, ObjectDb, Property};
 use gw_rules::{Ask, Authorizer, Judge, Operation, Service};
-use gw_services::{IHave, Sought, WhoHas, encode_i_have};
+use gw_services::{I_HAVE, IHave, Sought, WHO_HAS, WhoHas, encode_i_have};
 use gw_tags::{CharacterString, ObjectId};
 use std::alloc::{AllocError, Global};
 

@@ -8,12 +8,11 @@ ghost use Rattle.gw_device.specs.Response.{IsReply};
 ghost use Rattle.gw_device.specs.WhoIs.{i_am_apdu, is_within, unconfirmed, who_is_ask, who_is_response};
 
 use crate::ask::property_ask;
-use crate::services::{I_AM, WHO_IS};
 use crate::{Answer, Context, Reply};
 use gw_addr::put_slice;
 use gw_objects::{Configured, ObjectDb, Property};
 use gw_rules::{Ask, Authorizer, Judge, Operation, Service};
-use gw_services::{IAm, Limits, Segmentation, WhoIs, encode_i_am};
+use gw_services::{I_AM, IAm, Limits, Segmentation, WHO_IS, WhoIs, encode_i_am};
 use std::alloc::{AllocError, Global};
 
 /// The first octet of an unconfirmed request (clause 20.1.3).

@@ -4,38 +4,24 @@ ghost use Rattle.std.specs.Prelude.{◌≡◌, ◌++◌, ◌∷◌, [], ◌<◌,
 ghost use Rattle.gw_rules.specs.declared.rule.Rule.{Rule};
 ghost use Rattle.gw_rules.specs.Authorizer.{denied_of};
 ghost use Rattle.gw_addr.specs.Reading.{Gives};
-ghost use Rattle.gw_priority.specs.Commandable.{IsPriority};
+ghost use Rattle.gw_services.specs.Limits.{priority_of};
 ghost use Rattle.gw_services.specs.Write.{write_view};
 ghost use Rattle.gw_objects.specs.Write.{write_of};
-ghost use Rattle.gw_device.specs.Write.{or_error, priority_of, write_answer, write_ask, write_decision, write_response};
+ghost use Rattle.gw_device.specs.Write.{or_error, write_answer, write_ask, write_decision, write_response};
 ghost use Rattle.gw_device.specs.Response.{HasPlace, IsReply};
 
 use crate::ask::property_ask;
 use crate::error::{WRITE_DENIED, write_error};
-use crate::services::WRITE_PROPERTY;
 use crate::short::{error, simple_ack};
 use crate::{Answer, Change, Context, Reply};
 use gw_apdu::ServiceError;
 use gw_objects::ObjectDb;
 use gw_rules::{Ask, Authorizer, Judge, Operation, Service};
-use gw_services::WriteReq;
+use gw_services::{WRITE_PROPERTY, WriteReq};
 use std::alloc::{AllocError, Global};
-
-/// The priority of a write that names none: the lowest.
-const LAST_PRIORITY: u8 = 16;
 
 /// What is made of a write: a change, or an error.
 type Decision = Result<Change, ServiceError>;
-
-fn priority_of(request: &WriteReq<'_>) -> u8
-    ensures priority { result ≡ priority_of (write_view request.now).priority }
-    ensures within { IsPriority result }
-{
-    match request.priority {
-        None => LAST_PRIORITY,
-        Some(priority) => priority,
-    }
-}
 
 /// The ask that a request raises.
 fn write_ask(objects: &ObjectDb, context: &Context, request: &WriteReq<'_>) -> Ask
@@ -50,7 +36,7 @@ fn write_ask(objects: &ObjectDb, context: &Context, request: &WriteReq<'_>) -> A
         request.property,
     );
     Ask {
-        priority: Some(u64::from(priority_of(request))),
+        priority: Some(u64::from(request.command_priority())),
         ..ask
     }
 }
@@ -70,7 +56,7 @@ fn check(alloc: Global, objects: &ObjectDb, request: &WriteReq<'_>) -> Result<De
         request.object,
         request.property,
         request.index,
-        priority_of(request),
+        request.command_priority(),
         request.value,
     ) {
         Ok(put) => Ok(Ok(Change::new(put))),

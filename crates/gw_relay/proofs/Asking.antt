@@ -6,14 +6,14 @@ use Rattle.gw_addr.specs.declared.bip.BipAddr.{BipAddr}
 use Rattle.gw_bvll.specs.Bvll.{encoding}
 use Rattle.gw_bvll.specs.Bvll.{Message as Frame}
 use Rattle.gw_bvll.specs.Bvll as bvll
-use Rattle.gw_npdu.specs.Npdu.{Fields}
 use Rattle.gw_rules.specs.Ask.{Ask}
 use Rattle.gw_rules.specs.RuleList.{allows}
 use Rattle.gw_rules.specs.declared.operation.Operation.{Operation}
 use Rattle.gw_rules.specs.declared.rule.Rule.{Rule}
 use Rattle.gw_relay.specs.Asks.{link_ask, link_asks, management_of}
-use Rattle.gw_relay.specs.Cast.{cast_ask, cast_asks, cast_sends, is_broadcast, accepts, is_unregistered, passed_on, targets}
+use Rattle.gw_relay.specs.Cast.{cast_ask, cast_asks, cast_sends, goes_on, is_broadcast, accepts, is_unregistered, passed_on, targets}
 use Rattle.gw_relay.specs.Link.{answer_to, change_of, is_granted, link_answer, link_change, link_grants, refused, told}
+use Rattle.gw_relay.specs.Message.{Message}
 use Rattle.gw_relay.specs.Sends.{max_message, sendings, sent}
 use Rattle.gw_relay.specs.internal.Serving.{judged, served, served_change}
 use Rattle.gw_relay.specs.declared.port.PortState.{PortState}
@@ -115,40 +115,34 @@ pub sent_nowhere : (port : ℕ) (message : Frame) → sent port [] message ≡ [
 sent_nowhere port message = none_if (nat_le (length (encoding message)) max_message) port (encoding message)
 
 -- a broadcast that is heard, and no unregistered sender's, asks once
-pub cast_asked : (link : PortState) (from : BipAddr) (frame : Frame) (npdu : Fields) → accepts link from frame ≡ true
-    → is_unregistered link from frame ≡ false
-    → is_broadcast frame ≡ true → cast_asks link from frame npdu ≡ cast_ask link from frame npdu ∷ []
+pub cast_asked : (m : Message) → accepts m.here m.from m.frame ≡ true → is_unregistered m.here m.from m.frame ≡ false
+    → is_broadcast m.frame ≡ true → cast_asks m ≡ cast_ask m ∷ []
 unfolding cast_asks
-cast_asked link from frame npdu h s b = rw (h, s, b) refl
+cast_asked m h s b = rw (h, s, b) refl
 
 -- a frame that is not heard, or an unregistered sender's, asks nothing
-pub unheard_asks : (link : PortState) (from : BipAddr) (frame : Frame) (npdu : Fields) → accepts link from frame ≡ false
-    → cast_asks link from frame npdu ≡ []
+pub unheard_asks : (m : Message) → accepts m.here m.from m.frame ≡ false → cast_asks m ≡ []
 unfolding cast_asks
-unheard_asks link from frame npdu h = rw h refl
+unheard_asks m h = rw h refl
 
-pub strange_asks : (link : PortState) (from : BipAddr) (frame : Frame) (npdu : Fields) → accepts link from frame ≡ true
-    → is_unregistered link from frame ≡ true → cast_asks link from frame npdu ≡ []
+pub strange_asks : (m : Message) → accepts m.here m.from m.frame ≡ true → is_unregistered m.here m.from m.frame ≡ true → cast_asks m ≡ []
 unfolding cast_asks
-strange_asks link from frame npdu h s = rw (h, s) refl
+strange_asks m h s = rw (h, s) refl
 
-pub quiet_asks : (link : PortState) (from : BipAddr) (frame : Frame) (npdu : Fields) → accepts link from frame ≡ true
-    → is_unregistered link from frame ≡ false
-    → is_broadcast frame ≡ false → cast_asks link from frame npdu ≡ []
+pub quiet_asks : (m : Message) → accepts m.here m.from m.frame ≡ true → is_unregistered m.here m.from m.frame ≡ false
+    → is_broadcast m.frame ≡ false → cast_asks m ≡ []
 unfolding cast_asks
-quiet_asks link from frame npdu h s b = rw (h, s, b) refl
+quiet_asks m h s b = rw (h, s, b) refl
 
 -- the sends of each
-pub unheard_sends : (rules : List Rule) (link : PortState) (from : BipAddr) (frame : Frame) (npdu : Fields) → accepts link from frame ≡ false
-    → cast_sends rules link from frame npdu ≡ []
+pub unheard_sends : (rules : List Rule) (m : Message) → accepts m.here m.from m.frame ≡ false → cast_sends rules m ≡ []
 unfolding cast_sends
-unheard_sends rules link from frame npdu h = rw h refl
+unheard_sends rules m h = rw h refl
 
-pub strange_sends : (rules : List Rule) (link : PortState) (from : BipAddr) (frame : Frame) (npdu : Fields) → accepts link from frame ≡ true
-    → is_unregistered link from frame ≡ true
-    → cast_sends rules link from frame npdu ≡ map (answer_to link.port from) (refused frame)
+pub strange_sends : (rules : List Rule) (m : Message) → accepts m.here m.from m.frame ≡ true → is_unregistered m.here m.from m.frame ≡ true
+    → cast_sends rules m ≡ map (answer_to m.here.port m.from) (refused m.frame)
 unfolding cast_sends
-strange_sends rules link from frame npdu h s = rw (h, s) refl
+strange_sends rules m h s = rw (h, s) refl
 
 by_answer : (b : Bool) (link : PortState) (from : BipAddr) (frame : Frame)
     → (if not b then map (answer_to link.port from) (refused frame) else sent link.port.number (targets link from frame)
@@ -156,14 +150,12 @@ by_answer : (b : Bool) (link : PortState) (from : BipAddr) (frame : Frame)
 by_answer true link from frame = refl
 by_answer false link from frame = refl
 
-pub cast_judged : (rules : List Rule) (link : PortState) (from : BipAddr) (frame : Frame) (npdu : Fields) (b : Bool)
-    → accepts link from frame ≡ true → is_unregistered link from frame ≡ false
-    → is_broadcast frame ≡ true → b ≡ allows rules (cast_ask link from frame npdu)
-    → cast_sends rules link from frame npdu ≡ judged link from frame b
+pub cast_judged : (rules : List Rule) (m : Message) (b : Bool) → accepts m.here m.from m.frame ≡ true
+    → is_unregistered m.here m.from m.frame ≡ false → is_broadcast m.frame ≡ true → b ≡ allows rules (cast_ask m)
+    → cast_sends rules m ≡ judged m.here m.from m.frame b
 unfolding cast_sends
-cast_judged rules link from frame npdu b h s broadcast judges =
-    rw (h, s, cast_asked link from frame npdu h s broadcast, allowed_one rules (cast_ask link from frame npdu), ← judges)
-    (by_answer b link from frame)
+cast_judged rules m b h s broadcast judges =
+    rw (h, s, cast_asked m h s broadcast, allowed_one rules (cast_ask m), ← judges) (by_answer b m.here m.from m.frame)
 
 -- a frame that is no broadcast goes to nobody
 no_targets : (link : PortState) (from : BipAddr) (frame : Frame) → is_broadcast frame ≡ false → targets link from frame ≡ []
@@ -180,17 +172,31 @@ no_targets link from (bvll.distribute npdu) e = cc
 no_targets link from (bvll.original_unicast npdu) e = refl
 no_targets link from (bvll.original_broadcast npdu) e = cc
 
-pub quiet_sends : (rules : List Rule) (link : PortState) (from : BipAddr) (frame : Frame) (npdu : Fields) → accepts link from frame ≡ true
-    → is_unregistered link from frame ≡ false
-    → is_broadcast frame ≡ false → cast_sends rules link from frame npdu ≡ []
+pub quiet_sends : (rules : List Rule) (m : Message) → accepts m.here m.from m.frame ≡ true → is_unregistered m.here m.from m.frame ≡ false
+    → is_broadcast m.frame ≡ false → cast_sends rules m ≡ []
 unfolding cast_sends
-quiet_sends rules link from frame npdu h s b =
-    rw (h, s, quiet_asks link from frame npdu h s b, no_targets link from frame b) (sent_nowhere link.port.number (passed_on from frame))
+quiet_sends rules m h s b =
+    rw (h, s, quiet_asks m h s b, no_targets m.here m.from m.frame b) (sent_nowhere m.here.port.number (passed_on m.from m.frame))
 
 -- so it isn't silent
-pub cast_loud : (link : PortState) (from : BipAddr) (frame : Frame) (npdu : Fields) → accepts link from frame ≡ true
-    → is_unregistered link from frame ≡ false
-    → is_broadcast frame ≡ true → cast_asks link from frame npdu ≡ [] → ⊥
-cast_loud link from frame npdu h s b none =
-    let both : cast_ask link from frame npdu ∷ [] ≡ [] = sym (cast_asked link from frame npdu h s b) ∙ none in
+pub cast_loud : (m : Message) → accepts m.here m.from m.frame ≡ true → is_unregistered m.here m.from m.frame ≡ false
+    → is_broadcast m.frame ≡ true → cast_asks m ≡ [] → ⊥
+cast_loud m h s b none =
+    let both : cast_ask m ∷ [] ≡ [] = sym (cast_asked m h s b) ∙ none in
     cc
+
+-- a frame that goes on is accepted, and no unregistered sender's
+accepted : (a u : Bool) → (a && not u) ≡ true → a ≡ true
+accepted true u e = refl
+accepted false u e = cc
+
+registered : (a u : Bool) → (a && not u) ≡ true → u ≡ false
+registered true true e = cc
+registered true false e = refl
+registered false u e = absurd cc
+
+pub goes_on_accepted : (m : Message) → goes_on m.here m.from m.frame ≡ true → accepts m.here m.from m.frame ≡ true
+goes_on_accepted m on = accepted (accepts m.here m.from m.frame) (is_unregistered m.here m.from m.frame) on
+
+pub goes_on_registered : (m : Message) → goes_on m.here m.from m.frame ≡ true → is_unregistered m.here m.from m.frame ≡ false
+goes_on_registered m on = registered (accepts m.here m.from m.frame) (is_unregistered m.here m.from m.frame) on

@@ -1,29 +1,45 @@
 -- What changes a table or a route, and whose asks a message raises.
-use Rattle.std.proofs.Common.{◌≡◌, ap, refl, subst, ℕ, Bool, true, false, List, [], ◌∷◌, map, Option, Some, None}
-use Rattle.std.specs.Prelude.{◌&&◌, if◌then◌else◌}
+use Rattle.std.proofs.Common.{◌≡◌, ap, refl, subst, ℕ, Bool, true, false, List, [], ◌∷◌, ◌++◌, map, Option, Some, None, Result, Ok, Err}
+use Rattle.std.specs.Prelude.{◌&&◌, ◌||◌, ◌==◌, is_some, if◌then◌else◌}
 use Rattle.std.specs.Int.{w16, from_be_bytes}
 use Rattle.std.specs.Option.{option_map, option_map_or}
-use Rattle.gw_addr.specs.declared.bip.BipAddr.{BipAddr}
 use Rattle.gw_addr.specs.declared.station.Source.{Source}
 use Rattle.gw_addr.specs.Station.{key_of, network_of}
-use Rattle.gw_bvll.specs.Bvll.{Message as Frame}
 use Rattle.gw_bvll.specs.Bvll as bvll
-use Rattle.gw_npdu.specs.Npdu.{Destination, Fields, payload_octets}
-use Rattle.gw_routes.specs.Table.{Table, way}
+use Rattle.gw_apdu.specs.Apdu.{Fields as Apdu}
+use Rattle.gw_apdu.specs.Reading.{apdu_at}
+use Rattle.gw_apdu.specs.declared.fault.ApduFault.{ApduFault}
+use Rattle.gw_apdu.specs.declared.header.ConfirmedRequest.{ConfirmedRequest as Request}
+use Rattle.gw_apdu.specs.declared.header.Header.{Header}
+use Rattle.gw_apdu.specs.declared.header.Header.TheVariants as header
+use Rattle.gw_npdu.specs.Npdu.{Destination, Payload, apdu, message, payload_octets}
+use Rattle.gw_policy_text.specs.declared.format.Format.{Format}
+use Rattle.gw_policy_text.specs.declared.format.Format.TheVariants.{One, Two}
+use Rattle.gw_services.specs.Choices.{read_property, read_property_multiple, write_property}
+use Rattle.gw_services.specs.Limits.{priority_of}
+use Rattle.gw_services.specs.Multi.{Reference}
+use Rattle.gw_services.specs.MultiReading.{multi_at}
+use Rattle.gw_services.specs.Read.{Read, read_at}
+use Rattle.gw_services.specs.Write.{Write, write_at}
+use Rattle.gw_services.specs.declared.fault.BodyFault.{BodyFault}
+use Rattle.gw_tags.specs.Object.{Object}
+use Rattle.gw_routes.specs.Table.{way}
 use Rattle.gw_routes.specs.declared.route.Way.{Way}
 use Rattle.gw_routes.specs.declared.route.Way.TheVariants as ways
 use Rattle.gw_rules.specs.Allowed.{NoneAllowed}
 use Rattle.gw_rules.specs.Ask.{Ask, IsFor, IsFrom}
 use Rattle.gw_rules.specs.RuleList.{allows}
+use Rattle.gw_rules.specs.declared.operation.Operation.{Operation}
 use Rattle.gw_rules.specs.declared.operation.Operation.TheVariants as operations
 use Rattle.gw_rules.specs.declared.rule.Rule.{Rule}
-use Rattle.gw_relay.specs.Asks.{link_ask}
+use Rattle.gw_relay.specs.Asks.{bound_for, link_ask}
 use Rattle.gw_relay.specs.Cast.{cast_asks, goes_on, is_broadcast}
-use Rattle.gw_relay.specs.Claim.{claimed, link_source}
 use Rattle.gw_relay.specs.Laws.{AreFrom, BroadcastsCarryTheirClaim, NetworkMessagesCarryTheirClaim, RoutesAreKept, RoutingCarriesTheClaim, TableAsksReadNothing, TablesAreKept}
 use Rattle.gw_relay.specs.Link.{link_change}
-use Rattle.gw_relay.specs.Manage.{is_i_am_router, is_what_is_network_number, is_who_is_router, learn_ask, learn_steps, learned, manage_asks, networks_in, question_of, question_steps}
-use Rattle.gw_relay.specs.Route.{copy, is_local, leaves, others, steps_by}
+use Rattle.gw_relay.specs.Manage.{is_i_am_router, is_what_is_network_number, is_who_is_router, learn_ask, learn_steps, learned, manage_asks, named_networks, question_of, question_steps}
+use Rattle.gw_relay.specs.Message.{Message}
+use Rattle.gw_relay.specs.Named.{apdu_asks, forward_asks, header_asks, multi_asks, named_ask, named_asks, read_asks, reference_ask, request_asks, unnamed_ask, write_asks}
+use Rattle.gw_relay.specs.Route.{copy, is_local, leaves, others, route_ask, steps_by}
 use Rattle.gw_relay.specs.State.{Commit, Relay, after, moved}
 use Rattle.gw_relay.specs.Steps.{Step, asks_of}
 use Rattle.gw_relay.specs.declared.change.Change.{Change}
@@ -79,24 +95,23 @@ table_asks_read_nothing port from (bvll.original_broadcast npdu) = tt
 
 -- ---- the routes
 
-none_learned : (rules : List Rule) (here : PortState) (from : BipAddr) (npdu : Fields) (networks : List ℕ)
-    → NoneAllowed (IsFor operations.Learn) rules (map (learn_ask here from npdu) networks) → learned rules here from npdu networks ≡ []
-none_learned rules here from npdu [] h = refl
-none_learned rules here from npdu (n ∷ networks) h =
-    let denied : allows rules (learn_ask here from npdu n) ≡ false = h.0 refl in
-    rw denied (none_learned rules here from npdu networks h.1)
+none_learned : (rules : List Rule) (m : Message) (networks : List ℕ)
+    → NoneAllowed (IsFor operations.Learn) rules (map (learn_ask m) networks) → learned rules m networks ≡ []
+none_learned rules m [] h = refl
+none_learned rules m (n ∷ networks) h =
+    let denied : allows rules (learn_ask m n) ≡ false = h.0 refl in
+    rw denied (none_learned rules m networks h.1)
 
-moved_by : (b : Bool) (rules : List Rule) (relay : Relay) (here : PortState) (from : BipAddr) (npdu : Fields) → is_i_am_router npdu ≡ b
-    → NoneAllowed (IsFor operations.Learn) rules (manage_asks relay.links relay.routes here from npdu)
-    → moved (option_map Commit (if b then Some (Learnings here.port.number from (learned rules here from npdu (networks_in (payload_octets npdu.payload)))) else None)) relay ≡ relay
-moved_by true rules relay here from npdu is h =
-    ap (λ (networks : List ℕ). after (Learnings here.port.number from networks) relay)
-    (none_learned rules here from npdu (networks_in (payload_octets npdu.payload))
-    (subst (NoneAllowed (IsFor operations.Learn) rules) (learned_asks relay.links relay.routes here from npdu is) h))
-moved_by false rules relay here from npdu is h = refl
+moved_by : (b : Bool) (rules : List Rule) (relay : Relay) (m : Message) → is_i_am_router m.npdu ≡ b
+    → NoneAllowed (IsFor operations.Learn) rules (manage_asks relay m)
+    → moved (option_map Commit (if b then Some (Learnings m.here.port.number m.link (learned rules m (named_networks m))) else None)) relay ≡ relay
+moved_by true rules relay m is h =
+    ap (λ (networks : List ℕ). after (Learnings m.here.port.number m.link networks) relay)
+    (none_learned rules m (named_networks m) (subst (NoneAllowed (IsFor operations.Learn) rules) (learned_asks relay m is) h))
+moved_by false rules relay m is h = refl
 
 pub routes_are_kept : RoutesAreKept
-routes_are_kept rules relay here from npdu h = moved_by (is_i_am_router npdu) rules relay here from npdu refl h
+routes_are_kept rules relay m h = moved_by (is_i_am_router m.npdu) rules relay m refl h
 
 -- ---- whose asks
 
@@ -116,57 +131,130 @@ steps_if source false xs ys f g = g
 
 pub broadcasts_carry_their_claim : BroadcastsCarryTheirClaim
 unfolding cast_asks
-broadcasts_carry_their_claim here from frame npdu =
-    let source = claimed here.port.network (link_source from frame) npdu in
-    asks_if source (goes_on here from frame && is_broadcast frame) _ [] (said source _ refl refl, tt) tt
+broadcasts_carry_their_claim m =
+    asks_if m.claim (goes_on m.here m.from m.frame && is_broadcast m.frame) _ [] (said m.claim _ refl refl, tt) tt
 
-from_copies : (on : PortState) (from : BipAddr) (npdu : Fields) (d : Destination) (links : List PortState)
-    → AreFrom (claimed on.port.network from npdu) (asks_of (map (copy on from npdu d) links))
-from_copies on from npdu d [] = tt
-from_copies on from npdu d (link ∷ links) = (said (claimed on.port.network from npdu) _ refl refl, from_copies on from npdu d links)
+-- what is asked behind a `route` ask is of its source
+from_unnamed : (source : Source) (route : Ask) (operation : Operation) → IsFrom source.net (key_of source.mac) route
+    → AreFrom source (unnamed_ask route operation ∷ [])
+from_unnamed source route operation is = (said source _ is.source_network is.source_key, tt)
 
-from_way : (links : List PortState) (on : PortState) (from : BipAddr) (npdu : Fields) (d : Destination) (by : Way)
-    → AreFrom (claimed on.port.network from npdu) (asks_of (steps_by links on from npdu d by))
-from_way links on from npdu d ways.Everywhere = from_copies on from npdu d (others on.port.number links)
-from_way links on from npdu d (ways.Port other) =
-    let source = claimed on.port.network from npdu in
-    steps_if source (leaves on.port.number (ways.Port other)) _ [] (said source _ refl refl, tt) tt
-from_way links on from npdu d (ways.Router route) =
-    let source = claimed on.port.network from npdu in
-    steps_if source (leaves on.port.number (ways.Router route)) _ [] (said source _ refl refl, tt) tt
-from_way links on from npdu d ways.Device = tt
-from_way links on from npdu d ways.Unknown = (said (claimed on.port.network from npdu) _ refl refl, tt)
+from_named : (source : Source) (route : Ask) (operation : Operation) (object : Object) (property : ℕ) (priority : Option ℕ)
+    → IsFrom source.net (key_of source.mac) route → AreFrom source (named_ask route operation object property priority ∷ [])
+from_named source route operation object property priority is = (said source _ is.source_network is.source_key, tt)
+
+from_references : (source : Source) (route : Ask) (rs : List Reference) → IsFrom source.net (key_of source.mac) route
+    → AreFrom source (map (reference_ask route) rs)
+from_references source route [] is = tt
+from_references source route (r ∷ rs) is = (said source _ is.source_network is.source_key, from_references source route rs is)
+
+from_read : (source : Source) (route : Ask) (read : Result Read BodyFault) → IsFrom source.net (key_of source.mac) route
+    → AreFrom source (read_asks route read)
+from_read source route (Ok r) is = from_named source route operations.Read r.object r.property None is
+from_read source route (Err fault) is = from_unnamed source route operations.Read is
+
+from_multi : (source : Source) (route : Ask) (read : Result (List Reference) BodyFault) → IsFrom source.net (key_of source.mac) route
+    → AreFrom source (multi_asks route read)
+from_multi source route (Ok rs) is = from_references source route rs is
+from_multi source route (Err fault) is = from_unnamed source route operations.Read is
+
+from_write : (source : Source) (route : Ask) (read : Result Write BodyFault) → IsFrom source.net (key_of source.mac) route
+    → AreFrom source (write_asks route read)
+from_write source route (Ok w) is = from_named source route operations.Write w.object w.property (Some (priority_of w.priority)) is
+from_write source route (Err fault) is = from_unnamed source route operations.Write is
+
+from_request : (source : Source) (route : Ask) (request : Request) (body : List ℕ) → IsFrom source.net (key_of source.mac) route
+    → AreFrom source (request_asks route request body)
+from_request source route request body is =
+    let reads = from_unnamed source route operations.Read is in
+    let writes = from_unnamed source route operations.Write is in
+    asks_if source (is_some request.segment) _ _
+    (asks_if source (request.service == read_property || request.service == read_property_multiple) _ _ reads
+    (asks_if source (request.service == write_property) _ [] writes tt))
+    (asks_if source (request.service == read_property) _ _ (from_read source route (read_at body) is)
+    (asks_if source (request.service == read_property_multiple) _ _ (from_multi source route (multi_at body) is)
+    (asks_if source (request.service == write_property) _ [] (from_write source route (write_at body) is) tt)))
+
+from_header : (source : Source) (route : Ask) (h : Header) (body : List ℕ) → IsFrom source.net (key_of source.mac) route
+    → AreFrom source (header_asks route h body)
+from_header source route (header.ConfirmedRequest request) body is = from_request source route request body is
+from_header source route (header.UnconfirmedRequest service) body is = tt
+from_header source route (header.SimpleAck invoke service) body is = tt
+from_header source route (header.ComplexAck segment invoke service) body is = tt
+from_header source route (header.SegmentAck invoke sequence window) body is = tt
+from_header source route (header.Error invoke service) body is = tt
+from_header source route (header.Reject invoke reason) body is = tt
+from_header source route (header.Abort invoke reason) body is = tt
+
+from_apdu : (source : Source) (route : Ask) (read : Result Apdu ApduFault) → IsFrom source.net (key_of source.mac) route
+    → AreFrom source (apdu_asks route read)
+from_apdu source route (Ok a) is = from_header source route a.header a.rest is
+from_apdu source route (Err fault) is = tt
+
+from_behind : (source : Source) (format : Format) (route : Ask) (payload : Payload) → IsFrom source.net (key_of source.mac) route
+    → AreFrom source (named_asks format route payload)
+unfolding named_asks
+from_behind source One route payload is = tt
+from_behind source Two route (message m) is = tt
+from_behind source Two route (apdu octets) is = from_apdu source route (apdu_at octets) is
+
+-- a message's asks for one way
+from_forward : (m : Message) (format : Format) (network : Option ℕ)
+    → AreFrom m.claim (forward_asks format (route_ask m network) m.npdu.payload)
+from_forward m format network =
+    let is = said m.claim (route_ask m network) refl refl in
+    (is, from_behind m.claim format (route_ask m network) m.npdu.payload is)
+
+from_both : (source : Source) (xs ys : List Ask) → AreFrom source xs → AreFrom source ys → AreFrom source (xs ++ ys)
+from_both source [] ys f g = g
+from_both source (x ∷ xs) ys f g = (f.0, from_both source xs ys f.1 g)
+
+from_one : (m : Message) (format : Format) (network : Option ℕ)
+    → AreFrom m.claim (forward_asks format (route_ask m network) m.npdu.payload ++ [])
+from_one m format network = from_both m.claim (forward_asks format (route_ask m network) m.npdu.payload) [] (from_forward m format network) tt
+
+from_copies : (format : Format) (m : Message) (d : Destination) (links : List PortState)
+    → AreFrom m.claim (asks_of (map (copy format m d) links))
+from_copies format m d [] = tt
+from_copies format m d (link ∷ links) =
+    from_both m.claim (forward_asks format (route_ask m (Some link.port.network)) m.npdu.payload) _
+    (from_forward m format (Some link.port.network)) (from_copies format m d links)
+
+from_way : (relay : Relay) (m : Message) (d : Destination) (by : Way) → AreFrom m.claim (asks_of (steps_by relay m d by))
+from_way relay m d ways.Everywhere = from_copies relay.format m d (others m.here.port.number relay.links)
+from_way relay m d (ways.Port other) =
+    steps_if m.claim (leaves m.here.port.number (ways.Port other)) _ [] (from_one m relay.format (bound_for m.npdu)) tt
+from_way relay m d (ways.Router route) =
+    steps_if m.claim (leaves m.here.port.number (ways.Router route)) _ [] (from_one m relay.format (bound_for m.npdu)) tt
+from_way relay m d ways.Device = tt
+from_way relay m d ways.Unknown = from_one m relay.format (bound_for m.npdu)
 
 pub routing_carries_the_claim : RoutingCarriesTheClaim
-routing_carries_the_claim relay on from npdu =
-    steps_if (claimed on.port.network from npdu) (is_local npdu.payload) [] _ tt (by npdu.destination)
+routing_carries_the_claim relay m = steps_if m.claim (is_local m.npdu.payload) [] _ tt (by m.npdu.destination)
   where
-    by : (d : Option Destination) → AreFrom (claimed on.port.network from npdu)
-        (asks_of (option_map_or (λ d. steps_by relay.links on from npdu d (way relay.routes d.address.network)) d []))
+    by : (d : Option Destination) → AreFrom m.claim
+        (asks_of (option_map_or (λ d. steps_by relay m d (way relay.routes d.address.network)) d []))
     by None = tt
-    by (Some d) = from_way relay.links on from npdu d (way relay.routes d.address.network)
+    by (Some d) = from_way relay m d (way relay.routes d.address.network)
 
-from_learning : (on : PortState) (from : BipAddr) (npdu : Fields) (networks : List ℕ)
-    → AreFrom (claimed on.port.network from npdu) (asks_of (map (λ n. record { asks = learn_ask on from npdu n ∷ []; sends = [] }) networks))
-from_learning on from npdu [] = tt
-from_learning on from npdu (n ∷ networks) = (said (claimed on.port.network from npdu) _ refl refl, from_learning on from npdu networks)
+from_learning : (m : Message) (networks : List ℕ)
+    → AreFrom m.claim (asks_of (map (λ n. record { asks = learn_ask m n ∷ []; sends = [] }) networks))
+from_learning m [] = tt
+from_learning m (n ∷ networks) = (said m.claim _ refl refl, from_learning m networks)
 
-from_question : (links : List PortState) (routes : Table) (on : PortState) (from : BipAddr) (npdu : Fields) (octets : List ℕ)
-    → AreFrom (claimed on.port.network from npdu) (asks_of (question_steps links routes on from npdu octets))
-from_question links routes on from npdu [] = (said (claimed on.port.network from npdu) _ refl refl, tt)
-from_question links routes on from npdu (a ∷ []) = tt
-from_question links routes on from npdu (a ∷ b ∷ []) = by (network_of (from_be_bytes w16 (a ∷ b ∷ [])))
+from_question : (relay : Relay) (m : Message) (octets : List ℕ) → AreFrom m.claim (asks_of (question_steps relay m octets))
+from_question relay m [] = (said m.claim _ refl refl, tt)
+from_question relay m (a ∷ []) = tt
+from_question relay m (a ∷ b ∷ []) = by (network_of (from_be_bytes w16 (a ∷ b ∷ [])))
   where
-    by : (network : Option ℕ) → AreFrom (claimed on.port.network from npdu)
-        (asks_of (option_map_or (λ n. question_of links routes on from npdu n ∷ []) network []))
+    by : (network : Option ℕ) → AreFrom m.claim (asks_of (option_map_or (λ n. question_of relay m n ∷ []) network []))
     by None = tt
-    by (Some n) = (said (claimed on.port.network from npdu) _ refl refl, tt)
-from_question links routes on from npdu (a ∷ b ∷ c ∷ octets) = tt
+    by (Some n) = (said m.claim _ refl refl, tt)
+from_question relay m (a ∷ b ∷ c ∷ octets) = tt
 
 pub network_messages_carry_their_claim : NetworkMessagesCarryTheirClaim
-network_messages_carry_their_claim relay on from npdu =
-    let source = claimed on.port.network from npdu in
-    steps_if source (is_i_am_router npdu) (learn_steps on from npdu) _ (from_learning on from npdu (networks_in (payload_octets npdu.payload)))
-    (steps_if source (is_who_is_router npdu) (question_steps relay.links relay.routes on from npdu (payload_octets npdu.payload)) _
-    (from_question relay.links relay.routes on from npdu (payload_octets npdu.payload))
-    (steps_if source (is_what_is_network_number npdu) _ [] (said source _ refl refl, tt) tt))
+network_messages_carry_their_claim relay m =
+    steps_if m.claim (is_i_am_router m.npdu) (learn_steps m) _ (from_learning m (named_networks m))
+    (steps_if m.claim (is_who_is_router m.npdu) (question_steps relay m (payload_octets m.npdu.payload)) _
+    (from_question relay m (payload_octets m.npdu.payload))
+    (steps_if m.claim (is_what_is_network_number m.npdu) _ [] (said m.claim _ refl refl, tt) tt))

@@ -2,18 +2,18 @@
 use Rattle.std.proofs.Common.{◌≡◌, ◌∙◌, sym, ap, refl, None, ℕ, Bool, true, false, ◌&&◌, not, List, [], ◌∷◌, ◌++◌, map, length}
 use Rattle.std.specs.Prelude.{◌==◌, if◌then◌else◌, is_some}
 use Rattle.std.specs.List.{list_all}
-use Rattle.gw_addr.specs.declared.bip.BipAddr.{BipAddr}
 use Rattle.gw_npdu.specs.declared.kind.MessageKind.TheVariants.{IAmRouterToNetwork}
 use Rattle.gw_npdu.specs.Npdu.{Fields, payload_octets}
-use Rattle.gw_routes.specs.Table.{Table}
 use Rattle.gw_rules.specs.Ask.{Ask}
 use Rattle.gw_rules.specs.RuleList.{allows}
 use Rattle.gw_rules.specs.declared.rule.Rule.{Rule}
-use Rattle.gw_relay.specs.Manage.{answer_steps, are_networks, is_for_all, is_i_am_router, learn_ask, learn_steps, manage_asks, manage_change, manage_sends, networks_in}
+use Rattle.gw_relay.specs.Manage.{answer_steps, are_networks, is_for_all, is_i_am_router, learn_ask, learn_steps, manage_asks, manage_change, manage_response, manage_sends, named_networks, networks_in}
+use Rattle.gw_relay.specs.Message.{Message}
 use Rattle.gw_relay.specs.Route.{is_kind}
 use Rattle.gw_relay.specs.Sends.{Sending}
-use Rattle.gw_relay.specs.Steps.{Step, asks_of, sends_of, step}
-use Rattle.gw_relay.specs.declared.port.PortState.{PortState}
+use Rattle.gw_relay.specs.State.{Relay}
+use Rattle.gw_relay.specs.Steps.{Step, asks_of, sends_of, step, taken}
+use Rattle.gw_relay.specs.internal.Serving.{learn_response}
 
 and_last : (a b : Bool) → (a && b) ≡ true → b ≡ true
 and_last true b e = e
@@ -43,20 +43,15 @@ first_of : (b : Bool) (xs ys : List Step) → b ≡ true → (if b then xs else 
 first_of true xs ys e = refl
 first_of false xs ys e = cc
 
-pub learned_sends : (rules : List Rule) (links : List PortState) (routes : Table) (here : PortState) (from : BipAddr) (npdu : Fields)
-    → is_i_am_router npdu ≡ true
-    → manage_sends rules links routes here from npdu ≡ []
-learned_sends rules links routes here from npdu h =
-    ap (λ (steps : List Step). sends_of rules steps)
-    (first_of (is_i_am_router npdu) (learn_steps here from npdu) (answer_steps links routes here from npdu) h)
-    ∙ no_sends rules (λ n. learn_ask here from npdu n) (networks_in (payload_octets npdu.payload))
+pub learned_sends : (rules : List Rule) (relay : Relay) (m : Message) → is_i_am_router m.npdu ≡ true → manage_sends rules relay m ≡ []
+learned_sends rules relay m h =
+    ap (λ (steps : List Step). sends_of rules steps) (first_of (is_i_am_router m.npdu) (learn_steps m) (answer_steps relay m) h)
+    ∙ no_sends rules (λ n. learn_ask m n) (named_networks m)
 
-pub learned_asks : (links : List PortState) (routes : Table) (here : PortState) (from : BipAddr) (npdu : Fields) → is_i_am_router npdu ≡ true
-    → manage_asks links routes here from npdu ≡ map (learn_ask here from npdu) (networks_in (payload_octets npdu.payload))
-learned_asks links routes here from npdu h =
-    ap (λ (steps : List Step). asks_of steps)
-    (first_of (is_i_am_router npdu) (learn_steps here from npdu) (answer_steps links routes here from npdu) h)
-    ∙ each_ask (λ n. learn_ask here from npdu n) (networks_in (payload_octets npdu.payload))
+pub learned_asks : (relay : Relay) (m : Message) → is_i_am_router m.npdu ≡ true → manage_asks relay m ≡ map (learn_ask m) (named_networks m)
+learned_asks relay m h =
+    ap (λ (steps : List Step). asks_of steps) (first_of (is_i_am_router m.npdu) (learn_steps m) (answer_steps relay m) h)
+    ∙ each_ask (λ n. learn_ask m n) (named_networks m)
 
 -- a router's message names a network at least
 some_networks : (octets : List ℕ) → are_networks octets ≡ true → not (length octets == 0) ≡ true → networks_in octets ≡ [] → ⊥
@@ -81,20 +76,26 @@ no_map f [] none = refl
 no_map f (x ∷ xs) none = absurd cc
 
 -- so it asks
-pub learned_loud : (links : List PortState) (routes : Table) (here : PortState) (from : BipAddr) (npdu : Fields) → is_i_am_router npdu ≡ true
-    → manage_asks links routes here from npdu ≡ [] → ⊥
-learned_loud links routes here from npdu h none =
-    some_networks (payload_octets npdu.payload) (whole_networks npdu h) (some_octets npdu h)
-    (no_map (learn_ask here from npdu) (networks_in (payload_octets npdu.payload))
-    (sym (learned_asks links routes here from npdu h) ∙ none))
+pub learned_loud : (relay : Relay) (m : Message) → is_i_am_router m.npdu ≡ true → manage_asks relay m ≡ [] → ⊥
+learned_loud relay m h none =
+    some_networks (payload_octets m.npdu.payload) (whole_networks m.npdu h) (some_octets m.npdu h)
+    (no_map (learn_ask m) (named_networks m) (sym (learned_asks relay m h) ∙ none))
 
-unasked_by : (b : Bool) (rules : List Rule) (links : List PortState) (routes : Table) (here : PortState) (from : BipAddr) (npdu : Fields)
-    → is_i_am_router npdu ≡ b
-    → manage_asks links routes here from npdu ≡ [] → manage_change rules here from npdu ≡ None
-unasked_by true rules links routes here from npdu h none = absurd (learned_loud links routes here from npdu h none)
-unasked_by false rules links routes here from npdu h none = rw h refl
+unasked_by : (b : Bool) (rules : List Rule) (relay : Relay) (m : Message) → is_i_am_router m.npdu ≡ b → manage_asks relay m ≡ []
+    → manage_change rules m ≡ None
+unasked_by true rules relay m h none = absurd (learned_loud relay m h none)
+unasked_by false rules relay m h none = rw h refl
 
 -- what asks nothing learns nothing
-pub unasked_learning : (rules : List Rule) (links : List PortState) (routes : Table) (here : PortState) (from : BipAddr) (npdu : Fields)
-    → manage_asks links routes here from npdu ≡ [] → manage_change rules here from npdu ≡ None
-unasked_learning rules links routes here from npdu none = unasked_by (is_i_am_router npdu) rules links routes here from npdu refl none
+pub unasked_learning : (rules : List Rule) (relay : Relay) (m : Message) → manage_asks relay m ≡ [] → manage_change rules m ≡ None
+unasked_learning rules relay m none = unasked_by (is_i_am_router m.npdu) rules relay m refl none
+
+-- what is answered to a router's message is what is learned of it
+pub learned_due : (rules : List Rule) (relay : Relay) (m : Message) → is_i_am_router m.npdu ≡ true
+    → manage_response rules relay m ≡ learn_response rules m
+learned_due rules relay m h = rw (learned_asks relay m h, learned_sends rules relay m h, h) refl
+
+-- and of another it is the answer's steps
+pub answered_due : (rules : List Rule) (relay : Relay) (m : Message) → is_i_am_router m.npdu ≡ false
+    → manage_response rules relay m ≡ taken rules (answer_steps relay m)
+answered_due rules relay m h = rw h refl

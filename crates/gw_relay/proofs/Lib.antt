@@ -10,3 +10,4 @@ pub mod Peers
 pub mod Learning
 pub mod WayLemmas
 pub mod Claims
+pub mod NamedLemmas

@@ -3,7 +3,8 @@ use Rattle.std.proofs.Common.{◌≡◌, ◌∙◌, sym, ap, subst, refl, ℕ, L
 use Rattle.std.specs.Prelude.{OnOk}
 use Rattle.std.specs.declared.alloc.AllocError.{AllocError}
 use Rattle.gw_addr.specs.declared.bip.BipAddr.{BipAddr}
-use Rattle.gw_npdu.specs.Npdu.{Destination, Fields}
+use Rattle.gw_npdu.specs.Npdu.{Destination}
+use Rattle.gw_policy_text.specs.declared.format.Format.{Format}
 use Rattle.gw_routes.specs.History.{IsStateAfter, history_with, networks_learned}
 use Rattle.gw_routes.specs.History.{History as Learned}
 use Rattle.gw_routes.specs.History.{learned_after as learned_after_all}
@@ -11,23 +12,24 @@ use Rattle.gw_routes.specs.Table.{Routed, Table, route_by, table_of}
 use Rattle.gw_routes.specs.declared.route.Way.{Way}
 use Rattle.gw_routes.specs.declared.route.Way.TheVariants.{Everywhere}
 use Rattle.gw_relay.specs.History.{learned_after}
+use Rattle.gw_relay.specs.Message.{Message}
 use Rattle.gw_relay.specs.Route.{copy, others, steps_by}
+use Rattle.gw_relay.specs.State.{Relay}
 use Rattle.gw_relay.specs.Steps.{asks_of}
 use Rattle.gw_relay.specs.declared.change.Change.{Change}
 use Rattle.gw_relay.specs.declared.change.Change.TheVariants.{Learnings}
 use Rattle.gw_relay.specs.declared.port.PortState.{PortState}
 
 -- each copy of a global broadcast is asked for
-pub each_copy_asks : (here : PortState) (from : BipAddr) (npdu : Fields) (d : Destination) (links : List PortState)
-    → asks_of (map (copy here from npdu d) links) ≡ [] → links ≡ []
-each_copy_asks here from npdu d [] none = refl
-each_copy_asks here from npdu d (link ∷ links) none = absurd cc
+pub each_copy_asks : (format : Format) (m : Message) (d : Destination) (links : List PortState) → asks_of (map (copy format m d) links) ≡ []
+    → links ≡ []
+each_copy_asks format m d [] none = refl
+each_copy_asks format m d (link ∷ links) none = absurd cc
 
-pub everywhere_silent : (links : List PortState) (here : PortState) (from : BipAddr) (npdu : Fields) (d : Destination) (to : Way) → to ≡ Everywhere
-    → asks_of (steps_by links here from npdu d to) ≡ [] → others here.port.number links ≡ []
-everywhere_silent links here from npdu d to is none =
-    each_copy_asks here from npdu d (others here.port.number links)
-    (sym (ap (λ (w : Way). asks_of (steps_by links here from npdu d w)) is) ∙ none)
+pub everywhere_silent : (relay : Relay) (m : Message) (d : Destination) (to : Way) → to ≡ Everywhere
+    → asks_of (steps_by relay m d to) ≡ [] → others m.here.port.number relay.links ≡ []
+everywhere_silent relay m d to is none =
+    each_copy_asks relay.format m d (others m.here.port.number relay.links) (sym (ap (λ (w : Way). asks_of (steps_by relay m d w)) is) ∙ none)
 
 -- networks that are learned are more of the learnings
 pub learnings_made : (result : Result (Unit {0}) AllocError) (old new : Table) (change : Change) (port : ℕ) (next : BipAddr)

@@ -3,7 +3,6 @@
 use Rattle.std.specs.Prelude.{ℕ, List, [], ◌∷◌, Option, Some, None}
 use Rattle.std.specs.Option.{option_map, option_map_or}
 use Rattle.gw_addr.specs.declared.bip.BipAddr.{BipAddr}
-use Rattle.gw_addr.specs.declared.station.Source.{Source}
 use Rattle.gw_addr.specs.Address.{big_endian, octets_of}
 use Rattle.gw_addr.specs.Station.{key_of}
 use Rattle.gw_apdu.specs.Reading.{service_at}
@@ -15,6 +14,7 @@ use Rattle.gw_rules.specs.Service.{service_number}
 use Rattle.gw_rules.specs.declared.operation.Operation.{Operation}
 use Rattle.gw_rules.specs.declared.operation.Operation.TheVariants as operations
 use Rattle.gw_rules.specs.declared.service.Service.TheVariants.{BvllFunction, NetworkMessage}
+use Rattle.gw_relay.specs.Message.{Message}
 use Rattle.gw_relay.specs.declared.port.Port.{Port}
 
 -- ---- tables of a port (Annex J.2.2, J.2.3, J.2.6, J.2.7, J.2.9)
@@ -49,14 +49,14 @@ abbrev pub service_of : Payload → Option ℕ
 service_of (apdu octets) = service_at octets
 service_of (message m) = Some (service_number (NetworkMessage m.kind))
 
--- the ask of a message that came on a port, from that source, and goes to that network
-abbrev pub message_ask : Operation → ℕ → Source → Option ℕ → Payload → Ask
-message_ask operation number source destination payload = record (ask_of operation) {
-  port = Some number;
-  source_network = Some source.net;
-  source_key = key_of source.mac;
+-- the ask of a message that goes to that network: it comes from the source that the message claims
+abbrev pub message_ask : Operation → Message → Option ℕ → Ask
+message_ask operation m destination = record (ask_of operation) {
+  port = Some m.here.port.number;
+  source_network = Some m.claim.net;
+  source_key = key_of m.claim.mac;
   destination_network = destination;
-  service = service_of payload;
+  service = service_of m.npdu.payload;
 }
 
 -- the network that a message is bound for, where it names one

@@ -1,5 +1,5 @@
 -- Broadcasts, and whom they are distributed to (Annex J.4, J.5).
-use Rattle.std.specs.Prelude.{ℕ, Bool, true, false, not, ◌&&◌, ◌||◌, if◌then◌else◌, List, [], ◌∷◌, ◌++◌, length, filter, map, nat_eq, nat_le, slice_index}
+use Rattle.std.specs.Prelude.{ℕ, Bool, true, false, not, ◌&&◌, ◌||◌, if◌then◌else◌, List, [], ◌∷◌, ◌++◌, length, filter, map, nat_eq, nat_le, slice_index, None}
 use Rattle.std.specs.Cmp.Lexicographic.{pointwise}
 use Rattle.std.specs.Int.{w8, bit_not}
 use Rattle.std.specs.Int.RustNames.{bit_or}
@@ -11,15 +11,15 @@ use Rattle.gw_bdt_fdt.specs.Peers.{all_ones, is_of, own_mask, peers}
 use Rattle.gw_bdt_fdt.specs.Registrations.{contains, same}
 use Rattle.gw_bvll.specs.Bvll.{forwarded, distribute, original_broadcast}
 use Rattle.gw_bvll.specs.Bvll.{Message as Frame}
-use Rattle.gw_npdu.specs.Npdu.{Fields}
 use Rattle.gw_npdu.specs.Numbers.{max_len}
 use Rattle.gw_rules.specs.Ask.{Ask}
 use Rattle.gw_rules.specs.RuleList.{allows}
 use Rattle.gw_rules.specs.declared.operation.Operation.TheVariants.{Cast}
 use Rattle.gw_rules.specs.declared.rule.Rule.{Rule}
 use Rattle.gw_relay.specs.Asks.{bound_for, message_ask}
-use Rattle.gw_relay.specs.Claim.{claimed, link_source}
 use Rattle.gw_relay.specs.Link.{answer_to, refused}
+use Rattle.gw_relay.specs.Message.{Message}
+use Rattle.gw_relay.specs.Response.{Response}
 use Rattle.gw_relay.specs.Sends.{Sending, sent}
 use Rattle.gw_relay.specs.declared.port.PortState.{PortState}
 
@@ -100,24 +100,26 @@ is_broadcast (original_broadcast npdu) = true
 is_broadcast other = false
 
 -- the ask of a broadcast
-abbrev pub cast_ask : PortState → BipAddr → Frame → Fields → Ask
-cast_ask link from frame npdu =
-    let source = claimed link.port.network (link_source from frame) npdu in
-    message_ask Cast link.port.number source (bound_for npdu) npdu.payload
+abbrev pub cast_ask : Message → Ask
+cast_ask m = message_ask Cast m (bound_for m.npdu)
 
-unfoldable pub cast_asks : PortState → BipAddr → Frame → Fields → List Ask
-cast_asks link from frame npdu =
-    if goes_on link from frame && is_broadcast frame then cast_ask link from frame npdu ∷ [] else []
+unfoldable pub cast_asks : Message → List Ask
+cast_asks m =
+    if goes_on m.here m.from m.frame && is_broadcast m.frame then cast_ask m ∷ [] else []
 
 -- The sends of a broadcast: one message to all its targets where the policy allows it. A
 -- Distribute-Broadcast-To-Network of an unregistered sender, or that is denied, is refused by its code.
-unfoldable pub cast_sends : List Rule → PortState → BipAddr → Frame → Fields → List Sending
-cast_sends rules link from frame npdu =
-    if not (accepts link from frame) then []
-    else if is_unregistered link from frame
-    || not (list_all (allows rules) (cast_asks link from frame npdu))
-    then map (answer_to link.port from) (refused frame)
-    else sent link.port.number (targets link from frame) (passed_on from frame)
+unfoldable pub cast_sends : List Rule → Message → List Sending
+cast_sends rules m =
+    if not (accepts m.here m.from m.frame) then []
+    else if is_unregistered m.here m.from m.frame || not (list_all (allows rules) (cast_asks m))
+    then map (answer_to m.here.port m.from) (refused m.frame)
+    else sent m.here.port.number (targets m.here m.from m.frame) (passed_on m.from m.frame)
+
+-- what distribution answers
+abbrev pub cast_response : List Rule → Message → Response
+cast_response rules m =
+    record { asks = cast_asks m; sends = cast_sends rules m; change = None }
 
 -- ---- a broadcast by the gateway
 

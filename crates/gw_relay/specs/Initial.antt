@@ -39,6 +39,7 @@ routed_of r = (r.network, route_by r.port r.next)
 -- a relay of this configuration, before any event
 abbrev pub initial : Configuration → Relay
 initial c = record {
+  format = c.format;
   links = links_from 1 c.ports;
   routes = table_of (direct_of c) (map routed_of c.routes) [];
   ticks = 0;

@@ -10,7 +10,6 @@ use Rattle.gw_addr.specs.Station.{key_of}
 use Rattle.gw_bdt_fdt.specs.Peers.{all_ones, is_of, peers}
 use Rattle.gw_bdt_fdt.specs.Registrations.{same}
 use Rattle.gw_bvll.specs.Bvll.{Message as Frame}
-use Rattle.gw_npdu.specs.Npdu.{Fields}
 use Rattle.gw_policy_text.specs.declared.port.Port.{Port as ConfiguredPort}
 use Rattle.gw_rules.specs.declared.operation.Operation.TheVariants.{Learn, Read}
 use Rattle.gw_rules.specs.declared.rule.Rule.{Rule}
@@ -18,11 +17,11 @@ use Rattle.gw_rules.specs.Allowed.{NoChangeAllowed, NoneAllowed}
 use Rattle.gw_rules.specs.Ask.{Ask, IsFor, IsFrom}
 use Rattle.gw_relay.specs.Asks.{link_asks}
 use Rattle.gw_relay.specs.Cast.{cast_asks, devices_but, directed}
-use Rattle.gw_relay.specs.Claim.{claimed, link_source}
 use Rattle.gw_relay.specs.History.{Acts, acts_after, acts_later, initial_acts, ports_from, StandAfter}
 use Rattle.gw_relay.specs.Initial.{links_from}
 use Rattle.gw_relay.specs.Link.{link_change}
 use Rattle.gw_relay.specs.Manage.{manage_asks, manage_change}
+use Rattle.gw_relay.specs.Message.{Message}
 use Rattle.gw_relay.specs.Route.{route_asks}
 use Rattle.gw_relay.specs.State.{Commit, Relay, link_later, links_after, moved}
 use Rattle.gw_relay.specs.declared.change.Change.{Change}
@@ -74,9 +73,9 @@ TableAsksReadNothing =
 -- Nothing is learned where no ask of the message to learn is allowed.
 abbrev pub RoutesAreKept : Type 0
 RoutesAreKept =
-    (rules : List Rule) (relay : Relay) (here : PortState) (from : BipAddr) (npdu : Fields) →
-    NoneAllowed (IsFor Learn) rules (manage_asks relay.links relay.routes here from npdu) →
-    moved (option_map Commit (manage_change rules here from npdu)) relay ≡ relay
+    (rules : List Rule) (relay : Relay) (m : Message) →
+    NoneAllowed (IsFor Learn) rules (manage_asks relay m) →
+    moved (option_map Commit (manage_change rules m)) relay ≡ relay
 
 -- ---- whose asks
 
@@ -86,16 +85,10 @@ AreFrom source asks = AllByRecursion (IsFrom source.net (key_of source.mac)) ask
 
 -- Every ask of a broadcast, of routing and of a network layer message is of the source that the message claims.
 abbrev pub BroadcastsCarryTheirClaim : Type 0
-BroadcastsCarryTheirClaim =
-    (here : PortState) (from : BipAddr) (frame : Frame) (npdu : Fields) →
-    AreFrom (claimed here.port.network (link_source from frame) npdu) (cast_asks here from frame npdu)
+BroadcastsCarryTheirClaim = (m : Message) → AreFrom m.claim (cast_asks m)
 
 abbrev pub RoutingCarriesTheClaim : Type 0
-RoutingCarriesTheClaim =
-    (relay : Relay) (here : PortState) (link : BipAddr) (npdu : Fields) →
-    AreFrom (claimed here.port.network link npdu) (route_asks relay.links relay.routes here link npdu)
+RoutingCarriesTheClaim = (relay : Relay) (m : Message) → AreFrom m.claim (route_asks relay m)
 
 abbrev pub NetworkMessagesCarryTheirClaim : Type 0
-NetworkMessagesCarryTheirClaim =
-    (relay : Relay) (here : PortState) (link : BipAddr) (npdu : Fields) →
-    AreFrom (claimed here.port.network link npdu) (manage_asks relay.links relay.routes here link npdu)
+NetworkMessagesCarryTheirClaim = (relay : Relay) (m : Message) → AreFrom m.claim (manage_asks relay m)

@@ -3,7 +3,10 @@ pub mod State
 pub mod Initial
 pub mod History
 pub mod Claim
+pub mod Message
+pub mod Response
 pub mod Asks
+pub mod Named
 pub mod Link
 pub mod Cast
 pub mod Steps

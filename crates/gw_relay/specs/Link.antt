@@ -12,6 +12,7 @@ use Rattle.gw_bvll.specs.Bvll.{Message as Frame}
 use Rattle.gw_rules.specs.RuleList.{allows}
 use Rattle.gw_rules.specs.declared.rule.Rule.{Rule}
 use Rattle.gw_relay.specs.Asks.{link_asks}
+use Rattle.gw_relay.specs.Response.{Response}
 use Rattle.gw_relay.specs.Sends.{Sending, sending}
 use Rattle.gw_relay.specs.declared.change.Change.{Change}
 use Rattle.gw_relay.specs.declared.change.Change.TheVariants.{Entries, Registration, Deletion}
@@ -65,3 +66,11 @@ link_answer rules link from frame =
 unfoldable pub link_change : List Rule → PortState → BipAddr → Frame → Option Change
 link_change rules link from frame =
     if link_grants rules link from frame then change_of link.port from frame else None
+
+-- what is answered to it
+abbrev pub link_response : List Rule → PortState → BipAddr → Frame → Response
+link_response rules link from frame = record {
+  asks = link_asks link.port from frame;
+  sends = link_answer rules link from frame;
+  change = link_change rules link from frame;
+}

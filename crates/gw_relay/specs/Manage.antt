@@ -4,28 +4,26 @@ use Rattle.std.specs.Prelude.{ℕ, Bool, true, false, not, ◌&&◌, ◌==◌, L
 use Rattle.std.specs.Int.{w16, from_be_bytes, to_be_bytes}
 use Rattle.std.specs.List.{flat_map}
 use Rattle.std.specs.Option.{option_map_or}
-use Rattle.gw_addr.specs.declared.bip.BipAddr.{BipAddr}
 use Rattle.gw_addr.specs.Station.{is_network, network_of}
 use Rattle.gw_npdu.specs.declared.kind.MessageKind.TheVariants.{IAmRouterToNetwork, NetworkNumberIs, WhatIsNetworkNumber, WhoIsRouterToNetwork}
 use Rattle.gw_npdu.specs.Npdu.{Address, Fields, payload_octets}
 use Rattle.gw_npdu.specs.Numbers.{every_network}
-use Rattle.gw_routes.specs.Table.{Table, reachable_from, way}
+use Rattle.gw_routes.specs.Table.{reachable_from, way}
 use Rattle.gw_routes.specs.declared.route.Way.{Way}
 use Rattle.gw_routes.specs.declared.route.Way.TheVariants.{Port, Device, Router, Everywhere, Unknown}
 use Rattle.gw_rules.specs.Ask.{Ask}
 use Rattle.gw_rules.specs.RuleList.{allows}
-use Rattle.gw_rules.specs.declared.operation.Operation.{Operation}
 use Rattle.gw_rules.specs.declared.operation.Operation.TheVariants as operations
 use Rattle.gw_rules.specs.declared.rule.Rule.{Rule}
 use Rattle.gw_relay.specs.Asks.{message_ask}
-use Rattle.gw_relay.specs.Claim.{claimed}
+use Rattle.gw_relay.specs.Message.{Message}
+use Rattle.gw_relay.specs.Response.{Response}
 use Rattle.gw_relay.specs.Route.{is_kind, made, node, others, who_is_router}
 use Rattle.gw_relay.specs.Sends.{Sending}
+use Rattle.gw_relay.specs.State.{Relay}
 use Rattle.gw_relay.specs.Steps.{Step, asks_of, broadcast, sends_of, step}
 use Rattle.gw_relay.specs.declared.change.Change.{Change}
 use Rattle.gw_relay.specs.declared.change.Change.TheVariants.{Learnings}
-use Rattle.gw_relay.specs.declared.port.PortState.{PortState}
-use Rattle.gw_relay.specs.declared.port.Port.{Port as RelayPort}
 
 -- ---- networks in the octets of a message, each two octets (6.4.1, 6.4.2)
 
@@ -84,94 +82,95 @@ is_what_is_network_number npdu =
 -- ---- what is asked, and what is sent
 
 -- the ask of a network layer message, of a network where it names one
-abbrev pub message_ask_of : Operation → PortState → BipAddr → Fields → Option ℕ → Ask
-message_ask_of operation here from npdu network =
-    message_ask operation here.port.number (claimed here.port.network from npdu) network npdu.payload
+abbrev pub network_ask : Message → Option ℕ → Ask
+network_ask m network = message_ask operations.Network m network
 
 -- the question that is passed on names who asked
-abbrev pub asker : RelayPort → BipAddr → Fields → Address
-asker port from npdu = unwrap_or npdu.source (node port from)
+abbrev pub asker : Message → Address
+asker m = unwrap_or m.npdu.source (node m.here.port m.link)
 
 -- the answer for a network, by its way: none where it is reached by the port of the question, and
 -- where no way is known the other ports' routers are asked for one
-abbrev pub told : List PortState → PortState → BipAddr → Fields → ℕ → Way → List Sending
-told links here from npdu network (Port other) =
-    if other == here.port.number then [] else broadcast (i_am_router (network ∷ [])) here
-told links here from npdu network Device = broadcast (i_am_router (network ∷ [])) here
-told links here from npdu network (Router route) =
-    if route.port == here.port.number then [] else broadcast (i_am_router (network ∷ [])) here
-told links here from npdu network Unknown =
-    flat_map (broadcast (who_is_router (Some (asker here.port from npdu)) network))
-    (others here.port.number links)
-told links here from npdu network Everywhere = []
+abbrev pub told : Relay → Message → ℕ → Way → List Sending
+told relay m network (Port other) =
+    if other == m.here.port.number then [] else broadcast (i_am_router (network ∷ [])) m.here
+told relay m network Device = broadcast (i_am_router (network ∷ [])) m.here
+told relay m network (Router route) =
+    if route.port == m.here.port.number then [] else broadcast (i_am_router (network ∷ [])) m.here
+told relay m network Unknown =
+    flat_map (broadcast (who_is_router (Some (asker m)) network))
+    (others m.here.port.number relay.links)
+told relay m network Everywhere = []
 
 -- one network is asked for
-abbrev pub question_of : List PortState → Table → PortState → BipAddr → Fields → ℕ → Step
-question_of links routes here from npdu network =
-    step (message_ask_of operations.Network here from npdu (Some network))
-    (told links here from npdu network (way routes network))
+abbrev pub question_of : Relay → Message → ℕ → Step
+question_of relay m network =
+    step (network_ask m (Some network)) (told relay m network (way relay.routes network))
 
 -- all networks are asked for that aren't reached by the port
-abbrev pub question_of_all : Table → PortState → BipAddr → Fields → Step
-question_of_all routes here from npdu =
-    step (message_ask_of operations.Network here from npdu None)
-    (broadcast (i_am_router (reachable_from routes here.port.number)) here)
+abbrev pub question_of_all : Relay → Message → Step
+question_of_all relay m =
+    step (network_ask m None)
+    (broadcast (i_am_router (reachable_from relay.routes m.here.port.number)) m.here)
 
 -- by the octets of a Who-Is-Router-To-Network: all networks, one, or another shape
-abbrev pub question_steps : List PortState → Table → PortState → BipAddr → Fields → List ℕ → List Step
-question_steps links routes here from npdu [] = question_of_all routes here from npdu ∷ []
-question_steps links routes here from npdu (octet ∷ []) = []
-question_steps links routes here from npdu (high ∷ low ∷ []) =
-    option_map_or (λ network. question_of links routes here from npdu network ∷ [])
+abbrev pub question_steps : Relay → Message → List ℕ → List Step
+question_steps relay m [] = question_of_all relay m ∷ []
+question_steps relay m (octet ∷ []) = []
+question_steps relay m (high ∷ low ∷ []) =
+    option_map_or (λ network. question_of relay m network ∷ [])
     (network_of (from_be_bytes w16 (high ∷ low ∷ []))) []
-question_steps links routes here from npdu (a ∷ b ∷ c ∷ octets) = []
+question_steps relay m (a ∷ b ∷ c ∷ octets) = []
 
 -- the ask of a network that is to be learned
-abbrev pub learn_ask : PortState → BipAddr → Fields → ℕ → Ask
-learn_ask here from npdu network = message_ask_of operations.Learn here from npdu (Some network)
+abbrev pub learn_ask : Message → ℕ → Ask
+learn_ask m network = message_ask operations.Learn m (Some network)
 
 -- the number of the port's network is asked for
-abbrev pub number_step : PortState → BipAddr → Fields → Step
-number_step here from npdu =
-    step (message_ask_of operations.Network here from npdu None)
-    (broadcast (network_number_is here.port.network) here)
+abbrev pub number_step : Message → Step
+number_step m = step (network_ask m None) (broadcast (network_number_is m.here.port.network) m.here)
 
 -- the questions, a line a type; every other message asks nothing and gets no answer
-abbrev pub answer_steps : List PortState → Table → PortState → BipAddr → Fields → List Step
-answer_steps links routes here from npdu =
-    if is_who_is_router npdu
-    then question_steps links routes here from npdu (payload_octets npdu.payload)
-    else if is_what_is_network_number npdu then number_step here from npdu ∷ []
+abbrev pub answer_steps : Relay → Message → List Step
+answer_steps relay m =
+    if is_who_is_router m.npdu then question_steps relay m (payload_octets m.npdu.payload)
+    else if is_what_is_network_number m.npdu then number_step m ∷ []
     else []
 
--- one ask for each network that a router names, in order, on which no send hangs
-abbrev pub learn_steps : PortState → BipAddr → Fields → List Step
-learn_steps here from npdu =
-    map (λ n. step (learn_ask here from npdu n) []) (networks_in (payload_octets npdu.payload))
+-- the networks that a router names
+abbrev pub named_networks : Message → List ℕ
+named_networks m = networks_in (payload_octets m.npdu.payload)
 
-abbrev pub manage_steps : List PortState → Table → PortState → BipAddr → Fields → List Step
-manage_steps links routes here from npdu =
-    if is_i_am_router npdu then learn_steps here from npdu
-    else answer_steps links routes here from npdu
+-- one ask for each of them, in order, on which no send hangs
+abbrev pub learn_steps : Message → List Step
+learn_steps m = map (λ n. step (learn_ask m n) []) (named_networks m)
+
+abbrev pub manage_steps : Relay → Message → List Step
+manage_steps relay m = if is_i_am_router m.npdu then learn_steps m else answer_steps relay m
 
 -- the asks of a network layer message
-abbrev pub manage_asks : List PortState → Table → PortState → BipAddr → Fields → List Ask
-manage_asks links routes here from npdu = asks_of (manage_steps links routes here from npdu)
+abbrev pub manage_asks : Relay → Message → List Ask
+manage_asks relay m = asks_of (manage_steps relay m)
 
 -- its sends
-abbrev pub manage_sends : List Rule → List PortState → Table → PortState → BipAddr → Fields → List Sending
-manage_sends rules links routes here from npdu =
-    sends_of rules (manage_steps links routes here from npdu)
+abbrev pub manage_sends : List Rule → Relay → Message → List Sending
+manage_sends rules relay m = sends_of rules (manage_steps relay m)
 
 -- the networks that the policy lets be learned
-abbrev pub learned : List Rule → PortState → BipAddr → Fields → List ℕ → List ℕ
-learned rules here from npdu networks =
-    filter (λ n. allows rules (learn_ask here from npdu n)) networks
+abbrev pub learned : List Rule → Message → List ℕ → List ℕ
+learned rules m networks = filter (λ n. allows rules (learn_ask m n)) networks
 
 -- its change: they are reached by the port, and the link source is the next router
-abbrev pub manage_change : List Rule → PortState → BipAddr → Fields → Option Change
-manage_change rules here from npdu =
-    if is_i_am_router npdu
-    then Some (Learnings here.port.number from
-    (learned rules here from npdu (networks_in (payload_octets npdu.payload))))
+abbrev pub manage_change : List Rule → Message → Option Change
+manage_change rules m =
+    if is_i_am_router m.npdu
+    then Some (Learnings m.here.port.number m.link (learned rules m (named_networks m)))
     else None
+
+-- what is answered to it
+abbrev pub manage_response : List Rule → Relay → Message → Response
+manage_response rules relay m = record {
+  asks = manage_asks relay m;
+  sends = manage_sends rules relay m;
+  change = manage_change rules m;
+}

@@ -11,17 +11,21 @@ use Rattle.gw_npdu.specs.declared.kind.MessageKind.TheVariants.{NetworkNumberIs,
 use Rattle.gw_npdu.specs.Kind.{kind_number}
 use Rattle.gw_npdu.specs.Npdu.{Address, Destination, Fields, Payload, apdu, message}
 use Rattle.gw_npdu.specs.Onward.{onward}
-use Rattle.gw_routes.specs.Table.{Table, way}
+use Rattle.gw_routes.specs.Table.{way}
+use Rattle.gw_policy_text.specs.declared.format.Format.{Format}
+use Rattle.gw_routes.specs.declared.route.Route.{Route}
 use Rattle.gw_routes.specs.declared.route.Way.{Way}
 use Rattle.gw_routes.specs.declared.route.Way.TheVariants.{Port, Router, Everywhere, Unknown}
 use Rattle.gw_rules.specs.Ask.{Ask}
 use Rattle.gw_rules.specs.declared.operation.Operation.TheVariants as operations
 use Rattle.gw_rules.specs.declared.rule.Rule.{Rule}
 use Rattle.gw_relay.specs.Asks.{bound_for, message_ask}
-use Rattle.gw_relay.specs.Claim.{claimed}
+use Rattle.gw_relay.specs.Message.{Message}
+use Rattle.gw_relay.specs.Named.{forward_asks}
+use Rattle.gw_relay.specs.Response.{Response}
 use Rattle.gw_relay.specs.Sends.{Sending}
-use Rattle.gw_relay.specs.State.{at_port}
-use Rattle.gw_relay.specs.Steps.{Step, asks_of, broadcast, sends_of, step, unicast}
+use Rattle.gw_relay.specs.State.{Relay, at_port}
+use Rattle.gw_relay.specs.Steps.{Step, asks_of, broadcast, sends_of, taken, unicast}
 use Rattle.gw_relay.specs.declared.port.PortState.{PortState}
 use Rattle.gw_relay.specs.declared.port.Port.{Port as RelayPort}
 
@@ -33,17 +37,17 @@ node port address = record { network = port.network; mac = octets_of address }
 
 -- for the next hop: DNET, DADR and hop count removed, or kept with one hop less; the source added
 -- where absent
-abbrev pub hop : Bool → RelayPort → BipAddr → Fields → Fields
-hop keeps port from npdu =
-    onward (record { keeps_destination = keeps; source = node port from }) npdu
+abbrev pub hop : Bool → Message → Fields
+hop keeps m =
+    onward (record { keeps_destination = keeps; source = node m.here.port m.link }) m.npdu
 
 -- on the destination's own network
-abbrev pub last_hop : RelayPort → BipAddr → Fields → Fields
-last_hop port from npdu = hop false port from npdu
+abbrev pub last_hop : Message → Fields
+last_hop m = hop false m
 
 -- before another router
-abbrev pub next_hop : RelayPort → BipAddr → Fields → Fields
-next_hop port from npdu = hop true port from npdu
+abbrev pub next_hop : Message → Fields
+next_hop m = hop true m
 
 -- a count that is 0, or becomes 0, ends the way
 abbrev pub has_hops : Destination → Bool
@@ -103,28 +107,30 @@ delivered mac npdu link =
 
 -- No way is known: the sender is told, and each other port's routers are asked for one. There is
 -- none of it for a Reject-Message-To-Network. The message itself isn't kept (ours).
-abbrev pub sought : List PortState → PortState → BipAddr → Fields → ℕ → List Sending
-sought links here from npdu network =
-    if is_kind RejectMessageToNetwork npdu.payload then []
-    else unicast here.port.number from (reject network npdu)
-    ++ flat_map (broadcast (who_is_router None network)) (others here.port.number links)
+abbrev pub sought : Relay → Message → ℕ → List Sending
+sought relay m network =
+    if is_kind RejectMessageToNetwork m.npdu.payload then []
+    else unicast m.here.port.number m.link (reject network m.npdu)
+    ++ flat_map (broadcast (who_is_router None network)) (others m.here.port.number relay.links)
+
+-- to the next router
+abbrev pub routed : Message → Destination → Route → List Sending
+routed m d route =
+    if has_hops d then unicast route.port route.next (next_hop m) else []
 
 -- by the way of the destination's network, which is one
-abbrev pub sent_on : List PortState → PortState → BipAddr → Fields → Destination → Way → List Sending
-sent_on links here from npdu d (Port number) =
-    at_port [] (delivered d.address.mac (last_hop here.port from npdu)) links number
-sent_on links here from npdu d (Router route) =
-    if has_hops d then unicast route.port route.next (next_hop here.port from npdu) else []
-sent_on links here from npdu d Unknown = sought links here from npdu d.address.network
-sent_on links here from npdu d other = []
+abbrev pub sent_on : Relay → Message → Destination → Way → List Sending
+sent_on relay m d (Port number) =
+    at_port [] (delivered d.address.mac (last_hop m)) relay.links number
+sent_on relay m d (Router route) = routed m d route
+sent_on relay m d Unknown = sought relay m d.address.network
+sent_on relay m d other = []
 
 -- ---- what is asked
 
 -- the ask of a message that goes to a network
-abbrev pub route_ask : PortState → BipAddr → Fields → Option ℕ → Ask
-route_ask here from npdu network =
-    message_ask operations.Route here.port.number (claimed here.port.network from npdu) network
-    npdu.payload
+abbrev pub route_ask : Message → Option ℕ → Ask
+route_ask m network = message_ask operations.Route m network
 
 -- a way that doesn't lead back by the port of this number, nor to the device, which the gateway is
 abbrev pub leaves : ℕ → Way → Bool
@@ -133,40 +139,49 @@ leaves number (Router route) = not (route.port == number)
 leaves number Unknown = true
 leaves number other = false
 
--- one ask, and what hangs on it
-abbrev pub on_way : List PortState → PortState → BipAddr → Fields → Destination → Way → Step
-on_way links here from npdu d way =
-    step (route_ask here from npdu (bound_for npdu)) (sent_on links here from npdu d way)
+-- one way, and what hangs on its asks
+abbrev pub on_way : Relay → Message → Destination → Way → Step
+on_way relay m d way = record {
+  asks = forward_asks relay.format (route_ask m (bound_for m.npdu)) m.npdu.payload;
+  sends = sent_on relay m d way;
+}
+
+-- what is sent on another port of a global broadcast
+abbrev pub copied : Message → Destination → PortState → List Sending
+copied m d link = if has_hops d then broadcast (next_hop m) link else []
 
 -- the copy of a global broadcast for another port
-abbrev pub copy : PortState → BipAddr → Fields → Destination → PortState → Step
-copy here from npdu d link =
-    step (route_ask here from npdu (Some link.port.network))
-    (if has_hops d then broadcast (next_hop here.port from npdu) link else [])
+abbrev pub copy : Format → Message → Destination → PortState → Step
+copy format m d link = record {
+  asks = forward_asks format (route_ask m (Some link.port.network)) m.npdu.payload;
+  sends = copied m d link;
+}
 
--- by the way of DNET: a copy for each other port, or one ask and what hangs on it
-abbrev pub steps_by : List PortState → PortState → BipAddr → Fields → Destination → Way → List Step
-steps_by links here from npdu d Everywhere =
-    map (copy here from npdu d) (others here.port.number links)
-steps_by links here from npdu d way =
-    if leaves here.port.number way then on_way links here from npdu d way ∷ [] else []
+-- by the way of DNET: a copy for each other port, or one way
+abbrev pub steps_by : Relay → Message → Destination → Way → List Step
+steps_by relay m d Everywhere = map (copy relay.format m d) (others m.here.port.number relay.links)
+steps_by relay m d way =
+    if leaves m.here.port.number way then on_way relay m d way ∷ [] else []
 
 -- What-Is-Network-Number and Network-Number-Is are for one network (6.4.19, 6.4.20).
 abbrev pub is_local : Payload → Bool
 is_local payload = is_kind WhatIsNetworkNumber payload || is_kind NetworkNumberIs payload
 
 -- a message without DNET isn't routed
-abbrev pub route_steps : List PortState → Table → PortState → BipAddr → Fields → List Step
-route_steps links routes here from npdu =
-    if is_local npdu.payload then []
-    else option_map_or (λ d.
-    steps_by links here from npdu d (way routes d.address.network)) npdu.destination []
+abbrev pub route_steps : Relay → Message → List Step
+route_steps relay m =
+    if is_local m.npdu.payload then []
+    else option_map_or (λ d. steps_by relay m d (way relay.routes d.address.network))
+    m.npdu.destination []
 
 -- the asks of routing
-abbrev pub route_asks : List PortState → Table → PortState → BipAddr → Fields → List Ask
-route_asks links routes here from npdu = asks_of (route_steps links routes here from npdu)
+abbrev pub route_asks : Relay → Message → List Ask
+route_asks relay m = asks_of (route_steps relay m)
 
 -- the sends of routing
-abbrev pub route_sends : List Rule → List PortState → Table → PortState → BipAddr → Fields → List Sending
-route_sends rules links routes here from npdu =
-    sends_of rules (route_steps links routes here from npdu)
+abbrev pub route_sends : List Rule → Relay → Message → List Sending
+route_sends rules relay m = sends_of rules (route_steps relay m)
+
+-- what routing answers
+abbrev pub route_response : List Rule → Relay → Message → Response
+route_response rules relay m = taken rules (route_steps relay m)

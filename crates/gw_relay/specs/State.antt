@@ -1,14 +1,17 @@
--- What a relay keeps between two events: each port with its two tables, the routes, and the ticks.
+-- What a relay keeps between two events: the format of the policy, each port with its two tables, the
+-- routes, and the ticks.
 use Rattle.std.specs.Prelude.{ℕ, zero, suc, ◌+◌, ◌-◌, ◌==◌, Bool, true, false, if◌then◌else◌, List, [], ◌∷◌, map, slice_get, Option, Some, None}
 use Rattle.std.specs.Option.{option_map_or}
 use Rattle.gw_addr.specs.declared.bip.BipAddr.{BipAddr}
 use Rattle.gw_bdt_fdt.specs.Registrations.{Registrations, contains, has_room, with_registration, with_tick, without}
+use Rattle.gw_policy_text.specs.declared.format.Format.{Format}
 use Rattle.gw_routes.specs.Table.{Table, route_by, with_each}
 use Rattle.gw_relay.specs.declared.change.Change.{Change}
 use Rattle.gw_relay.specs.declared.change.Change.TheVariants.{Entries, Registration, Deletion, Learnings}
 use Rattle.gw_relay.specs.declared.port.PortState.{PortState}
 
 pub record Relay : Type 0 where
+  pub format : Format
   pub links : List PortState
   pub routes : Table
   pub ticks : ℕ

@@ -10,6 +10,7 @@ use Rattle.gw_rules.specs.Ask.{Ask}
 use Rattle.gw_rules.specs.RuleList.{allows}
 use Rattle.gw_rules.specs.declared.rule.Rule.{Rule}
 use Rattle.gw_relay.specs.Cast.{spread}
+use Rattle.gw_relay.specs.Response.{Response}
 use Rattle.gw_relay.specs.Sends.{Sending, sent}
 use Rattle.gw_relay.specs.declared.port.PortState.{PortState}
 
@@ -33,6 +34,11 @@ allowed_sends rules s = if list_all (allows rules) s.asks then s.sends else []
 -- what is sent of all, in order
 abbrev pub sends_of : List Rule → List Step → List Sending
 sends_of rules steps = flat_map (allowed_sends rules) steps
+
+-- what taking the steps answers; it changes nothing
+abbrev pub taken : List Rule → List Step → Response
+taken rules steps =
+    record { asks = asks_of steps; sends = sends_of rules steps; change = None }
 
 -- ---- one NPDU
 

@@ -6,3 +6,4 @@ pub mod Ticks
 pub mod Serving
 pub mod Passing
 pub mod Outgoing
+pub mod Taken

@@ -2,14 +2,13 @@
 
 ghost use Rattle.std.specs.Prelude.{◌≡◌};
 ghost use Rattle.std.specs.Option.{option_map};
-ghost use Rattle.gw_addr.specs.Station.{key_of};
 ghost use Rattle.gw_bvll.specs.Bvll.{view as frame_view};
 ghost use Rattle.gw_npdu.specs.Npdu.{view as npdu_view, payload_view};
 ghost use Rattle.gw_relay.specs.Asks.{bound_for, link_ask, management_of, message_ask, service_of};
-ghost use Rattle.gw_relay.specs.Cast.{cast_ask};
-ghost use Rattle.gw_relay.specs.Claim.{claimed, link_source};
+ghost use Rattle.gw_relay.specs.Message.{message_view};
 
-use crate::port::{Port, PortState};
+use crate::message::Message;
+use crate::port::Port;
 use gw_addr::BipAddr;
 use gw_bvll::Bvll;
 use gw_npdu::{Npdu, Payload};
@@ -41,46 +40,6 @@ pub(crate) fn link_ask(port: &Port, from: BipAddr, frame: &Bvll<'_>, operation: 
     }
 }
 
-/// The originator of a Forwarded-NPDU, else the sender (Annex J.2.5).
-pub fn link_source(from: BipAddr, frame: &Bvll<'_>) -> BipAddr
-    ensures { result ≡ link_source from (frame_view frame.now) }
-{
-    match frame {
-        Bvll::Forwarded { originator, .. } => *originator,
-        _ => from,
-    }
-}
-
-/// The network that a message claims to come from.
-fn source_network(port: &Port, from: BipAddr, npdu: &Npdu<'_>) -> u16
-    ensures { result ≡ (claimed port.now.network from (npdu_view npdu.now)).net }
-{
-    match &npdu.source {
-        None => port.network.get(),
-        Some(address) => address.network,
-    }
-}
-
-/// The key of the station that a message claims to come from, where its address has six octets.
-fn source_key(port: &Port, from: BipAddr, npdu: &Npdu<'_>) -> Option<u64>
-    ensures { result ≡ key_of (claimed port.now.network from (npdu_view npdu.now)).mac }
-{
-    match &npdu.source {
-        None => Some(from.key48()),
-        Some(address) => key_of(address.mac),
-    }
-}
-
-/// The number of an address of six octets.
-fn key_of(address: &[u8]) -> Option<u64>
-    ensures { result ≡ key_of address.now }
-{
-    match address {
-        [a, b, c, d, high, low] => Some(u64::from_be_bytes([0, 0, *a, *b, *c, *d, *high, *low])),
-        _ => None,
-    }
-}
-
 /// The service of a payload, by which rules name it.
 fn service_of(payload: &Payload<'_>) -> Option<u64>
     ensures { result ≡ service_of (payload_view payload.now) }
@@ -101,32 +60,20 @@ pub(crate) fn bound_for(npdu: &Npdu<'_>) -> Option<u64>
     }
 }
 
-/// The ask of a message that came on a port from this link source.
+/// The ask of a message that goes to a network, where it does.
 pub(crate) fn message_ask(
     operation: Operation,
-    port: &Port,
-    from: BipAddr,
+    message: &Message<'_>,
     destination: Option<u64>,
-    npdu: &Npdu<'_>,
 ) -> Ask
-    ensures { let npdu = npdu_view npdu.now in
-        let source = claimed port.now.network from npdu in
-        result ≡ message_ask operation port.now.number source destination npdu.payload }
+    ensures { result ≡ message_ask operation (message_view message.now) destination }
 {
     Ask {
-        port: Some(u64::from(port.number)),
-        source_network: Some(u64::from(source_network(port, from, npdu))),
-        source_key: source_key(port, from, npdu),
+        port: Some(u64::from(message.here.port.number)),
+        source_network: Some(u64::from(message.source_network())),
+        source_key: message.source_key(),
         destination_network: destination,
-        service: service_of(&npdu.payload),
+        service: service_of(&message.npdu.payload),
         ..Ask::new(operation)
     }
-}
-
-/// The ask of a broadcast.
-pub(crate) fn cast_ask(link: &PortState, from: BipAddr, frame: &Bvll<'_>, npdu: &Npdu<'_>) -> Ask
-    ensures { result ≡ cast_ask link.now from (frame_view frame.now) (npdu_view npdu.now) }
-{
-    let source = link_source(from, frame);
-    message_ask(Operation::Cast, &link.port, source, bound_for(npdu), npdu)
 }

@@ -1,29 +1,29 @@
 //! Broadcasts, and whom they are distributed to (Annex J.4, J.5).
 
-ghost use Rattle.std.specs.Prelude.{◌≡◌, ◌++◌, [], false, List, map, IfOk, IsOk, OnOk, None};
+ghost use Rattle.std.specs.Prelude.{◌≡◌, ◌++◌, [], false, true, List, map, IfOk, IsOk, OnOk, None};
 ghost use Rattle.std.specs.List.{list_any};
 ghost use Rattle.std.specs.Option.{option_map_or};
 ghost use Rattle.gw_bdt_fdt.specs.Peers.{is_of, peers};
 ghost use Rattle.gw_bvll.specs.Bvll.{forwarded};
 ghost use Rattle.gw_bvll.specs.Bvll.{view as frame_view};
-ghost use Rattle.gw_npdu.specs.Npdu.{view as npdu_view};
-ghost use Rattle.gw_rules.specs.Authorizer.{denied_of};
 ghost use Rattle.gw_rules.specs.declared.rule.Rule.{Rule};
-ghost use Rattle.gw_relay.specs.Cast.{cast_asks, cast_sends, devices, devices_but, directed, goes_on, is_broadcast, accepts, is_unregistered, managers, passed_on, spread, subnet, targets};
+ghost use Rattle.gw_relay.specs.Cast.{cast_ask, cast_asks, cast_response, devices, devices_but, directed, goes_on, is_broadcast, accepts, is_unregistered, managers, passed_on, spread, subnet, targets};
 ghost use Rattle.gw_relay.specs.Link.{answer_to, refused};
+ghost use Rattle.gw_relay.specs.Message.{message_view};
+ghost use Rattle.gw_relay.specs.Response.{IsRelayed};
 ghost use Rattle.gw_relay.specs.Sends.{sendings_of, sent};
 ghost use Rattle.gw_relay.specs.internal.Serving.{judged};
 
-use crate::ask::cast_ask;
+use crate::ask::{bound_for, message_ask};
+use crate::message::Message;
 use crate::octets::message_octets;
 use crate::outgoing::Outgoing;
 use crate::port::PortState;
-use crate::response::RelayResponse;
+use crate::response::{CastResponse, RelayResponse};
 use crate::sends::{Batch, Sends};
 use gw_addr::{BdtEntry, BipAddr};
 use gw_bvll::Bvll;
-use gw_npdu::Npdu;
-use gw_rules::{Authorizer, Judge};
+use gw_rules::{Ask, Authorizer, Judge, Operation};
 use std::alloc::{AllocError, Global};
 
 /// How many octets of a Forwarded-NPDU stand before its NPDU (Annex J.2.5).
@@ -122,55 +122,8 @@ impl PortState {
         self.accepts(from, frame) && !self.is_unregistered(from, frame)
     }
 
-    /// Distributes a broadcast, whose message this is, where the policy allows it.
-    pub fn cast<J: Judge>(
-        &self,
-        alloc: Global,
-        judge: &J,
-        from: BipAddr,
-        frame: &Bvll<'_>,
-        npdu: &Npdu<'_>,
-    ) -> Result<RelayResponse, AllocError>
-        ensures sends { (rules : List Rule) → J.StandsFor judge.now rules →
-            let frame = frame_view frame.now in
-            let sends = cast_sends rules self.now from frame (npdu_view npdu.now) in
-            IfOk result (λ given. given.sends ≡ sends) }
-        ensures refusals { (rules : List Rule) → J.StandsFor judge.now rules →
-            let asks = cast_asks self.now from (frame_view frame.now) (npdu_view npdu.now) in
-            IfOk result (λ given. given.refusals ≡ denied_of rules asks) }
-        ensures change { IfOk result (λ given. given.change ≡ None) }
-        ensures goes_on { IfOk result (λ given.
-            given.goes_on ≡ goes_on self.now from (frame_view frame.now)) }
-        // What asks nothing and tells no unregistered sender wants no memory.
-        ensures silent { cast_asks self.now from (frame_view frame.now) (npdu_view npdu.now) ≡ [] →
-            is_unregistered self.now from (frame_view frame.now) ≡ false → IsOk result }
-    {
-        if !self.accepts(from, frame) {
-            return Ok(RelayResponse::nothing(alloc));
-        }
-        if self.is_unregistered(from, frame) {
-            return self.refuse_stranger(alloc, from, frame);
-        }
-        if !is_broadcast(frame) {
-            return Ok(RelayResponse {
-                goes_on: true,
-                ..RelayResponse::nothing(alloc)
-            });
-        }
-        let mut authorizer = Authorizer::new(alloc, judge);
-        let ask = cast_ask(self, from, frame, npdu);
-        let is_allowed = authorizer.authorize(&ask)?;
-        let sends = self.judged_sends(alloc, from, frame, is_allowed)?;
-        Ok(RelayResponse {
-            sends,
-            refusals: authorizer.into_refusals(),
-            change: None,
-            goes_on: true,
-        })
-    }
-
     /// An unregistered sender is told so, and nothing is asked.
-    fn refuse_stranger(
+    fn refuse_unregistered(
         &self,
         alloc: Global,
         from: BipAddr,
@@ -180,7 +133,6 @@ impl PortState {
             map (answer_to self.now.port from) (refused (frame_view frame.now))) }
         ensures refusals { IfOk result (λ given. given.refusals ≡ []) }
         ensures change { IfOk result (λ given. given.change ≡ None) }
-        ensures goes_on { IfOk result (λ given. given.goes_on ≡ false) }
     {
         Ok(RelayResponse {
             sends: self.refuse(alloc, from, frame)?,
@@ -364,6 +316,79 @@ impl PortState {
         let len = FORWARDED_HEADER_LEN + npdu.len();
         batch_of(alloc, self.port.number, targets, &message, len)
     }
+}
+
+/// Distributes the broadcast that brought a message, where the policy allows it.
+pub(crate) fn cast<J: Judge>(
+    alloc: Global,
+    judge: &J,
+    message: &Message<'_>,
+) -> Result<CastResponse, AllocError>
+    ensures relayed { (rules : List Rule) → J.StandsFor judge.now rules →
+        let due = cast_response rules (message_view message.now) in
+        IfOk result (λ cast. IsRelayed rules due cast.given) }
+    ensures goes_on { let m = message_view message.now in
+        IfOk result (λ cast. cast.goes_on ≡ goes_on m.here m.from m.frame) }
+    // What asks nothing and tells no unregistered sender wants no memory.
+    ensures silent { let m = message_view message.now in
+        cast_asks m ≡ [] → is_unregistered m.here m.from m.frame ≡ false → IsOk result }
+{
+    let Message {
+        here,
+        from,
+        frame,
+        ..
+    } = message;
+    if !here.accepts(*from, frame) {
+        return Ok(CastResponse {
+            given: RelayResponse::nothing(alloc),
+            goes_on: false,
+        });
+    }
+    if here.is_unregistered(*from, frame) {
+        return Ok(CastResponse {
+            given: here.refuse_unregistered(alloc, *from, frame)?,
+            goes_on: false,
+        });
+    }
+    Ok(CastResponse {
+        given: cast_accepted(alloc, judge, message)?,
+        goes_on: true,
+    })
+}
+
+/// The ask of a broadcast.
+fn cast_ask(message: &Message<'_>) -> Ask
+    ensures { result ≡ cast_ask (message_view message.now) }
+{
+    message_ask(Operation::Cast, message, bound_for(&message.npdu))
+}
+
+/// Distributes a broadcast that is accepted, and no unregistered sender's.
+fn cast_accepted<J: Judge>(
+    alloc: Global,
+    judge: &J,
+    message: &Message<'_>,
+) -> Result<RelayResponse, AllocError>
+    requires { let m = message_view message.now in goes_on m.here m.from m.frame ≡ true }
+    ensures relayed { (rules : List Rule) → J.StandsFor judge.now rules →
+        IfOk result (IsRelayed rules (cast_response rules (message_view message.now))) }
+    ensures silent { cast_asks (message_view message.now) ≡ [] → IsOk result }
+{
+    if !is_broadcast(&message.frame) {
+        return Ok(RelayResponse::nothing(alloc));
+    }
+    let mut authorizer = Authorizer::new(alloc, judge);
+    let ask = cast_ask(message);
+    let is_allowed = authorizer.authorize(&ask)?;
+    let sends = message
+        .here
+        .judged_sends(alloc, message.from, &message.frame, is_allowed)?;
+    Ok(RelayResponse {
+        sends,
+        refusals: authorizer.into_refusals(),
+        change: None,
+    })
 }
 
 /// A message, of about so many octets, to each of the addresses. None where it is too long, or

@@ -1,15 +1,15 @@
 //! The frames that read or change a table of their port (Annex J.2, J.4, J.5).
 
-ghost use Rattle.std.specs.Prelude.{◌≡◌, ◌||◌, ◌∷◌, [], List, not, map, IfOk, IsOk, if◌then◌else◌, Some, None, false};
+ghost use Rattle.std.specs.Prelude.{◌≡◌, ◌||◌, ◌∷◌, [], List, not, map, IfOk, IsOk, if◌then◌else◌, Some, None};
 ghost use Rattle.gw_addr.specs.Entry.{bdt_entry};
 ghost use Rattle.gw_bdt_fdt.specs.Peers.{are_too_many, has_twice};
 ghost use Rattle.gw_bdt_fdt.specs.Registrations.{contains, has_room};
 ghost use Rattle.gw_bvll.specs.Bvll.{encoding, result_code, view};
 ghost use Rattle.gw_bvll.specs.Entries.{lent};
-ghost use Rattle.gw_rules.specs.Authorizer.{denied_of};
 ghost use Rattle.gw_rules.specs.declared.rule.Rule.{Rule};
 ghost use Rattle.gw_relay.specs.Asks.{link_asks};
-ghost use Rattle.gw_relay.specs.Link.{answer_to, change_of, is_granted, link_answer, link_change, refused, told};
+ghost use Rattle.gw_relay.specs.Link.{answer_to, change_of, is_granted, link_response, refused, told};
+ghost use Rattle.gw_relay.specs.Response.{IsRelayed};
 ghost use Rattle.gw_relay.specs.Sends.{sending};
 ghost use Rattle.gw_relay.specs.internal.Grants.{granted_change};
 ghost use Rattle.gw_relay.specs.internal.Serving.{served, served_change};
@@ -40,21 +40,15 @@ enum Grant {
 impl PortState {
     /// Answers a frame that reads or changes a table of the port. The answer goes to the sender; a
     /// frame of another kind gets none, and asks nothing. The only fault is want of memory.
-    pub fn handle_table_message<J: Judge>(
+    pub(crate) fn handle_table_message<J: Judge>(
         &self,
         alloc: Global,
         judge: &J,
         from: BipAddr,
         frame: &Bvll<'_>,
     ) -> Result<RelayResponse, AllocError>
-        ensures sends { (rules : List Rule) → J.StandsFor judge.now rules →
-            IfOk result (λ given. given.sends ≡ link_answer rules self.now from (view frame.now)) }
-        ensures refusals { (rules : List Rule) → J.StandsFor judge.now rules →
-            let asks = link_asks self.now.port from (view frame.now) in
-            IfOk result (λ given. given.refusals ≡ denied_of rules asks) }
-        ensures change { (rules : List Rule) → J.StandsFor judge.now rules →
-            IfOk result (λ given. given.change ≡ link_change rules self.now from (view frame.now)) }
-        ensures goes_on { IfOk result (λ given. given.goes_on ≡ false) }
+        ensures relayed { (rules : List Rule) → J.StandsFor judge.now rules →
+            IfOk result (IsRelayed rules (link_response rules self.now from (view frame.now))) }
         ensures silent { link_asks self.now.port from (view frame.now) ≡ [] → IsOk result }
     {
         let Some(operation) = management_of(frame) else {
@@ -68,7 +62,6 @@ impl PortState {
             sends,
             refusals: authorizer.into_refusals(),
             change,
-            goes_on: false,
         })
     }
 

@@ -1,26 +1,34 @@
 //! Network layer messages that a router answers or learns from (clauses 6.4.1, 6.4.2, 6.4.19,
 //! 6.4.20).
 
-ghost use Rattle.std.specs.Prelude.{◌≡◌, ◌++◌, [], List, map, nat_le, true, false, None, IfOk, IsOk, OnOk};
-ghost use Rattle.gw_npdu.specs.Npdu.{view as npdu_view, payload_octets};
+ghost use Rattle.std.specs.Prelude.{◌≡◌, ◌++◌, ◌∷◌, [], List, map, nat_le, true, false, None, IfOk, IsOk, OnOk};
+ghost use Rattle.gw_npdu.specs.Npdu.{view as npdu_view};
 ghost use Rattle.gw_rules.specs.Authorizer.{denied_of};
 ghost use Rattle.gw_rules.specs.declared.rule.Rule.{Rule};
-ghost use Rattle.gw_relay.specs.Manage.{answer_steps, are_networks, is_for_all, is_i_am_router, is_what_is_network_number, is_who_is_router, i_am_router, learn_ask, learned, manage_asks, manage_change, manage_sends, message_ask_of, network_number_is, network_octets, networks_in, number_step, question_of, question_of_all, question_steps, told};
+ghost use Rattle.gw_relay.specs.Asks.{message_ask};
+ghost use Rattle.gw_relay.specs.Manage.{answer_steps, are_networks, is_for_all, is_i_am_router, is_what_is_network_number, is_who_is_router, i_am_router, learn_ask, learned, manage_asks, manage_response, network_number_is, network_octets, networks_in, number_step, question_of, question_of_all, question_steps, told};
+ghost use Rattle.gw_relay.specs.Message.{message_view};
+ghost use Rattle.gw_relay.specs.Response.{IsRelayed};
 ghost use Rattle.gw_relay.specs.Route.{made};
-ghost use Rattle.gw_relay.specs.Steps.{allowed_sends, asks_of, broadcast, sends_of};
+ghost use Rattle.gw_relay.specs.Steps.{asks_of, broadcast};
+ghost use Rattle.gw_relay.specs.internal.Serving.{learn_response};
+ghost use Rattle.gw_relay.specs.internal.Taken.{AreTaken};
 ghost use Rattle.gw_npdu.specs.Kind.{kind_number};
 
 use crate::ask::message_ask;
 use crate::change::Change;
+use crate::message::Message;
 use crate::npdu::{is_kind, message_of, put_broadcast};
 use crate::outgoing::Outgoing;
 use crate::port::PortState;
+use crate::relay::Relay;
 use crate::response::RelayResponse;
 use crate::route::put_who_is_router;
 use crate::sends::Sends;
-use gw_addr::{BipAddr, NetNum, Sequence, put_number};
+use crate::step::StepState;
+use gw_addr::{NetNum, Sequence, put_number};
 use gw_npdu::{AddressRef, Destination, MessageKind, Npdu};
-use gw_routes::{Routes, Way};
+use gw_routes::Way;
 use gw_rules::{Ask, Authorizer, Judge, Operation};
 use std::alloc::{AllocError, Global};
 
@@ -80,20 +88,14 @@ fn is_what_is_network_number(npdu: &Npdu<'_>) -> bool
 }
 
 /// The ask of a network layer message, of a network where it names one.
-fn ask_of(
-    operation: Operation,
-    here: &PortState,
-    from: BipAddr,
-    npdu: &Npdu<'_>,
-    network: Option<NetNum>,
-) -> Ask
-    ensures { result ≡ message_ask_of operation here.now from (npdu_view npdu.now) network }
+fn ask_of(operation: Operation, message: &Message<'_>, network: Option<NetNum>) -> Ask
+    ensures { result ≡ message_ask operation (message_view message.now) network }
 {
     let destination = match network {
         Some(network) => Some(u64::from(network.get())),
         None => None,
     };
-    message_ask(operation, &here.port, from, destination, npdu)
+    message_ask(operation, message, destination)
 }
 
 /// Appends networks, each two octets.
@@ -152,27 +154,27 @@ fn put_number_is(alloc: Global, here: &PortState, sends: &mut Sends) -> Result<(
 /// Passes a question for a network on to the other ports' routers, with who asked.
 fn forward_who_is_router(
     alloc: Global,
-    links: &[PortState],
-    here: &PortState,
-    from: BipAddr,
-    npdu: &Npdu<'_>,
+    relay: &Relay,
+    message: &Message<'_>,
     network: NetNum,
     sends: &mut Sends,
 ) -> Result<(), AllocError>
-    ensures { let sent = told links.now here.now from (npdu_view npdu.now) network Way.Unknown in
+    ensures { let sent = told relay.now (message_view message.now) network Way.Unknown in
         OnOk result (sends.new ≡ sends.old ++ sent) }
 {
-    let node = from.to_octets();
-    let asker = npdu.source.unwrap_or(AddressRef {
-        network: here.port.network.get(),
+    let here = &message.here.port;
+    let node = message.link().to_octets();
+    let asker = message.npdu.source.unwrap_or(AddressRef {
+        network: here.network.get(),
         mac: &node,
     });
+    let asker = Some(asker);
     put_who_is_router(
         alloc,
-        here.port.number,
-        &Some(asker),
+        here.number,
+        &asker,
         network.get(),
-        links,
+        relay.links(),
         sends,
     )
 }
@@ -180,24 +182,23 @@ fn forward_who_is_router(
 /// Answers a question for a network, by its way.
 fn answer_who_is_router(
     alloc: Global,
-    links: &[PortState],
-    here: &PortState,
-    from: BipAddr,
-    npdu: &Npdu<'_>,
+    relay: &Relay,
+    message: &Message<'_>,
     network: NetNum,
     way: &Way,
     sends: &mut Sends,
 ) -> Result<(), AllocError>
-    ensures { let sent = told links.now here.now from (npdu_view npdu.now) network way.now in
+    ensures { let sent = told relay.now (message_view message.now) network way.now in
         OnOk result (sends.new ≡ sends.old ++ sent) }
 {
+    let here = message.here;
     match way {
         Way::Port(other) if *other == usize::from(here.port.number) => Ok(()),
         Way::Router(route) if route.port == here.port.number => Ok(()),
         Way::Port(_) | Way::Device | Way::Router(_) => {
             put_i_am_router(alloc, here, &[network], sends)
         }
-        Way::Unknown => forward_who_is_router(alloc, links, here, from, npdu, network, sends),
+        Way::Unknown => forward_who_is_router(alloc, relay, message, network, sends),
         Way::Everywhere => Ok(()),
     }
 }
@@ -205,90 +206,62 @@ fn answer_who_is_router(
 /// Asks, and answers a question for a network.
 fn put_answer<J: Judge>(
     alloc: Global,
-    authorizer: &mut Authorizer<'_, J>,
-    links: &[PortState],
-    routes: &Routes,
-    here: &PortState,
-    from: BipAddr,
-    npdu: &Npdu<'_>,
+    relay: &Relay,
+    message: &Message<'_>,
     network: NetNum,
-    sends: &mut Sends,
+    state: &mut StepState<'_, J>,
 ) -> Result<(), AllocError>
-    ensures sends { (rules : List Rule) → J.StandsFor authorizer.old.judge rules →
-        let step = question_of links.now routes.now here.now from (npdu_view npdu.now) network in
-        OnOk result (sends.new ≡ sends.old ++ allowed_sends rules step) }
-    ensures denied { (rules : List Rule) → J.StandsFor authorizer.old.judge rules →
-        let step = question_of links.now routes.now here.now from (npdu_view npdu.now) network in
-        OnOk result (authorizer.new.denied ≡ authorizer.old.denied ++ denied_of rules step.asks) }
-    ensures judge { authorizer.new.judge ≡ authorizer.old.judge }
+    ensures steps { (rules : List Rule) → J.StandsFor state.old.authorizer.judge rules →
+        let step = question_of relay.now (message_view message.now) network in
+        OnOk result (AreTaken rules (step ∷ []) state.old state.new) }
 {
-    let ask = ask_of(Operation::Network, here, from, npdu, Some(network));
-    if !authorizer.authorize(&ask)? {
+    let ask = ask_of(Operation::Network, message, Some(network));
+    if !state.authorizer.authorize(&ask)? {
         return Ok(());
     }
-    let way = routes.find(network.get());
-    answer_who_is_router(alloc, links, here, from, npdu, network, &way, sends)
+    let way = relay.routes().find(network.get());
+    answer_who_is_router(alloc, relay, message, network, &way, &mut state.sends)
 }
 
 /// Asks, and answers a question for all networks.
 fn put_answer_to_all<J: Judge>(
     alloc: Global,
-    authorizer: &mut Authorizer<'_, J>,
-    routes: &Routes,
-    here: &PortState,
-    from: BipAddr,
-    npdu: &Npdu<'_>,
-    sends: &mut Sends,
+    relay: &Relay,
+    message: &Message<'_>,
+    state: &mut StepState<'_, J>,
 ) -> Result<(), AllocError>
-    ensures sends { (rules : List Rule) → J.StandsFor authorizer.old.judge rules →
-        let step = question_of_all routes.now here.now from (npdu_view npdu.now) in
-        OnOk result (sends.new ≡ sends.old ++ allowed_sends rules step) }
-    ensures denied { (rules : List Rule) → J.StandsFor authorizer.old.judge rules →
-        let step = question_of_all routes.now here.now from (npdu_view npdu.now) in
-        OnOk result (authorizer.new.denied ≡ authorizer.old.denied ++ denied_of rules step.asks) }
-    ensures judge { authorizer.new.judge ≡ authorizer.old.judge }
+    ensures steps { (rules : List Rule) → J.StandsFor state.old.authorizer.judge rules →
+        let step = question_of_all relay.now (message_view message.now) in
+        OnOk result (AreTaken rules (step ∷ []) state.old state.new) }
 {
-    let ask = ask_of(Operation::Network, here, from, npdu, None);
-    if !authorizer.authorize(&ask)? {
+    let ask = ask_of(Operation::Network, message, None);
+    if !state.authorizer.authorize(&ask)? {
         return Ok(());
     }
-    let networks = routes.reachable_from(alloc, here.port.number)?;
-    put_i_am_router(alloc, here, networks.as_slice(), sends)
+    let here = message.here;
+    let networks = relay.routes().reachable_from(alloc, here.port.number)?;
+    put_i_am_router(alloc, here, networks.as_slice(), &mut state.sends)
 }
 
 /// Asks, and answers a Who-Is-Router-To-Network by its octets.
 fn put_answers<J: Judge>(
     alloc: Global,
-    authorizer: &mut Authorizer<'_, J>,
-    links: &[PortState],
-    routes: &Routes,
-    here: &PortState,
-    from: BipAddr,
-    npdu: &Npdu<'_>,
+    relay: &Relay,
+    message: &Message<'_>,
     octets: &[u8],
-    sends: &mut Sends,
+    state: &mut StepState<'_, J>,
 ) -> Result<(), AllocError>
-    ensures sends { (rules : List Rule) → J.StandsFor authorizer.old.judge rules →
-        let npdu = npdu_view npdu.now in
-        let steps = question_steps links.now routes.now here.now from npdu octets.now in
-        OnOk result (sends.new ≡ sends.old ++ sends_of rules steps) }
-    ensures denied { (rules : List Rule) → J.StandsFor authorizer.old.judge rules →
-        let npdu = npdu_view npdu.now in
-        let steps = question_steps links.now routes.now here.now from npdu octets.now in
-        OnOk result (authorizer.new.denied
-        ≡ authorizer.old.denied ++ denied_of rules (asks_of steps)) }
-    ensures judge { authorizer.new.judge ≡ authorizer.old.judge }
-    ensures silent { let npdu = npdu_view npdu.now in
-        let steps = question_steps links.now routes.now here.now from npdu octets.now in
+    ensures steps { (rules : List Rule) → J.StandsFor state.old.authorizer.judge rules →
+        let steps = question_steps relay.now (message_view message.now) octets.now in
+        OnOk result (AreTaken rules steps state.old state.new) }
+    ensures silent { let steps = question_steps relay.now (message_view message.now) octets.now in
         asks_of steps ≡ [] → IsOk result }
 {
     match octets {
-        [] => put_answer_to_all(alloc, authorizer, routes, here, from, npdu, sends),
+        [] => put_answer_to_all(alloc, relay, message, state),
         [_] => Ok(()),
         [high, low] => match NetNum::new(u16::from_be_bytes([*high, *low])) {
-            Some(network) => put_answer(
-                alloc, authorizer, links, routes, here, from, npdu, network, sends,
-            ),
+            Some(network) => put_answer(alloc, relay, message, network, state),
             None => Ok(()),
         },
         [_, _, _, ..] => Ok(()),
@@ -298,23 +271,16 @@ fn put_answers<J: Judge>(
 /// Asks, and answers a What-Is-Network-Number (clause 6.4.19).
 fn put_number_answer<J: Judge>(
     alloc: Global,
-    authorizer: &mut Authorizer<'_, J>,
-    here: &PortState,
-    from: BipAddr,
-    npdu: &Npdu<'_>,
-    sends: &mut Sends,
+    message: &Message<'_>,
+    state: &mut StepState<'_, J>,
 ) -> Result<(), AllocError>
-    ensures sends { (rules : List Rule) → J.StandsFor authorizer.old.judge rules →
-        let step = number_step here.now from (npdu_view npdu.now) in
-        OnOk result (sends.new ≡ sends.old ++ allowed_sends rules step) }
-    ensures denied { (rules : List Rule) → J.StandsFor authorizer.old.judge rules →
-        let step = number_step here.now from (npdu_view npdu.now) in
-        OnOk result (authorizer.new.denied ≡ authorizer.old.denied ++ denied_of rules step.asks) }
-    ensures judge { authorizer.new.judge ≡ authorizer.old.judge }
+    ensures steps { (rules : List Rule) → J.StandsFor state.old.authorizer.judge rules →
+        let step = number_step (message_view message.now) in
+        OnOk result (AreTaken rules (step ∷ []) state.old state.new) }
 {
-    let ask = ask_of(Operation::Network, here, from, npdu, None);
-    if authorizer.authorize(&ask)? {
-        put_number_is(alloc, here, sends)
+    let ask = ask_of(Operation::Network, message, None);
+    if state.authorizer.authorize(&ask)? {
+        put_number_is(alloc, message.here, &mut state.sends)
     } else {
         Ok(())
     }
@@ -323,18 +289,16 @@ fn put_number_answer<J: Judge>(
 /// Asks for each network that a router names, and keeps those that may be learned.
 fn keep_allowed<J: Judge>(
     authorizer: &mut Authorizer<'_, J>,
-    here: &PortState,
-    from: BipAddr,
-    npdu: &Npdu<'_>,
+    message: &Message<'_>,
     octets: &[u8],
     networks: &mut Sequence<NetNum>,
 ) -> Result<(), AllocError>
     requires { are_networks octets.now ≡ true }
     ensures networks { (rules : List Rule) → J.StandsFor authorizer.old.judge rules →
-        let kept = learned rules here.now from (npdu_view npdu.now) (networks_in octets.now) in
+        let kept = learned rules (message_view message.now) (networks_in octets.now) in
         OnOk result (networks.new ≡ networks.old ++ kept) }
     ensures denied { (rules : List Rule) → J.StandsFor authorizer.old.judge rules →
-        let asks = map (learn_ask here.now from (npdu_view npdu.now)) (networks_in octets.now) in
+        let asks = map (learn_ask (message_view message.now)) (networks_in octets.now) in
         OnOk result (authorizer.new.denied ≡ authorizer.old.denied ++ denied_of rules asks) }
     ensures judge { authorizer.new.judge ≡ authorizer.old.judge }
 {
@@ -342,149 +306,75 @@ fn keep_allowed<J: Judge>(
         return Ok(());
     };
     let network = NetNum::new(u16::from_be_bytes([*high, *low])).unwrap();
-    let ask = ask_of(Operation::Learn, here, from, npdu, Some(network));
+    let ask = ask_of(Operation::Learn, message, Some(network));
     if authorizer.authorize(&ask)? {
         networks.push(network)?;
     }
-    keep_allowed(authorizer, here, from, npdu, rest, networks)
+    keep_allowed(authorizer, message, rest, networks)
 }
 
 /// Asks for each network that a router names, and tells which may be learned.
 fn learn<J: Judge>(
     alloc: Global,
     judge: &J,
-    here: &PortState,
-    from: BipAddr,
-    npdu: &Npdu<'_>,
+    message: &Message<'_>,
 ) -> Result<RelayResponse, AllocError>
-    requires { is_i_am_router (npdu_view npdu.now) ≡ true }
-    ensures sends { IfOk result (λ given. given.sends ≡ []) }
-    ensures refusals { (rules : List Rule) → J.StandsFor judge.now rules →
-        let npdu = npdu_view npdu.now in
-        let asks = map (learn_ask here.now from npdu) (networks_in (payload_octets npdu.payload)) in
-        IfOk result (λ given. given.refusals ≡ denied_of rules asks) }
-    ensures change { (rules : List Rule) → J.StandsFor judge.now rules →
-        let change = manage_change rules here.now from (npdu_view npdu.now) in
-        IfOk result (λ given. given.change ≡ change) }
-    ensures goes_on { IfOk result (λ given. given.goes_on ≡ false) }
+    requires { is_i_am_router (message_view message.now).npdu ≡ true }
+    ensures { (rules : List Rule) → J.StandsFor judge.now rules →
+        IfOk result (IsRelayed rules (learn_response rules (message_view message.now))) }
 {
     let mut authorizer = Authorizer::new(alloc, judge);
     let mut networks = Sequence::new(alloc);
-    let octets = npdu.payload.octets();
-    keep_allowed(&mut authorizer, here, from, npdu, octets, &mut networks)?;
+    let octets = message.npdu.payload.octets();
+    keep_allowed(&mut authorizer, message, octets, &mut networks)?;
     Ok(RelayResponse {
         sends: Sends::new(alloc),
         refusals: authorizer.into_refusals(),
         change: Some(Change::Learnings {
-            port: here.port.number,
-            next: from,
+            port: message.here.port.number,
+            next: message.link(),
             networks,
         }),
-        goes_on: false,
     })
 }
 
 /// Asks, and answers a question by its type.
 fn put_by_type<J: Judge>(
     alloc: Global,
-    authorizer: &mut Authorizer<'_, J>,
-    links: &[PortState],
-    routes: &Routes,
-    here: &PortState,
-    from: BipAddr,
-    npdu: &Npdu<'_>,
-    sends: &mut Sends,
+    relay: &Relay,
+    message: &Message<'_>,
+    state: &mut StepState<'_, J>,
 ) -> Result<(), AllocError>
-    ensures sends { (rules : List Rule) → J.StandsFor authorizer.old.judge rules →
-        let steps = answer_steps links.now routes.now here.now from (npdu_view npdu.now) in
-        OnOk result (sends.new ≡ sends.old ++ sends_of rules steps) }
-    ensures denied { (rules : List Rule) → J.StandsFor authorizer.old.judge rules →
-        let steps = answer_steps links.now routes.now here.now from (npdu_view npdu.now) in
-        OnOk result (authorizer.new.denied
-        ≡ authorizer.old.denied ++ denied_of rules (asks_of steps)) }
-    ensures judge { authorizer.new.judge ≡ authorizer.old.judge }
-    ensures silent { let npdu = npdu_view npdu.now in
-        let steps = answer_steps links.now routes.now here.now from npdu in
-        asks_of steps ≡ [] → IsOk result }
+    ensures steps { (rules : List Rule) → J.StandsFor state.old.authorizer.judge rules →
+        let steps = answer_steps relay.now (message_view message.now) in
+        OnOk result (AreTaken rules steps state.old state.new) }
+    ensures silent { asks_of (answer_steps relay.now (message_view message.now)) ≡ [] → IsOk result }
 {
-    if is_who_is_router(npdu) {
-        let octets = npdu.payload.octets();
-        return put_answers(
-            alloc, authorizer, links, routes, here, from, npdu, octets, sends,
-        );
+    if is_who_is_router(&message.npdu) {
+        let octets = message.npdu.payload.octets();
+        return put_answers(alloc, relay, message, octets, state);
     }
-    if is_what_is_network_number(npdu) {
-        return put_number_answer(alloc, authorizer, here, from, npdu, sends);
+    if is_what_is_network_number(&message.npdu) {
+        return put_number_answer(alloc, message, state);
     }
     Ok(())
 }
 
-/// Answers a question of the network layer.
-fn answer<J: Judge>(
+/// Answers a network layer message, or learns from it.
+pub(crate) fn manage<J: Judge>(
     alloc: Global,
     judge: &J,
-    links: &[PortState],
-    routes: &Routes,
-    here: &PortState,
-    from: BipAddr,
-    npdu: &Npdu<'_>,
+    relay: &Relay,
+    message: &Message<'_>,
 ) -> Result<RelayResponse, AllocError>
-    ensures sends { (rules : List Rule) → J.StandsFor judge.now rules →
-        let steps = answer_steps links.now routes.now here.now from (npdu_view npdu.now) in
-        IfOk result (λ given. given.sends ≡ sends_of rules steps) }
-    ensures refusals { (rules : List Rule) → J.StandsFor judge.now rules →
-        let steps = answer_steps links.now routes.now here.now from (npdu_view npdu.now) in
-        IfOk result (λ given. given.refusals ≡ denied_of rules (asks_of steps)) }
-    ensures change { IfOk result (λ given. given.change ≡ None) }
-    ensures goes_on { IfOk result (λ given. given.goes_on ≡ false) }
-    ensures silent { let npdu = npdu_view npdu.now in
-        asks_of (answer_steps links.now routes.now here.now from npdu) ≡ [] → IsOk result }
+    ensures relayed { (rules : List Rule) → J.StandsFor judge.now rules →
+        IfOk result (IsRelayed rules (manage_response rules relay.now (message_view message.now))) }
+    ensures silent { manage_asks relay.now (message_view message.now) ≡ [] → IsOk result }
 {
-    let mut authorizer = Authorizer::new(alloc, judge);
-    let mut sends = Sends::new(alloc);
-    put_by_type(
-        alloc,
-        &mut authorizer,
-        links,
-        routes,
-        here,
-        from,
-        npdu,
-        &mut sends,
-    )?;
-    Ok(RelayResponse {
-        sends,
-        refusals: authorizer.into_refusals(),
-        change: None,
-        goes_on: false,
-    })
-}
-
-/// Answers a network layer message that came on a port from this link source, or learns from it.
-pub(crate) fn managed<J: Judge>(
-    alloc: Global,
-    judge: &J,
-    links: &[PortState],
-    routes: &Routes,
-    here: &PortState,
-    from: BipAddr,
-    npdu: &Npdu<'_>,
-) -> Result<RelayResponse, AllocError>
-    ensures sends { (rules : List Rule) → J.StandsFor judge.now rules →
-        let sends = manage_sends rules links.now routes.now here.now from (npdu_view npdu.now) in
-        IfOk result (λ given. given.sends ≡ sends) }
-    ensures refusals { (rules : List Rule) → J.StandsFor judge.now rules →
-        let asks = manage_asks links.now routes.now here.now from (npdu_view npdu.now) in
-        IfOk result (λ given. given.refusals ≡ denied_of rules asks) }
-    ensures change { (rules : List Rule) → J.StandsFor judge.now rules →
-        let change = manage_change rules here.now from (npdu_view npdu.now) in
-        IfOk result (λ given. given.change ≡ change) }
-    ensures goes_on { IfOk result (λ given. given.goes_on ≡ false) }
-    ensures silent { let npdu = npdu_view npdu.now in
-        manage_asks links.now routes.now here.now from npdu ≡ [] → IsOk result }
-{
-    if is_i_am_router(npdu) {
-        return learn(alloc, judge, here, from, npdu);
+    if is_i_am_router(&message.npdu) {
+        return learn(alloc, judge, message);
     }
-    answer(alloc, judge, links, routes, here, from, npdu)
+    let mut state = StepState::new(alloc, judge);
+    put_by_type(alloc, relay, message, &mut state)?;
+    Ok(state.into_response())
 }

@@ -1,5 +1,9 @@
 //! A port, and the two tables of its broadcast manager.
 
+ghost use Rattle.std.specs.Prelude.{◌≡◌};
+ghost use Rattle.std.specs.Option.{option_map};
+ghost use Rattle.gw_relay.specs.State.{link_at};
+
 use gw_addr::{BipAddr, NetNum};
 use gw_bdt_fdt::{Bdt, Fdt};
 
@@ -35,4 +39,14 @@ impl Drop for PortState {
             fdt: _,
         } = self;
     }
+}
+
+/// The port of this number, from 1, with its tables, or none.
+pub fn link_at(links: &[PortState], number: usize) -> Option<&PortState>
+    ensures { option_map (λ link. link.now) result ≡ link_at links.now number }
+{
+    if number == 0 {
+        return None;
+    }
+    links.get(number - 1)
 }

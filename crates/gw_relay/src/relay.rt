@@ -1,16 +1,16 @@
 //! The relay: its state, what it answers to one event, and what it changes.
 
-ghost use Rattle.std.specs.Prelude.{◌≡◌, ◌<◌, ◌^◌, ℕ, [], false, List, length, map, IfOk, IsOk, OnOk, OnErr, None};
+ghost use Rattle.std.specs.Prelude.{◌≡◌, ◌<◌, ◌^◌, ℕ, [], false, List, map, IfOk, IsOk, OnOk, OnErr};
 ghost use Rattle.std.specs.Option.{option_map};
 ghost use Rattle.gw_bvll.specs.Bvll.{view as frame_view};
-ghost use Rattle.gw_npdu.specs.Npdu.{view as npdu_view};
-ghost use Rattle.gw_rules.specs.Authorizer.{denied_of};
 ghost use Rattle.gw_rules.specs.declared.rule.Rule.{Rule};
 ghost use Rattle.gw_relay.specs.Asks.{link_asks};
-ghost use Rattle.gw_relay.specs.Cast.{cast_asks, cast_sends, goes_on, is_unregistered, spread};
-ghost use Rattle.gw_relay.specs.Link.{link_answer, link_change};
-ghost use Rattle.gw_relay.specs.Manage.{manage_asks, manage_change, manage_sends};
-ghost use Rattle.gw_relay.specs.Route.{route_asks, route_sends};
+ghost use Rattle.gw_relay.specs.Cast.{cast_asks, cast_response, goes_on, is_unregistered, spread};
+ghost use Rattle.gw_relay.specs.Link.{link_response};
+ghost use Rattle.gw_relay.specs.Manage.{manage_asks, manage_response};
+ghost use Rattle.gw_relay.specs.Message.{message_view};
+ghost use Rattle.gw_relay.specs.Response.{IsRelayed};
+ghost use Rattle.gw_relay.specs.Route.{route_asks, route_response};
 ghost use Rattle.gw_relay.specs.Initial.{direct_of, initial, routed_of};
 ghost use Rattle.gw_routes.specs.History.{IsStateAfter};
 ghost use Rattle.gw_routes.specs.History.{History as Learned};
@@ -20,26 +20,28 @@ ghost use Rattle.gw_relay.specs.History.{Acts, StandAfter, acts_after, acts_late
 ghost use Rattle.gw_relay.specs.State.{after, at_port, later, link_at, wants_room};
 ghost use Rattle.gw_relay.specs.declared.port.Port.{Port};
 
+use crate::cast::cast;
 use crate::change::Change;
 use crate::initial::{links_of, routes_of};
 use crate::links::{make, tick_each};
-use crate::manage::managed;
-use crate::port::PortState;
-use crate::response::RelayResponse;
+use crate::manage::manage;
+use crate::message::Message;
+use crate::port::{PortState, link_at};
+use crate::response::{CastResponse, RelayResponse};
 use crate::route::route;
 use crate::sends::Sends;
 use gw_addr::BipAddr;
 use gw_bvll::Bvll;
-use gw_npdu::Npdu;
-use gw_policy_text::Config;
+use gw_policy_text::{Config, Format};
 use gw_routes::Routes;
 use gw_rules::Judge;
 use std::alloc::{AllocError, Global};
 use std::marker::Model;
 
-/// The ports of a gateway with their tables, and the routes. Contracts see the links in order of
-/// ports, the table of routes, and how many ticks have passed.
+/// The ports of a gateway with their tables, the routes, and the format of its policy. Contracts see
+/// the format, the links in order of ports, the table of routes, and how many ticks have passed.
 pub struct Relay {
+    format: Format,
     links: Vec<PortState>,
     routes: Routes,
     ticks: u64,
@@ -49,6 +51,7 @@ pub struct Relay {
 impl Drop for Relay {
     fn drop(self) {
         let Relay {
+            format: _,
             links: _,
             routes: _,
             ticks: _,
@@ -62,7 +65,12 @@ impl Model for Relay {
 
     ghost Value = { Relay };
 
-    ghost view = { λ r. record { links = r.links.items; routes = r.routes; ticks = r.ticks } };
+    ghost view = { λ r. record {
+      format = r.format;
+      links = r.links.items;
+      routes = r.routes;
+      ticks = r.ticks;
+    } };
 
     ghost invariant = { λ r. AreAlike r.ticks r.links.items };
 }
@@ -79,98 +87,61 @@ impl Relay {
         ensures learnings { let configured = map routed_of config.now.routes in
             IfOk result (λ relay. IsStateAfter relay.routes (direct_of config.now) configured []) }
     {
-        // With the device comes that nothing stands twice in a configuration.
-        let _device = config.device();
         let links = links_of(alloc, config.ports())?;
         let routes = routes_of(alloc, config)?;
         Ok(Relay {
+            format: config.format(),
             links,
             routes,
             ticks: 0,
         })
     }
 
-    /// The link of the port of this number, from 1, or none.
+    /// The port of this number, from 1, with its tables, or none.
     pub fn link_at(&self, port: u8) -> Option<&PortState>
         ensures { option_map (λ link. link.now) result ≡ link_at self.now.links port }
     {
-        if port == 0 {
-            return None;
-        }
-        self.links.get(usize::from(port) - 1)
+        link_at(self.links.as_slice(), usize::from(port))
     }
 
-    /// Answers a frame that reads or changes a table of the port of this number (Annex J.2, J.4,
-    /// J.5): the policy is asked once, and the answer goes to the sender. It changes nothing. On a
-    /// port that isn't there nothing is done. The only fault is want of memory.
+    /// Answers a frame that reads or changes a table of the port that it came on (Annex J.2, J.4,
+    /// J.5): the policy is asked once, and the answer goes to the sender. A frame of another kind
+    /// asks nothing and gets no answer. It changes nothing. The only fault is want of memory; what
+    /// asks nothing wants none.
     pub fn link<J: Judge>(
         &self,
         alloc: Global,
         judge: &J,
-        port: u8,
+        on: &PortState,
         from: BipAddr,
         frame: &Bvll<'_>,
     ) -> Result<RelayResponse, AllocError>
-        ensures sends { (rules : List Rule) → J.StandsFor judge.now rules →
-            let sends = λ (link : PortState). link_answer rules link from (frame_view frame.now) in
-            IfOk result (λ given. given.sends ≡ at_port [] sends self.now.links port) }
-        ensures refusals { (rules : List Rule) → J.StandsFor judge.now rules →
-            let asks = λ (link : PortState). link_asks link.port from (frame_view frame.now) in
-            IfOk result (λ given.
-            given.refusals ≡ denied_of rules (at_port [] asks self.now.links port)) }
-        ensures change { (rules : List Rule) → J.StandsFor judge.now rules →
-            let change = λ (link : PortState). link_change rules link from (frame_view frame.now) in
-            IfOk result (λ given. given.change ≡ at_port None change self.now.links port) }
-        ensures goes_on { IfOk result (λ given. given.goes_on ≡ false) }
-        ensures silent { let frame = frame_view frame.now in
-            let asks = λ (link : PortState). link_asks link.port from frame in
-            at_port [] asks self.now.links port ≡ [] → IsOk result }
+        ensures relayed { (rules : List Rule) → J.StandsFor judge.now rules →
+            IfOk result (IsRelayed rules (link_response rules on.now from (frame_view frame.now))) }
+        ensures silent { link_asks on.now.port from (frame_view frame.now) ≡ [] → IsOk result }
     {
-        match self.link_at(port) {
-            Some(link) => link.handle_table_message(alloc, judge, from, frame),
-            None => Ok(RelayResponse::nothing(alloc)),
-        }
+        on.handle_table_message(alloc, judge, from, frame)
     }
 
-    /// Distributes a broadcast that came to the port of this number (Annex J.4, J.5), whose message
-    /// this is: the policy is asked once, and one message goes to all peers and foreign devices
-    /// that are due. It changes nothing, and tells whether the frame goes on to the network layer:
-    /// not a Forwarded-NPDU of someone who is no peer, nor a Distribute-Broadcast-To-Network of
-    /// someone who isn't registered. On a port that isn't there nothing is done. The only fault is
-    /// want of memory.
+    /// Distributes the broadcast that brought a message (Annex J.4, J.5): where the policy allows it,
+    /// one message goes to all peers and foreign devices that are due. Its answer tells whether the
+    /// message goes on to the network layer. It changes nothing. The only fault is want of memory.
     pub fn cast<J: Judge>(
         &self,
         alloc: Global,
         judge: &J,
-        port: u8,
-        from: BipAddr,
-        frame: &Bvll<'_>,
-        npdu: &Npdu<'_>,
-    ) -> Result<RelayResponse, AllocError>
-        ensures sends { (rules : List Rule) → J.StandsFor judge.now rules →
-            let sends = λ (link : PortState).
-            cast_sends rules link from (frame_view frame.now) (npdu_view npdu.now) in
-            IfOk result (λ given. given.sends ≡ at_port [] sends self.now.links port) }
-        ensures refusals { (rules : List Rule) → J.StandsFor judge.now rules →
-            let frame = frame_view frame.now in
-            let asks = λ (link : PortState). cast_asks link from frame (npdu_view npdu.now) in
-            IfOk result (λ given.
-            given.refusals ≡ denied_of rules (at_port [] asks self.now.links port)) }
-        ensures change { IfOk result (λ given. given.change ≡ None) }
-        ensures goes_on { let frame = frame_view frame.now in
-            let on = λ (link : PortState). goes_on link from frame in
-            IfOk result (λ given. given.goes_on ≡ at_port false on self.now.links port) }
+        message: &Message<'_>,
+    ) -> Result<CastResponse, AllocError>
+        ensures relayed { (rules : List Rule) → J.StandsFor judge.now rules →
+            let due = cast_response rules (message_view message.now) in
+            IfOk result (λ cast. IsRelayed rules due cast.given) }
+        ensures goes_on { let m = message_view message.now in
+            IfOk result (λ cast. cast.goes_on ≡ goes_on m.here m.from m.frame) }
         // What asks nothing and tells no unregistered sender wants no memory.
-        ensures silent { let frame = frame_view frame.now in
-            let strange = λ (link : PortState). is_unregistered link from frame in
-            let asks = λ (link : PortState). cast_asks link from frame (npdu_view npdu.now) in
-            at_port [] asks self.now.links port ≡ [] →
-            at_port false strange self.now.links port ≡ false → IsOk result }
+        ensures silent { let m = message_view message.now in
+            cast_asks m ≡ [] → is_unregistered m.here m.from m.frame ≡ false → IsOk result }
     {
-        match self.link_at(port) {
-            Some(link) => link.cast(alloc, judge, from, frame, npdu),
-            None => Ok(RelayResponse::nothing(alloc)),
-        }
+        cast(alloc, judge, message)
     }
 
     /// The sends of a broadcast by the gateway on the port of this number: on its subnet, and to
@@ -193,132 +164,55 @@ impl Relay {
         self.links.as_slice()
     }
 
-    /// Routes a message that came to the port of this number, as [`route_from`](Self::route_from)
-    /// does on its link. On a port that isn't there nothing is done. The only fault is want of
-    /// memory.
+    /// The format of the policy, by which routing asks.
+    pub(crate) fn format(&self) -> Format
+        ensures { result ≡ self.now.format }
+    {
+        self.format
+    }
+
+    /// The table of routes.
+    pub(crate) fn routes(&self) -> &Routes
+        ensures { result.now ≡ self.now.routes }
+    {
+        &self.routes
+    }
+
+    /// Routes a message (clause 6.5). By the way of its destination the policy is asked, and what is
+    /// allowed is sent: to a station of another port's network or to all there, to the next router,
+    /// or to all other ports. Where no way is known the link source is told so, and the other ports'
+    /// routers are asked for one. It changes nothing. The only fault is want of memory; what asks
+    /// nothing wants none.
     pub fn route<J: Judge>(
         &self,
         alloc: Global,
         judge: &J,
-        port: u8,
-        from: BipAddr,
-        npdu: &Npdu<'_>,
+        message: &Message<'_>,
     ) -> Result<RelayResponse, AllocError>
-        ensures sends { (rules : List Rule) → J.StandsFor judge.now rules →
-            let sends = λ (link : PortState).
-            route_sends rules self.now.links self.now.routes link from (npdu_view npdu.now) in
-            IfOk result (λ given. given.sends ≡ at_port [] sends self.now.links port) }
-        ensures refusals { (rules : List Rule) → J.StandsFor judge.now rules →
-            let asks = λ (link : PortState).
-            route_asks self.now.links self.now.routes link from (npdu_view npdu.now) in
-            IfOk result (λ given.
-            given.refusals ≡ denied_of rules (at_port [] asks self.now.links port)) }
-        ensures change { IfOk result (λ given. given.change ≡ None) }
-        ensures goes_on { IfOk result (λ given. given.goes_on ≡ false) }
-        ensures silent { let asks = λ (link : PortState).
-            route_asks self.now.links self.now.routes link from (npdu_view npdu.now) in
-            at_port [] asks self.now.links port ≡ [] → IsOk result }
+        ensures relayed { (rules : List Rule) → J.StandsFor judge.now rules →
+            let m = message_view message.now in
+            IfOk result (IsRelayed rules (route_response rules self.now m)) }
+        ensures silent { route_asks self.now (message_view message.now) ≡ [] → IsOk result }
     {
-        match self.link_at(port) {
-            Some(here) => self.route_from(alloc, judge, here, from, npdu),
-            None => Ok(RelayResponse::nothing(alloc)),
-        }
+        route(alloc, judge, self, message)
     }
 
-    /// Routes a message that came on a port (clause 6.5) from this link source: the originator of a
-    /// Forwarded-NPDU, else the sender. By the way of its destination the policy is asked, and what
-    /// is allowed is sent: to a station of another port's network or to all there, to the next
-    /// router, or to all other ports. Where no way is known the sender is told so, and the other
-    /// ports' routers are asked for one. It changes nothing. The only fault is want of memory; what
+    /// Answers a network layer message (clause 6.4): a Who-Is-Router-To-Network and a
+    /// What-Is-Network-Number get an answer, and of an I-Am-Router-To-Network each network that the
+    /// policy allows is to be learned. It changes nothing. The only fault is want of memory; what
     /// asks nothing wants none.
-    pub fn route_from<J: Judge>(
-        &self,
-        alloc: Global,
-        judge: &J,
-        here: &PortState,
-        from: BipAddr,
-        npdu: &Npdu<'_>,
-    ) -> Result<RelayResponse, AllocError>
-        ensures sends { (rules : List Rule) → J.StandsFor judge.now rules →
-            let npdu = npdu_view npdu.now in
-            let sends = route_sends rules self.now.links self.now.routes here.now from npdu in
-            IfOk result (λ given. given.sends ≡ sends) }
-        ensures refusals { (rules : List Rule) → J.StandsFor judge.now rules →
-            let npdu = npdu_view npdu.now in
-            let asks = route_asks self.now.links self.now.routes here.now from npdu in
-            IfOk result (λ given. given.refusals ≡ denied_of rules asks) }
-        ensures change { IfOk result (λ given. given.change ≡ None) }
-        ensures goes_on { IfOk result (λ given. given.goes_on ≡ false) }
-        ensures silent { let npdu = npdu_view npdu.now in
-            route_asks self.now.links self.now.routes here.now from npdu ≡ [] → IsOk result }
-    {
-        let links = self.links.as_slice();
-        route(alloc, judge, links, &self.routes, here, from, npdu)
-    }
-
-    /// Answers a network layer message that came to the port of this number, as
-    /// [`manage_from`](Self::manage_from) does on its link. On a port that isn't there nothing is
-    /// done. The only fault is want of memory.
     pub fn manage<J: Judge>(
         &self,
         alloc: Global,
         judge: &J,
-        port: u8,
-        from: BipAddr,
-        npdu: &Npdu<'_>,
+        message: &Message<'_>,
     ) -> Result<RelayResponse, AllocError>
-        ensures sends { (rules : List Rule) → J.StandsFor judge.now rules →
-            let sends = λ (link : PortState).
-            manage_sends rules self.now.links self.now.routes link from (npdu_view npdu.now) in
-            IfOk result (λ given. given.sends ≡ at_port [] sends self.now.links port) }
-        ensures refusals { (rules : List Rule) → J.StandsFor judge.now rules →
-            let asks = λ (link : PortState).
-            manage_asks self.now.links self.now.routes link from (npdu_view npdu.now) in
-            IfOk result (λ given.
-            given.refusals ≡ denied_of rules (at_port [] asks self.now.links port)) }
-        ensures change { (rules : List Rule) → J.StandsFor judge.now rules →
-            let change = λ (link : PortState). manage_change rules link from (npdu_view npdu.now) in
-            IfOk result (λ given. given.change ≡ at_port None change self.now.links port) }
-        ensures goes_on { IfOk result (λ given. given.goes_on ≡ false) }
-        ensures silent { let asks = λ (link : PortState).
-            manage_asks self.now.links self.now.routes link from (npdu_view npdu.now) in
-            at_port [] asks self.now.links port ≡ [] → IsOk result }
+        ensures relayed { (rules : List Rule) → J.StandsFor judge.now rules →
+            let m = message_view message.now in
+            IfOk result (IsRelayed rules (manage_response rules self.now m)) }
+        ensures silent { manage_asks self.now (message_view message.now) ≡ [] → IsOk result }
     {
-        match self.link_at(port) {
-            Some(here) => self.manage_from(alloc, judge, here, from, npdu),
-            None => Ok(RelayResponse::nothing(alloc)),
-        }
-    }
-
-    /// Answers a network layer message that came on a port (clause 6.4) from this link source: a
-    /// Who-Is-Router-To-Network and a What-Is-Network-Number get an answer, and of an
-    /// I-Am-Router-To-Network each network that the policy allows is to be learned. It changes
-    /// nothing. The only fault is want of memory; what asks nothing wants none.
-    pub fn manage_from<J: Judge>(
-        &self,
-        alloc: Global,
-        judge: &J,
-        here: &PortState,
-        from: BipAddr,
-        npdu: &Npdu<'_>,
-    ) -> Result<RelayResponse, AllocError>
-        ensures sends { (rules : List Rule) → J.StandsFor judge.now rules →
-            let npdu = npdu_view npdu.now in
-            let sends = manage_sends rules self.now.links self.now.routes here.now from npdu in
-            IfOk result (λ given. given.sends ≡ sends) }
-        ensures refusals { (rules : List Rule) → J.StandsFor judge.now rules →
-            let npdu = npdu_view npdu.now in
-            let asks = manage_asks self.now.links self.now.routes here.now from npdu in
-            IfOk result (λ given. given.refusals ≡ denied_of rules asks) }
-        ensures change { (rules : List Rule) → J.StandsFor judge.now rules →
-            let change = manage_change rules here.now from (npdu_view npdu.now) in
-            IfOk result (λ given. given.change ≡ change) }
-        ensures goes_on { IfOk result (λ given. given.goes_on ≡ false) }
-        ensures silent { let npdu = npdu_view npdu.now in
-            manage_asks self.now.links self.now.routes here.now from npdu ≡ [] → IsOk result }
-    {
-        let links = self.links.as_slice();
-        managed(alloc, judge, links, &self.routes, here, from, npdu)
+        manage(alloc, judge, self, message)
     }
 
     /// Makes a change whole. Where a registration finds no room, a deletion no registration, or

@@ -1,6 +1,6 @@
 //! What a relay answers.
 
-ghost use Rattle.std.specs.Prelude.{◌≡◌, ◌++◌, [], None, false, IfOk, IsOk, OnOk};
+ghost use Rattle.std.specs.Prelude.{◌≡◌, ◌++◌, [], None, IfOk, IsOk, OnOk};
 ghost use Rattle.std.specs.Option.{option_or};
 
 use crate::change::Change;
@@ -8,7 +8,7 @@ use crate::sends::Sends;
 use gw_rules::Refusals;
 use std::alloc::{AllocError, Global};
 
-/// What a relay answers to a frame: it changed nothing yet.
+/// What a relay answers to a frame or to its message: it changed nothing yet.
 #[derive(Drop)]
 pub struct RelayResponse {
     /// The datagrams to send, in order.
@@ -17,23 +17,28 @@ pub struct RelayResponse {
     pub refusals: Refusals,
     /// What is to be committed.
     pub change: Option<Change>,
-    /// Whether the frame goes on to the network layer: to routing, network messages and the device.
+}
+
+/// What distribution answers (Annex J.4, J.5).
+#[derive(Drop)]
+pub struct CastResponse {
+    /// What is sent, and what was denied.
+    pub given: RelayResponse,
+    /// Whether the message goes on to the network layer: to routing, network messages and the device.
     pub goes_on: bool,
 }
 
 impl RelayResponse {
-    /// Nothing is asked, sent or changed, and the frame ends here. It takes no memory.
+    /// Nothing is asked, sent or changed. It takes no memory.
     pub fn nothing(alloc: Global) -> Self
         ensures sends { result.sends ≡ [] }
         ensures refusals { result.refusals ≡ [] }
         ensures change { result.change ≡ None }
-        ensures goes_on { result.goes_on ≡ false }
     {
         RelayResponse {
             sends: Sends::new(alloc),
             refusals: Refusals::new(alloc),
             change: None,
-            goes_on: false,
         }
     }
 
@@ -44,7 +49,6 @@ impl RelayResponse {
         ensures sends { IfOk result (λ given. given.sends ≡ self.sends ++ later.sends) }
         ensures refusals { IfOk result (λ given. given.refusals ≡ self.refusals ++ later.refusals) }
         ensures change { IfOk result (λ given. given.change ≡ option_or self.change later.change) }
-        ensures goes_on { IfOk result (λ given. given.goes_on ≡ self.goes_on) }
         ensures silent { later.sends ≡ [] → later.refusals ≡ [] → IsOk result }
     {
         let mut sends = self.sends;
@@ -55,7 +59,6 @@ impl RelayResponse {
             sends,
             refusals,
             change: self.change.or(later.change),
-            goes_on: self.goes_on,
         })
     }
 }

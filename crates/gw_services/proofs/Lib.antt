@@ -14,4 +14,5 @@ pub mod MultiCalls
 pub mod Encoded
 pub mod EncodedBodies
 pub mod Values
+pub mod MultiWalk
 pub mod MultiEncoded

@@ -1,3 +1,4 @@
+pub mod Choices
 pub mod Limits
 pub mod Parameter
 pub mod Body

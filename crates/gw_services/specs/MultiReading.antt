@@ -1,5 +1,5 @@
 -- Computes; believe `IsMulti` and `HasMultiFault` (Multi.antt). How a ReadPropertyMultiple is read.
-use Rattle.std.specs.Prelude.{ℕ, zero, suc, Bool, true, false, List, [], ◌∷◌, ◌++◌, Option, Some, None, Result, Ok, Err, if◌then◌else◌}
+use Rattle.std.specs.Prelude.{ℕ, zero, suc, ◌-◌, Bool, true, false, List, [], ◌∷◌, ◌++◌, Option, Some, None, Result, Ok, Err, if◌then◌else◌}
 use Rattle.gw_addr.specs.Reading.{◌>>=◌}
 use Rattle.gw_tags.specs.declared.fault.ContextFault.{ContextFault}
 use Rattle.gw_tags.specs.ContextReading.{opening_at, closing_tag_at}
@@ -76,6 +76,12 @@ judged (suc left) r =
 
 abbrev pub step_at : ℕ → Option Object → List ℕ → Result (Reference × Next) BodyFault
 step_at left current octets = reference_at current octets >>= λ r. judged left r
+
+-- that one, and those behind it
+abbrev pub walked : ℕ → Result (Reference × Next) BodyFault → Result (List Reference) BodyFault
+walked left (Err fault) = Err fault
+walked left (Ok (r, finished)) = Ok (r ∷ [])
+walked left (Ok (r, more_at place rest)) = and_more r (references_at (left - 1) place rest)
 
 -- these, and those that are read behind them
 abbrev pub behind_these : List Reference → Result (List Reference) BodyFault

@@ -2,6 +2,7 @@
 //! and written exactly.
 #![tactic(auto)]
 
+mod choice;
 mod discovery;
 mod fault;
 mod i_am;
@@ -20,11 +21,14 @@ mod who_has;
 mod who_is;
 mod write;
 
+pub use choice::{
+    I_AM, I_HAVE, READ_PROPERTY, READ_PROPERTY_MULTIPLE, WHO_HAS, WHO_IS, WRITE_PROPERTY,
+};
 pub use discovery::{IAm, IHave, Limits, Sought, WhoHas, WhoIs};
 pub use fault::BodyFault;
 pub use i_am::{decode_i_am, encode_i_am};
 pub use i_have::{decode_i_have, encode_i_have};
-pub use multi::{decode_multi, encode_multi};
+pub use multi::{MAX_REFERENCES, decode_multi, encode_multi};
 pub use multi_req::{MultiReq, Reference};
 pub use next::Next;
 pub use read::{decode_read, encode_read};

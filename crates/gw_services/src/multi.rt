@@ -22,7 +22,7 @@ use gw_tags::{
 use std::alloc::{AllocError, Global};
 
 /// How many properties a body may name: our own limit.
-const MOST_REFERENCES: u8 = 128;
+pub const MAX_REFERENCES: u8 = 128;
 /// The names for sets of properties (clause 15.7.3.1).
 const ALL: u32 = 8;
 
@@ -154,7 +154,7 @@ fn read(alloc: Global, octets: &[u8]) -> Result<MultiReq, BodyFault>
     let Ok(mut list) = Vec::with_capacity(alloc, most_of(octets.len())) else {
         return Err(BodyFault::Memory);
     };
-    match references(MOST_REFERENCES, None, octets, &mut list) {
+    match references(MAX_REFERENCES, None, octets, &mut list) {
         Ok(()) => Ok(MultiReq { references: list }),
         Err(fault) => Err(fault),
     }
@@ -164,10 +164,10 @@ fn read(alloc: Global, octets: &[u8]) -> Result<MultiReq, BodyFault>
 fn most_of(len: usize) -> usize
     ensures { len ≡ 0 → result ≡ 0 }
 {
-    if len / 2 < MOST_REFERENCES as usize {
+    if len / 2 < MAX_REFERENCES as usize {
         len / 2
     } else {
-        MOST_REFERENCES as usize
+        MAX_REFERENCES as usize
     }
 }
 

@@ -1,13 +1,15 @@
 //! What the bodies of confirmed requests say (clause 15).
 
-ghost use Rattle.std.specs.Prelude.{◌≤◌, IfSome};
+ghost use Rattle.std.specs.Prelude.{◌≡◌, ◌≤◌, IfSome};
 ghost use Rattle.std.proofs.Props.{props};
-ghost use Rattle.gw_services.specs.Limits.{last_property, last_priority};
+ghost use Rattle.gw_services.specs.Limits.{last_property, last_priority, priority_of};
 
 use gw_tags::ObjectId;
 
 /// The last property identifier: 22 bits.
 pub(crate) const LAST_PROPERTY: u32 = 4_194_303;
+/// The priority of a write that names none: the lowest (clause 19.2).
+const LAST_PRIORITY: u8 = 16;
 
 /// A ReadProperty request: a property of an object, or one element of it.
 ///
@@ -51,4 +53,18 @@ pub struct WriteReq<'a> {
     pub priority: Option<u8>,
     pub ghost numbered: { property ≤ last_property },
     pub ghost ranked: { IfSome priority (λ p. (1 ≤ p) × (p ≤ last_priority)) } by { Prim.hlevel props },
+}
+
+impl WriteReq<'_> {
+    /// The priority of the command: the one that is given, or the lowest (clause 19.2).
+    pub fn command_priority(&self) -> u8
+        ensures priority { result ≡ priority_of self.now.priority }
+        ensures least { 1 ≤ result }
+        ensures most { result ≤ last_priority }
+    {
+        match self.priority {
+            None => LAST_PRIORITY,
+            Some(priority) => priority,
+        }
+    }
 }

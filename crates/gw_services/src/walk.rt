@@ -1,5 +1,6 @@
 //! A ReadPropertyMultiple body, a reference at a time (clause 15.7).
 
+ghost use Rattle.std.specs.Prelude.{◌≤◌, IsOk};
 ghost use Rattle.std.specs.Option.{option_map};
 ghost use Rattle.gw_addr.specs.Reading.{Gives};
 ghost use Rattle.gw_tags.specs.Object.{object_view};
@@ -26,8 +27,9 @@ pub fn read_reference(
     current: Option<ObjectId>,
     octets: &[u8],
 ) -> Result<(Reference, Next<'_>), BodyFault>
-    ensures { Gives (λ x. (reference_view x.0, next_view x.1)) result
+    ensures step { Gives (λ x. (reference_view x.0, next_view x.1)) result
         (step_at left (option_map object_view current) octets.now) }
+    ensures some { IsOk result → 1 ≤ left }
 {
     let (reference, behind) = reference(current, octets)?;
     if left == 0 {

@@ -1,11 +1,16 @@
 -- What is sent and changed once the policy was asked.
-use Rattle.std.specs.Prelude.{Bool, ◌&&◌, if◌then◌else◌, List, map, Option, None}
+use Rattle.std.specs.Prelude.{Bool, ◌&&◌, if◌then◌else◌, List, [], map, Option, None, Some}
 use Rattle.gw_addr.specs.declared.bip.BipAddr.{BipAddr}
 use Rattle.gw_bvll.specs.Bvll.{Message as Frame}
+use Rattle.gw_rules.specs.declared.rule.Rule.{Rule}
 use Rattle.gw_relay.specs.Cast.{passed_on, targets}
 use Rattle.gw_relay.specs.Link.{answer_to, change_of, is_granted, refused, told}
+use Rattle.gw_relay.specs.Manage.{learn_ask, learned, named_networks}
+use Rattle.gw_relay.specs.Message.{Message}
+use Rattle.gw_relay.specs.Response.{Response}
 use Rattle.gw_relay.specs.Sends.{Sending, sent}
 use Rattle.gw_relay.specs.declared.change.Change.{Change}
+use Rattle.gw_relay.specs.declared.change.Change.TheVariants.{Learnings}
 use Rattle.gw_relay.specs.declared.port.PortState.{PortState}
 
 -- the answer to a frame that manages a table
@@ -24,3 +29,11 @@ abbrev pub judged : PortState → BipAddr → Frame → Bool → List Sending
 judged link from frame allowed =
     if allowed then sent link.port.number (targets link from frame) (passed_on from frame)
     else map (answer_to link.port from) (refused frame)
+
+-- what is learned of a router's message
+abbrev pub learn_response : List Rule → Message → Response
+learn_response rules m = record {
+  asks = map (learn_ask m) (named_networks m);
+  sends = [];
+  change = Some (Learnings m.here.port.number m.link (learned rules m (named_networks m)));
+}

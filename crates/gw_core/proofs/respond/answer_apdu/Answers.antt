@@ -1,5 +1,5 @@
 use Rattle.std.proofs.Common.{◌∙◌}
-use Rattle.gw_core.specs.View.{message_view}
+use Rattle.gw_relay.specs.Message.{message_view}
 use Rattle.gw_core.proofs.SilenceLemmas.{none_mapped, silent_message}
 use Rattle.gw_core.proofs.respond.answer_apdu.Goals as goal
 

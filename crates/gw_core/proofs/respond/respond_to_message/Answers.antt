@@ -4,7 +4,7 @@ use Rattle.gw_relay.specs.Sends.{Sending}
 use Rattle.gw_relay.specs.declared.change.Change.{Change}
 use Rattle.gw_rules.specs.declared.refusal.Refusal.{Refusal}
 use Rattle.gw_rules.specs.Authorizer.{denied_of}
-use Rattle.gw_core.specs.View.{message_view}
+use Rattle.gw_relay.specs.Message.{message_view}
 use Rattle.gw_core.proofs.RespondLemmas.{goes, goes_denied, judged_silent, or_none, served_silent, stops}
 use Rattle.gw_core.proofs.respond.respond_to_message.Goals as goal
 

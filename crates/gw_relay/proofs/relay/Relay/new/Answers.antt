@@ -14,7 +14,7 @@ returns-clause-stands c =
     c.in_ok-links.ensures ∙ ap (links_from 1) c.ports.ensures.ports ∙ configured_stand 1 c.args.config.now.ports
 
 pub links_of-requires-clause-once : goal.links_of-requires-clause-once
-links_of-requires-clause-once c = rw c.ports.ensures.ports (all_peers_once c.args.config.now c.device-device.ensures.once)
+links_of-requires-clause-once c = rw c.ports.ensures.ports (all_peers_once c.args.config.now c.ports.ensures.once)
 
 pub returns-clause-learnings : goal.returns-clause-learnings
 returns-clause-learnings c =

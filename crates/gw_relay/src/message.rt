@@ -4,14 +4,14 @@ ghost use Rattle.std.specs.Prelude.{◌≡◌, ◌≤◌, length};
 ghost use Rattle.std.specs.Option.{option_map};
 ghost use Rattle.gw_addr.specs.Station.{key_of};
 ghost use Rattle.gw_bvll.specs.Bvll.{view as frame_view};
-ghost use Rattle.gw_npdu.specs.Npdu.{view as npdu_view, address_view};
+ghost use Rattle.gw_npdu.specs.Npdu.{address_view};
 ghost use Rattle.gw_relay.specs.Claim.{link_source, local_source, remote_source};
-ghost use Rattle.gw_core.specs.View.{message_view};
+ghost use Rattle.gw_relay.specs.Message.{message_view};
 
+use crate::port::PortState;
 use gw_addr::{BipAddr, Mac, NetNum, Source};
 use gw_bvll::Bvll;
 use gw_npdu::{AddressRef, Npdu};
-use gw_relay::{PortState, link_source};
 
 /// A message of the network layer.
 #[derive(Clone, Copy)]
@@ -27,11 +27,15 @@ pub struct Message<'a> {
 }
 
 impl Message<'_> {
-    /// Where it came from on the port's network: whom an answer goes to (Annex J.2.5).
+    /// The link source: where it came from on the port's network, which is the originator of a
+    /// Forwarded-NPDU, and else the sender (Annex J.2.5).
     pub fn link(&self) -> BipAddr
         ensures { result ≡ link_source self.now.from (frame_view self.now.frame) }
     {
-        link_source(self.from, &self.frame)
+        match &self.frame {
+            Bvll::Forwarded { originator, .. } => *originator,
+            _ => self.from,
+        }
     }
 
     /// Where it claims to come from (clause 6.2.2).
@@ -65,6 +69,7 @@ impl Message<'_> {
     }
 }
 
+/// The octets of an address that a message names.
 fn mac_of(octets: &[u8]) -> Mac
     requires some { 1 ≤ length octets.now }
     requires most { length octets.now ≤ 255 }
@@ -74,7 +79,7 @@ fn mac_of(octets: &[u8]) -> Mac
 }
 
 /// A node of a port's network.
-pub(crate) fn local_source(network: NetNum, address: BipAddr) -> Source
+pub fn local_source(network: NetNum, address: BipAddr) -> Source
     ensures { result ≡ local_source network address }
 {
     Source {

@@ -1,0 +1,77 @@
+-- What is asked of a body that is read a reference at a time.
+use Rattle.std.proofs.Common.{◌≡◌, ◌∙◌, sym, ap, refl, ℕ, ◌-◌, Bool, true, false, ◌&&◌, List, [], ◌∷◌, ◌++◌, append_assoc, Option, Result, Ok, Err}
+use Rattle.std.specs.Prelude.{is_ok}
+use Rattle.gw_rules.specs.Ask.{Ask}
+use Rattle.gw_rules.specs.Authorizer.{AuthorizerState, denied_of}
+use Rattle.gw_rules.specs.RuleList.{allows}
+use Rattle.gw_rules.specs.declared.refusal.Refusal.{Refusal}
+use Rattle.gw_rules.specs.declared.rule.Rule.{Rule}
+use Rattle.gw_rules.proofs.Denials.{denied_of-append}
+use Rattle.gw_services.specs.Multi.{Reference}
+use Rattle.gw_services.specs.MultiReading.{and_more, finished, more_at, references_at, step_at, walked}
+use Rattle.gw_services.specs.declared.fault.BodyFault.{BodyFault}
+use Rattle.gw_services.proofs.MultiWalk.{walk}
+use Rattle.gw_tags.specs.Object.{Object}
+use Rattle.gw_relay.specs.Named.{multi_asks, reference_ask}
+use Rattle.gw_relay.specs.internal.Taken.{AreAsked}
+
+-- ---- whether it is read
+
+pub unread : (left : ℕ) (current : Option Object) (octets : List ℕ) (fault : BodyFault) → step_at left current octets ≡ Err fault
+    → is_ok (references_at left current octets) ≡ false
+unread left current octets fault e = ap is_ok (walk left current octets ∙ ap (walked left) e)
+
+pub read_last : (left : ℕ) (current : Option Object) (octets : List ℕ) (r : Reference) → step_at left current octets ≡ Ok (r, finished)
+    → is_ok (references_at left current octets) ≡ true
+read_last left current octets r e = ap is_ok (walk left current octets ∙ ap (walked left) e)
+
+more_ok : (r : Reference) (x : Result (List Reference) BodyFault) → is_ok (and_more r x) ≡ is_ok x
+more_ok r (Ok rs) = refl
+more_ok r (Err fault) = refl
+
+pub read_more : (left : ℕ) (current place : Option Object) (octets rest : List ℕ) (r : Reference)
+    → step_at left current octets ≡ Ok (r, more_at place rest)
+    → is_ok (references_at left current octets) ≡ is_ok (references_at (left - 1) place rest)
+read_more left current place octets rest r e =
+    ap is_ok (walk left current octets ∙ ap (walked left) e) ∙ more_ok r (references_at (left - 1) place rest)
+
+-- ---- what is asked
+
+pub last_asks : (route : Ask) (left : ℕ) (current : Option Object) (octets : List ℕ) (r : Reference)
+    → step_at left current octets ≡ Ok (r, finished) → multi_asks route (references_at left current octets) ≡ reference_ask route r ∷ []
+last_asks route left current octets r e = ap (multi_asks route) (walk left current octets ∙ ap (walked left) e)
+
+asks_behind : (route : Ask) (r : Reference) (x : Result (List Reference) BodyFault) → is_ok x ≡ true
+    → multi_asks route (and_more r x) ≡ reference_ask route r ∷ multi_asks route x
+asks_behind route r (Ok rs) is = refl
+asks_behind route r (Err fault) is = cc
+
+pub more_asks : (route : Ask) (left : ℕ) (current place : Option Object) (octets rest : List ℕ) (r : Reference)
+    → step_at left current octets ≡ Ok (r, more_at place rest) → is_ok (references_at left current octets) ≡ true
+    → multi_asks route (references_at left current octets)
+    ≡ reference_ask route r ∷ multi_asks route (references_at (left - 1) place rest)
+more_asks route left current place octets rest r e is =
+    ap (multi_asks route) (walk left current octets ∙ ap (walked left) e)
+    ∙ asks_behind route r (references_at (left - 1) place rest) (sym (read_more left current place octets rest r e) ∙ is)
+
+-- ---- whether it is allowed
+
+and-true : (b : Bool) → b ≡ (b && true)
+and-true true = refl
+and-true false = refl
+
+-- one ask that is put
+pub asked_one : {J : Type 0} (rules : List Rule) (ask : Ask) (old new : AuthorizerState J) (b : Bool) → b ≡ allows rules ask
+    → new.denied ≡ old.denied ++ denied_of rules (ask ∷ []) → AreAsked rules (ask ∷ []) old new b
+asked_one rules ask old new b is denied = record { answer = is ∙ and-true (allows rules ask); denied = denied }
+
+-- and others behind it
+pub asked_behind : {J : Type 0} (rules : List Rule) (ask : Ask) (asks : List Ask) (old mid new : AuthorizerState J) (b c : Bool)
+    → b ≡ allows rules ask → mid.denied ≡ old.denied ++ denied_of rules (ask ∷ []) → AreAsked rules asks mid new c
+    → AreAsked rules (ask ∷ asks) old new (b && c)
+asked_behind rules ask asks old mid new b c is denied behind = record {
+  answer = rw (is, behind.answer) refl;
+  denied = behind.denied ∙ ap (λ (l : List Refusal). l ++ denied_of rules asks) denied
+      ∙ append_assoc old.denied (denied_of rules (ask ∷ [])) (denied_of rules asks)
+      ∙ ap (λ (l : List Refusal). old.denied ++ l) (sym (denied_of-append rules (ask ∷ []) asks));
+}

@@ -1,0 +1,94 @@
+-- What a request reads or writes that is passed on: the asks behind its `route` ask, under the second
+-- format of a policy (ours; the bodies are those of clauses 15.5, 15.7 and 15.9).
+use Rattle.std.specs.Prelude.{ℕ, ◌==◌, ◌||◌, if◌then◌else◌, is_some, List, [], ◌∷◌, map, Option, Some, None, Result, Ok, Err}
+use Rattle.gw_apdu.specs.Apdu.{Fields as Apdu}
+use Rattle.gw_apdu.specs.Reading.{apdu_at}
+use Rattle.gw_apdu.specs.declared.fault.ApduFault.{ApduFault}
+use Rattle.gw_apdu.specs.declared.header.ConfirmedRequest.{ConfirmedRequest as Request}
+use Rattle.gw_apdu.specs.declared.header.Header.{Header}
+use Rattle.gw_apdu.specs.declared.header.Header.TheVariants.{ConfirmedRequest}
+use Rattle.gw_npdu.specs.Npdu.{Payload, apdu, message}
+use Rattle.gw_policy_text.specs.declared.format.Format.{Format}
+use Rattle.gw_policy_text.specs.declared.format.Format.TheVariants.{One, Two}
+use Rattle.gw_rules.specs.Ask.{Ask}
+use Rattle.gw_rules.specs.Operation.{operation_number}
+use Rattle.gw_rules.specs.declared.operation.Operation.{Operation}
+use Rattle.gw_rules.specs.declared.operation.Operation.TheVariants as operations
+use Rattle.gw_services.specs.Choices.{read_property, read_property_multiple, write_property}
+use Rattle.gw_services.specs.Limits.{priority_of}
+use Rattle.gw_services.specs.Multi.{Reference}
+use Rattle.gw_services.specs.MultiReading.{multi_at}
+use Rattle.gw_services.specs.Read.{Read, read_at}
+use Rattle.gw_services.specs.Write.{Write, write_at}
+use Rattle.gw_services.specs.declared.fault.BodyFault.{BodyFault}
+use Rattle.gw_tags.specs.Object.{Object}
+
+-- a read or a write of what can't be told: its way and its service are those of the `route` ask
+abbrev pub unnamed_ask : Ask → Operation → Ask
+unnamed_ask route operation = record route { operation = Some (operation_number operation) }
+
+-- of a property: the object is as the body has it, also the instance 4194303
+abbrev pub named_ask : Ask → Operation → Object → ℕ → Option ℕ → Ask
+named_ask route operation object property priority = record route {
+  operation = Some (operation_number operation);
+  object_type = Some object.kind;
+  instance = Some object.instance;
+  property = Some property;
+  priority = priority;
+}
+
+abbrev pub read_asks : Ask → Result Read BodyFault → List Ask
+read_asks route (Ok r) = named_ask route operations.Read r.object r.property None ∷ []
+read_asks route (Err fault) = unnamed_ask route operations.Read ∷ []
+
+-- ALL, REQUIRED and OPTIONAL are the property of that number
+abbrev pub reference_ask : Ask → Reference → Ask
+reference_ask route r = named_ask route operations.Read r.object r.property None
+
+abbrev pub multi_asks : Ask → Result (List Reference) BodyFault → List Ask
+multi_asks route (Ok rs) = map (reference_ask route) rs
+multi_asks route (Err fault) = unnamed_ask route operations.Read ∷ []
+
+abbrev pub write_asks : Ask → Result Write BodyFault → List Ask
+write_asks route (Ok w) =
+    named_ask route operations.Write w.object w.property (Some (priority_of w.priority)) ∷ []
+write_asks route (Err fault) = unnamed_ask route operations.Write ∷ []
+
+-- of a whole request, by its service
+abbrev pub body_asks : Ask → ℕ → List ℕ → List Ask
+body_asks route service body =
+    if service == read_property then read_asks route (read_at body)
+    else if service == read_property_multiple then multi_asks route (multi_at body)
+    else if service == write_property then write_asks route (write_at body)
+    else []
+
+-- of a segment it can't be told what it names
+abbrev pub segment_asks : Ask → ℕ → List Ask
+segment_asks route service =
+    if service == read_property || service == read_property_multiple
+    then unnamed_ask route operations.Read ∷ []
+    else if service == write_property then unnamed_ask route operations.Write ∷ []
+    else []
+
+abbrev pub request_asks : Ask → Request → List ℕ → List Ask
+request_asks route request body =
+    if is_some request.segment then segment_asks route request.service
+    else body_asks route request.service body
+
+abbrev pub header_asks : Ask → Header → List ℕ → List Ask
+header_asks route (ConfirmedRequest request) body = request_asks route request body
+header_asks route other body = []
+
+abbrev pub apdu_asks : Ask → Result Apdu ApduFault → List Ask
+apdu_asks route (Ok a) = header_asks route a.header a.rest
+apdu_asks route (Err fault) = []
+
+-- what is asked behind a `route` ask
+unfoldable pub named_asks : Format → Ask → Payload → List Ask
+named_asks One route payload = []
+named_asks Two route (message m) = []
+named_asks Two route (apdu octets) = apdu_asks route (apdu_at octets)
+
+-- a `route` ask, and what is asked behind it
+abbrev pub forward_asks : Format → Ask → Payload → List Ask
+forward_asks format route payload = route ∷ named_asks format route payload
