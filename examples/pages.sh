@@ -72,11 +72,10 @@ def check_names(page, text):
                 check_item(page, name)
             elif re.fullmatch(r"[\w.*-]+(/[\w.*-]+)+/?", name) and not BUILT.search(name):
                 check_path(page, name, crate)
+                crate = named_crate(name) or crate
             elif re.fullmatch(r"\w+\.(antt|rt)", name):
                 there = glob.glob(f"crates/{crate or '*'}/**/{name}", recursive=True)
                 say(there, page, f"no file {name} in {crate}")
-            else:
-                crate = named_crate(name) or crate
 
 
 def named_crate(name):
