@@ -63,7 +63,7 @@ for _ in $(seq "$runs"); do
     "$program" check --config "$work/greatest.toml" > /dev/null
     echo "$((($(date +%s%N) - start) / 1000))"
 done | sort -n | head -1 | sed 's/$/ microseconds at least/'
-/usr/bin/time -f '%M KiB at most' "$program" check --config "$work/greatest.toml" 2>&1 > /dev/null
+{ /usr/bin/time -f '%M KiB at most' "$program" check --config "$work/greatest.toml" > /dev/null; } 2>&1
 
 # Texts of 1 MiB at most: many of one thing, one thing that is long, and what stands deep in another.
 python3 - "$work" <<'PYTHON'
