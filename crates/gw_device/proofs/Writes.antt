@@ -19,7 +19,8 @@ use Rattle.gw_rules.specs.declared.rule.Rule.{Rule}
 use Rattle.gw_rules.specs.RuleList.{allows}
 use Rattle.gw_services.specs.declared.fault.BodyFault.{BodyFault}
 use Rattle.gw_services.specs.declared.fault.BodyFault.TheVariants.{InvalidTag}
-use Rattle.gw_services.specs.Limits.{last_number, last_priority, last_property}
+use Rattle.gw_services.specs.Choices.{read_property, read_property_multiple, write_property, who_has, who_is}
+use Rattle.gw_services.specs.Limits.{last_number, last_priority, last_property, priority_of}
 use Rattle.gw_services.specs.MultiReading.{multi_at}
 use Rattle.gw_services.specs.Parameter.{in_range}
 use Rattle.gw_services.specs.Read.{read_at}
@@ -35,10 +36,9 @@ use Rattle.gw_device.specs.Laws.{ChangesCanBeMade}
 use Rattle.gw_device.specs.Multi.{multi_response}
 use Rattle.gw_device.specs.Read.{read_response}
 use Rattle.gw_device.specs.Response.{Response}
-use Rattle.gw_device.specs.Services.{read_property, read_property_multiple, write_property, who_has, who_is}
 use Rattle.gw_device.specs.WhoHas.{object_response, sought_object, who_has_response}
 use Rattle.gw_device.specs.WhoIs.{is_within, who_is_response}
-use Rattle.gw_device.specs.Write.{priority_of, write_ask, write_response}
+use Rattle.gw_device.specs.Write.{write_ask, write_response}
 use Rattle.gw_device.proofs.Changes.{changed_by, no_some}
 
 -- ---- the priority that a request names
