@@ -18,7 +18,7 @@ use Rattle.gw_priority.specs.Commandable.{IsPriority}
 use Rattle.gw_rules.specs.declared.rule.Rule.{Rule}
 use Rattle.gw_rules.specs.RuleList.{allows}
 use Rattle.gw_services.specs.declared.fault.BodyFault.{BodyFault}
-use Rattle.gw_services.specs.declared.fault.BodyFault.TheVariants.{InvalidTag}
+use Rattle.gw_services.specs.declared.fault.BodyFault.TheVariants.{InvalidTag, OutOfRange}
 use Rattle.gw_services.specs.Choices.{read_property, read_property_multiple, write_property, who_has, who_is}
 use Rattle.gw_services.specs.Limits.{last_number, last_priority, last_property, priority_of}
 use Rattle.gw_services.specs.MultiReading.{multi_at}
@@ -57,7 +57,7 @@ within n is =
 ranged_within : (n m : ℕ) → ranged 1 last_priority n ≡ Ok m → IsPriority m
 ranged_within n m e = by (in_range 1 last_priority n) refl e
   where
-    by : (b : Bool) → in_range 1 last_priority n ≡ b → ◌≡◌ {A = Result ℕ BodyFault} (if b then Ok n else Err _) (Ok m) → IsPriority m
+    by : (b : Bool) → in_range 1 last_priority n ≡ b → ◌≡◌ {A = Result ℕ BodyFault} (if b then Ok n else Err OutOfRange) (Ok m) → IsPriority m
     by true is e = subst IsPriority (ok_is n m e) (within n is)
     by false is e = absurd cc
 
