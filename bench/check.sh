@@ -1,5 +1,6 @@
 #!/usr/bin/env bash
 # How long `bacgw check` takes on the greatest configuration: every list is as long as it may be, and every rule names all that it may.
+# Then on texts of 1 MiB, the most that is read, that are no configuration: each is answered within a second.
 #
 #     bench/check.sh [RUNS]      # the least time of 11 runs unless told otherwise, and the peak memory
 #
@@ -62,4 +63,67 @@ for _ in $(seq "$runs"); do
     "$program" check --config "$work/greatest.toml" > /dev/null
     echo "$((($(date +%s%N) - start) / 1000))"
 done | sort -n | head -1 | sed 's/$/ microseconds at least/'
-/usr/bin/time -f '%M KiB at most' "$program" check --config "$work/greatest.toml" 2>&1 > /dev/null
+{ /usr/bin/time -f '%M KiB at most' "$program" check --config "$work/greatest.toml" > /dev/null; } 2>&1
+
+# Texts of 1 MiB at most: many of one thing, one thing that is long, and what stands deep in another.
+python3 - "$work" <<'PYTHON'
+import sys
+
+MOST = 1 << 20
+HEAD = """format = 1
+[device]
+network = 100
+instance = 1
+name = "gateway"
+vendor = 999
+vendor_name = "Example"
+model = "gw-1"
+firmware = "1"
+software = "1"
+revision = 12
+database = 1
+[[port]]
+network = 1
+address = "10.1.0.2:47808"
+broadcast = "10.1.0.255:47808"
+"""
+
+
+def many(item, count):
+    text = "".join(item(n) for n in range(count))
+    return text[:MOST - len(HEAD)].rpartition("\n")[0] + "\n"
+
+
+TEXTS = {
+    "100,000 keys that nobody knows": "format = 1\n" + many(lambda n: f"k{n} = 1\n", 100_000),
+    "20,000 rules": HEAD + many(lambda n: f'[[rule]]\nname = "rule-{n}"\nallow = true\n', 20_000),
+    "14,000 objects": HEAD + many(lambda n: f'[[object]]\ntype = 5\ninstance = {n}\nname = "o{n}"\ndefault = 0\n', 14_000),
+    "a value of 1 MB": HEAD.replace('"gateway"', '"' + "x" * 1_000_000 + '"'),
+    "brackets alone": "[" * MOST,
+    "braces alone": "a = " + "{" * 1_000_000,
+    "100,000 arrays, each in another": "a = " + "[" * 100_000 + "]" * 100_000 + "\n",
+    "100,000 inline tables, each in another": "a = " + "{a = " * 100_000 + "1" + "}" * 100_000 + "\n",
+    "a table of a key of 100,000 dots": "[a" + ".a" * 100_000 + "]\n",
+    "a key of 100,000 dots": "a" + ".a" * 100_000 + " = 1\n",
+    "a line of quotation marks": '"' * 1_000_000,
+    "line feeds alone": "\n" * MOST,
+    "one octet more than 1 MiB": "#" * (MOST + 1),
+}
+for number, (name, text) in enumerate(TEXTS.items()):
+    with open(f"{sys.argv[1]}/{number:02}.toml", "w") as file:
+        file.write(text)
+    with open(f"{sys.argv[1]}/{number:02}.name", "w") as file:
+        file.write(name)
+PYTHON
+
+slow=0
+for text in "$work"/[0-9]*.toml; do
+    start=$(date +%s%N)
+    status=0
+    memory=$(/usr/bin/time -f %M "$program" check --config "$text" 2>&1 > /dev/null) || status=$?
+    spent=$((($(date +%s%N) - start) / 1000))
+    [ "$spent" -le 1000000 ] || slow=1
+    printf '%s: %s, status %s, %s microseconds, %s KiB\n' "$(cat "${text%.toml}.name")" \
+        "$(head -1 <<< "$memory" | sed 's/^bacgw: //')" "$status" "$spent" "$(tail -1 <<< "$memory")"
+done
+exit "$slow"

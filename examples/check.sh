@@ -47,12 +47,23 @@ for script in "$here"/*.script; do
     fi
 done
 
+echo 'bacgw: bad command line' > "$work/refusal"
+
+# refused WORDS...: the words are refused, and behind the line stands how the program is called
 refused() {
+    "$program" "$@" < /dev/null > "$work/out" 2> "$work/told"
+    status=$?
+    grep -q '^Usage: bacgw' "$work/told" || status="$status, no usage"
+    head -1 "$work/told" > "$work/err"
+    agrees "words: $*" 2 /dev/null "$work/refusal"
+}
+
+# refused_alone WORDS...: the words are refused by the line alone
+refused_alone() {
     "$program" "$@" < /dev/null > "$work/out" 2> "$work/err"
     status=$?
     agrees "words: $*" 2 /dev/null "$work/refusal"
 }
-echo 'bacgw: bad command line' > "$work/refusal"
 refused
 refused run
 refused replay replay
@@ -61,17 +72,24 @@ refused check
 refused check site.toml
 refused check --config
 refused check --config a --config a
-refused run --config a --turns 0
-refused run --config a --turns 9223372036854775808
+refused_alone run --config a --turns 0
+refused_alone run --config a --turns 9223372036854775808
 refused run --config a --explain
 refused replay --config
 refused replay --config a --config a
 refused --config file replay
 refused replay -v
 refused replay ''
-refused --version
+refused rnu
+refused help --help
+refused check --version
 refused -- replay
-refused $'\xff'
+refused_alone $'\xff'
+
+"$program" --version < /dev/null > "$work/out" 2> "$work/err"
+status=$?
+sed -n 's/^const VERSION: &str = "\(.*\)";/bacgw \1/p' "$here/../crates/gw_shell/src/command_line.rt" > "$work/line"
+agrees 'the version' 0 "$work/line" /dev/null
 
 helped() {
     "$program" "$@" < /dev/null > "$work/out" 2> "$work/err"
@@ -104,7 +122,7 @@ accepts routed.toml 'ok 2 ports 0 objects 6 rules'
 
 # faulty TEXT NAME: `check` tells this fault of a text, and `replay` tells it before the script
 faulty() {
-    printf "$1" > "$work/faulty.toml"
+    printf '%b' "$1" > "$work/faulty.toml"
     checked "$work/faulty.toml"
     tells "a configuration: $2" 2 "bacgw: configuration: $2"
     "$program" replay --config "$work/faulty.toml" < "$here/bad_line.script" > "$work/out" 2> "$work/err"
@@ -128,7 +146,11 @@ sed 's/10\.1\.0/203.0.113/; s/10\.2\.0/198.51.100/' "$here/two_subnets.toml" > "
 ran 1 'bacgw: cannot read configuration' --config "$work/nowhere.toml" --log "$work/nowhere/log"
 ran 2 'bacgw: configuration: NotToml' --config "$work/faulty.toml" --log "$work/nowhere/log"
 ran 1 'bacgw: log failed' --config "$work/elsewhere.toml" --log "$work/nowhere/log"
-ran 1 'bacgw: socket failed on port 1' --config "$work/elsewhere.toml" --log "$work/log" --verbose
+ran 1 'bacgw: socket failed on port 1' --config "$work/elsewhere.toml" --log "$work/log"
+ran 1 'port 1: own 203.0.113.2:47808: no address of this machine
+bacgw: socket failed on port 1' --config "$work/elsewhere.toml" --log "$work/log" --verbose
+ran 2 'the text: is no TOML document, line 1
+bacgw: configuration: NotToml' --config "$work/faulty.toml" --log "$work/log" --verbose
 sed 's/10\.1\.0/127.1.0/; s/10\.2\.0/127.2.0/' "$here/two_subnets.toml" > "$work/loopback.toml"
 echo 'a line of before' > "$work/log"
 ran 0 "bacgw: serving port 1 at 127.1.0.2:47808, broadcast 127.1.0.255:47808; port 2 at 127.2.0.2:47808, broadcast \
@@ -144,7 +166,18 @@ same() {
         echo "not as expected: $1"
     fi
 }
-same 'what stood in the log before a run' "$(cat "$work/log")" 'a line of before'
+same 'what stood in the log before a run' "$(cat "$work/log"; echo .)" 'a line of before
+.'
+
+# Where standard error is closed, what is told there doesn't land in the log.
+"$program" run --config "$work/loopback.toml" --log "$work/log" --turns 1 --verbose < /dev/null 2>&-
+same 'the status where standard error is closed' "$?" 0
+"$program" run --config "$work/loopback.toml" --log "$work/log" --turns 1 --verbose <&- >&- 2>&-
+same 'the status where all standard streams are closed' "$?" 0
+"$program" run --config "$work/elsewhere.toml" --log "$work/log" --verbose < /dev/null 2>&-
+same 'the status of a fault where standard error is closed' "$?" 1
+same 'the log where standard error is closed' "$(cat "$work/log"; echo .)" 'a line of before
+.'
 
 # Two ports on the loopback device, with a fan and a door, which nobody may read.
 hiding() {
@@ -153,7 +186,7 @@ hiding() {
     printf '[[rule]]\nname = "all"\nallow = true\n'
 }
 hiding 's/192\.168\.1\./127.3.0./; s/192\.168\.2\./127.4.0./' > "$work/served.toml"
-echo 'a line of before' > "$work/log"
+printf 'a line that was cut' > "$work/log"
 python3 "$here/loopback.py" serve "$program" "$work/served.toml" "$work/log" > "$work/out" 2> "$work/err"
 status=$?
 tells 'a client is served' 0 "bacgw: serving port 1 at 127.3.0.10:47808, broadcast 127.3.0.255:47808; port 2 at 127.4.0.10:47808, \
@@ -166,24 +199,33 @@ idle without a datagram
 127.4.0.10 810A0018010800640101300A0C0C0140000119553E91013F
 127.3.0.10 810A0018010800640101300B0C0C0140000119553E91013F
 status -15'
-same 'the log has the denial behind what stood there' "$(sed 's/^1 [0-9]* /1 . /' "$work/log")" \
-    'a line of before
+same 'the log has the denial behind a line that was cut' "$(sed 's/^1 [0-9]* /1 . /' "$work/log")" \
+    'a line that was cut
 1 . 1 1:7F030005BAC0 read dst=100 svc=12 obj=5,2 prop=85 prio=- rule=hide'
 
-# taken ADDRESS PORT: while another socket stands at this address, `run` says which port can't be opened
+# A log that is copied and cut while it is served goes on at its front.
+: > "$work/log"
+python3 "$here/loopback.py" rotate "$program" "$work/served.toml" "$work/log" > "$work/out" 2>&1
+same 'the copy of a log' "$(sed 's/^1 [0-9]* /1 . /' "$work/log.1")" \
+    '1 . 1 1:7F030005BAC0 read dst=100 svc=12 obj=5,2 prop=85 prio=- rule=hide'
+same 'a log that was cut to nothing' "$(sed 's/^2 [0-9]* /2 . /' "$work/log")" \
+    '2 . 1 1:7F030005BAC0 read dst=100 svc=12 obj=5,2 prop=85 prio=- rule=hide'
+
+# taken ADDRESS PORT SOCKET: while another socket stands at this address, `run` says which port and which socket can't be opened
 taken() {
     python3 "$here/loopback.py" taken "$program" "$work/served.toml" "$1" > "$work/out" 2> "$work/err"
     status=$?
-    tells "a socket stands at $1" 0 "bacgw: socket failed on port $2"
+    tells "a socket stands at $1" 0 "port $2: $3 $1:47808: another socket has the address
+bacgw: socket failed on port $2"
     same "the status where a socket stands at $1" "$(cat "$work/out")" 'status 1'
 }
-taken 127.3.0.10 1
-taken 127.3.0.255 1
-taken 127.4.0.10 2
-taken 127.4.0.255 2
+taken 127.3.0.10 1 own
+taken 127.3.0.255 1 broadcast
+taken 127.4.0.10 2 own
+taken 127.4.0.255 2 broadcast
 printf '[[port]]\nnetwork = 3\naddress = "127.5.0.10:47808"\nbroadcast = "127.5.0.255:47808"\n' >> "$work/served.toml"
-taken 127.5.0.10 3
-taken 127.5.0.255 3
+taken 127.5.0.10 3 own
+taken 127.5.0.255 3 broadcast
 
 # A configuration of many octets is read whole: its last rule stands behind them.
 for octets in 4000 900000; do
@@ -208,7 +250,7 @@ agrees 'a check that explains nothing' 0 "$work/line" /dev/null
 
 # explained TEXT NAME LINE: `check --explain` tells the fault as before, and says where it is
 explained() {
-    printf "$1" > "$work/faulty.toml"
+    printf '%b' "$1" > "$work/faulty.toml"
     "$program" check --config "$work/faulty.toml" --explain < /dev/null > "$work/out" 2> "$work/err"
     status=$?
     printf '%s\n' "$3" > "$work/line"

@@ -2,11 +2,13 @@
 
     loopback.py serve PROGRAM FILE LOG       reads points by each of its sockets, also behind a pause, and ends it by SIGTERM
     loopback.py taken PROGRAM FILE ADDRESS   runs it while a socket stands at this address
+    loopback.py rotate PROGRAM FILE LOG      copies the log to LOG.1 and cuts it between two denied reads
 
 It prints the answers in hexadecimal and the exit status; what the gateway tells goes to standard error.
 """
 
 import os
+import shutil
 import signal
 import socket
 import subprocess
@@ -65,9 +67,24 @@ def serve(program, file, log):
 def taken(program, file, address):
     """Runs a gateway of which one socket can't be opened."""
     line = open_line(address)
-    words = [program, "run", "--config", file, "--turns", "1"]
+    words = [program, "run", "--config", file, "--turns", "1", "--verbose"]
     print("status", subprocess.run(words, stdin=subprocess.DEVNULL, timeout=10).returncode)
     line.close()
 
 
-{"serve": serve, "taken": taken}[sys.argv[1]](*sys.argv[2:])
+def rotate(program, file, log):
+    """Lets a read be denied before and behind what logrotate does under `copytruncate`."""
+    gateway = subprocess.Popen([program, "run", "--config", file, "--log", log, "--verbose"], stdin=subprocess.DEVNULL, stderr=subprocess.PIPE)
+    try:
+        gateway.stderr.readline()
+        line = open_line(CLIENT)
+        read(line, 11, 2, PORT_1)
+        shutil.copyfile(log, log + ".1")
+        os.truncate(log, 0)
+        read(line, 12, 2, PORT_1)
+    finally:
+        gateway.terminate()
+        gateway.wait(timeout=10)
+
+
+{"serve": serve, "taken": taken, "rotate": rotate}[sys.argv[1]](*sys.argv[2:])

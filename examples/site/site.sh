@@ -54,13 +54,13 @@ done
 cat told
 
 echo "the workstation, 10.2.0.9 on the second subnet:"
-ip netns exec bacgw-second python3 "$here/client.py" workstation 10.1.0.2 > workstation &
+ip netns exec bacgw-second python3 "$here/client.py" workstation 10.1.0.2 > workstation.out &
 workstation=$!
 sleep 0.5
-echo "the panel, 10.1.0.5 on the first subnet:" > panel
-ip netns exec bacgw-first python3 "$here/client.py" panel 10.1.0.255 >> panel
+echo "the panel, 10.1.0.5 on the first subnet:" > panel.out
+ip netns exec bacgw-first python3 "$here/client.py" panel 10.1.0.255 >> panel.out
 wait "$workstation"
-cat workstation panel
+cat workstation.out panel.out
 
 echo "the log:"
 sed 's/^/  /' denials.log

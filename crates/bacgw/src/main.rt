@@ -7,9 +7,10 @@
 #![tactic(auto)]
 
 use gw_shell::{Fault, SystemFiles, SystemHost, end, run};
+use std::fs::File;
 use std::io::BufWriter;
 use std::process::ExitCode;
-use std::rt::Env;
+use std::rt::{Env, Files};
 use std::{env, io};
 
 /// How many octets of output are gathered before they are written.
@@ -23,7 +24,20 @@ fn words(rt: &(impl Env + AllocGlobal)) -> Result<Vec<String>, Fault> {
     }
 }
 
+/// Opens /dev/null. It takes the lowest number that is free: that of a standard stream which is
+/// closed, where one is.
+fn open_null<R: Files>(rt: &R) -> Option<R::File> {
+    File::options()
+        .read(true)
+        .write(true)
+        .open(rt, "/dev/null")
+        .ok()
+}
+
 fn main(rt: HostRuntime) -> ExitCode {
+    // As many as there are standard streams. Without them a message might land in the log, if that took
+    // the number of a closed stream.
+    let _held = [open_null(&rt), open_null(&rt), open_null(&rt)];
     let alloc = rt.alloc();
     let mut errors = rt.stderr();
     let Ok(mut output) = BufWriter::with_capacity(alloc, OUTPUT_OCTETS, io::writer(&rt)) else {

@@ -29,7 +29,7 @@ impl<T> Sequence<T> {
         }
     }
 
-    /// No item, and room for so many. An `Err` where there is no memory for them.
+    /// No item. Memory for so many is asked for at once: an `Err` where there is none.
     pub fn with_capacity(alloc: Global, capacity: usize) -> Result<Self, AllocError>
         ensures { IfOk result (λ sequence. sequence ≡ []) }
     {

@@ -1,5 +1,14 @@
--- The ports' tables and the routes stand after every history as its granted acts left them.
+-- The ports' tables, the routes and the device's slots stand after every history as its granted acts left them.
 use Rattle.std.proofs.Common.{◌≡◌, ℕ, List, [], ◌∷◌, map, Option, Some, None, refl, sym, subst}
+use Rattle.std.specs.Prelude.{slice_get}
+use Rattle.gw_device.specs.declared.context.Context.{Context}
+use Rattle.gw_device.proofs.Writes.{changes_can_be_made}
+use Rattle.gw_objects.proofs.Histories.{put_next, start_states}
+use Rattle.gw_objects.specs.Objects.{Database, default_of, defaults_of}
+use Rattle.gw_objects.specs.History.{IsStateAfter as SlotsStand}
+use Rattle.gw_objects.specs.Write.{CanAct, Write}
+use Rattle.gw_policy_text.specs.declared.object.Object.{Object}
+use Rattle.gw_rules.specs.declared.rule.Rule.{Rule}
 use Rattle.gw_policy_text.specs.Configuration.{Configuration}
 use Rattle.gw_relay.proofs.Histories.{changes_extend, configured_stand, ticks_extend}
 use Rattle.gw_relay.specs.History.{StandAfter, acts_moved, learned_moved, ports_from}
@@ -15,10 +24,12 @@ use Rattle.gw_routes.specs.History.{IsStateAfter as IsTableAfter}
 use Rattle.gw_routes.specs.History.{learned_after, networks_learned}
 use Rattle.gw_routes.specs.Table.{Routed, route_by}
 use Rattle.gw_script.specs.Event.{Event}
-use Rattle.gw_core.specs.Effects.{move_at}
-use Rattle.gw_core.specs.History.{RoutesStand, TablesStand, acts_of, learnings, next, port_acts, state_after}
-use Rattle.gw_core.specs.Laws.{ActsLeaveTheTables, LearningsLeaveTheRoutes}
-use Rattle.gw_core.specs.State.{State}
+use Rattle.gw_core.specs.Effects.{apdu_change, change_at, change_for, changed, move_at}
+use Rattle.gw_core.specs.History.{RoutesStand, TablesStand, WritesStand, acts_of, learnings, next, port_acts, state_after, with_granted, writes, written}
+use Rattle.gw_core.specs.Laws.{ActsLeaveTheTables, LearningsLeaveTheRoutes, WritesLeaveTheSlots}
+use Rattle.gw_core.specs.Receive.{Received, dropped, managed, message, receive, unregistered}
+use Rattle.gw_core.specs.Reply.{apdu_for, context_of}
+use Rattle.gw_core.specs.State.{State, device_network}
 use Rattle.gw_core.specs.declared.event.Counts.{Counts}
 use Rattle.gw_core.proofs.HistoryLemmas.{state_next}
 
@@ -72,3 +83,43 @@ learnings_leave_the_routes c k [] = routes_first c k
 learnings_leave_the_routes c k (e ∷ h) =
     subst (RoutesStand c (learnings c k (e ∷ h))) (sym (state_next c k h e))
     (routes_next c (state_after c k h) e (learnings c k h) (learnings_leave_the_routes c k h))
+
+-- a write that is granted can be made
+apdu_can : (rules : List Rule) (d : Database) (context : Context) (apdu : Option (List ℕ)) (write : Write)
+    → apdu_change rules d context apdu ≡ Some write → CanAct write.act
+apdu_can rules d context None write e = absurd cc
+apdu_can rules d context (Some octets) write e = changes_can_be_made rules d context octets write e
+
+change_can : (rules : List Rule) (d : Database) (received : Received) (write : Write) → change_for rules d received ≡ Some write → CanAct write.act
+change_can rules d dropped write e = absurd cc
+change_can rules d (managed on from frame) write e = absurd cc
+change_can rules d (unregistered m) write e = absurd cc
+change_can rules d (message m) write e =
+    apdu_can rules d (context_of (device_network d) m) (apdu_for (device_network d) m.npdu) write e
+
+granted_can : (w : State) (e : Event) (write : Write) → change_at w e ≡ Some write → CanAct write.act
+unfolding change_at
+granted_can w e write is = change_can w.rules w.device (receive w e) write is
+
+slots_changed : (c : Configuration) (granted : Option Write) (before : List Write) (d : Database)
+    → ((write : Write) → granted ≡ Some write → CanAct write.act) → SlotsStand (defaults_of c) before d.states
+    → SlotsStand (defaults_of c) (with_granted granted before) (changed granted d).states
+slots_changed c None before d can stand = stand
+slots_changed c (Some write) before d can stand =
+    put_next (defaults_of c) before write d.states (can write refl) stand (slice_get d.states write.place) refl
+
+slots_next : (c : Configuration) (w : State) (e : Event) (before : List Write) → WritesStand c before w
+    → WritesStand c (with_granted (change_at w e) before) (next w e)
+unfolding next
+slots_next c w e before stand = slots_changed c (change_at w e) before w.device (granted_can w e) stand
+
+slots_first : (c : Configuration) (k : Counts) → WritesStand c (writes c k []) (state_after c k [])
+unfolding acts_of writes written
+slots_first c k = start_states (λ (object : Object). default_of object.value) c.objects
+
+pub writes_leave_the_slots : WritesLeaveTheSlots
+unfolding writes
+writes_leave_the_slots c k [] = slots_first c k
+writes_leave_the_slots c k (e ∷ h) =
+    subst (WritesStand c (writes c k (e ∷ h))) (sym (state_next c k h e))
+    (slots_next c (state_after c k h) e (writes c k h) (writes_leave_the_slots c k h))

@@ -139,6 +139,11 @@ learnings c k [] = []
 learnings c k (e ∷ h) =
     learned_moved (move_at (state_after c k h) e) (state_after c k h).relay.routes (learnings c k h)
 
+-- the writes that were granted in a history, newest first
+unfoldable pub writes : Configuration → Counts → List Event → List Write
+writes c k [] = []
+writes c k (e ∷ h) = with_granted (change_at (state_after c k h) e) (writes c k h)
+
 -- ---- from a state
 
 -- the state one event later

@@ -14,7 +14,7 @@ use Rattle.gw_core.specs.declared.event.Counts.{Counts}
 use Rattle.gw_script.specs.Event.{Event}
 use Rattle.gw_script.specs.Event.{Datagram, Tick}
 use Rattle.gw_policy_text.specs.Configuration.{Configuration}
-use Rattle.gw_core.specs.History.{RoutesStand, TablesStand, learnings, port_acts, state_after, run, history_after, IsStep, IsStateAfter, effects, run_after, run_from, state_from, next}
+use Rattle.gw_core.specs.History.{RoutesStand, TablesStand, WritesStand, learnings, port_acts, writes, state_after, run, history_after, IsStep, IsStateAfter, effects, run_after, run_from, state_from, next}
 use Rattle.gw_rules.specs.Ask.{Ask}
 use Rattle.gw_rules.specs.declared.rule.Rule.{Rule}
 use Rattle.gw_rules.specs.RuleList.{first, allows}
@@ -172,6 +172,10 @@ ActsLeaveTheTables = (c : Configuration) (k : Counts) (h : List Event) → Table
 abbrev pub LearningsLeaveTheRoutes : Type 0
 LearningsLeaveTheRoutes =
     (c : Configuration) (k : Counts) (h : List Event) → RoutesStand c (learnings c k h) (state_after c k h)
+
+-- And each slot and each default of the device's objects is what the granted writes left.
+abbrev pub WritesLeaveTheSlots : Type 0
+WritesLeaveTheSlots = (c : Configuration) (k : Counts) (h : List Event) → WritesStand c (writes c k h) (state_after c k h)
 
 -- A gateway has the ports of its configuration, whatever comes.
 abbrev pub PortsStay : Type 0

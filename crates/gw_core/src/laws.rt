@@ -2,16 +2,17 @@
 
 ghost use Rattle.gw_core.specs.Examples.{AllArePlaced, BroadcastIsDistributed, CountsEnd, DeniedWriteIsUnseen, DenialsAreCountedOn, EachCutIsDropped, GlobalWhoIsGoesOn, HiddenObjectIsUntold, HiddenReadIsDenied, HiddenWriteIsUnseen, HidingIsSeen, LearnedRouteIsTaken, LocalReadIsUnheard, ReadIsAnswered, RegistrationEnds, RelinquishIsSeen, RoutedReadIsAnswered, UnknownNetworkIsSought, UnknownObjectIsTold, WhoIsIsAnswered, WriteIsSeen, WrongLengthsAreDropped};
 ghost use Rattle.gw_core.specs.NoLeak.{AsksCarryTheirClaim, QuietIsUnseen, WritesAreHidden, WritesAreUnread};
-ghost use Rattle.gw_core.specs.Laws.{ActsLeaveTheTables, AllowedTrafficIsSent, ConfigurationStays, DeniedAsksAreLogged, DeniedBroadcastsAreKept, DeniedReadsAreRefused, DeniedWritesAreRefused, DenialsAreCounted, DenialsHaveTheirTick, DroppedNeedsNoMemory, LearningsLeaveTheRoutes, LogIsNumbered, NothingAskedIsChanged, NothingAskedIsLogged, NothingAskedIsWritten, PortsStay, RelayTicksAreCounted, RunsExtendHistories, StepsExtendHistories, TicksAreCounted, TicksOnlyCount};
+ghost use Rattle.gw_core.specs.Laws.{ActsLeaveTheTables, AllowedTrafficIsSent, ConfigurationStays, DeniedAsksAreLogged, DeniedBroadcastsAreKept, DeniedReadsAreRefused, DeniedWritesAreRefused, DenialsAreCounted, DenialsHaveTheirTick, DroppedNeedsNoMemory, LearningsLeaveTheRoutes, LogIsNumbered, NothingAskedIsChanged, NothingAskedIsLogged, NothingAskedIsWritten, PortsStay, RelayTicksAreCounted, RunsExtendHistories, StepsExtendHistories, TicksAreCounted, TicksOnlyCount, WritesLeaveTheSlots};
 
 /// What holds after every history: each step extends it, and so does each list of events; the ports'
-/// tables and the routes are what the acts left that it granted; and the ports and what is configured
-/// of the device stay.
+/// tables, the routes, and the slots and the defaults of the device are what the acts left that it
+/// granted; and the ports and what is configured of the device stay.
 pub fn histories()
     ensures steps { StepsExtendHistories }
     ensures runs { RunsExtendHistories }
     ensures tables { ActsLeaveTheTables }
     ensures routes { LearningsLeaveTheRoutes }
+    ensures slots { WritesLeaveTheSlots }
     ensures ports { PortsStay }
     ensures configuration { ConfigurationStays }
 {}

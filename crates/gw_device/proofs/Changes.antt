@@ -53,7 +53,7 @@ use Rattle.gw_device.specs.Write.{change_of, or_error, write_ask, write_response
 abbrev Puts : Object → Configured → Response → Type 0
 Puts o c due = (write : Write) → due.change ≡ Some write → place_of c o ≡ Some write.place
 
-no_some : {A : Type 0} (x : A) → ◌≡◌ {A = Option A} None (Some x) → ⊥
+pub no_some : {A : Type 0} (x : A) → ◌≡◌ {A = Option A} None (Some x) → ⊥
 no_some x e = cc
 
 puts_if : (o : Object) (c : Configured) (b : Bool) (x y : Response) → Puts o c x → Puts o c y → Puts o c (if b then x else y)
@@ -65,7 +65,7 @@ puts_reject : {B : Type 0} (o : Object) (c : Configured) (invoke : ℕ) (respond
 puts_reject o c invoke respond (Ok b) each = each b refl
 puts_reject o c invoke respond (Err fault) each = λ write e. absurd (no_some write e)
 
-changed_by : (b : Bool) (due : Result Write WriteFault) (write : Write) → change_of (if b then or_error due else Err write_denied) ≡ Some write → due ≡ Ok write
+pub changed_by : (b : Bool) (due : Result Write WriteFault) (write : Write) → change_of (if b then or_error due else Err write_denied) ≡ Some write → due ≡ Ok write
 changed_by true (Ok made) write e = ap (λ (w : Write). Ok w) (let is : made ≡ write = cc in is)
 changed_by true (Err fault) write e = absurd (no_some write e)
 changed_by false due write e = absurd (no_some write e)

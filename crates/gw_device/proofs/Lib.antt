@@ -2,3 +2,4 @@ pub mod Changes
 pub mod PropertyLemmas
 pub mod Unread
 pub mod RequestLemmas
+pub mod Writes

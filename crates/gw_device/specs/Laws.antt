@@ -10,7 +10,7 @@ use Rattle.gw_objects.specs.declared.configured.Configured.{Configured}
 use Rattle.gw_objects.specs.Laws.{standing}
 use Rattle.gw_objects.specs.Objects.{Database, Slots, place_of}
 use Rattle.gw_objects.specs.Table.{object_at}
-use Rattle.gw_objects.specs.Write.{Write as Change}
+use Rattle.gw_objects.specs.Write.{CanAct, Write as Change}
 use Rattle.gw_rules.specs.declared.operation.Operation.TheVariants as operation
 use Rattle.gw_rules.specs.declared.rule.Rule.{Rule}
 use Rattle.gw_rules.specs.Allowed.{NoneAllowed}
@@ -86,6 +86,12 @@ ChangesAreAllowed =
     (rules : List Rule) (d : Database) (context : Context) (octets : List ℕ) →
     NoneAllowed (IsFor operation.Write) rules (device_asks rules d context octets) →
     device_change rules d context octets ≡ None
+
+-- It commands or relinquishes at a priority of 1 to 16 that isn't the reserved one, or sets a default.
+abbrev pub ChangesCanBeMade : Type 0
+ChangesCanBeMade =
+    (rules : List Rule) (d : Database) (context : Context) (octets : List ℕ) (change : Change) →
+    device_change rules d context octets ≡ Some change → CanAct change.act
 
 -- ---- asks
 

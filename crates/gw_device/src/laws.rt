@@ -1,7 +1,7 @@
 //! What holds of everything that the device does. The functions do nothing: their contracts are the
 //! laws.
 
-ghost use Rattle.gw_device.specs.Laws.{AsksHaveTheirSource, ChangesAreAllowed, ChangesAreInPlace, ChangesRestOnRequests, UnreadIsUnseen};
+ghost use Rattle.gw_device.specs.Laws.{AsksHaveTheirSource, ChangesAreAllowed, ChangesAreInPlace, ChangesCanBeMade, ChangesRestOnRequests, UnreadIsUnseen};
 
 /// What the device does about an APDU doesn't rest on the slots and the default of an object, where
 /// no ask of that APDU to read the object is allowed. Two standings that differ in that object
@@ -11,11 +11,13 @@ pub fn unread_object()
 {}
 
 /// A write rests on the configuration and the request alone, is made at the place of the object that
-/// the request names, and only where an ask to write is allowed.
+/// the request names, and only where an ask to write is allowed. It commands or relinquishes at a
+/// priority of 1 to 16 that isn't the reserved one, or sets a default.
 pub fn changes()
     ensures request { ChangesRestOnRequests }
     ensures place { ChangesAreInPlace }
     ensures allowed { ChangesAreAllowed }
+    ensures acts { ChangesCanBeMade }
 {}
 
 /// Every ask has the source of the APDU's context.

@@ -3,3 +3,4 @@ pub mod Deciding
 pub mod Histories
 pub mod Places
 pub mod Others
+pub mod Priorities

@@ -99,10 +99,10 @@ agree_put o c s t write at agree i apart =
 
 -- ---- where a write is made
 
-ok_is : {A E : Type 0} (x y : A) → ◌≡◌ {A = Result A E} (Ok x) (Ok y) → x ≡ y
+pub ok_is : {A E : Type 0} (x y : A) → ◌≡◌ {A = Result A E} (Ok x) (Ok y) → x ≡ y
 ok_is x y e = cc
 
-no_device_write : (p : Option Property) (write : Write) → ◌≡◌ {A = Result Write WriteFault} (ok_or p UnknownProperty >>= λ property. Err NotWritable) (Ok write) → ⊥
+pub no_device_write : (p : Option Property) (write : Write) → ◌≡◌ {A = Result Write WriteFault} (ok_or p UnknownProperty >>= λ property. Err NotWritable) (Ok write) → ⊥
 no_device_write None write e = absurd cc
 no_device_write (Some p) write e = absurd cc
 

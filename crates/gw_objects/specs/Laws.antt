@@ -5,7 +5,8 @@ use Rattle.gw_objects.specs.declared.configured.Configured.{Configured}
 use Rattle.gw_objects.specs.History.{after_write}
 use Rattle.gw_objects.specs.Objects.{Database, Slots, place_of}
 use Rattle.gw_objects.specs.Table.{read_of}
-use Rattle.gw_objects.specs.Write.{Write, write_of}
+use Rattle.gw_objects.specs.Write.{CanAct, Write, write_of}
+use Rattle.gw_priority.specs.Commandable.{IsPriority}
 
 -- the objects of a configuration with these slots and defaults
 abbrev pub standing : Configured → List Slots → Database
@@ -40,3 +41,9 @@ abbrev pub WritesKeepAgreement : Type 0
 WritesKeepAgreement =
     (o : Object) (c : Configured) (s t : List Slots) (write : Write) → AgreeBut o c s t →
     AgreeBut o c (after_write write s) (after_write write t)
+
+-- A write that is made at a priority is at one that isn't reserved, or of a default.
+abbrev pub WritesCanBeMade : Type 0
+WritesCanBeMade =
+    (c : Configured) (o : Object) (number : ℕ) (index : Option ℕ) (priority : ℕ) (octets : List ℕ) (write : Write) →
+    IsPriority priority → write_of c o number index priority octets ≡ Ok write → CanAct write.act

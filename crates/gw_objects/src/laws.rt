@@ -1,7 +1,7 @@
 //! What holds of every read and every write. The functions do nothing: their contracts are the laws.
 
 ghost use Rattle.std.specs.Prelude.{◌≡◌};
-ghost use Rattle.gw_objects.specs.Laws.{OthersReadAlike, WritesAreInPlace, WritesKeepAgreement, WritesLeaveOthers};
+ghost use Rattle.gw_objects.specs.Laws.{OthersReadAlike, WritesAreInPlace, WritesCanBeMade, WritesKeepAgreement, WritesLeaveOthers};
 
 use crate::table::MAX_APDU;
 use crate::write::MAX_TEXT;
@@ -19,4 +19,10 @@ pub fn other_objects()
     ensures place { WritesAreInPlace }
     ensures writes { WritesLeaveOthers }
     ensures agreement { WritesKeepAgreement }
+{}
+
+/// A write that is made at a priority of 1 to 16 commands or relinquishes there, where it isn't the
+/// reserved one, or sets a default (clause 19.2).
+pub fn priorities()
+    ensures { WritesCanBeMade }
 {}

@@ -11,7 +11,7 @@ use Rattle.clap.specs.declared.error.kind.ErrorKind.TheVariants as parse
 use Rattle.clap.proofs.OnLiterals.{clap_on_literals}
 use Rattle.clap.proofs.ValueTestLemmas.{accepts-Accepts}
 use Rattle.clap.specs.declared.builder.value_parser.ValueParser.TheVariants.{Unsigned}
-use Rattle.gw_shell.specs.CommandLine.{Asks, AsksNothing, Call, call_by, called, commands, most_turns, CallsCheck, CallsExplain, CallsReplay, CallsRun, CallsRunWhole, IsAnswer, IsCheck, IsChosen, IsRefusal, IsReplay, IsServing, IsTurns}
+use Rattle.gw_shell.specs.CommandLine.{Asks, AsksNothing, Call, call_by, called, commands, most_turns, CallsCheck, CallsExplain, CallsReplay, CallsRun, CallsRunWhole, IsAnswer, IsCheck, IsChosen, IsRefusal, IsReplay, IsServing, IsShown, IsTurns}
 use Rattle.gw_shell.specs.declared.command_line.Choice.{Choice}
 use Rattle.gw_shell.specs.declared.command_line.Choice.TheVariants as choice
 use Rattle.gw_shell.specs.declared.fault.Fault.{Fault}
@@ -26,10 +26,10 @@ pub parse_is_simple : is_simple commands ≡ true
 unfolding clap_on_literals
 parse_is_simple = refl
 
--- a word of help comes among the kinds
-help_among : (kinds : Kinds) (k : ErrorKind) → (k ≡ parse.OutOfMemory) ⊎ IsAmong k kinds → k ≡ parse.DisplayHelp → IsAmong parse.DisplayHelp kinds
-help_among kinds k (inl memory) help = let bad : parse.OutOfMemory ≡ parse.DisplayHelp = sym memory ∙ help in search rules
-help_among kinds k (inr among) help = subst (λ (x : ErrorKind). IsAmong x kinds) help among
+-- want of memory is no request to show something
+memory_shows_nothing : (k : ErrorKind) → k ≡ parse.OutOfMemory → IsShown k → ⊥
+memory_shows_nothing k memory (inl help) = let bad : parse.OutOfMemory ≡ parse.DisplayHelp = sym memory ∙ help in search rules
+memory_shows_nothing k memory (inr version) = let bad : parse.OutOfMemory ≡ parse.DisplayVersion = sym memory ∙ version in search rules
 
 -- a kind that is not want of memory is among the kinds
 mistake_among : (kinds : Kinds) (k : ErrorKind) → (k ≡ parse.OutOfMemory) ⊎ IsAmong k kinds → k ≢ parse.OutOfMemory → IsAmong k kinds
@@ -41,8 +41,10 @@ pub refusal_answers : (words : List Text) (k : ErrorKind) (r : Result Choice Fau
 refusal_answers words k (Ok (choice.Check file explains)) among is = absurd is
 refusal_answers words k (Ok (choice.Replay file)) among is = absurd is
 refusal_answers words k (Ok (choice.Run options)) among is = absurd is
-refusal_answers words k (Ok (choice.Help text)) among is = help_among (fault_of commands words) k among is
-refusal_answers words k (Err fault.CommandLine) among is = inl (k, mistake_among (fault_of commands words) k among is.1, is.0)
+refusal_answers words k (Ok (choice.Help text)) among is =
+    (k, mistake_among (fault_of commands words) k among (λ memory. memory_shows_nothing k memory is), is)
+refusal_answers words k (Ok (choice.Usage text)) among is = (k, mistake_among (fault_of commands words) k among is.2, is)
+refusal_answers words k (Err fault.CommandLine) among is = inl (k, mistake_among (fault_of commands words) k among is.2, is)
 refusal_answers words k (Err fault.Memory) among is = tt
 refusal_answers words k (Err fault.Unreadable) among is = absurd is
 refusal_answers words k (Err (fault.Configuration f)) among is = absurd is
@@ -64,6 +66,7 @@ taken_answers words (Ok (choice.Check file explains)) none is = (none, is)
 taken_answers words (Ok (choice.Replay file)) none is = (none, is)
 taken_answers words (Ok (choice.Run options)) none is = (none, is)
 taken_answers words (Ok (choice.Help text)) none is = in_nothing (called words) is
+taken_answers words (Ok (choice.Usage text)) none is = in_nothing (called words) is
 taken_answers words (Err fault.CommandLine) none is = inr (none, is)
 taken_answers words (Err fault.Memory) none is = tt
 taken_answers words (Err fault.Unreadable) none is = absurd is
@@ -126,7 +129,8 @@ of_call : (words : List Text) (c : Call) (r : Result Choice Fault) → fault_of 
 of_call words c (Ok (choice.Check file explains)) none calls is = asked words c (choice.Check file explains) calls is.1
 of_call words c (Ok (choice.Replay file)) none calls is = asked words c (choice.Replay file) calls is.1
 of_call words c (Ok (choice.Run options)) none calls is = asked words c (choice.Run options) calls is.1
-of_call words c (Ok (choice.Help text)) none calls is = absurd (no_kind (fault_of commands words) parse.DisplayHelp none is)
+of_call words c (Ok (choice.Help text)) none calls is = absurd (no_kind (fault_of commands words) is.0 none is.1)
+of_call words c (Ok (choice.Usage text)) none calls is = absurd (no_kind (fault_of commands words) is.0 none is.1)
 of_call words c (Err fault.CommandLine) none calls (inl is) = absurd (no_kind (fault_of commands words) is.0 none is.1)
 of_call words c (Err fault.CommandLine) none calls (inr is) = refused words c calls is.1
 of_call words c (Err fault.Memory) none calls is = tt
@@ -167,6 +171,7 @@ replay_or_memory c (Ok (choice.Check file explains)) named is = absurd (check_re
 replay_or_memory c (Ok (choice.Replay file)) named is = is.1
 replay_or_memory c (Ok (choice.Run options)) named is = absurd (run_replay (sym is.0 ∙ named))
 replay_or_memory c (Ok (choice.Help text)) named is = absurd is
+replay_or_memory c (Ok (choice.Usage text)) named is = absurd is
 replay_or_memory c (Err fault.CommandLine) named is = absurd (is.replay named)
 replay_or_memory c (Err fault.Memory) named is = tt
 replay_or_memory c (Err fault.Unreadable) named is = absurd is
@@ -223,6 +228,7 @@ check_or_memory c file (Ok (choice.Check name explains)) named has is = (some_sa
 check_or_memory c file (Ok (choice.Replay name)) named has is = absurd (check_replay (sym named ∙ is.0))
 check_or_memory c file (Ok (choice.Run options)) named has is = absurd (run_check (sym is.0 ∙ named))
 check_or_memory c file (Ok (choice.Help text)) named has is = absurd is
+check_or_memory c file (Ok (choice.Usage text)) named has is = absurd is
 check_or_memory c file (Err fault.CommandLine) named has is = absurd (is.check file named has)
 check_or_memory c file (Err fault.Memory) named has is = tt
 check_or_memory c file (Err fault.Unreadable) named has is = absurd is
@@ -296,6 +302,7 @@ run_or_memory c file n (Ok (choice.Replay name)) named has turns is = absurd (ru
 run_or_memory c file n (Ok (choice.Run options)) named has turns is =
     (some_same _ _ (sym is.1 ∙ has), is.2, turns_same c.turns options.turns n is.3 turns, is.4)
 run_or_memory c file n (Ok (choice.Help text)) named has turns is = absurd is
+run_or_memory c file n (Ok (choice.Usage text)) named has turns is = absurd is
 run_or_memory c file n (Err fault.CommandLine) named has turns is = absurd (is.run file n named has turns)
 run_or_memory c file n (Err fault.Memory) named has turns is = tt
 run_or_memory c file n (Err fault.Unreadable) named has turns is = absurd is

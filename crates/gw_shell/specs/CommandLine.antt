@@ -60,7 +60,8 @@ abbrev pub commands : App
 commands =
     with_subcommand
     (with_subcommand
-    (with_subcommand (on_top (λ top. record top { subcommand_required = true }) (new_app (codes "bacgw"))) check.top)
+    (with_subcommand
+    (on_top (λ top. record top { subcommand_required = true; has_version = true }) (new_app (codes "bacgw"))) check.top)
     replay.top)
     run.top
 
@@ -131,6 +132,7 @@ Asks (choice.Run options) call =
     (call.name ≡ codes "run") × (call.config ≡ Some (string_bytes options.config)) × (option_map string_bytes options.log ≡ call.log)
     × IsTurns call.turns options.turns × (options.verbose ≡ call.verbose)
 Asks (choice.Help text) call = ⊥
+Asks (choice.Usage text) call = ⊥
 
 -- A call of `replay` asks for something, one of `check` where a file is named, and one of `run` where a file is named and the text of
 -- the turns is a number of them; other calls ask for nothing.
@@ -146,29 +148,43 @@ IsChosen call (Err fault.CommandLine) = IfSome call AsksNothing
 IsChosen call (Err fault.Memory) = ⊤
 IsChosen call _ = ⊥
 
--- what the program makes of a parse that failed: help where that was asked for, and else a bad command line; memory may have run out
--- in the parse, or for the help
+-- help or the version was asked for, which is printed
+abbrev pub IsShown : ErrorKind → Type 0
+IsShown kind = (kind ≡ parse.DisplayHelp) ⊎ (kind ≡ parse.DisplayVersion)
+
+-- the words are wrong
+abbrev pub IsWrong : ErrorKind → Type 0
+IsWrong kind = (kind ≢ parse.DisplayHelp) × (kind ≢ parse.DisplayVersion) × (kind ≢ parse.OutOfMemory)
+
+-- what the program makes of a parse that failed: help or the version where that was asked for, and else a bad command line, with how the
+-- program is called where there is memory for it; memory may have run out in the parse, or for the help
 abbrev pub IsRefusal : ErrorKind → Result Choice Fault → Type 0
-IsRefusal kind (Ok (choice.Help text)) = kind ≡ parse.DisplayHelp
-IsRefusal kind (Err fault.CommandLine) = (kind ≢ parse.DisplayHelp) × (kind ≢ parse.OutOfMemory)
-IsRefusal kind (Err fault.Memory) = (kind ≡ parse.OutOfMemory) ⊎ (kind ≡ parse.DisplayHelp)
+IsRefusal kind (Ok (choice.Help text)) = IsShown kind
+IsRefusal kind (Ok (choice.Usage text)) = IsWrong kind
+IsRefusal kind (Err fault.CommandLine) = IsWrong kind
+IsRefusal kind (Err fault.Memory) = (kind ≡ parse.OutOfMemory) ⊎ IsShown kind
 IsRefusal kind _ = ⊥
 
 -- the parser takes the words, and this is what they call
 abbrev pub IsTaken : List Text → Result Choice Fault → Type 0
 IsTaken words chosen = (fault_of commands words ≡ []) × IsChosen (called words) chosen
 
--- the parser finds a fault in the words that is no request for help
-abbrev pub IsMistake : List Text → Type 0
-IsMistake words = (k : ErrorKind) × IsAmong k (fault_of commands words) × (k ≢ parse.DisplayHelp)
+-- the parser finds help or the version asked for among the words
+abbrev pub AsksToShow : List Text → Type 0
+AsksToShow words = (k : ErrorKind) × IsAmong k (fault_of commands words) × IsShown k
 
--- what the program makes of words: what they call where the parser takes them, help where that was asked for, a bad command line where
--- there is another fault; memory may run out at any words
+-- the parser finds a fault in the words that is no request for help or the version
+abbrev pub IsMistake : List Text → Type 0
+IsMistake words = (k : ErrorKind) × IsAmong k (fault_of commands words) × IsWrong k
+
+-- what the program makes of words: what they call where the parser takes them, help or the version where that was asked for, a bad command
+-- line where there is another fault; memory may run out at any words, since what parses them is made first
 abbrev pub IsAnswer : List Text → Result Choice Fault → Type 0
 IsAnswer words (Ok (choice.Check file explains)) = IsTaken words (Ok (choice.Check file explains))
 IsAnswer words (Ok (choice.Replay file)) = IsTaken words (Ok (choice.Replay file))
 IsAnswer words (Ok (choice.Run options)) = IsTaken words (Ok (choice.Run options))
-IsAnswer words (Ok (choice.Help text)) = IsAmong parse.DisplayHelp (fault_of commands words)
+IsAnswer words (Ok (choice.Help text)) = AsksToShow words
+IsAnswer words (Ok (choice.Usage text)) = IsMistake words
 IsAnswer words (Err fault.CommandLine) = IsMistake words ⊎ IsTaken words (Err fault.CommandLine)
 IsAnswer words (Err fault.Memory) = ⊤
 IsAnswer words _ = ⊥

@@ -1,5 +1,9 @@
 -- What the program tells of a fault: the line on standard error, and the exit status.
-use Rattle.std.specs.Prelude.{ℕ, Bool, true, false, List, [], ◌∷◌, ◌++◌, codes, decimal, Result, Ok, Err}
+use Rattle.std.specs.Prelude.{◌≡◌, ◌⊎◌, IsTrue, ℕ, Bool, true, false, List, [], ◌∷◌, ◌++◌, codes, decimal, Result, Ok, Err, string_bytes}
+use Rattle.std.specs.List.{list_all}
+use Rattle.gw_policy_text.specs.Explanation.{is_printed}
+use Rattle.gw_shell.specs.declared.command_line.Choice.{Choice}
+use Rattle.gw_shell.specs.declared.command_line.Choice.TheVariants as choice
 use Rattle.gw_shell.specs.declared.fault.Fault.{Fault}
 use Rattle.gw_shell.specs.declared.fault.Fault.TheVariants as fault
 use Rattle.gw_policy_text.specs.declared.fault.ConfigFault.{ConfigFault}
@@ -80,3 +84,19 @@ error_text (Err of_program) = text_of of_program ++ 10 ∷ []
 abbrev pub status_after : Result (Unit {0}) Fault → ℕ
 status_after (Ok done) = 0
 status_after (Err of_program) = status_of of_program
+
+-- one line, with no control character but its line feed
+pub record IsLine (text : List ℕ) : Type 0 where
+  pub line : List ℕ
+  pub printed : IsTrue (list_all is_printed line)
+  pub parts : text ≡ line ++ 10 ∷ []
+
+-- What is told of a fault before its line: where a fault of the configuration is, where that is asked for and can be said.
+abbrev pub FaultNote : Bool → Fault → List ℕ → Type 0
+FaultNote true (fault.Configuration f) note = (note ≡ []) ⊎ IsLine note
+FaultNote _ _ note = note ≡ []
+
+-- what is told behind the line of words that are no command line: how the program is called
+abbrev pub usage_of : Result Choice Fault → List ℕ
+usage_of (Ok (choice.Usage text)) = string_bytes text
+usage_of _ = []

@@ -1,7 +1,10 @@
--- Why a log or sockets can't be opened.
-use Rattle.std.specs.Prelude.{⊤, ℕ, ◌≤◌}
+-- What opening a log and sockets may come to.
+use Rattle.std.specs.Prelude.{◌≡◌, ◌⊎◌, ⊤, ℕ, ◌≤◌, Bool, true, false, List, [], ◌∷◌, Option, Result, Ok, Err}
+use Rattle.std.specs.Io.KnownBytes.{Appends}
 use Rattle.gw_shell.specs.declared.fault.Fault.{Fault}
 use Rattle.gw_shell.specs.declared.fault.Fault.TheVariants as fault
+use Rattle.gw_shell.specs.declared.opening.SocketFailure.{SocketFailure}
+use Rattle.gw_shell.specs.declared.opening.SocketFailure.TheVariants as sockets
 
 -- a log can't be opened, or memory ran out
 abbrev pub IsLogFault : Fault → Type 0
@@ -10,7 +13,23 @@ IsLogFault fault.Memory = ⊤
 IsLogFault _ = ⊥
 
 -- a socket of one of so many ports can't be opened, or memory ran out
-abbrev pub IsSocketFault : ℕ → Fault → Type 0
-IsSocketFault ports (fault.Socket port) = (1 ≤ port) × (port ≤ ports)
-IsSocketFault ports fault.Memory = ⊤
-IsSocketFault ports _ = ⊥
+abbrev pub IsSocketFailure : ℕ → SocketFailure → Type 0
+IsSocketFailure ports (sockets.Failed failed) = (1 ≤ failed.port) × (failed.port ≤ ports)
+IsSocketFailure ports sockets.Memory = ⊤
+
+-- what opening the log of a name may give
+abbrev pub LogOpening : Type 0 → Type 1
+LogOpening Log = List ℕ → Result Log Fault → Type 0
+
+-- what a last line that was cut is given: its line feed
+abbrev pub line_end : Bool → List ℕ
+line_end true = 10 ∷ []
+line_end false = []
+
+-- A log of this name is opened so that a line begins: where its last line was cut it has been given its line feed. It can't be where it
+-- isn't opened, or where that line feed can't be written.
+abbrev pub OpensAtLine : {Log : Type 0} → LogOpening Log → (IsCut : List ℕ → Bool → Type 0) → (Log → Option (List ℕ)) → LogOpening Log
+OpensAtLine LogOpens IsCut held name (Ok log) =
+    (opened : _) × (cut : Bool) × LogOpens name (Ok opened) × IsCut name cut × Appends (held opened) (held log) (line_end cut)
+OpensAtLine LogOpens IsCut held name (Err f) =
+    LogOpens name (Err f) ⊎ ((opened : _) × LogOpens name (Ok opened) × IsCut name true × (f ≡ fault.Log))

@@ -6,6 +6,7 @@ pub mod Files
 pub mod Hidden
 pub mod Host
 pub mod Numbered
+pub mod Opening
 pub mod Program
 pub mod Replay
 pub mod Serving

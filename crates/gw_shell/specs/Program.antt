@@ -1,16 +1,14 @@
 -- The program as a whole: what the words chose, what stands on standard output then, the line on standard error and the exit status.
-use Rattle.std.specs.Prelude.{◌≡◌, ◌⊎◌, ⊤, Bool, true, IsTrue, ℕ, List, [], ◌∷◌, ◌++◌, Option, Some, Result, Ok, Err, OnOk, option_map, string_bytes}
-use Rattle.std.specs.List.{list_all}
+use Rattle.std.specs.Prelude.{◌≡◌, ⊤, Bool, ℕ, List, [], ◌++◌, Option, Some, Result, Ok, Err, OnOk, option_map, string_bytes}
 use Rattle.std.specs.Io.KnownBytes.{Appends}
 use Rattle.gw_core.specs.Replay.{OnKnown}
 use Rattle.gw_policy_text.specs.Configuration.{Configuration}
-use Rattle.gw_policy_text.specs.Explanation.{is_printed}
 use Rattle.gw_shell.specs.declared.command_line.Choice.{Choice}
 use Rattle.gw_shell.specs.declared.command_line.Choice.TheVariants as choice
 use Rattle.gw_shell.specs.declared.fault.Fault.{Fault}
 use Rattle.gw_shell.specs.declared.fault.Fault.TheVariants as fault
 use Rattle.gw_shell.specs.Configured.{IsConfigurationOf, IsConfigured}
-use Rattle.gw_shell.specs.Ending.{error_text, status_after}
+use Rattle.gw_shell.specs.Ending.{FaultNote, error_text, status_after, usage_of}
 use Rattle.gw_shell.specs.Hidden.{checked_text}
 use Rattle.gw_shell.specs.Replay.{Plays}
 use Rattle.gw_shell.specs.Serving.{IsFlushedFor, LeavesRun, Machine}
@@ -22,20 +20,9 @@ pub record AppendsFront (held holds : Option (List ℕ)) (text : List ℕ) : Typ
   pub parts : text ≡ front ++ unwritten
   pub appends : Appends held holds front
 
--- one line, with no control character but its line feed
-pub record IsLine (text : List ℕ) : Type 0 where
-  pub line : List ℕ
-  pub printed : IsTrue (list_all is_printed line)
-  pub parts : text ≡ line ++ 10 ∷ []
-
--- What an explanation leaves: one line, of which a failed write may leave a front, or nothing.
-abbrev pub LeavesLine : Option (List ℕ) → Option (List ℕ) → Type 0
-LeavesLine held holds = (holds ≡ held) ⊎ ((text : List ℕ) × IsLine text × AppendsFront held holds text)
-
--- What is left at a fault: an explanation where one is asked for and the fault is of the configuration, and else nothing.
+-- What is left at a fault: where it is, of which a failed write may leave a front.
 abbrev pub LeavesFault : Bool → Fault → Option (List ℕ) → Option (List ℕ) → Type 0
-LeavesFault true (fault.Configuration f) held holds = LeavesLine held holds
-LeavesFault _ _ held holds = holds ≡ held
+LeavesFault explains f held holds = (note : List ℕ) × FaultNote explains f note × AppendsFront held holds note
 
 -- What `check` leaves of the configuration that was read: its text, of which a failed write may leave a front. Where there is none
 -- the outcome is why, whatever became of the explanation.
@@ -74,9 +61,10 @@ LeavesOutput Reads machine input held holds told (Ok (choice.Run options)) outco
 LeavesOutput Reads machine input held holds told (Ok (choice.Help text)) (Ok done) = Appends held holds (string_bytes text)
 LeavesOutput Reads machine input held holds told (Ok (choice.Help text)) (Err f) =
     (f ≡ fault.Write) × AppendsFront held holds (string_bytes text)
+LeavesOutput Reads machine input held holds told (Ok (choice.Usage text)) outcome = (outcome ≡ Err fault.CommandLine) × (holds ≡ held)
 LeavesOutput Reads machine input held holds told (Err f) outcome = (outcome ≡ Err f) × (holds ≡ held)
 
--- Only `run` tells something at the start.
+-- Only `run` tells something before a fault's line.
 abbrev pub IsQuiet : Result Choice Fault → List ℕ → Type 0
 IsQuiet (Ok (choice.Run options)) told = ⊤
 IsQuiet _ told = told ≡ []
@@ -108,5 +96,5 @@ pub record IsRun (Chooses : Result Choice Fault → Type 0)
   pub output : Leaves told choice outcome
   pub quiet : IsQuiet choice told
   pub flush : OnOk outcome (IsFlushed choice was is)
-  pub errors : Adds (told ++ error_text outcome)
+  pub errors : Adds (told ++ error_text outcome ++ usage_of choice)
   pub status : exit ≡ status_after outcome

@@ -1,5 +1,5 @@
 -- What `run` leaves: what was opened, and what came of serving it from the gateway's first state, over the definitions of `gw_core`.
-use Rattle.std.specs.Prelude.{◌≡◌, ◌⊎◌, ⊤, ℕ, List, [], Option, Some, None, Result, Ok, Err, option_map, string_bytes}
+use Rattle.std.specs.Prelude.{◌≡◌, ◌⊎◌, ⊤, ℕ, Bool, List, [], Option, Some, None, Result, Ok, Err, option_map, string_bytes}
 use Rattle.std.specs.Io.KnownBytes.{Keeps}
 use Rattle.gw_core.specs.History.{state_after}
 use Rattle.gw_core.specs.Replay.{no_counts}
@@ -13,7 +13,12 @@ use Rattle.gw_core.specs.declared.serving.ServeStop.{ServeStop}
 use Rattle.gw_policy_text.specs.Configuration.{Configuration}
 use Rattle.gw_policy_text.specs.declared.port.Port.{Port}
 use Rattle.gw_shell.specs.Announcement.{told_text}
-use Rattle.gw_shell.specs.Ending.{fault_of_serving}
+use Rattle.gw_shell.specs.Ending.{FaultNote, fault_of_serving}
+use Rattle.gw_shell.specs.Host.{LogOpening}
+use Rattle.gw_shell.specs.Opening.{IsNote, fault_of_opening}
+use Rattle.gw_shell.specs.declared.opening.OpenFailure.{OpenFailure}
+use Rattle.gw_shell.specs.declared.opening.OpenFailure.TheVariants as opening
+use Rattle.gw_shell.specs.declared.opening.SocketFailure.{SocketFailure}
 use Rattle.gw_shell.specs.declared.options.RunOptions.{RunOptions}
 use Rattle.gw_shell.specs.declared.fault.Fault.{Fault}
 use Rattle.gw_shell.specs.declared.fault.Fault.TheVariants as fault
@@ -57,20 +62,16 @@ pub data ServesFrom (turns : ℕ) (before after : Scene) (outcome : Result (Unit
   stopped : (stop : ServeStop) → Stops turns before stop after → outcome ≡ Err (fault_of_serving stop.fault) →
       ServesFrom turns before after outcome
 
--- what opening the log of a name may give
-abbrev pub LogOpening : Type 0 → Type 1
-LogOpening Log = List ℕ → Result Log Fault → Type 0
-
 -- What opening and closing may give: of a machine, the log of a name, the sockets of some ports, and both when they are closed, the log
 -- where one was opened; and what a log holds and sockets tell.
 pub record Machine (Log Sockets : Type 0) : Type 1 where
   pub LogOpens : LogOpening Log
-  pub SocketsOpen : List Port → Result Sockets Fault → Type 0
+  pub SocketsOpen : List Port → Result Sockets SocketFailure → Type 0
   pub Closes : Sockets → Option Log → Type 0
   pub held : Log → Option (List ℕ)
   pub calls : Sockets → Option (List Call)
 
-abbrev pub machine : {Log Sockets : Type 0} → LogOpening Log → (List Port → Result Sockets Fault → Type 0)
+abbrev pub machine : {Log Sockets : Type 0} → LogOpening Log → (List Port → Result Sockets SocketFailure → Type 0)
     → (Sockets → Option Log → Type 0) → (Log → Option (List ℕ)) → (Sockets → Option (List Call)) → Machine Log Sockets
 machine LogOpens SocketsOpen Closes held calls = record {
   LogOpens = LogOpens;
@@ -108,36 +109,38 @@ IsFlushedFor (Some name) was is = is ≡ was
 IsFlushedFor None was is = is ≡ []
 
 -- The log and the sockets are open.
-pub record AreOpen {Log Sockets : Type 0} (LogOpens : LogOpening Log) (SocketsOpen : Result Sockets Fault → Type 0)
+pub record AreOpen {Log Sockets : Type 0} (LogOpens : LogOpening Log) (SocketsOpen : Result Sockets SocketFailure → Type 0)
     (name held holds : Option (List ℕ)) (log : Option Log) (sockets : Sockets) : Type 0 where
   pub log_is : LogIsOpen LogOpens name held holds log
   pub sockets_are : SocketsOpen (Ok sockets)
 
--- Why they aren't: memory ran out before either, or the log can't be opened, or the sockets can't, when the log is open.
-pub data ArentOpen {Log Sockets : Type 0} (LogOpens : LogOpening Log) (SocketsOpen : Result Sockets Fault → Type 0)
-    (name held holds : Option (List ℕ)) (f : Fault) : Type 0 where
-  no_memory : f ≡ fault.Memory → holds ≡ held → ArentOpen LogOpens SocketsOpen name held holds f
-  no_log : LogIsShut LogOpens name held holds f → ArentOpen LogOpens SocketsOpen name held holds f
-  no_sockets : (log : Option Log) → LogIsOpen LogOpens name held holds log → SocketsOpen (Err f) →
-      ArentOpen LogOpens SocketsOpen name held holds f
+-- Why they aren't: memory ran out before either, or the log can't be opened; or the sockets can't, when the log is open.
+abbrev pub ArentOpen : {Log Sockets : Type 0} → LogOpening Log → (Result Sockets SocketFailure → Type 0)
+    → (name held holds : Option (List ℕ)) → OpenFailure → Type 0
+ArentOpen LogOpens SocketsOpen name held holds (opening.Log f) =
+    ((f ≡ fault.Memory) × (holds ≡ held)) ⊎ LogIsShut LogOpens name held holds f
+ArentOpen LogOpens SocketsOpen name held holds (opening.Sockets failure) =
+    (log : Option _) × LogIsOpen LogOpens name held holds log × SocketsOpen (Err failure)
 
--- What `run` leaves under a configuration: not all can be opened; or all was opened, this line was told, and then it was served and
--- closed.
+-- What `run` leaves under a configuration: not all can be opened, and it may be told why; or all was opened, this line was told, and
+-- then it was served and closed.
 pub data LeavesServed {Log Sockets : Type 0} (machine : Machine Log Sockets) (name : Option (List ℕ)) (held holds : Option (List ℕ))
-    (c : Configuration) (turns : ℕ) (line told : List ℕ) (outcome : Result (Unit {0}) Fault) : Type 0 where
-  shut : (f : Fault) → ArentOpen machine.LogOpens (machine.SocketsOpen c.ports) name held holds f → outcome ≡ Err f → told ≡ [] →
-      LeavesServed machine name held holds c turns line told outcome
+    (c : Configuration) (turns : ℕ) (is_verbose : Bool) (line told : List ℕ) (outcome : Result (Unit {0}) Fault) : Type 0 where
+  shut : (failure : OpenFailure) → ArentOpen machine.LogOpens (machine.SocketsOpen c.ports) name held holds failure →
+      outcome ≡ Err (fault_of_opening failure) → IsNote is_verbose failure told →
+      LeavesServed machine name held holds c turns is_verbose line told outcome
   served : (log log_then : Option Log) (sockets sockets_then : Sockets) (output : Option (List ℕ)) →
       AreOpen machine.LogOpens (machine.SocketsOpen c.ports) name held output log sockets →
       machine.Closes sockets_then log_then → LogStays log log_then output holds →
       Serves c turns (ends (log_held machine.held log output) (machine.calls sockets))
       (ends (log_held machine.held log_then holds) (machine.calls sockets_then)) outcome →
-      told ≡ line → LeavesServed machine name held holds c turns line told outcome
+      told ≡ line → LeavesServed machine name held holds c turns is_verbose line told outcome
 
--- What `run` leaves under the configuration that was read. Where there is none nothing is opened, and the outcome is why.
+-- What `run` leaves under the configuration that was read. Where there is none nothing is opened, the outcome is why, and it may be told
+-- where its fault is.
 abbrev pub LeavesRun : {Log Sockets : Type 0} → Machine Log Sockets → (held holds : Option (List ℕ)) → RunOptions
     → Result Configuration Fault → (told : List ℕ) → Result (Unit {0}) Fault → Type 0
 LeavesRun machine held holds options (Ok c) told outcome =
     let name = option_map string_bytes options.log in
-    LeavesServed machine name held holds c options.turns (told_text options.verbose c name) told outcome
-LeavesRun machine held holds options (Err f) told outcome = (outcome ≡ Err f) × (holds ≡ held) × (told ≡ [])
+    LeavesServed machine name held holds c options.turns options.verbose (told_text options.verbose c name) told outcome
+LeavesRun machine held holds options (Err f) told outcome = (outcome ≡ Err f) × (holds ≡ held) × FaultNote options.verbose f told

@@ -14,6 +14,10 @@ use std::alloc::{AllocError, Global};
 /// How many turns are served at most, and where no number of them is given.
 const MAX_TURNS: u64 = i64::MAX as u64;
 
+/// What `--version` prints behind the program's name: the version, and the kit that the program is
+/// proved with, as `rt version` names it.
+const VERSION: &str = "0.1.0, proved with rattle-kit-13b logic dac8208d650f15bf";
+
 /// What stands below the help on `run`.
 const RUN_EXAMPLE: &str = "Example:
   bacgw run --config site.toml --log /var/log/bacgw.log --verbose";
@@ -28,8 +32,11 @@ pub enum Choice {
     Replay(Option<String>),
     /// Serve the ports of a configuration over UDP.
     Run(RunOptions),
-    /// Print this text.
+    /// Print this text, which is help or the version.
     Help(String),
+    /// Tell that the words are no command line, and this text behind it, which says how the program is
+    /// called.
+    Usage(String),
 }
 
 fn make_check<'a>(alloc: Global) -> Result<Command<'a>, AllocError>
@@ -86,7 +93,7 @@ fn make_run<'a>(alloc: Global) -> Result<Command<'a>, AllocError>
     );
     let verbose = Arg::new(alloc, "verbose")
         .long("verbose")
-        .help("Tells at the start what is served")
+        .help("Tells at the start what is served, or where a fault is")
         .action(ArgAction::SetTrue);
     make_run_of_files(alloc)?.arg(turns)?.arg(verbose)
 }
@@ -115,6 +122,7 @@ fn make_commands<'a>(alloc: Global) -> Result<Command<'a>, AllocError>
     let run = make_run(alloc)?;
     Command::new(alloc, "bacgw")
         .about("A gateway of BACnet/IP")
+        .version(VERSION)
         .subcommand_required(true)
         .subcommand(check)?
         .subcommand(replay)?
@@ -126,9 +134,14 @@ fn refusal_of(alloc: Global, error: Error) -> Result<Choice, Fault>
     ensures { IsRefusal (kind_of error) result }
 {
     match error.kind() {
-        ErrorKind::DisplayHelp => Ok(Choice::Help(error.to_string(alloc)?)),
+        ErrorKind::DisplayHelp | ErrorKind::DisplayVersion => {
+            Ok(Choice::Help(error.to_string(alloc)?))
+        }
         ErrorKind::OutOfMemory => Err(Fault::Memory),
-        _ => Err(Fault::CommandLine),
+        _ => match error.to_string(alloc) {
+            Ok(text) => Ok(Choice::Usage(text)),
+            Err(_) => Err(Fault::CommandLine),
+        },
     }
 }
 

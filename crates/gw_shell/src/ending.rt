@@ -3,8 +3,9 @@
 ghost use Rattle.std.specs.Prelude.{◌≡◌, ◌++◌, ◌∷◌, [], codes, decimal, IsOk, OnOk};
 ghost use Rattle.std.specs.Io.KnownBytes.{Appends};
 ghost use Rattle.std.specs.Process.{exit_status};
-ghost use Rattle.gw_shell.specs.Ending.{error_text, name_of, status_after, text_of};
+ghost use Rattle.gw_shell.specs.Ending.{error_text, name_of, status_after, text_of, usage_of};
 
+use crate::command_line::Choice;
 use crate::fault::{Fault, name_of};
 use gw_policy_text::ConfigFault;
 use gw_script::{OctetSink, WriteFailed, write_whole};
@@ -16,6 +17,7 @@ fn write_number<E: OctetSink>(text: &str, number: u64, errors: &mut E) -> Result
     ensures ok { OnOk result (Appends (E.held errors.old) (E.held errors.new)
         (text.now ++ (decimal number ++ 10 ∷ []))) }
     ensures sure { E.NeverFails errors.old → IsOk result }
+    ensures lasts { E.NeverFails errors.old → E.NeverFails errors.new }
 {
     match write_whole(errors, text.as_bytes()) {
         Ok(()) => {}
@@ -36,6 +38,7 @@ fn write_configuration_fault<E: OctetSink>(
     ensures ok { let line = codes "bacgw: configuration: " ++ name_of fault ++ 10 ∷ [] in
         OnOk result (Appends (E.held errors.old) (E.held errors.new) line) }
     ensures sure { E.NeverFails errors.old → IsOk result }
+    ensures lasts { E.NeverFails errors.old → E.NeverFails errors.new }
 {
     match write_whole(errors, b"bacgw: configuration: ") {
         Ok(()) => {}
@@ -52,6 +55,7 @@ fn write_configuration_fault<E: OctetSink>(
 fn write_fault<E: OctetSink>(fault: Fault, errors: &mut E) -> Result<(), WriteFailed>
     ensures ok { OnOk result (Appends (E.held errors.old) (E.held errors.new) (text_of fault ++ 10 ∷ [])) }
     ensures sure { E.NeverFails errors.old → IsOk result }
+    ensures lasts { E.NeverFails errors.old → E.NeverFails errors.new }
 {
     match fault {
         Fault::CommandLine => write_whole(errors, b"bacgw: bad command line\n"),
@@ -69,10 +73,30 @@ fn write_fault<E: OctetSink>(fault: Fault, errors: &mut E) -> Result<(), WriteFa
     }
 }
 
+/// Tells what an operator may want to know beside a fault's line. Where standard error takes nothing
+/// the program goes on all the same.
+pub fn tell<E: OctetSink>(text: &[u8], errors: &mut E)
+    ensures told { E.NeverFails errors.old → Appends (E.held errors.old) (E.held errors.new) text.now }
+    ensures lasts { E.NeverFails errors.old → E.NeverFails errors.new }
+{
+    let _ = write_whole(errors, text);
+}
+
+/// What is told behind the line of words that are no command line, and nothing behind another.
+pub fn usage_of(choice: &Result<Choice, Fault>) -> &[u8]
+    ensures { result.now ≡ usage_of choice.now }
+{
+    match choice {
+        Ok(Choice::Usage(text)) => text.as_bytes(),
+        _ => b"",
+    }
+}
+
 /// Writes the line of a fault, and nothing where there is none. It answers the exit status: 0 where there is no fault, and else the
 /// fault's.
 pub fn end<E: OctetSink>(outcome: Result<(), Fault>, errors: &mut E) -> ExitCode
     ensures line { E.NeverFails errors.old → Appends (E.held errors.old) (E.held errors.new) (error_text outcome) }
+    ensures lasts { E.NeverFails errors.old → E.NeverFails errors.new }
     ensures status { exit_status result ≡ status_after outcome }
 {
     match outcome {

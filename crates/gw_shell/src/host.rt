@@ -1,25 +1,27 @@
 //! What `run` takes of the machine: a log, and a wire over the sockets of the ports.
 
-ghost use Rattle.std.specs.Prelude.{◌≡◌, ◌≤◌, ℕ, List, length, ⊤, Result, Option, IfOk, IfErr};
+ghost use Rattle.std.specs.Prelude.{◌≡◌, ◌≤◌, ℕ, Bool, List, length, ⊤, Result, Option, IfOk, IfErr};
 ghost use Rattle.gw_policy_text.specs.declared.port.Port.{Port};
 ghost use Rattle.gw_shell.specs.declared.fault.Fault.{Fault};
-ghost use Rattle.gw_shell.specs.Host.{IsLogFault, IsSocketFault};
+ghost use Rattle.gw_shell.specs.Host.{IsLogFault, IsSocketFailure};
+ghost use Rattle.gw_shell.specs.declared.opening.SocketFailure.{SocketFailure};
 
 use crate::fault::Fault;
+use crate::opening::{SocketFailure, Step};
 use crate::poll_waiter::PollWaiter;
 use crate::system_clock::SystemClock;
-use crate::udp::{UdpSock, open_pairs, socket_fault};
+use crate::udp::{UdpSock, open_pairs};
 use gw_core::Wire;
 use gw_policy_text::Port;
 use gw_ports::{Ports, SockPair, TimedPorts};
 use gw_script::OctetSink;
 use std::alloc::Global;
 use std::fs::File;
-use std::io;
-use std::io::ErrorKind;
+use std::io::{ErrorKind, Read, Seek, SeekFrom};
 use std::net::Net;
 use std::rt::Files;
 use std::time::Clock;
+use std::{fs, io};
 
 /// What `run` takes of a machine.
 pub trait Host {
@@ -32,8 +34,11 @@ pub trait Host {
     /// What opening the log of a name may give.
     ghost LogOpens: { Self → List ℕ → Result Self.Log Fault → Type 0 };
 
+    /// Whether the last line of the log of a name may lack its line feed.
+    ghost LogIsCut: { Self → List ℕ → Bool → Type 0 };
+
     /// What opening the sockets of some ports may give.
-    ghost SocketsOpen: { Self → List Port → Result Self.Sockets Fault → Type 0 };
+    ghost SocketsOpen: { Self → List Port → Result Self.Sockets SocketFailure → Type 0 };
 
     /// How the sockets, and the log where one was opened, may have been when they were closed.
     ghost Closes: { Self → Self.Sockets → Option Self.Log → Type 0 };
@@ -43,19 +48,36 @@ pub trait Host {
         ensures opens { LogOpens self.now name.now result }
         ensures fault { IfErr result IsLogFault };
 
+    /// Whether the log of this name has octets and doesn't end in a line feed, as where a disk was
+    /// full or the power failed. Not where it can't be read.
+    fn is_cut(&self, name: &str) -> bool
+        ensures { LogIsCut self.now name.now result };
+
     /// Opens the sockets of these ports, from 1 to 8, in their order, of each port that of its own
-    /// address first. Faults: `Socket` with the number of the port, and `Memory`.
-    fn open_sockets(&self, alloc: Global, ports: &[Port]) -> Result<Self::Sockets, Fault>
+    /// address first.
+    fn open_sockets(&self, alloc: Global, ports: &[Port]) -> Result<Self::Sockets, SocketFailure>
         requires least { 1 ≤ length ports.now }
         requires most { length ports.now ≤ 8 }
         ensures opens { SocketsOpen self.now ports.now result }
         ensures ports { IfOk result (λ wire. Self.Sockets.port_count wire ≡ length ports.now) }
         ensures fresh { IfOk result (λ wire. Self.Sockets.failure_count wire ≡ 0) }
-        ensures fault { IfErr result (IsSocketFault (length ports.now)) };
+        ensures failure { IfErr result (IsSocketFailure (length ports.now)) };
 
     /// Closes the sockets and the log.
     fn close(&mut self, sockets: Self::Sockets, log: Option<Self::Log>)
         ensures { Closes self.new sockets log };
+}
+
+/// The last octet of a regular file, an `Err` where it has none or can't be read. A pipe or a terminal is left alone.
+fn last_octet<R: Files>(rt: &R, name: &str) -> io::Result<u8> {
+    if !rt.metadata(name)?.is_file() {
+        return Err(ErrorKind::NotSeekable.into());
+    }
+    let mut file = fs::open(rt, name)?;
+    file.seek(SeekFrom::End(-1))?;
+    let mut last = [0];
+    file.read_exact(&mut last)?;
+    Ok(last[0])
 }
 
 /// The machine of the process.
@@ -89,6 +111,8 @@ impl<'a, R: Files + Net + Clock> Host for SystemHost<'a, R> {
 
     ghost LogOpens = { λ _ _ _. ⊤ };
 
+    ghost LogIsCut = { λ _ _ _. ⊤ };
+
     ghost SocketsOpen = { λ _ _ _. ⊤ };
 
     ghost Closes = { λ _ _ _. ⊤ };
@@ -107,15 +131,22 @@ impl<'a, R: Files + Net + Clock> Host for SystemHost<'a, R> {
         }
     }
 
+    fn is_cut(&self, name: &str) -> bool {
+        match last_octet(self.rt, name) {
+            Ok(octet) => octet != b'\n',
+            Err(_) => false,
+        }
+    }
+
     fn open_sockets(
         &self,
         alloc: Global,
         ports: &[Port],
-    ) -> Result<TimedPorts<UdpSock, SystemClock<'a, R>, PollWaiter>, Fault> {
+    ) -> Result<TimedPorts<UdpSock, SystemClock<'a, R>, PollWaiter>, SocketFailure> {
         let pairs = open_pairs(alloc, self.rt, ports)?;
         match self.start(alloc, pairs) {
             Ok(timed) => Ok(timed),
-            Err(error) => Err(socket_fault(1, &error)),
+            Err(error) => Err(SocketFailure::at(1, Step::Waiting, ports[0].address, &error)),
         }
     }
 

@@ -1,21 +1,23 @@
 //! The whole program, over any words, reader and writers.
 
-ghost use Rattle.std.specs.Prelude.{◌≡◌, ◌++◌, ◌∷◌, [], Bool, List, ℕ, Ok, map, option_map, string_bytes, MatchResult, IfErr, IfOk, IfSome, IsOk, OnOk, OnErr};
+ghost use Rattle.std.specs.Prelude.{◌≡◌, ◌⊎◌, [], List, ℕ, Ok, Result, map, option_map, string_bytes, MatchResult, IfErr, IfOk, IsOk, OnOk, OnErr};
 ghost use Rattle.std.specs.Io.Buffered.{writer_buffer, writer_contents};
 ghost use Rattle.std.specs.Io.KnownBytes.{Appends};
 ghost use Rattle.std.specs.Process.{exit_status};
 ghost use Rattle.gw_policy_text.specs.Configuration.{Configuration};
 ghost use Rattle.gw_shell.specs.CommandLine.{IsAnswer};
-ghost use Rattle.gw_shell.specs.Configured.{IsConfigured};
+ghost use Rattle.gw_shell.specs.Configured.{IsConfigurationOf};
+ghost use Rattle.gw_shell.specs.Ending.{FaultNote, IsLine};
 ghost use Rattle.gw_shell.specs.Files.{result_map};
-ghost use Rattle.gw_shell.specs.Program.{AppendsFront, IsFlushed, IsFollowed, IsLine, IsRun, LeavesChecked, LeavesFault, LeavesLine, LeavesOfText, LeavesOutput, LeavesPlayed};
+ghost use Rattle.gw_shell.specs.Host.{OpensAtLine};
+ghost use Rattle.gw_shell.specs.Program.{AppendsFront, IsFlushed, IsFollowed, IsRun, LeavesChecked, LeavesOfText, LeavesOutput, LeavesPlayed};
 ghost use Rattle.gw_shell.specs.Serving.{IsFlushedFor, LeavesRun, machine};
 ghost use Rattle.gw_shell.specs.declared.fault.Fault.{Fault};
 ghost use Rattle.gw_shell.specs.declared.fault.Fault.TheVariants as fault;
 
 use crate::command_line::{Choice, choice_of};
-use crate::configured::{configuration, configuration_in, configuration_of};
-use crate::ending::end;
+use crate::configured::{configuration, configuration_of};
+use crate::ending::{end, tell, usage_of};
 use crate::fault::Fault;
 use crate::files::ConfigFiles;
 use crate::hidden::checked_text;
@@ -91,59 +93,38 @@ fn print_checked<W: Write + Drop>(
     print(&text, output)
 }
 
-/// The line that explains this fault of a text, where there is one.
-fn explanation(
-    alloc: Global,
-    text: &[u8],
-    fault: ConfigFault,
-) -> Result<Option<Vec<u8>>, AllocError>
-    ensures { IfOk result (λ line. IfSome line (λ octets. IsLine octets.items)) }
+/// What is told of the fault of a text that was read, where that is asked for: where in the text a fault
+/// of the configuration is. It is left out where there is no memory for it.
+fn fault_note(alloc: Global, is_asked: bool, text: &Result<Vec<u8>, Fault>, fault: Fault) -> Vec<u8>
+    ensures { FaultNote is_asked fault result.items }
 {
-    match explain(alloc, text, fault)? {
-        Some(explanation) => Ok(Some(line_of(alloc, &explanation)?)),
-        None => Ok(None),
+    if let (true, Ok(text), Fault::Configuration(fault)) = (is_asked, text, fault) {
+        return explanation(alloc, text, fault);
+    }
+    Vec::new(alloc)
+}
+
+/// The line that explains this fault of a text, or nothing where there is none.
+fn explanation(alloc: Global, text: &[u8], fault: ConfigFault) -> Vec<u8>
+    ensures { (result.items ≡ []) ⊎ IsLine result.items }
+{
+    let line = match explain(alloc, text, fault) {
+        Ok(Some(explanation)) => line_of(alloc, &explanation),
+        Ok(None) | Err(_) => Err(AllocError),
+    };
+    match line {
+        Ok(line) => line,
+        Err(_) => Vec::new(alloc),
     }
 }
 
 /// An explanation with its line feed.
 fn line_of(alloc: Global, explanation: &Explanation) -> Result<Vec<u8>, AllocError>
-    ensures { IfOk result (λ octets. octets.items ≡ explanation.now ++ 10 ∷ []) }
+    ensures { IfOk result (λ octets. IsLine octets.items) }
 {
     let mut line = Vec::from_slice(alloc, explanation.as_bytes())?;
     line.push(b'\n')?;
     Ok(line)
-}
-
-/// Prints where this fault of a text is. Where that fails the fault is still told.
-fn print_explanation<W: Write + Drop>(
-    alloc: Global,
-    text: &[u8],
-    fault: ConfigFault,
-    output: &mut BufWriter<W>,
-)
-    ensures { LeavesLine (writer_contents W.contents output.old) (writer_contents W.contents output.new) }
-{
-    match explanation(alloc, text, fault) {
-        Ok(Some(line)) => {
-            let _ = print(&line, output);
-        }
-        Ok(None) | Err(_) => {}
-    }
-}
-
-/// Prints what is wrong with the text that was read, where that is asked for.
-fn print_fault<W: Write + Drop>(
-    alloc: Global,
-    explains: bool,
-    text: &Result<Vec<u8>, Fault>,
-    fault: Fault,
-    output: &mut BufWriter<W>,
-)
-    ensures { LeavesFault explains fault (writer_contents W.contents output.old) (writer_contents W.contents output.new) }
-{
-    if let (true, Ok(text), Fault::Configuration(fault)) = (explains, text, fault) {
-        print_explanation(alloc, text, fault, output);
-    }
 }
 
 /// Prints what the configuration has that was read, or what is wrong with it where that is asked for.
@@ -161,7 +142,8 @@ fn check<W: Write + Drop>(
     match configuration_of(alloc, text) {
         Ok(config) => print_checked(alloc, explains, &config, output),
         Err(fault) => {
-            print_fault(alloc, explains, text, fault, output);
+            // Where this can't be printed the fault is told all the same.
+            let _ = print(&fault_note(alloc, explains, text, fault), output);
             Err(fault)
         }
     }
@@ -184,34 +166,40 @@ fn play<R: OctetSource, W: Write + Drop>(
     }
 }
 
-/// Serves the ports of the configuration that was read.
+/// Serves the ports of the configuration of a text that was read, or tells where its fault is, where
+/// that is asked for.
 fn serve<H: Host, W: Write + Drop, E: OctetSink>(
     alloc: Global,
-    config: Result<Config, Fault>,
+    text: &Result<Vec<u8>, Fault>,
     options: &RunOptions,
     host: &mut H,
     output: &mut BufWriter<W>,
     errors: &mut E,
 ) -> Result<(), Fault>
-    ensures served { (told : List ℕ)
-        × LeavesRun (machine (H.LogOpens host.old) (H.SocketsOpen host.old) (H.Closes host.new)
-        H.Log.held H.Sockets.calls) (writer_contents W.contents output.old)
-        (writer_contents W.contents output.new) options.now config told result
+    ensures served { (told : List ℕ) × (config : Result Configuration Fault)
+        × IsConfigurationOf (result_map (λ octets. octets.items) text.now) config
+        × LeavesRun (machine (OpensAtLine (H.LogOpens host.old) (H.LogIsCut host.old) H.Log.held)
+        (H.SocketsOpen host.old) (H.Closes host.new) H.Log.held H.Sockets.calls)
+        (writer_contents W.contents output.old) (writer_contents W.contents output.new) options.now
+        config told result
         × (E.NeverFails errors.old → Appends (E.held errors.old) (E.held errors.new) told) }
     ensures lasting { E.NeverFails errors.old → E.NeverFails errors.new }
     ensures flush { OnOk result (IsFlushedFor (option_map string_bytes options.now.log)
         (writer_buffer output.old) (writer_buffer output.new)) }
 {
-    match config {
+    match configuration_of(alloc, text) {
         Ok(config) => serve_ports(alloc, config, options, host, output, errors),
-        Err(fault) => Err(fault),
+        Err(fault) => {
+            tell(&fault_note(alloc, options.verbose, text, fault), errors);
+            Err(fault)
+        }
     }
 }
 
 /// Does what was chosen.
 fn follow<F: ConfigFiles, H: Host, R: OctetSource, W: Write + Drop, E: OctetSink>(
     alloc: Global,
-    choice: Result<Choice, Fault>,
+    choice: &Result<Choice, Fault>,
     files: &F,
     host: &mut H,
     input: &mut R,
@@ -219,38 +207,41 @@ fn follow<F: ConfigFiles, H: Host, R: OctetSource, W: Write + Drop, E: OctetSink
     errors: &mut E,
 ) -> Result<(), Fault>
     ensures followed { IsFollowed
-        (LeavesOutput (F.Reads files.now) (machine (H.LogOpens host.old) (H.SocketsOpen host.old)
-        (H.Closes host.new) H.Log.held H.Sockets.calls) (R.left input.old)
+        (LeavesOutput (F.Reads files.now)
+        (machine (OpensAtLine (H.LogOpens host.old) (H.LogIsCut host.old) H.Log.held)
+        (H.SocketsOpen host.old) (H.Closes host.new) H.Log.held H.Sockets.calls) (R.left input.old)
         (writer_contents W.contents output.old) (writer_contents W.contents output.new))
         (λ told. E.NeverFails errors.old → Appends (E.held errors.old) (E.held errors.new) told)
-        choice result }
+        choice.now result }
     ensures lasting { E.NeverFails errors.old → E.NeverFails errors.new }
     ensures flush { OnOk result
-        (IsFlushed choice (writer_buffer output.old) (writer_buffer output.new)) }
+        (IsFlushed choice.now (writer_buffer output.old) (writer_buffer output.new)) }
 {
     match choice {
         Ok(Choice::Check { file, explains }) => {
-            let text = files.read(alloc, &file);
-            check(alloc, explains, &text, output)
+            let text = files.read(alloc, file);
+            check(alloc, *explains, &text, output)
         }
         Ok(Choice::Replay(file)) => {
-            let config = configuration(alloc, files, &file);
+            let config = configuration(alloc, files, file);
             play(alloc, config, input, output)
         }
         Ok(Choice::Run(options)) => {
-            let config = configuration_in(alloc, files, &options.config);
-            serve(alloc, config, &options, host, output, errors)
+            let text = files.read(alloc, &options.config);
+            serve(alloc, &text, options, host, output, errors)
         }
         Ok(Choice::Help(text)) => print(text.as_bytes(), output),
-        Err(fault) => Err(fault),
+        Ok(Choice::Usage(_)) => Err(Fault::CommandLine),
+        Err(fault) => Err(*fault),
     }
 }
 
 /// Runs the program on these words, or on the fault for which there are none: the configuration that
 /// they name is read from `files`, what it has is printed to `output`, or the script of `input` is
-/// replayed there, or what `host` opens is served, or help is printed; what is served may be told on
-/// `errors`, a fault is one line there, and the exit status says of which kind it is. The words begin
-/// with the program's name.
+/// replayed there, or what `host` opens is served, or help is printed; what is served, or where a fault
+/// is, may be told on `errors`, a fault is one line there, behind words that are no command line stands how
+/// the program is called, and the exit status says of which kind the fault is. The words begin with the
+/// program's name.
 pub fn run<F: ConfigFiles, H: Host, R: OctetSource, W: Write + Drop, E: OctetSink>(
     alloc: Global,
     words: Result<Vec<String>, Fault>,
@@ -264,14 +255,17 @@ pub fn run<F: ConfigFiles, H: Host, R: OctetSource, W: Write + Drop, E: OctetSin
         (λ choice. MatchResult words
         (λ w. IsAnswer (map string_bytes w.items) choice)
         (λ f. choice ≡ Err f))
-        (LeavesOutput (F.Reads files.now) (machine (H.LogOpens host.old) (H.SocketsOpen host.old)
-        (H.Closes host.new) H.Log.held H.Sockets.calls) (R.left input.old)
+        (LeavesOutput (F.Reads files.now)
+        (machine (OpensAtLine (H.LogOpens host.old) (H.LogIsCut host.old) H.Log.held)
+        (H.SocketsOpen host.old) (H.Closes host.new) H.Log.held H.Sockets.calls) (R.left input.old)
         (writer_contents W.contents output.old) (writer_contents W.contents output.new))
         (writer_buffer output.old) (writer_buffer output.new)
         (λ line. E.NeverFails errors.old → Appends (E.held errors.old) (E.held errors.new) line)
         (exit_status result) }
 {
     let choice = choice_from(alloc, words);
-    let outcome = follow(alloc, choice, files, host, input, output, errors);
-    end(outcome, errors)
+    let outcome = follow(alloc, &choice, files, host, input, output, errors);
+    let exit = end(outcome, errors);
+    tell(usage_of(&choice), errors);
+    exit
 }

@@ -10,12 +10,15 @@ ghost use Rattle.gw_core.specs.History.{state_after};
 ghost use Rattle.gw_core.specs.Replay.{no_counts};
 ghost use Rattle.gw_core.specs.Serve.{scene};
 ghost use Rattle.gw_shell.specs.Announcement.{told_text};
+ghost use Rattle.gw_shell.specs.Host.{OpensAtLine};
 ghost use Rattle.gw_shell.specs.Serving.{AreOpen, ArentOpen, IsFlushedFor, LeavesRun, LogIsOpen, LogIsShut, LogStays, Serves, ServesFrom, ends, log_held, machine};
 ghost use Rattle.gw_shell.specs.declared.fault.Fault.TheVariants as fault;
 
 use crate::announcement::told_text;
+use crate::ending::tell;
 use crate::fault::Fault;
 use crate::host::Host;
+use crate::opening::{OpenFailure, note_of};
 use crate::options::RunOptions;
 use gw_core::{Counts, Gateway, Wire, serve};
 use gw_policy_text::Config;
@@ -79,6 +82,24 @@ pub fn serve_fresh<S: Wire, L: OctetSink>(
     }
 }
 
+/// Opens the log of this name. Where its last line was cut, that gets its line feed, so that the next
+/// one has a line of its own. Faults: `Log`, and `Memory`.
+fn open_at_line<H: Host>(name: &str, host: &H) -> Result<H::Log, Fault>
+    ensures { OpensAtLine (H.LogOpens host.now) (H.LogIsCut host.now) H.Log.held name.now result }
+{
+    let mut log = match host.open_log(name) {
+        Ok(log) => log,
+        Err(fault) => return Err(fault),
+    };
+    if !host.is_cut(name) {
+        return Ok(log);
+    }
+    match write_whole(&mut log, b"\n") {
+        Ok(()) => Ok(log),
+        Err(_) => Err(Fault::Log),
+    }
+}
+
 /// Opens the log: the file of this name, or standard output, whose buffer is flushed.
 fn open_log<H: Host, W: Write + Drop>(
     log: &Option<String>,
@@ -88,14 +109,14 @@ fn open_log<H: Host, W: Write + Drop>(
     ensures log { let name = option_map string_bytes log.now in
         let held = writer_contents W.contents output.old in
         let holds = writer_contents W.contents output.new in
-        MatchResult result (LogIsOpen (H.LogOpens host.now) name held holds)
-        (LogIsShut (H.LogOpens host.now) name held holds) }
+        let LogOpens = OpensAtLine (H.LogOpens host.now) (H.LogIsCut host.now) H.Log.held in
+        MatchResult result (LogIsOpen LogOpens name held holds) (LogIsShut LogOpens name held holds) }
     ensures unbuffered { IfOk result (λ opened. opened ≡ None → writer_buffer output.new ≡ []) }
     ensures buffer { OnOk result (IsFlushedFor (option_map string_bytes log.now)
         (writer_buffer output.old) (writer_buffer output.new)) }
 {
     match log {
-        Some(name) => match host.open_log(name) {
+        Some(name) => match open_at_line(name, host) {
             Ok(log) => Ok(Some(log)),
             Err(fault) => Err(fault),
         },
@@ -114,24 +135,24 @@ struct Opening<L, S> {
     sockets: S,
 }
 
-/// Makes the line that is told at the start, opens the log and then the sockets. Faults: `Memory`,
-/// `Log` and `Socket`.
+/// Makes the line that is told at the start, opens the log and then the sockets.
 fn open<H: Host, W: Write + Drop>(
     alloc: Global,
     config: &Config,
     options: &RunOptions,
     host: &H,
     output: &mut BufWriter<W>,
-) -> Result<Opening<H::Log, H::Sockets>, Fault>
+) -> Result<Opening<H::Log, H::Sockets>, OpenFailure>
     ensures line { let name = option_map string_bytes options.now.log in
         IfOk result (λ opening. opening.line.items ≡ told_text options.now.verbose config.now name) }
     ensures open { let name = option_map string_bytes options.now.log in
         let held = writer_contents W.contents output.old in
         let holds = writer_contents W.contents output.new in
+        let LogOpens = OpensAtLine (H.LogOpens host.now) (H.LogIsCut host.now) H.Log.held in
         let SocketsOpen = H.SocketsOpen host.now config.now.ports in
         MatchResult result
-        (λ opening. AreOpen (H.LogOpens host.now) SocketsOpen name held holds opening.log opening.sockets)
-        (ArentOpen (H.LogOpens host.now) SocketsOpen name held holds) }
+        (λ opening. AreOpen LogOpens SocketsOpen name held holds opening.log opening.sockets)
+        (ArentOpen LogOpens SocketsOpen name held holds) }
     ensures unbuffered { IfOk result (λ opening. opening.log ≡ None → writer_buffer output.new ≡ []) }
     ensures fresh { IfOk result (λ opening. H.Sockets.failure_count opening.sockets ≡ 0) }
     ensures buffer { OnOk result (IsFlushedFor (option_map string_bytes options.now.log)
@@ -140,11 +161,11 @@ fn open<H: Host, W: Write + Drop>(
     let line = told_text(alloc, config, &options.log, options.verbose)?;
     let log = match open_log(&options.log, host, output) {
         Ok(log) => log,
-        Err(fault) => return Err(fault),
+        Err(fault) => return Err(OpenFailure::Log(fault)),
     };
     match host.open_sockets(alloc, config.ports()) {
         Ok(sockets) => Ok(Opening { line, log, sockets }),
-        Err(fault) => Err(fault),
+        Err(failure) => Err(OpenFailure::Sockets(failure)),
     }
 }
 
@@ -175,8 +196,9 @@ fn serve_open<L: OctetSink, S: Wire, W: Write + Drop>(
     }
 }
 
-/// Serves the ports of a configuration as the options ask, and tells at the start what is served
-/// where they ask for that. Faults: `Log`, `Socket`, `Memory` and `CountEnd`.
+/// Serves the ports of a configuration as the options ask. Where they ask to be told more it tells at
+/// the start what is served, or why sockets can't be opened. Faults: `Log`, `Socket`, `Memory` and
+/// `CountEnd`.
 pub fn serve_ports<H: Host, W: Write + Drop, E: OctetSink>(
     alloc: Global,
     config: Config,
@@ -186,8 +208,9 @@ pub fn serve_ports<H: Host, W: Write + Drop, E: OctetSink>(
     errors: &mut E,
 ) -> Result<(), Fault>
     ensures served { (told : List ℕ)
-        × LeavesRun (machine (H.LogOpens host.old) (H.SocketsOpen host.old)
-        (H.Closes host.new) H.Log.held H.Sockets.calls) (writer_contents W.contents output.old)
+        × LeavesRun (machine (OpensAtLine (H.LogOpens host.old) (H.LogIsCut host.old) H.Log.held)
+        (H.SocketsOpen host.old) (H.Closes host.new) H.Log.held H.Sockets.calls)
+        (writer_contents W.contents output.old)
         (writer_contents W.contents output.new) options.now (Ok config) told result
         × (E.NeverFails errors.old → Appends (E.held errors.old) (E.held errors.new) told) }
     ensures lasting { E.NeverFails errors.old → E.NeverFails errors.new }
@@ -202,12 +225,15 @@ pub fn serve_ports<H: Host, W: Write + Drop, E: OctetSink>(
                 mut sockets,
             },
         ) => {
-            // Where standard error takes nothing the ports are served all the same.
-            let _ = write_whole(errors, &line);
+            tell(&line, errors);
             let outcome = serve_open(alloc, config, options.turns, &mut log, &mut sockets, output);
             host.close(sockets, log);
             outcome
         }
-        Err(fault) => Err(fault),
+        Err(failure) => {
+            let note = note_of(alloc, options.verbose, failure);
+            tell(&note, errors);
+            Err(failure.fault())
+        }
     }
 }

@@ -1,10 +1,10 @@
 //! The UDP sockets of the system.
 
 ghost use Rattle.std.specs.Prelude.{◌≡◌, ◌≤◌, ℕ, ⊤, length, IfErr, IfOk};
-ghost use Rattle.gw_shell.specs.Host.{IsSocketFault};
+ghost use Rattle.gw_shell.specs.Host.{IsSocketFailure};
 ghost use Rattle.gw_ports.specs.Socket.{FitsBuffer};
 
-use crate::fault::Fault;
+use crate::opening::{SocketFailure, Step};
 use gw_addr::BipAddr;
 use gw_core::RECEIVE_ROOM;
 use gw_policy_text::Port;
@@ -65,45 +65,48 @@ impl UdpSock {
 
 /// Opens the sockets of a port: that of its own address, which may send broadcasts, and then that of
 /// its broadcast address.
-fn open_pair(net: &impl Net, port: &Port) -> io::Result<SockPair<UdpSock>> {
-    let own = UdpSock::open(net, port.address)?;
-    own.allow_broadcasts()?;
-    let broadcast = UdpSock::open(net, port.broadcast)?;
-    Ok(SockPair::new(own, broadcast))
+fn open_pair(net: &impl Net, number: u8, port: &Port) -> Result<SockPair<UdpSock>, SocketFailure>
+    requires least { 1 ≤ number }
+    ensures { (ports : ℕ) → number ≤ ports → IfErr result (IsSocketFailure ports) }
+{
+    let own = match open_own(net, port.address) {
+        Ok(own) => own,
+        Err(error) => return Err(SocketFailure::at(number, Step::Own, port.address, &error)),
+    };
+    match UdpSock::open(net, port.broadcast) {
+        Ok(broadcast) => Ok(SockPair::new(own, broadcast)),
+        Err(error) => { Err(SocketFailure::at(number, Step::Broadcast, port.broadcast, &error)) }
+    }
 }
 
-/// Opens the sockets of these ports, at most 8, in their order. Faults: `Socket` with the number of
-/// the port, and `Memory`.
+/// Opens a socket at a port's own address, which may send broadcasts.
+fn open_own(net: &impl Net, address: BipAddr) -> io::Result<UdpSock> {
+    let own = UdpSock::open(net, address)?;
+    own.allow_broadcasts()?;
+    Ok(own)
+}
+
+/// Opens the sockets of these ports, at most 8, in their order.
 pub fn open_pairs(
     alloc: Global,
     net: &impl Net,
     ports: &[Port],
-) -> Result<Vec<SockPair<UdpSock>>, Fault>
+) -> Result<Vec<SockPair<UdpSock>>, SocketFailure>
     requires { length ports.now ≤ 8 }
     ensures count { IfOk result (λ pairs. length pairs.items ≡ length ports.now) }
-    ensures fault { IfErr result (IsSocketFault (length ports.now)) }
+    ensures failure { IfErr result (IsSocketFailure (length ports.now)) }
 {
     let mut pairs = Vec::new(alloc);
     for place in 0..ports.len() {
-        let pair = match open_pair(net, &ports[place]) {
+        let pair = match open_pair(net, place as u8 + 1, &ports[place]) {
             Ok(pair) => pair,
-            Err(error) => return Err(socket_fault(place as u8 + 1, &error)),
+            Err(failure) => return Err(failure),
         };
         if pairs.push(pair).is_err() {
-            return Err(Fault::Memory);
+            return Err(SocketFailure::Memory);
         }
     }
     Ok(pairs)
-}
-
-/// The fault where a socket of the port of this number can't be opened.
-pub fn socket_fault(port: u8, error: &io::Error) -> Fault
-    ensures { (ports : ℕ) → 1 ≤ port → port ≤ ports → IsSocketFault ports result }
-{
-    match error.kind() {
-        ErrorKind::OutOfMemory => Fault::Memory,
-        _ => Fault::Socket(port),
-    }
 }
 
 impl Sock for UdpSock {

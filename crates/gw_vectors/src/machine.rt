@@ -10,7 +10,7 @@ use crate::words::{call, put, status_text};
 use gw_addr::BipAddr;
 use gw_core::{Got, RECEIVE_ROOM, Wire, WireFault};
 use gw_policy_text::Port;
-use gw_shell::{ConfigFiles, Fault, Host, run};
+use gw_shell::{ConfigFiles, FailedStep, Fault, Host, Reason, SocketFailure, Step, run};
 use itoa::Buffer;
 use std::alloc::{AllocError, Global};
 use std::io;
@@ -153,12 +153,13 @@ impl Wire for MemSockets {
 /// The wire and the log that a machine closed.
 type Closed = (MemSockets, Option<Narrow>);
 
-/// A machine in memory: its log takes so many octets, or can't be opened, and a socket of one port
-/// may fail. It keeps what was closed.
+/// A machine in memory: its log takes so many octets, or can't be opened, and may end in a line that
+/// was cut; and the broadcast socket of one port may fail. It keeps what was closed.
 #[derive(Drop)]
 struct MemHost {
     alloc: Global,
     log: Option<usize>,
+    is_cut: bool,
     failing: Option<usize>,
     closed: Option<Closed>,
 }
@@ -169,6 +170,8 @@ impl Host for MemHost {
     type Sockets = MemSockets;
 
     ghost LogOpens = { λ _ _ _. ⊤ };
+
+    ghost LogIsCut = { λ _ _ _. ⊤ };
 
     ghost SocketsOpen = { λ _ _ _. ⊤ };
 
@@ -181,9 +184,20 @@ impl Host for MemHost {
         }
     }
 
-    fn open_sockets(&self, _alloc: Global, ports: &[Port]) -> Result<MemSockets, Fault> {
+    fn is_cut(&self, _name: &str) -> bool {
+        self.is_cut
+    }
+
+    fn open_sockets(&self, _alloc: Global, ports: &[Port]) -> Result<MemSockets, SocketFailure> {
         match self.failing {
-            Some(port) if 1 <= port && port <= ports.len() => Err(Fault::Socket(port as u8)),
+            Some(port) if 1 <= port && port <= ports.len() => {
+                Err(SocketFailure::Failed(FailedStep {
+                    port: port as u8,
+                    step: Step::Broadcast,
+                    address: ports[port - 1].broadcast,
+                    reason: Reason::NoAddress,
+                }))
+            }
             _ => Ok(MemSockets {
                 ports: ports.len() as u8,
                 receives: 0,
@@ -249,6 +263,7 @@ fn run_with(alloc: Global, config: &str, section: &str, room: usize) -> Result<L
     let mut host = MemHost {
         alloc,
         log: number_of(lines, "log "),
+        is_cut: has_line(lines, "cut log"),
         failing: number_of(lines, "failing port "),
         closed: None,
     };

@@ -45,7 +45,7 @@ fn put_choice(choice: &Result<Choice, Fault>, out: &mut Vec<u8>) -> Result<(), A
         Ok(Choice::Replay(Some(file))) => put(out, &["replay ", file.as_str()]),
         Ok(Choice::Run(options)) => put_options(options, out),
         Ok(Choice::Help(_)) => put(out, &["help"]),
-        Err(Fault::CommandLine) => put(out, &["refused"]),
+        Ok(Choice::Usage(_)) | Err(Fault::CommandLine) => put(out, &["refused"]),
         Err(Fault::Memory) => put(out, &["out of memory"]),
         Err(_) => put(out, &["another fault"]),
     }

@@ -1,5 +1,5 @@
 use Rattle.gw_core.proofs.HistoryLemmas.{configuration_stays, ports_stay, runs_extend, steps_extend}
-use Rattle.gw_core.proofs.StandLemmas.{acts_leave_the_tables, learnings_leave_the_routes}
+use Rattle.gw_core.proofs.StandLemmas.{acts_leave_the_tables, learnings_leave_the_routes, writes_leave_the_slots}
 use Rattle.gw_core.proofs.laws.histories.Goals as goal
 
 pub returns-clause-steps : goal.returns-clause-steps
@@ -13,6 +13,9 @@ returns-clause-tables c = acts_leave_the_tables
 
 pub returns-clause-routes : goal.returns-clause-routes
 returns-clause-routes c = learnings_leave_the_routes
+
+pub returns-clause-slots : goal.returns-clause-slots
+returns-clause-slots c = writes_leave_the_slots
 
 pub returns-clause-ports : goal.returns-clause-ports
 returns-clause-ports c = ports_stay

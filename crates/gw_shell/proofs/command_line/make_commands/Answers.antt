@@ -6,7 +6,7 @@ use Rattle.gw_shell.proofs.command_line.make_commands.Goals as goal
 
 pub returns : goal.returns
 returns c =
-    let top : app_of c.subcommand_required.result ≡ on_top (λ top. record top { subcommand_required = true }) (new_app (codes "bacgw")) = search rules in
+    let top : app_of c.subcommand_required.result ≡ on_top (λ top. record top { subcommand_required = true; has_version = true }) (new_app (codes "bacgw")) = search rules in
     let one = c.in_ok-subcommand.ensures.shape c.in_ok-check.ensures.local ∙ ap₂ with_subcommand top (ap (λ (a : App). a.top) c.in_ok-check.ensures.app) in
     let two = c.in_ok-subcommand-2.ensures.shape c.in_ok-replay.ensures.local ∙ ap₂ with_subcommand one (ap (λ (a : App). a.top) c.in_ok-replay.ensures.app) in
     IfOk-weaker c.subcommand-3.result _ _

@@ -1,7 +1,7 @@
-use Rattle.std.proofs.Common.{[], refl}
+use Rattle.std.proofs.Common.{List, ap, Err, subst, ℕ}
 use Rattle.std.specs.Io.Buffered.{writer_contents}
+use Rattle.std.specs.Io.KnownBytes.{Appends}
 use Rattle.gw_shell.specs.Serving.{served, shut}
-use Rattle.gw_shell.proofs.ServingLemmas.{appends_nothing, appends_written}
 use Rattle.gw_shell.proofs.serving.serve_ports.Goals as goal
 
 pub returns-in-Ok-clause-served : goal.returns-in-Ok-clause-served
@@ -9,10 +9,14 @@ returns-in-Ok-clause-served g c = (
   c.in-Ok.field-0.line.items,
   served c.in-Ok.field-0.log c.serve_open-outcome.new.log c.in-Ok.field-0.sockets c.serve_open-outcome.new.sockets (writer_contents g.W.Write.contents c.open.new.output)
       c.in-Ok.ensures.open c.close.ensures c.serve_open-outcome.ensures.log c.serve_open-outcome.ensures.serves c.in-Ok.ensures.line,
-  λ never. appends_written c.write_whole.result (g.E.OctetSink.held c.args.errors.now) (g.E.OctetSink.held c.write_whole.new.sink) c.deref.result.now
-      c.in-Ok.field-0.line.items c.deref.ensures.value (c.write_whole.ensures.sure never) c.write_whole.ensures.ok,
+  λ never. subst (λ (text : List ℕ). Appends (g.E.OctetSink.held c.args.errors.now) (g.E.OctetSink.held c.tell.new.errors) text) c.deref.ensures.value
+      (c.tell.ensures.told never),
 )
 
 pub returns-in-Err-clause-served : goal.returns-in-Err-clause-served
-returns-in-Err-clause-served g c =
-    ([], shut c.in-Err.fault c.in-Err.ensures.open refl refl, λ never. appends_nothing (g.E.OctetSink.held c.args.errors.now))
+returns-in-Err-clause-served g c = (
+  c.note_of-note.result.items,
+  shut c.in-Err.failure c.in-Err.ensures.open (ap Err c.fault.ensures) c.note_of-note.ensures,
+  λ never. subst (λ (text : List ℕ). Appends (g.E.OctetSink.held c.args.errors.now) (g.E.OctetSink.held c.tell-in-Err.new.errors) text) c.deref-in-Err.ensures.value
+      (c.tell-in-Err.ensures.told never),
+)

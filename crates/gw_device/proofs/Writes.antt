@@ -1,0 +1,150 @@
+-- A write that the device makes is one that can be made: a request names a priority of 1 to 16, or none.
+use Rattle.std.proofs.Common.{◌≡◌, refl, subst, ap, ℕ, ◌≤◌, Bool, true, false, List, [], ◌∷◌, Option, Some, None, Result, Ok, Err}
+use Rattle.std.specs.Prelude.{◌==◌, if◌then◌else◌, is_some, nat_le}
+use Rattle.std.specs.Option.{ok_or}
+use Rattle.std.proofs.lemmas.Bool.{and_parts, leb-true}
+use Rattle.gw_addr.proofs.Reading.{bind_ok}
+use Rattle.gw_apdu.specs.declared.fault.ApduFault.{ApduFault}
+use Rattle.gw_apdu.specs.declared.header.ConfirmedRequest.{ConfirmedRequest}
+use Rattle.gw_apdu.specs.declared.header.Header.{Header}
+use Rattle.gw_apdu.specs.declared.header.Header.TheVariants as header
+use Rattle.gw_apdu.specs.Apdu.{Fields as Apdu}
+use Rattle.gw_apdu.specs.Reading.{apdu_at}
+use Rattle.gw_objects.specs.Objects.{Database}
+use Rattle.gw_objects.specs.Write.{CanAct, Write}
+use Rattle.gw_objects.proofs.Others.{ok_is}
+use Rattle.gw_objects.proofs.Priorities.{writes_can_be_made}
+use Rattle.gw_priority.specs.Commandable.{IsPriority}
+use Rattle.gw_rules.specs.declared.rule.Rule.{Rule}
+use Rattle.gw_rules.specs.RuleList.{allows}
+use Rattle.gw_services.specs.declared.fault.BodyFault.{BodyFault}
+use Rattle.gw_services.specs.declared.fault.BodyFault.TheVariants.{InvalidTag, OutOfRange}
+use Rattle.gw_services.specs.Choices.{read_property, read_property_multiple, write_property, who_has, who_is}
+use Rattle.gw_services.specs.Limits.{last_number, last_priority, last_property, priority_of}
+use Rattle.gw_services.specs.MultiReading.{multi_at}
+use Rattle.gw_services.specs.Parameter.{in_range}
+use Rattle.gw_services.specs.Read.{read_at}
+use Rattle.gw_services.specs.Reading.{ended, given_at, number_at, number_given, number_in, number_maybe_at, object_at, ranged, values_at}
+use Rattle.gw_services.specs.WhoHas.{who_has_at}
+use Rattle.gw_services.specs.WhoIs.{who_is_at}
+use Rattle.gw_services.specs.Write.{Write as Request, write_at}
+use Rattle.gw_tags.specs.Number.{unsigned_of}
+use Rattle.gw_tags.specs.Object.{Object}
+use Rattle.gw_device.specs.declared.context.Context.{Context}
+use Rattle.gw_device.specs.Device.{apdu_response, device_response, header_response, or_reject, or_silence, service_response}
+use Rattle.gw_device.specs.Laws.{ChangesCanBeMade}
+use Rattle.gw_device.specs.Multi.{multi_response}
+use Rattle.gw_device.specs.Read.{read_response}
+use Rattle.gw_device.specs.Response.{Response}
+use Rattle.gw_device.specs.WhoHas.{object_response, sought_object, who_has_response}
+use Rattle.gw_device.specs.WhoIs.{is_within, who_is_response}
+use Rattle.gw_device.specs.Write.{write_ask, write_response}
+use Rattle.gw_device.proofs.Changes.{changed_by, no_some}
+
+-- ---- the priority that a request names
+
+abbrev Fits : Option ℕ → Type 0
+Fits priority = IsPriority (priority_of priority)
+
+none_fits : Fits None
+none_fits = (leb-true 1 last_priority refl, leb-true last_priority last_priority refl)
+
+within : (n : ℕ) → in_range 1 last_priority n ≡ true → IsPriority n
+within n is =
+    let parts = and_parts (nat_le 1 n) (nat_le n last_priority) is in
+    (leb-true 1 n parts.0, leb-true n last_priority parts.1)
+
+ranged_within : (n m : ℕ) → ranged 1 last_priority n ≡ Ok m → IsPriority m
+ranged_within n m e = by (in_range 1 last_priority n) refl e
+  where
+    by : (b : Bool) → in_range 1 last_priority n ≡ b → ◌≡◌ {A = Result ℕ BodyFault} (if b then Ok n else Err OutOfRange) (Ok m) → IsPriority m
+    by true is e = subst IsPriority (ok_is n m e) (within n is)
+    by false is e = absurd cc
+
+given_fits : (octets : List ℕ) (content : Option (List ℕ × List ℕ)) (x : Option ℕ × List ℕ) → number_given 1 last_priority octets content ≡ Ok x → Fits x.0
+given_fits octets None x e = subst (λ (y : Option ℕ × List ℕ). Fits y.0) (ok_is _ x e) none_fits
+given_fits octets (Some content) x e =
+    let made = bind_ok (number_in 1 last_priority content.0) _ x e in
+    let number = bind_ok (ok_or (unsigned_of content.0) InvalidTag) _ made.0 made.1 in
+    subst (λ (y : Option ℕ × List ℕ). Fits y.0) (ok_is _ x made.2) (ranged_within number.0 made.0 number.2)
+
+ended_is : (request : Request) (rest : List ℕ) (w : Request) → ended request rest ≡ Ok w → request ≡ w
+ended_is request [] w e = ok_is request w e
+ended_is request (octet ∷ rest) w e = absurd cc
+
+request_fits : (octets : List ℕ) (w : Request) → write_at octets ≡ Ok w → Fits w.priority
+request_fits octets w e =
+    let object = bind_ok (object_at 0 octets) _ w e in
+    let property = bind_ok (number_at 1 0 last_property object.0.1) _ w object.2 in
+    let index = bind_ok (number_maybe_at 2 0 last_number property.0.1) _ w property.2 in
+    let value = bind_ok (values_at 3 index.0.1) _ w index.2 in
+    let priority = bind_ok (number_maybe_at 4 1 last_priority value.0.1) _ w value.2 in
+    let content = bind_ok (given_at 4 value.0.1) _ priority.0 priority.1 in
+    subst (λ (x : Request). Fits x.priority) (ended_is _ priority.0.1 w priority.2) (given_fits value.0.1 content.0 priority.0 content.2)
+
+-- ---- the change
+
+-- a change that can be made
+abbrev Makes : Response → Type 0
+Makes due = (write : Write) → due.change ≡ Some write → CanAct write.act
+
+makes_if : (b : Bool) (x y : Response) → Makes x → Makes y → Makes (if b then x else y)
+makes_if true x y f g = f
+makes_if false x y f g = g
+
+makes_reject : {B : Type 0} (invoke : ℕ) (respond : B → Response) (body : Result B BodyFault) → ((b : B) → body ≡ Ok b → Makes (respond b))
+    → Makes (or_reject invoke respond body)
+makes_reject invoke respond (Ok b) each = each b refl
+makes_reject invoke respond (Err fault) each = λ write e. absurd (no_some write e)
+
+makes_write : (rules : List Rule) (d : Database) (context : Context) (invoke : ℕ) (request : Request) → Fits request.priority
+    → Makes (write_response rules d context invoke request)
+makes_write rules d context invoke request fits write e =
+    writes_can_be_made d.configured request.object request.property request.index (priority_of request.priority) request.value write fits
+    (changed_by (allows rules (write_ask d context request)) _ write e)
+
+makes_service : (rules : List Rule) (d : Database) (context : Context) (request : ConfirmedRequest) (body : List ℕ)
+    → Makes (service_response rules d context request body)
+makes_service rules d context request body =
+    makes_if (request.service == read_property) _ _
+    (makes_reject request.invoke (read_response rules d context request) (read_at body) (λ read is write e. absurd (no_some write e)))
+    (makes_if (request.service == read_property_multiple) _ _
+    (makes_reject request.invoke (multi_response rules d context request) (multi_at body) (λ rs is write e. absurd (no_some write e)))
+    (makes_if (request.service == write_property) _ _
+    (makes_reject request.invoke (write_response rules d context request.invoke) (write_at body)
+    (λ asked is. makes_write rules d context request.invoke asked (request_fits body asked is)))
+    (λ write e. absurd (no_some write e))))
+
+makes_silenced : {B : Type 0} (respond : B → Response) (body : Result B BodyFault) → ((b : B) → Makes (respond b)) → Makes (or_silence respond body)
+makes_silenced respond (Ok b) each = each b
+makes_silenced respond (Err fault) each = λ write e. absurd (no_some write e)
+
+makes_object : (rules : List Rule) (d : Database) (context : Context) (sought : Option Object) → Makes (object_response rules d context sought)
+makes_object rules d context None = λ write e. absurd (no_some write e)
+makes_object rules d context (Some object) = λ write e. absurd (no_some write e)
+
+makes_header : (rules : List Rule) (d : Database) (context : Context) (by : Header) (body : List ℕ) → Makes (header_response rules d context by body)
+makes_header rules d context (header.ConfirmedRequest request) body =
+    makes_if context.broadcast _ _ (λ write e. absurd (no_some write e))
+    (makes_if (is_some request.segment) _ _ (λ write e. absurd (no_some write e)) (makes_service rules d context request body))
+makes_header rules d context (header.UnconfirmedRequest service) body =
+    makes_if (service == who_has) _ _ (makes_silenced (who_has_response rules d context) (who_has_at body)
+    (λ request. makes_if (is_within request.limits d.configured.device.instance) _ _
+    (makes_object rules d context (sought_object d.configured request.sought)) (λ write e. absurd (no_some write e))))
+    (makes_if (service == who_is) _ _ (makes_silenced (who_is_response rules d context) (who_is_at body)
+    (λ request. makes_if (is_within request.limits d.configured.device.instance) _ _ (λ write e. absurd (no_some write e)) (λ write e. absurd (no_some write e))))
+    (λ write e. absurd (no_some write e)))
+makes_header rules d context (header.SimpleAck invoke service) body = λ write e. absurd (no_some write e)
+makes_header rules d context (header.ComplexAck segment invoke service) body = λ write e. absurd (no_some write e)
+makes_header rules d context (header.SegmentAck invoke sequence window) body = λ write e. absurd (no_some write e)
+makes_header rules d context (header.Error invoke service) body = λ write e. absurd (no_some write e)
+makes_header rules d context (header.Reject invoke reason) body = λ write e. absurd (no_some write e)
+makes_header rules d context (header.Abort invoke reason) body = λ write e. absurd (no_some write e)
+
+makes_apdu : (rules : List Rule) (d : Database) (context : Context) (apdu : Result Apdu ApduFault) → Makes (apdu_response rules d context apdu)
+makes_apdu rules d context (Ok apdu) = makes_header rules d context apdu.header apdu.rest
+makes_apdu rules d context (Err fault) = λ write e. absurd (no_some write e)
+
+pub changes_can_be_made : ChangesCanBeMade
+unfolding device_response
+changes_can_be_made rules d context octets = makes_apdu rules d context (apdu_at octets)

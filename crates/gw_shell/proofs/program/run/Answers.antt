@@ -1,0 +1,30 @@
+use Rattle.std.proofs.Common.{◌++◌, List, subst, ℕ}
+use Rattle.std.specs.Io.KnownBytes.{Appends}
+use Rattle.gw_shell.specs.Ending.{error_text, usage_of}
+use Rattle.gw_shell.proofs.ServingLemmas.{appends_two}
+use Rattle.gw_shell.proofs.program.run.Goals as goal
+
+pub returns : goal.returns
+returns g c =
+    let held = g.E.OctetSink.held in
+    let chosen = c.choice_from-choice.result in
+    let outcome = c.follow-outcome.result in
+    let done = c.follow-outcome.ensures.followed in record {
+      run = record {
+        choice = chosen;
+        outcome = outcome;
+        told = done.told;
+        words = c.choice_from-choice.ensures;
+        output = done.output;
+        quiet = done.quiet;
+        flush = c.follow-outcome.ensures.flush;
+        errors = λ never.
+            let lasting = c.follow-outcome.ensures.lasting never in
+            appends_two (held c.args.errors.now) (held c.end-exit.new.errors) (held c.tell.new.errors) (done.told ++ error_text outcome) (usage_of chosen)
+            (appends_two (held c.args.errors.now) (held c.follow-outcome.new.errors) (held c.end-exit.new.errors) done.told (error_text outcome)
+            (done.errors never) (c.end-exit.ensures.line lasting))
+            (subst (λ (text : List ℕ). Appends (held c.end-exit.new.errors) (held c.tell.new.errors) text) c.usage_of.ensures
+            (c.tell.ensures.told (c.end-exit.ensures.lasts lasting)));
+        status = c.end-exit.ensures.status;
+      };
+    }

@@ -1,0 +1,43 @@
+#!/usr/bin/env bash
+# Tries a release: unpacks it, installs it to a scratch folder twice, and lets the installed program answer a read; then the same with the
+# Debian package, where there is one.
+#
+#     dist/try.sh [FOLDER]      # what dist/release.sh left in dist/out unless told otherwise
+set -euo pipefail
+
+from=$(cd "${1:-$(dirname "$0")/out}" && pwd)
+work=$(mktemp -d)
+trap 'rm -rf "$work"' EXIT
+
+event='1 192.168.1.5:47808 810A0016012400640101FF0005070C0C014000011955'
+printf '%s\nend\n' 'send 1 192.168.1.5:47808 810A001801080064010130070C0C0140000119553E91003F' > "$work/wanted"
+
+# answers PROGRAM SITE: the program says its version, accepts its configuration and answers a read
+answers() {
+    "$1" --version
+    "$1" check --config "$2"
+    echo "$event" | "$1" replay | cmp - "$work/wanted"
+    echo "a read is answered"
+}
+
+(cd "$from" && sha256sum --quiet -c ./*.tar.gz.sha256)
+mkdir "$work/unpacked"
+tar -C "$work/unpacked" -xzf "$from"/bacgw-*.tar.gz
+pack=$(echo "$work"/unpacked/*)
+cat "$pack/RELEASE"
+root=$work/root
+"$pack/install.sh" --root "$root" > /dev/null
+answers "$root/usr/local/bin/bacgw" "$root/etc/bacgw/site.toml"
+echo '# mine' >> "$root/etc/bacgw/site.toml"
+"$pack/install.sh" --root "$root" > /dev/null
+[ "$(tail -1 "$root/etc/bacgw/site.toml")" = '# mine' ]
+grep -q '^ExecStart=/usr/local/bin/bacgw ' "$root/etc/systemd/system/bacgw.service"
+[ -f "$root/usr/local/share/man/man1/bacgw.1" ] && [ -f "$root/etc/logrotate.d/bacgw" ]
+echo "installed twice: the configuration stays as it is"
+
+for package in "$from"/*.deb; do
+    [ -e "$package" ] || continue
+    dpkg-deb --extract "$package" "$work/debian"
+    answers "$work/debian/usr/bin/bacgw" "$work/debian/etc/bacgw/site.toml"
+    grep -q '^ExecStart=/usr/bin/bacgw ' "$work/debian/usr/lib/systemd/system/bacgw.service"
+done
