@@ -15,3 +15,4 @@ pub mod TrafficLemmas
 pub mod QuietLemmas
 pub mod WriteLemmas
 pub mod BlindLemmas
+pub mod FormatLemmas

@@ -14,6 +14,7 @@ use Rattle.gw_core.specs.declared.event.Counts.{Counts}
 use Rattle.gw_script.specs.Event.{Event}
 use Rattle.gw_script.specs.Event.{Datagram, Tick}
 use Rattle.gw_policy_text.specs.Configuration.{Configuration}
+use Rattle.gw_policy_text.specs.declared.format.Format.TheVariants.{One}
 use Rattle.gw_core.specs.History.{RoutesStand, TablesStand, WritesStand, learnings, port_acts, writes, state_after, run, history_after, IsStep, IsStateAfter, effects, run_after, run_from, state_from, next}
 use Rattle.gw_rules.specs.Ask.{Ask}
 use Rattle.gw_rules.specs.declared.rule.Rule.{Rule}
@@ -31,6 +32,7 @@ use Rattle.gw_services.specs.Choices.{read_property, write_property}
 use Rattle.gw_device.specs.Write.{write_ask, write_response}
 use Rattle.gw_core.specs.Asks.{asks, cast_asks, manage_asks, route_asks}
 use Rattle.gw_core.specs.Denials.{rule_name}
+use Rattle.gw_core.specs.FormatOne.{effects_before}
 use Rattle.gw_core.specs.Effects.{NeedsNoMemory, cast_sends, change_at, effects_at, manage_sends, move_at, nothing, route_sends}
 use Rattle.gw_relay.specs.Message.{Message}
 use Rattle.gw_core.specs.Receive.{dropped, message, receive}
@@ -185,3 +187,13 @@ PortsStay = (c : Configuration) (k : Counts) (h : List Event) → length (state_
 abbrev pub ConfigurationStays : Type 0
 ConfigurationStays = (c : Configuration) (k : Counts) (h : List Event) →
     (state_after c k h).device.configured ≡ (database_of c).configured
+
+-- ---- the formats of a policy
+
+-- In a state of the first format an event does what it did before there was a second (FormatOne.antt).
+abbrev pub FormatOneIsAsBefore : Type 0
+FormatOneIsAsBefore = (w : State) (e : Event) → w.relay.format ≡ One → effects_at w e ≡ effects_before w e
+
+-- After every history the format is that of the configuration.
+abbrev pub FormatStays : Type 0
+FormatStays = (c : Configuration) (k : Counts) (h : List Event) → (state_after c k h).relay.format ≡ c.format

@@ -10,6 +10,7 @@ pub mod View
 pub mod Respond
 pub mod Setting
 pub mod Examples
+pub mod FormatOne
 pub mod Laws
 pub mod Shown
 pub mod Replay

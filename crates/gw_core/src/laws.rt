@@ -2,7 +2,7 @@
 
 ghost use Rattle.gw_core.specs.Examples.{AllArePlaced, BroadcastIsDistributed, CountsEnd, DeniedWriteIsUnseen, DenialsAreCountedOn, EachCutIsDropped, GlobalWhoIsGoesOn, HiddenObjectIsUntold, HiddenReadIsDenied, HiddenWriteIsUnseen, HidingIsSeen, LearnedRouteIsTaken, LocalReadIsUnheard, ReadIsAnswered, RegistrationEnds, RelinquishIsSeen, RoutedReadIsAnswered, UnknownNetworkIsSought, UnknownObjectIsTold, WhoIsIsAnswered, WriteIsSeen, WrongLengthsAreDropped};
 ghost use Rattle.gw_core.specs.NoLeak.{AsksCarryTheirClaim, QuietIsUnseen, WritesAreHidden, WritesAreUnread};
-ghost use Rattle.gw_core.specs.Laws.{ActsLeaveTheTables, AllowedTrafficIsSent, ConfigurationStays, DeniedAsksAreLogged, DeniedBroadcastsAreKept, DeniedReadsAreRefused, DeniedWritesAreRefused, DenialsAreCounted, DenialsHaveTheirTick, DroppedNeedsNoMemory, LearningsLeaveTheRoutes, LogIsNumbered, NothingAskedIsChanged, NothingAskedIsLogged, NothingAskedIsWritten, PortsStay, RelayTicksAreCounted, RunsExtendHistories, StepsExtendHistories, TicksAreCounted, TicksOnlyCount, WritesLeaveTheSlots};
+ghost use Rattle.gw_core.specs.Laws.{ActsLeaveTheTables, AllowedTrafficIsSent, ConfigurationStays, DeniedAsksAreLogged, DeniedBroadcastsAreKept, DeniedReadsAreRefused, DeniedWritesAreRefused, DenialsAreCounted, DenialsHaveTheirTick, DroppedNeedsNoMemory, FormatOneIsAsBefore, FormatStays, LearningsLeaveTheRoutes, LogIsNumbered, NothingAskedIsChanged, NothingAskedIsLogged, NothingAskedIsWritten, PortsStay, RelayTicksAreCounted, RunsExtendHistories, StepsExtendHistories, TicksAreCounted, TicksOnlyCount, WritesLeaveTheSlots};
 
 /// What holds after every history: each step extends it, and so does each list of events; the ports'
 /// tables, the routes, and the slots and the defaults of the device are what the acts left that it
@@ -32,6 +32,13 @@ pub fn events()
     ensures dropped { DroppedNeedsNoMemory }
     ensures traffic { AllowedTrafficIsSent }
     ensures kept { DeniedBroadcastsAreKept }
+{}
+
+/// What the format of a policy changes. In a state of the first format an event does what it did before there was a
+/// second, and no event changes the format of the configuration.
+pub fn formats()
+    ensures first { FormatOneIsAsBefore }
+    ensures stays { FormatStays }
 {}
 
 /// What a gateway counts, whatever it is configured with and whatever comes.

@@ -1,0 +1,129 @@
+-- Under the first format of a policy routing asks as it did before there was a second; and the format stays.
+use Rattle.std.proofs.Common.{◌≡◌, ◌∙◌, refl, ap, ap₂, ℕ, ◌+◌, Bool, true, false, List, [], ◌∷◌, ◌++◌, map, Option, Some, None}
+use Rattle.std.specs.Prelude.{if◌then◌else◌}
+use Rattle.std.specs.Option.{option_map_or}
+use Rattle.gw_npdu.specs.Npdu.{Destination, Payload}
+use Rattle.gw_policy_text.specs.Configuration.{Configuration}
+use Rattle.gw_policy_text.specs.declared.format.Format.{Format}
+use Rattle.gw_policy_text.specs.declared.format.Format.TheVariants.{One, Two}
+use Rattle.gw_routes.specs.Table.{way}
+use Rattle.gw_routes.specs.declared.route.Way.{Way}
+use Rattle.gw_routes.specs.declared.route.Way.TheVariants as ways
+use Rattle.gw_rules.specs.Ask.{Ask}
+use Rattle.gw_rules.specs.Authorizer.{denied_of}
+use Rattle.gw_rules.specs.declared.rule.Rule.{Rule}
+use Rattle.gw_relay.specs.Asks.{bound_for}
+use Rattle.gw_relay.specs.Initial.{initial}
+use Rattle.gw_relay.specs.Message.{Message}
+use Rattle.gw_relay.specs.Named.{named_asks}
+use Rattle.gw_relay.specs.Route.{copied, copy, is_local, leaves, on_way, others, route_ask, route_steps, sent_on, steps_by}
+use Rattle.gw_relay.specs.Sends.{Sending}
+use Rattle.gw_relay.specs.State.{Move, Relay, moved, moved_by}
+use Rattle.gw_relay.specs.State as move
+use Rattle.gw_relay.specs.Steps.{Step, asks_of, sends_of}
+use Rattle.gw_relay.specs.declared.port.PortState.{PortState}
+use Rattle.gw_script.specs.Event.{Event}
+use Rattle.gw_core.specs.declared.event.Counts.{Counts}
+use Rattle.gw_core.specs.Asks.{asks_for, cast_asks, link_asks, manage_asks, route_asks, serve_asks}
+use Rattle.gw_core.specs.Denials.{denials_of}
+use Rattle.gw_core.specs.Effects.{cast_sends, effects_at, link_sends, manage_sends, route_sends, sends_for, serve_sends}
+use Rattle.gw_core.specs.FormatOne.{asks_before, copy_step, route_asks_before, route_sends_before, routing_before, sends_before, steps_before, way_step}
+use Rattle.gw_core.specs.History.{acts_of, state_after}
+use Rattle.gw_core.specs.Laws.{FormatOneIsAsBefore, FormatStays}
+use Rattle.gw_core.specs.Receive.{Received, dropped, managed, unregistered, message, origin, receive}
+use Rattle.gw_core.specs.State.{State}
+use Rattle.gw_core.proofs.EffectLemmas.{effects_are}
+
+-- ---- routing
+
+-- nothing is asked behind a `route` ask
+none_named : (format : Format) (route : Ask) (payload : Payload) → format ≡ One → named_asks format route payload ≡ []
+unfolding named_asks
+none_named One route payload is = refl
+none_named Two route payload is = absurd cc
+
+abbrev step_with : List Ask → List Sending → Step
+step_with asks sends = record { asks = asks; sends = sends }
+
+one_way : (relay : Relay) (m : Message) (d : Destination) (by : Way) → relay.format ≡ One → on_way relay m d by ≡ way_step relay m d by
+one_way relay m d by is =
+    let route = route_ask m (bound_for m.npdu) in
+    ap (λ (named : List Ask). step_with (route ∷ named) (sent_on relay m d by)) (none_named relay.format route m.npdu.payload is)
+
+one_copy : (format : Format) (m : Message) (d : Destination) (link : PortState) → format ≡ One → copy format m d link ≡ copy_step m d link
+one_copy format m d link is =
+    let route = route_ask m (Some link.port.network) in
+    ap (λ (named : List Ask). step_with (route ∷ named) (copied m d link)) (none_named format route m.npdu.payload is)
+
+each_copy : (format : Format) (m : Message) (d : Destination) (links : List PortState) → format ≡ One
+    → map (copy format m d) links ≡ map (copy_step m d) links
+each_copy format m d [] is = refl
+each_copy format m d (link ∷ links) is = ap₂ (λ (s : Step) (ss : List Step). s ∷ ss) (one_copy format m d link is) (each_copy format m d links is)
+
+by_way : (relay : Relay) (m : Message) (d : Destination) (by : Way) → relay.format ≡ One → steps_by relay m d by ≡ steps_before relay m d by
+by_way relay m d ways.Everywhere is = each_copy relay.format m d (others m.here.port.number relay.links) is
+by_way relay m d (ways.Port other) is =
+    let by = ways.Port other in
+    ap (λ (s : Step). if leaves m.here.port.number by then s ∷ [] else []) (one_way relay m d by is)
+by_way relay m d (ways.Router route) is =
+    let by = ways.Router route in
+    ap (λ (s : Step). if leaves m.here.port.number by then s ∷ [] else []) (one_way relay m d by is)
+by_way relay m d ways.Device is = refl
+by_way relay m d ways.Unknown is = ap (λ (s : Step). s ∷ []) (one_way relay m d ways.Unknown is)
+
+routed : (relay : Relay) (m : Message) → relay.format ≡ One → route_steps relay m ≡ routing_before relay m
+routed relay m is = ap (λ (steps : List Step). if is_local m.npdu.payload then [] else steps) (towards m.npdu.destination)
+  where
+    towards : (to : Option Destination) → option_map_or (λ d. steps_by relay m d (way relay.routes d.address.network)) to []
+        ≡ option_map_or (λ d. steps_before relay m d (way relay.routes d.address.network)) to []
+    towards None = refl
+    towards (Some d) = by_way relay m d (way relay.routes d.address.network) is
+
+same_asks : (relay : Relay) (received : Received) → relay.format ≡ One → route_asks relay received ≡ route_asks_before relay received
+same_asks relay dropped is = refl
+same_asks relay (managed on from frame) is = refl
+same_asks relay (unregistered m) is = refl
+same_asks relay (message m) is = ap (λ (steps : List Step). asks_of steps) (routed relay m is)
+
+same_sends : (rules : List Rule) (relay : Relay) (received : Received) → relay.format ≡ One
+    → route_sends rules relay received ≡ route_sends_before rules relay received
+same_sends rules relay dropped is = refl
+same_sends rules relay (managed on from frame) is = refl
+same_sends rules relay (unregistered m) is = refl
+same_sends rules relay (message m) is = ap (λ (steps : List Step). sends_of rules steps) (routed relay m is)
+
+-- ---- all parts
+
+asked : (w : State) (received : Received) → w.relay.format ≡ One
+    → asks_for w.rules w.relay w.device received ≡ asks_before w received
+asked w received is =
+    ap (λ (routed : List Ask). link_asks received ++ cast_asks received ++ routed
+    ++ manage_asks w.relay received ++ serve_asks w.rules w.device received) (same_asks w.relay received is)
+
+sent : (w : State) (received : Received) → w.relay.format ≡ One
+    → sends_for w.rules w.relay w.device received ≡ sends_before w received
+sent w received is =
+    ap (λ (routed : List Sending). link_sends w.rules received ++ cast_sends w.rules received ++ routed
+    ++ manage_sends w.rules w.relay received ++ serve_sends w.rules w.device received) (same_sends w.rules w.relay received is)
+
+pub format_one_is_as_before : FormatOneIsAsBefore
+unfolding effects_at
+format_one_is_as_before w e is =
+    let received = receive w e in
+    effects_are _ _ _ _ (sent w received is)
+    (ap (λ (asks : List Ask). denials_of w.rules (w.denials + 1) w.ticks (origin received) (denied_of w.rules asks)) (asked w received is))
+
+-- ---- the format stays
+
+one_move : (m : Option Move) (relay : Relay) → (moved m relay).format ≡ relay.format
+one_move None relay = refl
+one_move (Some (move.Commit change)) relay = refl
+one_move (Some move.Tick) relay = refl
+
+moves : (ms : List Move) (relay : Relay) → (moved_by ms relay).format ≡ relay.format
+unfolding moved_by
+moves [] relay = refl
+moves (m ∷ ms) relay = one_move (Some m) (moved_by ms relay) ∙ moves ms relay
+
+pub format_stays : FormatStays
+format_stays c k h = moves (acts_of c k h).moves (initial c)
