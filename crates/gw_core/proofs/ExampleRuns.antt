@@ -12,6 +12,7 @@ use Rattle.gw_device.specs.Device.{device_response}
 use Rattle.gw_core.specs.Asks.{asks}
 use Rattle.gw_core.specs.Denials.{denials_at}
 use Rattle.gw_relay.specs.Cast.{cast_asks, cast_sends, spread}
+use Rattle.gw_relay.specs.Named.{named_asks}
 use Rattle.gw_relay.specs.Link.{link_answer, link_change}
 use Rattle.gw_relay.specs.State.{moved_by}
 use Rattle.gw_core.specs.Effects.{change_at, move_at, sends, effects_at, passes_end}
@@ -37,7 +38,7 @@ steps = tt
 
 -- all that is passed on runs through
 unfoldable passes : ⊤
-unfolding cast_asks cast_sends spread link_answer link_change
+unfolding cast_asks cast_sends named_asks spread link_answer link_change
 passes = tt
 
 pub read_is_answered : ReadIsAnswered

@@ -8,7 +8,7 @@ use Rattle.gw_bvll.specs.Bvll as bvll
 use Rattle.gw_objects.specs.Objects.{Database}
 use Rattle.gw_relay.specs.Cast.{cast_asks, cast_sends, goes_on, accepts, is_unregistered}
 use Rattle.gw_relay.specs.Link.{answer_to, refused}
-use Rattle.gw_relay.specs.Manage.{manage_asks, manage_sends}
+use Rattle.gw_relay.specs.Manage.{manage_asks, manage_change, manage_sends}
 use Rattle.gw_relay.specs.Route.{route_asks, route_sends}
 use Rattle.gw_relay.specs.Sends.{Sending}
 use Rattle.gw_relay.specs.State.{Relay}
@@ -164,6 +164,10 @@ stops rules relay d m off = stops_by rules relay d m (accepts m.here m.from m.fr
 yes_change : (b : Bool) (change : Option Change) → b ≡ true → change ≡ (if b then change else None)
 yes_change true change e = refl
 yes_change false change e = absurd cc
+
+-- what changes of a message that goes on
+pub change_on : (rules : List Rule) (m : Message) → on m ≡ true → passed_change rules m ≡ manage_change rules m
+change_on rules m is = rw is refl
 
 goes_by : (rules : List Rule) (relay : Relay) (d : Database) (m : Message) (h s : Bool) → accepts m.here m.from m.frame ≡ h
     → is_unregistered m.here m.from m.frame ≡ s → on m ≡ true → Goes rules relay d m

@@ -33,6 +33,7 @@ use Rattle.gw_core.specs.Denials.{denials_at, denials_of}
 use Rattle.gw_core.specs.Effects.{answer_sends, apdu_answer, apdu_change, cast_sends, change_at, change_for, changed, effects_at, effects_for, manage_sends, message_change, move_at, relay_change_for, route_sends, sends_for}
 use Rattle.gw_core.specs.History.{next, run_from, state_after, state_from}
 use Rattle.gw_core.specs.NoLeak.{IsWriteOf, WritesAreUnread, kept, object_of, seen, unnumbered}
+use Rattle.gw_relay.specs.Message.{Message}
 use Rattle.gw_core.specs.Receive.{Received, dropped, managed, unregistered, message, origin, receive}
 use Rattle.gw_core.specs.Reply.{apdu_for, apdu_towards, context_of}
 use Rattle.gw_core.specs.State.{State}

@@ -6,5 +6,5 @@ use Rattle.gw_core.proofs.respond.respond.Goals as goal
 
 pub returns-in-Managed-clause-silent : goal.returns-in-Managed-clause-silent
 returns-in-Managed-clause-silent g c = λ rules stands asks sends.
-    c.respond_to_managed.ensures.silent rules c.args.relay.now c.args.device.now
+    c.respond_to_managed.ensures.silent rules c.args.device.now
     (ap (λ (r : LentReceived). asks_for rules c.args.relay.now c.args.device.now (received_view r)) (sym c.in-Managed.is) ∙ asks)
