@@ -34,6 +34,16 @@ tells() {
     fi
 }
 
+# same WHAT TEXT WANTED: the two are the same
+same() {
+    if [ "$2" = "$3" ]; then
+        passed=$((passed + 1))
+    else
+        failed=$((failed + 1))
+        echo "not as expected: $1"
+    fi
+}
+
 for script in "$here"/*.script; do
     name=${script%.script}
     words=(replay)
@@ -49,11 +59,11 @@ done
 
 echo 'bacgw: bad command line' > "$work/refusal"
 
-# refused WORDS...: the words are refused, and behind the line stands how the program is called
+# refused WORDS...: the words are refused, and behind the line stands what is wrong with them
 refused() {
     "$program" "$@" < /dev/null > "$work/out" 2> "$work/told"
     status=$?
-    grep -q '^Usage: bacgw' "$work/told" || status="$status, no usage"
+    [ "$(tail -1 "$work/told")" = "For more information, try '--help'." ] || status="$status, no more than the line"
     head -1 "$work/told" > "$work/err"
     agrees "words: $*" 2 /dev/null "$work/refusal"
 }
@@ -65,7 +75,9 @@ refused_alone() {
     agrees "words: $*" 2 /dev/null "$work/refusal"
 }
 refused
+same 'the usage behind no words' "$(grep Usage "$work/told")" 'Usage: bacgw <COMMAND>'
 refused run
+same 'the usage behind a command that lacks its file' "$(grep Usage "$work/told")" 'Usage: bacgw run --config <FILE>'
 refused replay replay
 refused replay run
 refused check
@@ -157,15 +169,6 @@ ran 0 "bacgw: serving port 1 at 127.1.0.2:47808, broadcast 127.1.0.255:47808; po
 127.2.0.255:47808; device 1234 on network 100 with 1 objects; 3 rules; log to $work/log" --config "$work/loopback.toml" --log "$work/log" \
     --turns 2 --verbose
 
-# same WHAT TEXT WANTED: the two are the same
-same() {
-    if [ "$2" = "$3" ]; then
-        passed=$((passed + 1))
-    else
-        failed=$((failed + 1))
-        echo "not as expected: $1"
-    fi
-}
 same 'what stood in the log before a run' "$(cat "$work/log"; echo .)" 'a line of before
 .'
 
