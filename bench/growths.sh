@@ -4,7 +4,8 @@
 #     bench/growths.sh [--only KIND] [FOLDER]      # of scripts, as in examples/, which is taken unless told otherwise
 #
 # It goes over the cases of gw_vectors, each in a run of its own, and over `bacgw replay` on each script of the folder; with --only
-# over the cases of one kind alone, as `again` or `edits`. A case then comes to what it does with ample memory; or it tells that
+# over the cases of one kind alone, as `again` or `edits`. A script is played twice: by `replay`, and as a case of `again`, where each
+# datagram that found no memory is given once more. A case then comes to what it does with ample memory; or it tells that
 # there was none, in its line or behind whole blocks of a script; or the program ends with status 1. Of a case of `serve` the events
 # that found no memory may be dropped. A case of `run` may end as the program does then; one of `fronts` is runs over and over, so it
 # is passed by. A replay does what it does with ample memory, or ends with `bacgw: out of memory` and status 1, and what it wrote is
@@ -124,10 +125,13 @@ def cases_of(text):
         config, *sections = group.split("== ")
         for section in sections:
             head, body = section.split("\n", 1)
-            if head.split(" ")[0] in REPEATED:
+            kind, _, name = head.partition(" ")
+            if kind in REPEATED:
                 continue
             front = f"== config {config}== {head}\n"
-            if head.split(" ")[0] in WHOLE:
+            if kind == "script":
+                yield f"again {name}", f"== config {config}== again {name}\n{body}"
+            if kind in WHOLE:
                 yield head, front + body
                 continue
             for line in body.splitlines():
@@ -145,6 +149,10 @@ for script in sorted(folder.glob("*.script") if not only else []):
     words = [program, "replay", *(["--config", str(config)] if config.exists() else [])]
     if prints_right(words, script):
         cases.append((script.name, words, script.read_bytes(), is_well_played))
+        if not script.with_suffix(".err").exists():
+            text = config.read_text() if config.exists() else ""
+            given = f"== config {script.stem}\n{text}== again {script.stem}\n{script.read_text()}"
+            cases.append((f"again {script.stem}", [vectors], given.encode(), is_well_answered))
     else:
         left_out.append(script.name)
 

@@ -4,15 +4,18 @@
 # the second registers as a foreign device of the first.
 #
 #     sudo examples/site/site.sh
+#     sudo CAPTURE=FILE examples/site/site.sh      # keeps a capture of what the gateway hears and sends, by tcpdump
 #
 # It wants root, for the namespaces, and ip, python3 and the program built, as `./bacgw prove` leaves it. Everything that it made is
-# gone when it ends.
+# gone when it ends, but for the capture.
 set -euo pipefail
 
 here=$(cd "$(dirname "$0")" && pwd)
 program=$(realpath -m "${BACGW:-$here/../../crates/bacgw/out/bacgw}")
 work=$(mktemp -d)
+start=$PWD
 gateway=
+sniffer=
 
 [ "$(id -u)" = 0 ] || { echo "this wants root: it makes network namespaces" >&2; exit 1; }
 [ -x "$program" ] || { echo "build bacgw first: ./bacgw prove" >&2; exit 1; }
@@ -22,6 +25,7 @@ done
 
 clean_up() {
     [ -z "$gateway" ] || kill "$gateway" 2> /dev/null || true
+    [ -z "$sniffer" ] || kill "$sniffer" 2> /dev/null || true
     for name in bacgw-gateway bacgw-first bacgw-second; do
         ip netns del "$name" 2> /dev/null || true
     done
@@ -45,6 +49,11 @@ subnet first 1 5
 subnet second 2 9
 
 cd "$work"
+if [ -n "${CAPTURE:-}" ]; then
+    ip netns exec bacgw-gateway tcpdump -q -U -i any -w capture 'udp port 47808' 2> sniffer &
+    sniffer=$!
+    until grep -q 'listening' sniffer; do sleep 0.1; done
+fi
 ip netns exec bacgw-gateway "$program" run --config "$here/site.toml" --log denials.log --verbose 2> told &
 gateway=$!
 for _ in $(seq 50); do
@@ -64,3 +73,11 @@ cat workstation.out panel.out
 
 echo "the log:"
 sed 's/^/  /' denials.log
+
+if [ -n "$sniffer" ]; then
+    sleep 1
+    kill "$sniffer"
+    wait "$sniffer" || true
+    sniffer=
+    (cd "$start" && cp "$work/capture" "$CAPTURE")
+fi
