@@ -15,7 +15,6 @@ ghost use Rattle.gw_core.specs.Reply.{apdu_for, apdu_of, context_of, goes_to_all
 ghost use Rattle.gw_relay.specs.Message.{message_view};
 
 use gw_addr::NetNum;
-use gw_bvll::Bvll;
 use gw_device::{Answer, Context};
 use gw_npdu::{AddressRef, Destination, Npdu, Payload};
 use gw_relay::{Batch, Message, Sends};
@@ -27,6 +26,8 @@ const DEVICE_STATION: u8 = 1;
 const WHOLE_COUNT: u8 = 255;
 /// How many octets of a frame stand before its NPDU (Annex J.2.11, J.2.12).
 const FRAME_HEADER: usize = 4;
+/// An Original-Unicast-NPDU without an NPDU (Annex J.2.11).
+const EMPTY_UNICAST: [u8; FRAME_HEADER] = [0x81, 0x0A, 0x00, 0x04];
 /// How many octets most replies have before the APDU, so that a buffer seldom grows.
 const REPLY_HEADERS: usize = 32;
 
@@ -137,10 +138,7 @@ pub fn context_of(network: NetNum, message: &Message<'_>) -> Context
 fn put_frame(out: &mut Vec<u8>) -> Result<(), AllocError>
     ensures { OnOk result (out.new.items ≡ out.old.items ++ bvll_encoding (original_unicast [])) }
 {
-    match gw_bvll::encode(&Bvll::OriginalUnicast(&[]), out) {
-        Ok(()) => Ok(()),
-        Err(_) => Err(AllocError),
-    }
+    out.extend_from_slice(&EMPTY_UNICAST)
 }
 
 /// Appends the NPDU that carries an answer back. It answers whether that was done: not where it

@@ -16,7 +16,7 @@ ghost use Rattle.gw_device.specs.Services.{set_of};
 use crate::ask::{named_object, property_ask};
 use crate::error::{READ_DENIED, UNKNOWN_OBJECT, read_error};
 use crate::services::set_of;
-use crate::short::{fit, most_octets};
+use crate::short::{first_room, fit};
 use crate::{Answer, Context, Reply};
 use gw_apdu::{ConfirmedRequest, write_complex};
 use gw_objects::{ObjectDb, Property, PropertySet, properties};
@@ -326,7 +326,7 @@ pub(crate) fn read_multiple<J: Judge>(
     ensures place { IfOk result (λ reply. reply.change ≡ None) }
 {
     let mut authorizer = Authorizer::new(alloc, judge);
-    let mut apdu = Vec::with_capacity(alloc, most_octets(header, context))?;
+    let mut apdu = Vec::with_capacity(alloc, first_room(header, context))?;
     write_complex(&mut apdu, header.invoke, READ_PROPERTY_MULTIPLE)?;
     put_references(
         objects,
