@@ -8,23 +8,6 @@ use Rattle.gw_ports.specs.Socket.{Answer}
 use Rattle.gw_ports.specs.Timed.{ComesNext, Following, HasLooked, HasWaited, IsCounted, IsReceived, IsReceivedLater, at_once, is_idle, later}
 use Rattle.gw_ports.specs.declared.timed.TimedPorts.{TimedPorts}
 
--- the answer behind a wait
-pub received_later : {S C P : Type 0} (Told : C → ℕ → Type 0) (Waited Quiet : P → ℕ → Type 0) (looks : S → ℕ) (empty : S → Bool)
-    (Answered : S → Answer → List ℕ → Type 0) (before woken counted after : TimedPorts S C P) (left most : ℕ) (buffer : List ℕ)
-    (result : Result Got WireFault) → HasWaited Waited Quiet before woken most → after.waiter ≡ woken.waiter →
-    IsCounted Told woken counted left → IsNext looks empty Answered counted.ports after.ports buffer result →
-    IfOk result (IsReceivedLater Told Waited Quiet (ComesNext looks empty Answered) before after most buffer)
-received_later Told Waited Quiet looks empty Answered before woken counted after left most buffer (Ok given) waits waiter counts next = record {
-  woken = woken;
-  counted = counted;
-  left = left;
-  waits = waits;
-  waiter = waiter;
-  counts = counts;
-  follows = next;
-}
-received_later Told Waited Quiet looks empty Answered before woken counted after left most buffer (Err fault) waits waiter counts next = tt
-
 -- the answer where something came at once
 came_at_once : {S C P : Type 0} (Told : C → ℕ → Type 0) (Waited Quiet : P → ℕ → Type 0) (Follows : Following S)
     (before counted looked idle after : TimedPorts S C P) (left : ℕ) (held buffer : List ℕ) (given : Got) (result : Result Got WireFault) →

@@ -51,7 +51,8 @@ impl<S: Sock> SockPair<S> {
         ensures { AreWoken (P.Quiet waiter.now) place self.old self.new }
     {
         self.own.wake(waiter.has_come(socket_number(place, true)));
-        self.broadcast.wake(waiter.has_come(socket_number(place, false)));
+        self.broadcast
+            .wake(waiter.has_come(socket_number(place, false)));
     }
 
     /// Sends a datagram by the own socket.

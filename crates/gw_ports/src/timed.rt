@@ -126,7 +126,10 @@ impl<S: Sock, C: Timepiece, P: Waiter> TimedPorts<S, C, P> {
         let Ok(_left) = self.count_seconds() else {
             return Err(self.ports.fail());
         };
-        self.ports.next(buf)
+        match self.ports.next(buf) {
+            Ok(given) => Ok(given),
+            Err(fault) => Err(fault),
+        }
     }
 
     /// What came, or where nothing did, what comes later: it is waited so long at most.

@@ -5,7 +5,7 @@ ghost use Rattle.gw_shell.specs.Waiting.{has_event_of};
 
 use crate::udp::UdpSock;
 use gw_ports::{SockPair, Waiter, socket_number};
-use mio::{Events, Poll, Token};
+use mio::{Events, Poll};
 use std::alloc::Global;
 use std::io;
 use std::net::Net;
@@ -23,11 +23,7 @@ pub struct PollWaiter {
 
 impl PollWaiter {
     /// What waits at the sockets of these ports, from 1 to 8, each of which is told of by its number.
-    pub fn open(
-        alloc: Global,
-        net: &impl Net,
-        pairs: &mut [SockPair<UdpSock>],
-    ) -> io::Result<Self>
+    pub fn open(alloc: Global, net: &impl Net, pairs: &mut [SockPair<UdpSock>]) -> io::Result<Self>
         requires { length pairs.old ≤ 8 }
     {
         let poll = Poll::new(net)?;
@@ -43,6 +39,13 @@ impl PollWaiter {
     }
 }
 
+/// Whether some event names the socket of this number.
+fn tells_of(events: &Events, number: usize) -> bool
+    ensures { result ≡ has_event_of number events.now }
+{
+    events.iter().any(|event| event.token().0 == number)
+}
+
 impl Waiter for PollWaiter {
     ghost Waited = { λ _ _. ⊤ };
 
@@ -53,8 +56,6 @@ impl Waiter for PollWaiter {
     }
 
     fn has_come(&self, number: usize) -> bool {
-        self.events
-            .iter()
-            .any(|event| event.token() == Token(number))
+        tells_of(&self.events, number)
     }
 }
