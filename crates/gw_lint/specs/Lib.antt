@@ -1,0 +1,4 @@
+pub mod Meeting
+pub mod Pieces
+pub mod Search
+pub mod Shape
