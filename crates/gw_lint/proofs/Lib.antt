@@ -1,3 +1,9 @@
+pub mod DeviceAsks
+pub mod Listing
 pub mod Lying
 pub mod Narrowing
 pub mod Parting
+pub mod Raised
+pub mod RelayAsks
+pub mod ShapeLaw
+pub mod Whence

@@ -1,4 +1,6 @@
+pub mod Laws
 pub mod Meeting
 pub mod Pieces
 pub mod Search
 pub mod Shape
+pub mod Shapes

@@ -2,9 +2,12 @@
 //! comes to them.
 #![tactic(auto)]
 
+pub mod laws;
 mod piece;
 mod search;
+mod shapes;
 mod side;
 
 pub use search::{Outcome, search_for};
+pub use shapes::shapes_of;
 pub use side::{Shape, Side};

@@ -10,7 +10,7 @@ use gw_rules::{Ask, FieldName, Fields, Range, Ranges, Rule};
 use std::alloc::AllocError;
 
 /// A range that has no number.
-const NO_RANGE: Range = Range { low: 1, high: 0 };
+pub(crate) const NO_RANGE: Range = Range { low: 1, high: 0 };
 
 /// The numbers from `low` to `high`.
 pub(crate) fn numbers(low: u64, high: u64) -> Side
@@ -23,7 +23,7 @@ pub(crate) fn numbers(low: u64, high: u64) -> Side
 }
 
 /// What of a side is below another one.
-fn below(side: &Side, cut: &Side) -> Option<Side>
+pub(crate) fn below(side: &Side, cut: &Side) -> Option<Side>
     ensures { result ≡ below side.now cut.now }
 {
     if side.range.low < cut.range.low {
@@ -34,7 +34,7 @@ fn below(side: &Side, cut: &Side) -> Option<Side>
 }
 
 /// What of it is above the other one.
-fn above(side: &Side, cut: &Side) -> Option<Side>
+pub(crate) fn above(side: &Side, cut: &Side) -> Option<Side>
     ensures { result ≡ above side.now cut.now }
 {
     if cut.range.high < side.range.high {
