@@ -1,3 +1,4 @@
+pub mod Covering
 pub mod DeviceAsks
 pub mod Listing
 pub mod Lying

@@ -2,13 +2,22 @@
 use Rattle.std.proofs.Common.{◌≡◌, ◌∙◌, ap, sym, refl, ℕ, ◌+◌, ◌<◌, add-one, append_assoc, append-nil, arith, drop, drop-cons, get_or, length, suc, List, [], ◌∷◌, ◌++◌}
 use Rattle.std.specs.List.{flat_map}
 use Rattle.gw_policy_text.specs.declared.format.Format.{Format}
+use Rattle.gw_policy_text.specs.declared.format.Format.TheVariants.{Two}
 use Rattle.gw_policy_text.specs.declared.port.Port.{Port}
 use Rattle.gw_lint.specs.Shape.{Shape}
-use Rattle.gw_lint.specs.Shapes.{foreign_shapes, own, own_shapes, shapes_from, table_shapes}
+use Rattle.gw_lint.specs.Shapes.{foreign_shapes, message_shapes, own, own_shapes, request_shapes, shapes_from, table_shapes}
+use Rattle.gw_lint.specs.declared.shapes.Origin.{Origin}
 use Rattle.gw_lint.specs.declared.side.Side.{Side}
 
 pub two_appended : (out a b x y : List Shape) → x ≡ out ++ a → y ≡ x ++ b → y ≡ out ++ (a ++ b)
 two_appended out a b x y e f = f ∙ ap (λ (xs : List Shape). xs ++ b) e ∙ append_assoc out a b
+
+-- under the second format
+pub both_appended : (format : Format) (device : ℕ) (from : Origin) (out x y : List Shape) → format ≡ Two → x ≡ out ++ message_shapes device from
+    → y ≡ x ++ request_shapes Two from → y ≡ out ++ shapes_from format device from
+both_appended format device from out x y is e f =
+    two_appended out (message_shapes device from) (request_shapes format from) x y e
+    (f ∙ ap (λ (other : Format). x ++ request_shapes other from) (sym is))
 
 step_on : (out new all a rest tail : List Shape) → new ≡ out ++ a → tail ≡ a ++ rest → out ++ tail ≡ all → new ++ rest ≡ all
 step_on out new all a rest tail e f is =

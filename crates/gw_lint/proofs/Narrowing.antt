@@ -25,10 +25,10 @@ use Rattle.gw_lint.proofs.Lying.{in_either, in_front, in_rest, lies_by}
 use Rattle.gw_lint.proofs.Parting.{pieced}
 
 -- the ranges admit the value, where there are some
-abbrev Admitted : List Range → Option ℕ → Type 0
+abbrev pub Admitted : List Range → Option ℕ → Type 0
 Admitted ranges value = 0 < length ranges → IsSomeAnd value (λ number. Any (λ range. IsIn range number) ranges)
 
-not_empty : (range : Range) (ranges : List Range) → (length (range ∷ ranges) == 0) ≡ false
+pub not_empty : (range : Range) (ranges : List Range) → (length (range ∷ ranges) == 0) ≡ false
 not_empty range ranges = ne_eqb (length (range ∷ ranges)) 0 (λ e. omega arith)
 
 -- ---- a side of which the ranges admit all

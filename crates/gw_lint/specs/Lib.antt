@@ -1,3 +1,4 @@
+pub mod Cover
 pub mod Laws
 pub mod Meeting
 pub mod Pieces

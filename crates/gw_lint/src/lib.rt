@@ -2,12 +2,14 @@
 //! comes to them.
 #![tactic(auto)]
 
+mod cover;
 pub mod laws;
 mod piece;
 mod search;
 mod shapes;
 mod side;
 
+pub use cover::{matches_nothing, takes_all};
 pub use search::{Outcome, search_for};
 pub use shapes::shapes_of;
 pub use side::{Shape, Side};

@@ -1,4 +1,4 @@
-use Rattle.gw_lint.proofs.Listing.{two_appended}
+use Rattle.gw_lint.proofs.Listing.{both_appended}
 use Rattle.gw_lint.proofs.shapes.push_from.Goals as goal
 
 pub returns-in_ok-extend_from_slice-in-Two : goal.returns-in_ok-extend_from_slice-in-Two
@@ -7,4 +7,5 @@ returns-in_ok-extend_from_slice-in-Two c =
     let first = rw c.message_shapes.ensures at first in
     let second = c.in_ok-extend_from_slice-in-Two.ensures.items in
     let second = rw c.request_shapes.ensures at second in
-    two_appended c.args.out.now.items _ _ c.extend_from_slice.new.self.items c.extend_from_slice-in-Two.new.self.items first second
+    both_appended c.args.format c.args.device c.args.from.now c.args.out.now.items c.extend_from_slice.new.self.items
+    c.extend_from_slice-in-Two.new.self.items c.in-Two.is first second
