@@ -1,6 +1,5 @@
 //! What waits for datagrams at the sockets of the system.
 
-ghost use Rattle.gw_addr.specs.declared.TheConstants.{MAX_PORTS};
 ghost use Rattle.std.specs.Prelude.{◌≡◌, ◌≤◌, false, length, ⊤};
 ghost use Rattle.gw_shell.specs.Waiting.{has_event_of};
 
