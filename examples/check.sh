@@ -172,7 +172,7 @@ ran 1 'bacgw: log failed' --config "$work/elsewhere.toml" --log "$work/nowhere/l
 ran 1 'bacgw: socket failed on port 1' --config "$work/elsewhere.toml" --log "$work/log"
 ran 1 'port 1: own 203.0.113.2:47808: no address of this machine
 bacgw: socket failed on port 1' --config "$work/elsewhere.toml" --log "$work/log" --verbose
-ran 2 'the text: is no TOML document, line 1
+ran 2 'the text: is no TOML document, line 1, column 10: invalid value, expected a string, number, boolean, date-time, array or inline table
 bacgw: configuration: NotToml' --config "$work/faulty.toml" --log "$work/log" --verbose
 sed 's/10\.1\.0/127.1.0/; s/10\.2\.0/127.2.0/' "$here/two_subnets.toml" > "$work/loopback.toml"
 echo 'a line of before' > "$work/log"
@@ -280,11 +280,11 @@ explained() {
     printf 'bacgw: configuration: %s\n' "$2" > "$work/told"
     agrees "an explanation: $3" 2 "$work/line" "$work/told"
 }
-explained '' Missing 'format: is missing'
-explained 'format = 1\nformat = ' NotToml 'the text: is no TOML document, line 2'
-explained '\xff' NotToml 'the text: is no TOML document'
+explained '' Missing 'format: is missing; it must be 1 to 2'
+explained 'format = 1\nformat = ' NotToml 'the text: is no TOML document, line 2, column 10: invalid value, expected a string, number, boolean, date-time, array or inline table'
+explained '\xff' NotToml "the text: is no TOML document, since it isn't UTF-8"
 explained 'colour = 1' UnknownKey 'colour: is no key of this table'
-explained 'format = 1\nport = []\n[device]\n' Range 'port: at least 1'
+explained 'format = 1\nport = []\n[device]\n' Range 'port: a list of 0 must have 1 to 8'
 
 # Each recipe of the cookbook: its rules behind base.toml, of another format where they begin with one, are accepted, and its lines,
 # marked by `> `, print what stands under them.

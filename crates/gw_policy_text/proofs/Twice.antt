@@ -1,5 +1,7 @@
 -- Elements that stand twice, as a loop finds them that keeps a sorted set of those before.
-use Rattle.std.proofs.Common.{◌≡◌, ℕ, zero, suc, ◌+◌, ◌<◌, ◌||◌, Bool, true, false, cond, not, nat_lt, List, [], ◌∷◌, ◌++◌, length, get_or, take, drop, map, refl, sym, ap, ◌∙◌, arith, nat_eq, Bor}
+use Rattle.std.proofs.Common.{◌≡◌, ℕ, zero, suc, ◌+◌, ◌<◌, ◌≤◌, ◌||◌, Bool, true, false, cond, not, nat_lt, List, [], ◌∷◌, ◌++◌, length, get_or, take, drop, map, Option, Some, None, refl, sym, ap, ◌∙◌, append_assoc, add-one, drop-cons, arith, nat_eq, Bor}
+use Rattle.std.specs.Prelude.{if◌then◌else◌, is_some}
+use Rattle.std.proofs.lemmas.List.{append-nil}
 use Rattle.std.specs.Cmp.Lexicographic.{bytes_decides, pointwise, slice_cmp}
 use Rattle.std.specs.List.{list_any}
 use Rattle.std.specs.BTreeMap.{is_at}
@@ -9,9 +11,9 @@ use Rattle.std.specs.Ordering.{match_ordering, nat_cmp, is_eq}
 use Rattle.std.specs.declared.cmp.Ordering.{Ordering}
 use Rattle.std.specs.declared.cmp.Ordering.TheVariants.{Less, Equal, Greater}
 use Rattle.std.proofs.lemmas.Bool.{eqb-true, eq-eqb, ltb-true}
-use Rattle.std.proofs.lemmas.List.{take-append-drop, take_more}
+use Rattle.std.proofs.lemmas.List.{take_more}
 use Rattle.std.proofs.lemmas.List.Folds.{list_any-append}
-use Rattle.gw_policy_text.specs.Duplicates.{has_twice}
+use Rattle.gw_policy_text.specs.Duplicates.{has_twice, second, second_behind}
 
 shuffle : (a s h l : Bool) → ((a || (s || false)) || (h || l)) ≡ ((a || h) || (s || l))
 shuffle true s h l = refl
@@ -58,16 +60,6 @@ module _ {A : Type 0} (same : A → A → Bool) (symmetric : (x y : A) → same 
   taken : (xs : List A) (k : ℕ) (x d : A) → k < length xs → x ≡ get_or xs k d → take (k + 1) xs ≡ take k xs ++ x ∷ []
   taken xs k x d h e = take_more xs k d h ∙ ap (λ y. take k xs ++ y ∷ []) (sym e)
 
-  -- an element that stands before too
-  found_twice : (xs : List A) (k : ℕ) (x d : A) → k < length xs → x ≡ get_or xs k d → list_any (same x) (take k xs) ≡ true → has_twice same xs ≡ true
-  found_twice xs k x d h e found =
-      let front : has_twice same (take (k + 1) xs) ≡ true = ap (has_twice same) (taken xs k x d h e) ∙ twice_push (take k xs) x ∙ ap (λ b. has_twice same (take k xs) || b) found ∙ or_true (has_twice same (take k xs)) in
-      ap (has_twice same) (sym (take-append-drop (k + 1) xs)) ∙ twice_more (take (k + 1) xs) (drop (k + 1) xs) front
-
-  -- an element that doesn't
-  none_twice : (xs : List A) (k : ℕ) (x d : A) → k < length xs → x ≡ get_or xs k d → has_twice same (take k xs) ≡ false → list_any (same x) (take k xs) ≡ false → has_twice same (take (k + 1) xs) ≡ false
-  none_twice xs k x d h e none new = ap (has_twice same) (taken xs k x d h e) ∙ twice_push (take k xs) x ∙ rw (none, new) refl
-
   -- one element more is among those before
   any_taken : (test : A → Bool) (xs : List A) (k : ℕ) (x d : A) → k < length xs → x ≡ get_or xs k d → list_any test (take (k + 1) xs) ≡ (test x || list_any test (take k xs))
   any_taken test xs k x d h e = ap (list_any test) (taken xs k x d h e) ∙ list_any-append test (take k xs) (x ∷ []) ∙ last (list_any test (take k xs)) (test x)
@@ -77,6 +69,23 @@ module _ {A : Type 0} (same : A → A → Bool) (symmetric : (x y : A) → same 
       last true false = refl
       last false true = refl
       last false false = refl
+
+  -- behind elements of which none stands twice, the search finds one exactly where one does
+  behind : (before : List A) (n : ℕ) (xs : List A) → has_twice same before ≡ false → is_some (second_behind same before n xs) ≡ has_twice same (before ++ xs)
+  behind before n [] none = sym (ap (has_twice same) (append-nil before) ∙ none)
+  behind before n (x ∷ xs) none = step (list_any (same x) before) refl (behind (before ++ x ∷ []) (n + 1) xs)
+    where
+      pushed : (before ++ x ∷ []) ++ xs ≡ before ++ x ∷ xs
+      pushed = simp append_assoc
+
+      step : (b : Bool) → list_any (same x) before ≡ b → (has_twice same (before ++ x ∷ []) ≡ false → is_some (second_behind same (before ++ x ∷ []) (n + 1) xs) ≡ has_twice same ((before ++ x ∷ []) ++ xs))
+          → is_some (if b then Some n else second_behind same (before ++ x ∷ []) (n + 1) xs) ≡ has_twice same (before ++ x ∷ xs)
+      step true e later =
+          sym (ap (has_twice same) (sym pushed) ∙ twice_more (before ++ x ∷ []) xs (twice_push before x ∙ ap (λ b. has_twice same before || b) e ∙ or_true (has_twice same before)))
+      step false e later = later (twice_push before x ∙ rw (none, e) refl) ∙ ap (has_twice same) pushed
+
+  pub second_twice : (xs : List A) → is_some (second same xs) ≡ has_twice same xs
+  second_twice xs = behind [] 0 xs refl
 
 -- one key more in a sorted set
 any_inserted : {K : Type 0} (cmp : K → K → Ordering) (test : K → Bool) → ((k x : K) → cmp k x ≡ Equal → test k ≡ test x) → (ks : List K) (k : K) → list_any test (insert_key cmp ks k) ≡ (test k || list_any test ks)
@@ -115,14 +124,38 @@ module _ {K A : Type 0} (f : K → A) (same : A → A → Bool) (symmetric : (x 
   among : (keys : List K) (xs : List A) (k : ℕ) (x : K) → Has keys xs k → list_any (is_at (cmp x)) keys ≡ list_any (same (f x)) (take k xs)
   among keys xs k x has = any_same (is_at (cmp x)) (λ y. same (f x) (f y)) (tie x) keys ∙ has (f x)
 
-  pub is_twice : (keys : List K) (xs : List A) (k : ℕ) (x : K) (d : A) (added : Bool) → k < length xs → f x ≡ get_or xs k d → Has keys xs k → added ≡ not (list_any (is_at (cmp x)) keys) → added ≡ false → true ≡ has_twice same xs
-  is_twice keys xs k x d added h e has a off =
-      sym (found_twice same symmetric xs k (f x) d h e (sym (among keys xs k x has) ∙ not_false (list_any (is_at (cmp x)) keys) (sym a ∙ off)))
+  -- what is found from a place on is what is found in the whole
+  abbrev pub IsSought : List A → ℕ → Type 0
+  IsSought xs k = second_behind same (take k xs) k (drop k xs) ≡ second same xs
 
-  pub is_new : (keys : List K) (xs : List A) (k : ℕ) (x : K) (d : A) (added : Bool) → k < length xs → f x ≡ get_or xs k d → Has keys xs k → added ≡ not (list_any (is_at (cmp x)) keys) → added ≡ true → has_twice same (take k xs) ≡ false
-      → has_twice same (take (k + 1) xs) ≡ false
-  is_new keys xs k x d added h e has a on none =
-      none_twice same symmetric xs k (f x) d h e none (sym (among keys xs k x has) ∙ not_true (list_any (is_at (cmp x)) keys) (sym a ∙ on))
+  unrolled : (xs : List A) (k : ℕ) (x d : A) → k < length xs → x ≡ get_or xs k d
+      → second_behind same (take k xs) k (drop k xs) ≡ (if list_any (same x) (take k xs) then Some k else second_behind same (take (k + 1) xs) (k + 1) (drop (k + 1) xs))
+  unrolled xs k x d h e =
+      let cells : drop k xs ≡ x ∷ drop (k + 1) xs = drop-cons xs k d h ∙ rw (add-one, ← e) refl in
+      ap (second_behind same (take k xs) k) cells
+      ∙ ap (λ front. if list_any (same x) (take k xs) then Some k else second_behind same front (k + 1) (drop (k + 1) xs)) (sym (taken same symmetric xs k x d h e))
+
+  pub is_second : (keys : List K) (xs : List A) (k : ℕ) (x : K) (d : A) (added : Bool) → k < length xs → f x ≡ get_or xs k d → Has keys xs k → added ≡ not (list_any (is_at (cmp x)) keys) → added ≡ false → IsSought xs k → Some k ≡ second same xs
+  is_second keys xs k x d added h e has a off sought =
+      let before : list_any (same (f x)) (take k xs) ≡ true = sym (among keys xs k x has) ∙ not_false (list_any (is_at (cmp x)) keys) (sym a ∙ off) in
+      sym (ap (λ b. if b then Some k else second_behind same (take (k + 1) xs) (k + 1) (drop (k + 1) xs)) before) ∙ sym (unrolled xs k (f x) d h e) ∙ sought
+
+  pub still_sought : (keys : List K) (xs : List A) (k : ℕ) (x : K) (d : A) (added : Bool) → k < length xs → f x ≡ get_or xs k d → Has keys xs k → added ≡ not (list_any (is_at (cmp x)) keys) → added ≡ true → IsSought xs k → IsSought xs (k + 1)
+  still_sought keys xs k x d added h e has a on sought =
+      let before : list_any (same (f x)) (take k xs) ≡ false = sym (among keys xs k x has) ∙ not_true (list_any (is_at (cmp x)) keys) (sym a ∙ on) in
+      sym (ap (λ b. if b then Some k else second_behind same (take (k + 1) xs) (k + 1) (drop (k + 1) xs)) before) ∙ sym (unrolled xs k (f x) d h e) ∙ sought
+
+  pub none_sought : (xs : List A) (k : ℕ) → length xs ≤ k → IsSought xs k → None ≡ second same xs
+  none_sought xs k h sought = sym (ap (second_behind same (take k xs) k) (drop_all xs k h)) ∙ sought
+    where
+      drop_all : (vs : List A) (n : ℕ) → length vs ≤ n → drop n vs ≡ []
+      drop_all [] n h = nil n
+        where
+          nil : (m : ℕ) → ◌≡◌ {A = List A} (drop m []) []
+          nil zero = refl
+          nil (suc m) = refl
+      drop_all (v ∷ vs) zero h = absurd (omega arith)
+      drop_all (v ∷ vs) (suc n) h = drop_all vs n (omega arith)
 
   pub has_more : (keys new : List K) (xs : List A) (k : ℕ) (x : K) (d : A) → k < length xs → f x ≡ get_or xs k d → Has keys xs k → new ≡ insert_key cmp keys x → Has new xs (k + 1)
   has_more keys new xs k x d h e has grown q =

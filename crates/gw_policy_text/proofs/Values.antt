@@ -1,14 +1,14 @@
 -- Values of TOML, as code and as definitions see them.
-use Rattle.std.proofs.Common.{◌≡◌, ◌||◌, ◌&&◌, ℕ, suc, Bool, length, String, Global, string_bytes, List, [], ◌∷◌, map, Option, Some, Ok, refl, sym, ap, ◌∙◌}
+use Rattle.std.proofs.Common.{◌≡◌, ◌||◌, ◌+◌, ℕ, suc, Bool, not, if◌then◌else◌, length, String, Global, string_bytes, List, [], ◌∷◌, map, Option, Some, None, Ok, refl, sym, ap, ◌∙◌}
 use Rattle.std.specs.Map.{keys_of}
-use Rattle.std.specs.List.{list_all, list_any}
+use Rattle.std.specs.List.{list_any, position, prefix_len}
 use Rattle.std.specs.Option.{ok_or, option_map}
 use Rattle.toml.specs.Data.{Data, Items}
 use Rattle.toml.specs.View.{items_of, items_view, members_view, view}
 use Rattle.toml.specs.declared.value.Value.{Value}
 use Rattle.gw_policy_text.specs.declared.fault.ConfigFault.TheVariants.{Kind}
 use Rattle.gw_policy_text.specs.declared.fault.ConfigFault.{ConfigFault}
-use Rattle.gw_policy_text.specs.Field.{Field, is_key, is_kind, is_range, knows, list_fault, list_fault_by}
+use Rattle.gw_policy_text.specs.Field.{Field, is_key, is_kind, is_range, list_fault, list_fault_by, stranger}
 use Rattle.gw_policy_text.specs.Value.{Read, values_of}
 
 -- the values of a list are those that it was made of
@@ -31,13 +31,14 @@ pub any_view : (test : Data → Bool) (vs : List Value) → list_any test (map v
 any_view test [] = refl
 any_view test (v ∷ vs) = ap (λ b. test (view v) || b) (any_view test vs)
 
--- each of some keys passes
-abbrev pub all_keys : (List ℕ → Bool) → List (String Global) → Bool
-all_keys test keys = list_all (λ key. test (string_bytes key)) keys
+-- the first of some keys that is that of no field
+abbrev pub stranger_of : List Field → List (String Global) → Option (List ℕ)
+stranger_of fields [] = None
+stranger_of fields (key ∷ keys) = if is_key fields (string_bytes key) then stranger_of fields keys else Some (string_bytes key)
 
-pub keys_view : (fields : List Field) (es : List (String Global × Value)) → all_keys (is_key fields) (keys_of es) ≡ knows fields (members_view es)
+pub keys_view : (fields : List Field) (es : List (String Global × Value)) → stranger_of fields (keys_of es) ≡ stranger fields (members_view es)
 keys_view fields [] = refl
-keys_view fields (e ∷ es) = ap (λ b. is_key fields (string_bytes e.0) && b) (keys_view fields es)
+keys_view fields (e ∷ es) = ap (λ o. if is_key fields (string_bytes e.0) then o else Some (string_bytes e.0)) (keys_view fields es)
 
 pub length_view : (vs : List Value) → length (map view vs) ≡ length vs
 length_view [] = refl
@@ -47,3 +48,11 @@ pub list_fault_view : (fault : Data → Option ConfigFault) (least most : ℕ) (
     → list_fault_by kinds ranges least most count ≡ list_fault fault least most (map view vs)
 list_fault_view fault least most vs kinds ranges count k r n =
     rw (any_view (λ d. is_kind (fault d)) vs, any_view (λ d. is_range (fault d)) vs, length_view vs, k, r, n) refl
+
+prefix_view : (test : Data → Bool) (vs : List Value) → prefix_len (λ d. not (test d)) (map view vs) ≡ prefix_len (λ v. not (test (view v))) vs
+prefix_view test [] = refl
+prefix_view test (v ∷ vs) = ap (λ n. if not (test (view v)) then 1 + n else 0) (prefix_view test vs)
+
+-- the position of the first value that passes a test
+pub position_view : (test : Data → Bool) (vs : List Value) → position test (map view vs) ≡ position (λ v. test (view v)) vs
+position_view test vs = rw (prefix_view test vs, length_view vs) refl

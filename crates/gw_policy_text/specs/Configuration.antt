@@ -1,6 +1,6 @@
 -- What a gateway is configured with, and how it is read from the tables of its text.
-use Rattle.std.specs.Prelude.{ℕ, ℤ, List, [], ◌∷◌, length, Bool, codes, ◌==◌, nat_le, nat_lt, ◌&&◌, not, if◌then◌else◌, Option, Some, None, Ok, Err}
-use Rattle.std.specs.Option.{ok_or}
+use Rattle.std.specs.Prelude.{ℕ, ◌+◌, ℤ, List, [], ◌∷◌, length, Bool, codes, ◌==◌, nat_le, nat_lt, ◌&&◌, not, if◌then◌else◌, Option, Some, None, Ok, Err}
+use Rattle.std.specs.Option.{ok_or, option_map}
 use Rattle.toml.specs.Data.{Data, Members, get_member}
 use Rattle.gw_addr.specs.Reading.{◌>>=◌}
 use Rattle.gw_addr.specs.declared.TheConstants.{MAX_PORTS}
@@ -16,6 +16,8 @@ use Rattle.gw_policy_text.specs.declared.fault.ConfigFault.{ConfigFault}
 use Rattle.gw_policy_text.specs.declared.fault.ConfigFault.TheVariants.{Missing, Range, TooMany}
 use Rattle.gw_policy_text.specs.declared.format.Format.{Format}
 use Rattle.gw_policy_text.specs.declared.format.Format.TheVariants as formats
+use Rattle.gw_policy_text.specs.declared.located.Place.{Place}
+use Rattle.gw_policy_text.specs.declared.located.Place.TheVariants as places
 use Rattle.gw_policy_text.specs.declared.object.Object.{Object}
 use Rattle.gw_policy_text.specs.declared.object.ObjectKind.{ObjectKind}
 use Rattle.gw_policy_text.specs.declared.object.ObjectKind.TheVariants as kinds
@@ -25,15 +27,16 @@ use Rattle.gw_policy_text.specs.declared.port.Port.{Port}
 use Rattle.gw_policy_text.specs.declared.route.Route.{Route}
 use Rattle.gw_policy_text.specs.declared.shape.Scalar.{Scalar}
 use Rattle.gw_policy_text.specs.declared.shape.Scalar.TheVariants.{Number, Operation, Address}
-use Rattle.gw_policy_text.specs.Field.{fault_of, range_in}
+use Rattle.gw_policy_text.specs.Field.{at_field, field_fault, located_in, range_in}
+use Rattle.gw_policy_text.specs.Located.{Find, Located, whole}
 use Rattle.gw_policy_text.specs.States.{States}
-use Rattle.gw_policy_text.specs.Tables.{device_fields, object_fields, peer_fields, port_fields, route_fields, rule_fields}
+use Rattle.gw_policy_text.specs.Tables.{device_fields, object_fields, peer_fields, port_fields, route_fields, rule_fields, type_field}
 use Rattle.gw_policy_text.specs.Value.{Read, address_in, boolean_in, kind_in, list_in, mask_in, number_in, rule_name_in, signed_in, table_in, text_in, text_within}
 
 -- what is read where there is no fault
-abbrev pub unless : {A : Type 0} → Option ConfigFault → Read A → Read A
+abbrev pub unless : {A : Type 0} → Option Located → Find A → Find A
 unless None reading = reading
-unless (Some fault) reading = Err fault
+unless (Some located) reading = Err located
 
 -- the value at a key
 abbrev pub at : List ℕ → Members → Read Data
@@ -79,6 +82,12 @@ abbrev pub each : {A : Type 0} → (Data → Read A) → List Data → Read (Lis
 each read [] = Ok []
 each read (value ∷ later) = read value >>= λ first. each read later >>= λ others. Ok (first ∷ others)
 
+-- the same of tables, each with its position, from the first on
+abbrev pub each_at : {A : Type 0} → (ℕ → Data → Find A) → ℕ → List Data → Find (List A)
+each_at read place [] = Ok []
+each_at read place (value ∷ later) =
+    read place value >>= λ first. each_at read (place + 1) later >>= λ others. Ok (first ∷ others)
+
 -- the device
 
 abbrev pub device_parts : Members → Read Device
@@ -108,8 +117,8 @@ device_parts table = do
     description = description;
   })
 
-unfoldable pub device_of : Members → Read Device
-device_of table = unless (fault_of device_fields table) (device_parts table)
+unfoldable pub device_of : Members → Find Device
+device_of table = unless (located_in places.Device device_fields table) (whole (device_parts table))
 
 -- a port, followed by its peers
 
@@ -119,26 +128,29 @@ peer_parts table = do
   mask ← mask_at (codes "mask") table
   Ok (record { address = address; mask = mask.octets })
 
-abbrev pub peer_of : Members → Read BdtEntry
-peer_of table = unless (fault_of peer_fields table) (peer_parts table)
+-- of the port at a position
+abbrev pub peer_of : ℕ → ℕ → Members → Find BdtEntry
+peer_of port peer table = unless (located_in (places.Peer port peer) peer_fields table) (whole (peer_parts table))
 
-abbrev pub peer_in : Data → Read BdtEntry
-peer_in value = table_in value >>= peer_of
+abbrev pub peer_in : ℕ → ℕ → Data → Find BdtEntry
+peer_in port peer value = whole (table_in value) >>= peer_of port peer
 
-abbrev pub port_parts : Members → Read Port
-port_parts table = do
-  network ← number_at 1 65534 (codes "network") table
-  address ← address_at (codes "address") table
-  broadcast ← address_at (codes "broadcast") table
-  entries ← list_at 0 64 (codes "peer") table
-  peers ← each peer_in entries
+abbrev pub peers_at : ℕ → List ℕ → Members → Find (List BdtEntry)
+peers_at port key table = whole (list_at 0 64 key table) >>= each_at (peer_in port) 0
+
+abbrev pub port_parts : ℕ → Members → Find Port
+port_parts port table = do
+  network ← whole (number_at 1 65534 (codes "network") table)
+  address ← whole (address_at (codes "address") table)
+  broadcast ← whole (address_at (codes "broadcast") table)
+  peers ← peers_at port (codes "peer") table
   Ok (record { network = network; address = address; broadcast = broadcast; peers = peers })
 
-abbrev pub port_of : Members → Read Port
-port_of table = unless (fault_of port_fields table) (port_parts table)
+abbrev pub port_of : ℕ → Members → Find Port
+port_of port table = unless (located_in (places.Port port) port_fields table) (port_parts port table)
 
-abbrev pub port_in : Data → Read Port
-port_in value = table_in value >>= port_of
+abbrev pub port_in : ℕ → Data → Find Port
+port_in port value = whole (table_in value) >>= port_of port
 
 -- a route by one of so many ports
 
@@ -149,11 +161,12 @@ route_parts ports table = do
   next ← address_at (codes "next") table
   Ok (record { network = network; port = port; next = next })
 
-abbrev pub route_of : ℕ → Members → Read Route
-route_of ports table = unless (fault_of (route_fields ports) table) (route_parts ports table)
+abbrev pub route_of : ℕ → ℕ → Members → Find Route
+route_of ports route table =
+    unless (located_in (places.Route route) (route_fields ports) table) (whole (route_parts ports table))
 
-abbrev pub route_in : ℕ → Data → Read Route
-route_in ports value = table_in value >>= route_of ports
+abbrev pub route_in : ℕ → ℕ → Data → Find Route
+route_in ports route value = whole (table_in value) >>= route_of ports route
 
 -- a route by one of so many ports
 abbrev pub is_by : ℕ → Route → Bool
@@ -227,16 +240,23 @@ object_parts kind table = do
   value ← value_of kind table
   Ok (record { instance = instance; name = name; description = description; value = value })
 
-unfoldable pub object_of_kind : ObjectKind → Members → Read Object
-object_of_kind kind table =
-    unless (fault_of (object_fields kind (count_at (codes "states") table)) table) (object_parts kind table)
+unfoldable pub object_of_kind : ℕ → ObjectKind → Members → Find Object
+object_of_kind object kind table =
+    unless (located_in (places.Object object) (object_fields kind (count_at (codes "states") table)) table)
+    (whole (object_parts kind table))
 
--- its type is judged first
-abbrev pub object_of : Members → Read Object
-object_of table = kind_at (codes "type") table >>= λ kind. object_of_kind kind table
+-- the fault of its type, which is judged first
+abbrev pub type_located : ℕ → Members → Option Located
+type_located object table =
+    option_map (λ fault. at_field (places.Object object) fault table (Some type_field)) (field_fault table type_field)
 
-abbrev pub object_in : Data → Read Object
-object_in value = table_in value >>= object_of
+abbrev pub object_of : ℕ → Members → Find Object
+object_of object table =
+    unless (type_located object table)
+    (whole (kind_at (codes "type") table) >>= λ kind. object_of_kind object kind table)
+
+abbrev pub object_in : ℕ → Data → Find Object
+object_in object value = whole (table_in value) >>= object_of object
 
 -- a rule
 
@@ -281,11 +301,11 @@ rule_parts table = do
   ranges ← fields_of table
   Ok (record { name = name; allow = allow; ranges = ranges })
 
-unfoldable pub rule_of : Members → Read Rule
-rule_of table = unless (fault_of rule_fields table) (rule_parts table)
+unfoldable pub rule_of : ℕ → Members → Find Rule
+rule_of rule table = unless (located_in (places.Rule rule) rule_fields table) (whole (rule_parts table))
 
-abbrev pub rule_in : Data → Read Rule
-rule_in value = table_in value >>= rule_of
+abbrev pub rule_in : ℕ → Data → Find Rule
+rule_in rule value = whole (table_in value) >>= rule_of rule
 
 -- the whole
 
@@ -305,20 +325,20 @@ format_of number = if number == 1 then formats.One else formats.Two
 abbrev pub format_at : List ℕ → Members → Read Format
 format_at key table = number_at 1 2 key table >>= λ number. Ok (format_of number)
 
-abbrev pub device_at : List ℕ → Members → Read Device
-device_at key table = at key table >>= table_in >>= device_of
+abbrev pub device_at : List ℕ → Members → Find Device
+device_at key table = whole (at key table >>= table_in) >>= device_of
 
-abbrev pub ports_at : List ℕ → Members → Read (List Port)
-ports_at key table = list_at 1 MAX_PORTS key table >>= each port_in
+abbrev pub ports_at : List ℕ → Members → Find (List Port)
+ports_at key table = whole (list_at 1 MAX_PORTS key table) >>= each_at port_in 0
 
-abbrev pub routes_at : ℕ → List ℕ → Members → Read (List Route)
-routes_at ports key table = list_at 0 512 key table >>= each (route_in ports)
+abbrev pub routes_at : ℕ → List ℕ → Members → Find (List Route)
+routes_at ports key table = whole (list_at 0 512 key table) >>= each_at (route_in ports) 0
 
-abbrev pub objects_at : List ℕ → Members → Read (List Object)
-objects_at key table = list_at 0 256 key table >>= each object_in
+abbrev pub objects_at : List ℕ → Members → Find (List Object)
+objects_at key table = whole (list_at 0 256 key table) >>= each_at object_in 0
 
-abbrev pub rules_at : List ℕ → Members → Read (List Rule)
-rules_at key table = list_at 0 512 key table >>= each rule_in
+abbrev pub rules_at : List ℕ → Members → Find (List Rule)
+rules_at key table = whole (list_at 0 512 key table) >>= each_at rule_in 0
 
 -- the rules as a policy
 abbrev pub policy_of : List Rule → Read (List Rule)
@@ -326,16 +346,16 @@ policy_of rules =
     if not (keeps_counts rules) then Err TooMany else if not (keeps_order rules) then Err Range else Ok rules
 
 -- the tables in their order, behind the format
-abbrev pub parts_of_format : Format → Members → Read Configuration
+abbrev pub parts_of_format : Format → Members → Find Configuration
 parts_of_format format top = do
   device ← device_at (codes "device") top
   ports ← ports_at (codes "port") top
   routes ← routes_at (length ports) (codes "route") top
   objects ← objects_at (codes "object") top
   rules ← rules_at (codes "rule") top
-  policy ← policy_of rules
+  policy ← whole (policy_of rules)
   Ok (record { format = format; device = device; ports = ports; routes = routes; objects = objects; rules = policy })
 
 -- the format, and then the tables
-abbrev pub parts_of : Members → Read Configuration
-parts_of top = format_at (codes "format") top >>= λ format. parts_of_format format top
+abbrev pub parts_of : Members → Find Configuration
+parts_of top = whole (format_at (codes "format") top) >>= λ format. parts_of_format format top

@@ -8,18 +8,25 @@ use Rattle.gw_addr.specs.Reading.{◌>>=◌}
 use Rattle.gw_policy_text.specs.declared.fault.ConfigFault.TheVariants.{NotToml, TooMany}
 use Rattle.gw_policy_text.specs.Configuration.{Configuration, parts_of, unless}
 use Rattle.gw_policy_text.specs.Duplicates.{unique}
-use Rattle.gw_policy_text.specs.Field.{fault_of}
+use Rattle.gw_policy_text.specs.declared.located.Place.TheVariants.{Top}
+use Rattle.gw_policy_text.specs.Field.{located_in}
+use Rattle.gw_policy_text.specs.Located.{Find, of_text, whole, without_place}
 use Rattle.gw_policy_text.specs.Tables.{top_fields}
 use Rattle.gw_policy_text.specs.Value.{Read}
 
 -- the configuration of a document: its tables in their order, and last of all what may not stand twice
-unfoldable pub configuration_of : Members → Read Configuration
-configuration_of top = unless (fault_of top_fields top) (parts_of top >>= unique)
+unfoldable pub configuration_of : Members → Find Configuration
+configuration_of top = unless (located_in Top top_fields top) (parts_of top >>= unique)
 
 -- the TOML document that a text is
 abbrev pub document : List ℕ → Read Members
 document text = if is_utf8 text then ok_or (parse_document text) NotToml else Err NotToml
 
--- the configuration that a text of at most 1,048,576 octets says, or its first fault
-unfoldable pub configuration : List ℕ → Read Configuration
-configuration text = if nat_lt 1048576 (length text) then Err TooMany else (document text >>= configuration_of)
+-- the configuration that a text of at most 1,048,576 octets says, or its first fault and where that is
+unfoldable pub located_configuration : List ℕ → Find Configuration
+located_configuration text =
+    if nat_lt 1048576 (length text) then Err (of_text TooMany) else (whole (document text) >>= configuration_of)
+
+-- the configuration that a text says, or its first fault
+abbrev pub configuration : List ℕ → Read Configuration
+configuration text = without_place (located_configuration text)

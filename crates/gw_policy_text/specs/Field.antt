@@ -1,7 +1,8 @@
 -- The fields of a table, and the fault of a table.
-use Rattle.std.specs.Prelude.{ℕ, Bool, true, false, ◌&&◌, ◌||◌, not, nat_le, nat_lt, nat_eq, if◌then◌else◌, List, [], ◌∷◌, length, Option, Some, None, Ok, Err}
+use Rattle.std.specs.Prelude.{ℕ, Bool, true, false, ◌||◌, nat_le, nat_lt, nat_eq, if◌then◌else◌, List, [], ◌∷◌, length, find, position, Option, Some, None, is_some, Ok, Err}
 use Rattle.std.specs.Cmp.Lexicographic.{pointwise}
 use Rattle.std.specs.List.{list_any}
+use Rattle.std.specs.Option.{option_map}
 use Rattle.std.specs.Result.{result_err}
 use Rattle.toml.specs.Data.{Data, Members, no_members, member, get_member}
 use Rattle.gw_addr.specs.Address.{big_endian, octets_of}
@@ -10,10 +11,12 @@ use Rattle.gw_rules.specs.declared.range.Range.{Range as RuleRange}
 use Rattle.gw_rules.specs.Operation.{operation_number}
 use Rattle.gw_policy_text.specs.declared.fault.ConfigFault.{ConfigFault}
 use Rattle.gw_policy_text.specs.declared.fault.ConfigFault.TheVariants.{UnknownKey, Missing, Kind, Range, TooMany}
+use Rattle.gw_policy_text.specs.declared.located.Place.{Place}
 use Rattle.gw_policy_text.specs.declared.shape.Scalar.{Scalar}
 use Rattle.gw_policy_text.specs.declared.shape.Scalar.TheVariants.{Number, Signed, ObjectType, Text, RuleName, Operation, Boolean, Address, Mask, Table}
 use Rattle.gw_policy_text.specs.declared.shape.Shape.{Shape}
 use Rattle.gw_policy_text.specs.declared.shape.Shape.TheVariants.{One, List as Listing, Ranges}
+use Rattle.gw_policy_text.specs.Located.{Located, at_key}
 use Rattle.gw_policy_text.specs.Value.{Read, address_in, boolean_in, kind_in, list_in, mask_in, number_in, operation_in, rule_name_in, signed_in, table_in, text_in}
 
 -- one value of its own
@@ -108,11 +111,28 @@ listed_fault fault least most (Err other) = Some other
 
 -- values of any shape
 
+-- the fault of an item of a list
+abbrev pub item_fault : Shape → Data → Option ConfigFault
+item_fault (One scalar) item = None
+item_fault (Listing scalar least most) item = scalar_fault scalar item
+item_fault (Ranges scalar) item = result_err (range_in scalar item)
+
 -- the fault of a value: the first of Kind, Range and TooMany that it has
 abbrev pub value_fault : Shape → Data → Option ConfigFault
 value_fault (One scalar) value = scalar_fault scalar value
-value_fault (Listing scalar least most) value = listed_fault (scalar_fault scalar) least most (list_in value)
-value_fault (Ranges scalar) value = listed_fault (λ item. result_err (range_in scalar item)) 1 4 (list_in value)
+value_fault (Listing scalar least most) value =
+    listed_fault (item_fault (Listing scalar least most)) least most (list_in value)
+value_fault (Ranges scalar) value = listed_fault (item_fault (Ranges scalar)) 1 4 (list_in value)
+
+-- the position of the first item that has this fault
+abbrev pub item_with : ConfigFault → Shape → List Data → Option ℕ
+item_with Kind shape items = position (λ item. is_kind (item_fault shape item)) items
+item_with Range shape items = position (λ item. is_range (item_fault shape item)) items
+item_with _ shape items = None
+
+abbrev pub item_in : ConfigFault → Shape → Read (List Data) → Option ℕ
+item_in fault shape (Ok items) = item_with fault shape items
+item_in fault shape (Err _) = None
 
 -- tables
 
@@ -134,20 +154,62 @@ field_fault table field = fault_where field (get_member field.key table)
 abbrev pub has : (Option ConfigFault → Bool) → List Field → Members → Bool
 has test fields table = list_any (λ field. test (field_fault table field)) fields
 
--- each key of the table is that of a field
+-- the key is that of a field
 abbrev pub is_key : List Field → List ℕ → Bool
 is_key fields key = list_any (λ field. pointwise nat_eq field.key key) fields
 
-abbrev pub knows : List Field → Members → Bool
-knows fields no_members = true
-knows fields (member key value members) = is_key fields key && knows fields members
+-- the first key of the table that is that of no field
+abbrev pub stranger : List Field → Members → Option (List ℕ)
+stranger fields no_members = None
+stranger fields (member key value members) = if is_key fields key then stranger fields members else Some key
 
--- the fault of a table, each of the five judged for the whole table before the next
-unfoldable pub fault_of : List Field → Members → Option ConfigFault
-fault_of fields table =
-    if not (knows fields table) then Some UnknownKey
-    else if has is_missing fields table then Some Missing
+-- the fault of a table that has no other keys
+abbrev pub fault_of_fields : List Field → Members → Option ConfigFault
+fault_of_fields fields table =
+    if has is_missing fields table then Some Missing
     else if has is_kind fields table then Some Kind
     else if has is_range fields table then Some Range
     else if has is_too_many fields table then Some TooMany
     else None
+
+-- the fault of a table, each of the five judged for the whole table before the next
+unfoldable pub fault_of : List Field → Members → Option ConfigFault
+fault_of fields table = if is_some (stranger fields table) then Some UnknownKey else fault_of_fields fields table
+
+-- where it is
+
+-- whether a fault that was found is this one of the four that a field may have
+abbrev pub is_this : ConfigFault → Option ConfigFault → Bool
+is_this Missing found = is_missing found
+is_this Kind found = is_kind found
+is_this Range found = is_range found
+is_this TooMany found = is_too_many found
+is_this _ found = false
+
+-- the first field that has this fault
+abbrev pub field_with : ConfigFault → List Field → Members → Option Field
+field_with fault fields table = find (λ field. is_this fault (field_fault table field)) fields
+
+abbrev pub item_of : ConfigFault → Shape → Option Data → Option ℕ
+item_of fault shape None = None
+item_of fault shape (Some value) = item_in fault shape (list_in value)
+
+-- this fault of a field
+abbrev pub at_field : Place → ConfigFault → Members → Option Field → Located
+at_field place fault table (Some field) = record {
+  fault = fault;
+  place = place;
+  key = field.key;
+  item = item_of fault field.shape (get_member field.key table);
+  wanted = Some field.shape;
+}
+at_field place fault table None = at_key place fault None
+
+-- where in a table this fault of it is: at the first key that is no field's, or at the first field that has it
+abbrev pub located_as : Place → List Field → Members → ConfigFault → Located
+located_as place fields table UnknownKey = at_key place UnknownKey (stranger fields table)
+located_as place fields table fault = at_field place fault table (field_with fault fields table)
+
+-- the fault of a table with its place
+unfoldable pub located_in : Place → List Field → Members → Option Located
+located_in place fields table = option_map (located_as place fields table) (fault_of fields table)

@@ -3,6 +3,7 @@ pub mod Document
 pub mod Duplicates
 pub mod Explanation
 pub mod Field
+pub mod Located
 pub mod Reading
 pub mod States
 pub mod Tables

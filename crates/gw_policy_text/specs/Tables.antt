@@ -83,10 +83,14 @@ route_fields ports =
     ∷ needs (codes "next") (One Address)
     ∷ []
 
+-- the type of an object
+abbrev pub type_field : Field
+type_field = needs (codes "type") (One ObjectType)
+
 -- every object, with the shape of its default
 abbrev pub common_fields : Shape → List Field
 common_fields default =
-    needs (codes "type") (One ObjectType)
+    type_field
     ∷ needs (codes "instance") instance
     ∷ needs (codes "name") name
     ∷ needs (codes "default") default

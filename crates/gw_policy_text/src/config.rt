@@ -4,11 +4,12 @@ ghost use Rattle.std.specs.List.{list_all};
 ghost use Rattle.gw_addr.specs.declared.TheConstants.{MAX_PORTS};
 ghost use Rattle.gw_policy_text.specs.Configuration.{is_by};
 ghost use Rattle.gw_policy_text.specs.Duplicates.{has_duplicates, unique};
-ghost use Rattle.gw_policy_text.specs.Reading.{Gives};
+ghost use Rattle.gw_policy_text.specs.Reading.{Finds};
 
-use crate::duplicates::has_duplicates;
+use crate::duplicates::repetition;
+use crate::located::Located;
 use crate::parts::Parts;
-use crate::{ConfigFault, Device, Format, Object, Port, Route};
+use crate::{Device, Format, Object, Port, Route};
 use gw_rules::RuleList;
 use std::alloc::Global;
 use std::marker::Model;
@@ -40,12 +41,13 @@ impl Model for Config {
 }
 
 impl Config {
-    /// The configuration of these parts. `Duplicate` where something stands twice that may stand
-    /// only once.
-    pub(crate) fn of_parts(alloc: Global, parts: Parts) -> Result<Self, ConfigFault>
-        ensures { Gives (λ c. c) result (unique parts) }
+    /// The configuration of these parts. `Duplicate` where something stands twice that may stand only
+    /// once.
+    #[tactic(auto, using(crate::proofs::Repeats::none_stands_twice))]
+    pub(crate) fn of_parts<'a>(alloc: Global, parts: Parts) -> Result<Self, Located<'a>>
+        ensures { Finds (λ c. c) result (unique parts) }
     {
-        let twice = has_duplicates(
+        let twice = repetition(
             alloc,
             parts.device(),
             parts.ports(),
@@ -53,10 +55,10 @@ impl Config {
             parts.objects(),
             parts.rules().rules(),
         )?;
-        if twice {
-            return Err(ConfigFault::Duplicate);
+        match twice {
+            Some(located) => Err(located),
+            None => Ok(Config { parts }),
         }
-        Ok(Config { parts })
     }
 
     /// The format of the policy.

@@ -3,11 +3,13 @@
 ghost use Rattle.std.specs.Prelude.{◌≡◌};
 ghost use Rattle.toml.specs.View.{table_view};
 ghost use Rattle.gw_policy_text.specs.Configuration.{device_of, device_parts};
-ghost use Rattle.gw_policy_text.specs.Field.{fault_of};
-ghost use Rattle.gw_policy_text.specs.Reading.{Gives, TellsFault};
+ghost use Rattle.gw_policy_text.specs.Field.{located_in};
+ghost use Rattle.gw_policy_text.specs.Reading.{Finds, Gives, TellsFault};
+ghost use Rattle.gw_policy_text.specs.declared.located.Place.TheVariants as places;
 ghost use Rattle.gw_policy_text.specs.Tables.{device_fields};
 
-use crate::field::fault_of;
+use crate::field::located_in;
+use crate::located::{Located, Place};
 use crate::reading::{
     instance_at, long_at, network_at, octet_at, optional_text, short_at, text_at,
 };
@@ -67,13 +69,13 @@ impl Drop for Device {
 impl Device {
     /// The device that the table says.
     #[tactic(auto, unfolding(crate::specs::Configuration::device_of))]
-    pub(crate) fn read(alloc: Global, table: &Table) -> Result<Self, ConfigFault>
-        ensures device { Gives (λ d. d) result (device_of (table_view table.now)) }
-        ensures told { TellsFault result (fault_of device_fields (table_view table.now)) }
+    pub(crate) fn read<'a>(alloc: Global, table: &'a Table) -> Result<Self, Located<'a>>
+        ensures device { Finds (λ d. d) result (device_of (table_view table.now)) }
+        ensures told { TellsFault result (located_in places.Device device_fields (table_view table.now)) }
     {
-        match fault_of(&device_fields(), table) {
-            Some(fault) => Err(fault),
-            None => Device::parts(alloc, table),
+        match located_in(Place::Device, &device_fields(), table) {
+            Some(located) => Err(located),
+            None => Ok(Device::parts(alloc, table)?),
         }
     }
 

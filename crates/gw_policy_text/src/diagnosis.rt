@@ -2,17 +2,18 @@
 
 use crate::ConfigFault;
 use crate::explanation::Explanation;
-use crate::read::MAX_OCTETS;
-use crate::repetition::first_repetition;
-use crate::visit::first_finding;
-use crate::words::put_finding;
+use crate::located::Located;
+use crate::read::{MAX_OCTETS, config_of};
+use crate::reason::put_reason;
+use crate::words::put_place;
 use itoa::Buffer;
 use std::alloc::{AllocError, Global};
 use toml::Table;
+use toml::de::Error;
 
 /// The line that says where this fault of a text is, the one that `read_config` answered for it: the
-/// table and its number from 1, the key, and what is wrong there, as in
-/// `port 2: network: 1 is named twice`. `None` where the text isn't found to have this fault.
+/// table, its number from 1 and its name, the key, of a list the item, and what is wrong there, as in
+/// `port 2: network: 1 is named twice`. `None` where the first fault of the text isn't this one.
 pub fn explain(
     alloc: Global,
     text: &[u8],
@@ -21,16 +22,13 @@ pub fn explain(
     if text.len() > MAX_OCTETS {
         return too_long(alloc, fault);
     }
-    let Ok(text) = str::from_utf8(text) else {
-        return no_toml(alloc, None, fault);
+    let Ok(document) = str::from_utf8(text) else {
+        return no_toml(alloc, fault);
     };
-    match toml::table_from_str(alloc, text) {
+    match toml::table_from_str(alloc, document) {
         Ok(top) => in_tables(alloc, &top, fault),
         Err(error) if error.is_memory() => Err(AllocError),
-        Err(error) => {
-            let start = error.span().map(|span| span.start);
-            no_toml(alloc, line_of(text.as_bytes(), start), fault)
-        }
+        Err(error) => no_document(alloc, document, &error, fault),
     }
 }
 
@@ -40,35 +38,60 @@ fn too_long(alloc: Global, fault: ConfigFault) -> Result<Option<Explanation>, Al
         return Ok(None);
     }
     let mut line = Explanation::new(alloc);
-    line.put("the text: at most ")?;
+    line.put("the text: ")?;
+    line.put("at most ")?;
     line.put(Buffer::new().format(MAX_OCTETS))?;
     line.put(" octets")?;
     Ok(Some(line))
 }
 
-/// Of a text that is no TOML document, at this line.
-fn no_toml(
+/// Of a text that isn't UTF-8.
+fn no_toml(alloc: Global, fault: ConfigFault) -> Result<Option<Explanation>, AllocError> {
+    if !matches!(fault, ConfigFault::NotToml) {
+        return Ok(None);
+    }
+    let mut line = Explanation::new(alloc);
+    line.put("the text: ")?;
+    line.put("is no TOML document, since it isn't UTF-8")?;
+    Ok(Some(line))
+}
+
+/// Of a text that is no TOML document, at the line and the column that the reader tells.
+fn no_document(
     alloc: Global,
-    number: Option<usize>,
+    text: &str,
+    error: &Error,
     fault: ConfigFault,
 ) -> Result<Option<Explanation>, AllocError> {
     if !matches!(fault, ConfigFault::NotToml) {
         return Ok(None);
     }
     let mut line = Explanation::new(alloc);
-    line.put("the text: is no TOML document")?;
-    if let Some(number) = number {
-        line.put(", line ")?;
-        line.put(Buffer::new().format(number))?;
+    line.put("the text: ")?;
+    line.put("is no TOML document")?;
+    if let Some(span) = error.span() {
+        put_position(&mut line, text.as_bytes(), span.start)?;
     }
+    line.put(": ")?;
+    line.put(error.message())?;
     Ok(Some(line))
 }
 
-/// The number of the line in which an octet stands, from 1.
-fn line_of(text: &[u8], start: Option<usize>) -> Option<usize> {
-    let front = text.get(..start?)?;
+/// Puts the line and the column of an octet, both from 1.
+fn put_position(line: &mut Explanation, text: &[u8], start: usize) -> Result<(), AllocError> {
+    let Some(front) = text.get(..start) else {
+        return Ok(());
+    };
     let ends = front.iter().filter(|octet| **octet == b'\n').count();
-    Some(ends.saturating_add(1))
+    let behind = front
+        .iter()
+        .rev()
+        .take_while(|octet| **octet != b'\n')
+        .count();
+    line.put(", line ")?;
+    line.put(Buffer::new().format(ends.saturating_add(1)))?;
+    line.put(", column ")?;
+    line.put(Buffer::new().format(behind.saturating_add(1)))
 }
 
 /// Of the tables of a document.
@@ -77,16 +100,26 @@ fn in_tables(
     top: &Table,
     fault: ConfigFault,
 ) -> Result<Option<Explanation>, AllocError> {
-    let mut found = first_finding(top);
-    if found.is_none() {
-        found = first_repetition(alloc, top)?;
+    match config_of(alloc, top) {
+        Ok(_) => Ok(None),
+        Err(located) => of_fault(alloc, top, &located, fault),
     }
-    match found {
-        Some(finding) if finding.fault() == fault => {
-            let mut line = Explanation::new(alloc);
-            put_finding(&mut line, &finding)?;
-            Ok(Some(line))
-        }
-        _ => Ok(None),
+}
+
+fn of_fault(
+    alloc: Global,
+    top: &Table,
+    located: &Located<'_>,
+    fault: ConfigFault,
+) -> Result<Option<Explanation>, AllocError> {
+    if located.fault == ConfigFault::Memory {
+        return Err(AllocError);
     }
+    if located.fault != fault {
+        return Ok(None);
+    }
+    let mut line = Explanation::new(alloc);
+    put_place(&mut line, located, top)?;
+    put_reason(&mut line, located, top)?;
+    Ok(Some(line))
 }

@@ -1,11 +1,12 @@
 //! The fields of a table, and the fault of a table.
-ghost use Rattle.std.specs.Prelude.{◌≡◌, map, true, false};
+ghost use Rattle.std.specs.Prelude.{◌≡◌, map, position, Some, option_map};
 ghost use Rattle.std.specs.List.{list_any};
-ghost use Rattle.std.specs.Result.{result_err};
 ghost use Rattle.toml.specs.View.{table_view, view};
-ghost use Rattle.gw_policy_text.specs.Field.{fault_of, field_fault, has, is_key, is_kind, is_missing, is_range, is_too_many, knows, list_fault, list_fault_by, range_in, scalar_fault, value_fault};
+ghost use Rattle.gw_policy_text.specs.Field.{at_field, fault_of, fault_of_fields, field_fault, field_with, has, is_key, is_kind, is_missing, is_range, is_this, is_too_many, item_fault, item_of, item_with, list_fault, list_fault_by, located_as, located_in, scalar_fault, stranger, value_fault};
+ghost use Rattle.gw_policy_text.specs.Located.{located_view};
 
 use crate::ConfigFault;
+use crate::located::{Located, Place};
 use crate::range::range;
 use crate::shape::{Scalar, Shape};
 use crate::value::{self, member};
@@ -54,16 +55,6 @@ impl Field {
         }
     }
 
-    /// The key.
-    pub(crate) fn key(&self) -> &'static str {
-        self.key
-    }
-
-    /// What its value may be.
-    pub(crate) fn shape(&self) -> Shape {
-        self.shape
-    }
-
     /// The fault of the field in a table.
     pub(crate) fn fault(&self, table: &Table) -> Option<ConfigFault>
         ensures { result ≡ field_fault (table_view table.now) self.now }
@@ -74,10 +65,49 @@ impl Field {
             None => None,
         }
     }
+
+    /// This fault of the field, where it is.
+    pub(crate) fn located<'a>(
+        &self,
+        place: Place,
+        fault: ConfigFault,
+        table: &'a Table,
+    ) -> Located<'a>
+        ensures { located_view result ≡ at_field place fault (table_view table.now) (Some self.now) }
+    {
+        Located {
+            fault,
+            place,
+            key: self.key,
+            item: item_of(fault, self.shape, member(table, self.key)),
+            wanted: Some(self.shape),
+        }
+    }
+}
+
+/// The position of the first item with this fault in the list that a value is.
+fn item_of(fault: ConfigFault, shape: Shape, value: Option<&Value>) -> Option<usize>
+    ensures { result ≡ item_of fault shape (option_map (λ v. view v.now) value.entry) }
+{
+    match value::list(value?) {
+        Ok(items) => item_with(fault, shape, items),
+        Err(_) => None,
+    }
+}
+
+#[tactic(auto, using(crate::proofs::Values::position_view))]
+fn item_with(fault: ConfigFault, shape: Shape, items: &[Value]) -> Option<usize>
+    ensures { result ≡ item_with fault shape (map view items.now) }
+{
+    match fault {
+        ConfigFault::Kind => first_kind(shape, items),
+        ConfigFault::Range => first_range(shape, items),
+        _ => None,
+    }
 }
 
 /// The fault of a single value.
-pub(crate) fn scalar_fault(scalar: Scalar, value: &Value) -> Option<ConfigFault>
+fn scalar_fault(scalar: Scalar, value: &Value) -> Option<ConfigFault>
     ensures { result ≡ scalar_fault scalar (view value.now) }
 {
     match scalar {
@@ -94,16 +124,39 @@ pub(crate) fn scalar_fault(scalar: Scalar, value: &Value) -> Option<ConfigFault>
     }
 }
 
-fn have_kind(of: Scalar, values: &[Value]) -> bool
-    ensures { result ≡ list_any (λ value. is_kind (scalar_fault of (view value))) values.now }
+/// The fault of an item of a list.
+fn item_fault(shape: Shape, item: &Value) -> Option<ConfigFault>
+    ensures { result ≡ item_fault shape (view item.now) }
 {
-    values.iter().any(|value| matches!(scalar_fault(of, value), Some(ConfigFault::Kind)))
+    match shape {
+        Shape::One(_) => None,
+        Shape::List { of, .. } => scalar_fault(of, item),
+        Shape::Ranges(of) => range(of, item).err(),
+    }
 }
 
-fn have_range(of: Scalar, values: &[Value]) -> bool
-    ensures { result ≡ list_any (λ value. is_range (scalar_fault of (view value))) values.now }
+fn have_kind(shape: Shape, items: &[Value]) -> bool
+    ensures { result ≡ list_any (λ item. is_kind (item_fault shape (view item))) items.now }
 {
-    values.iter().any(|value| matches!(scalar_fault(of, value), Some(ConfigFault::Range)))
+    items.iter().any(|item| matches!(item_fault(shape, item), Some(ConfigFault::Kind)))
+}
+
+fn have_range(shape: Shape, items: &[Value]) -> bool
+    ensures { result ≡ list_any (λ item. is_range (item_fault shape (view item))) items.now }
+{
+    items.iter().any(|item| matches!(item_fault(shape, item), Some(ConfigFault::Range)))
+}
+
+fn first_kind(shape: Shape, items: &[Value]) -> Option<usize>
+    ensures { result ≡ position (λ item. is_kind (item_fault shape (view item))) items.now }
+{
+    items.iter().position(|item| matches!(item_fault(shape, item), Some(ConfigFault::Kind)))
+}
+
+fn first_range(shape: Shape, items: &[Value]) -> Option<usize>
+    ensures { result ≡ position (λ item. is_range (item_fault shape (view item))) items.now }
+{
+    items.iter().position(|item| matches!(item_fault(shape, item), Some(ConfigFault::Range)))
 }
 
 /// The fault of a list, by what is known of its values and of its length.
@@ -127,38 +180,13 @@ fn fault_by(
     }
 }
 
-/// The fault of a list of single values.
-fn list_fault(of: Scalar, least: usize, most: usize, values: &[Value]) -> Option<ConfigFault>
-    ensures { result ≡ list_fault (scalar_fault of) least most (map view values.now) }
+/// The fault of a list of so many items.
+fn list_fault(shape: Shape, least: usize, most: usize, items: &[Value]) -> Option<ConfigFault>
+    ensures { result ≡ list_fault (item_fault shape) least most (map view items.now) }
 {
-    let kinds = have_kind(of, values);
-    let ranges = have_range(of, values);
-    fault_by(kinds, ranges, least, most, values.len())
-}
-
-fn items_have_kind(of: Scalar, items: &[Value]) -> bool
-    ensures { result ≡ list_any (λ item. is_kind (result_err (range_in of (view item)))) items.now }
-{
-    items
-        .iter()
-        .any(|item| matches!(range(of, item), Err(ConfigFault::Kind)))
-}
-
-fn items_have_range(of: Scalar, items: &[Value]) -> bool
-    ensures { result ≡ list_any (λ item. is_range (result_err (range_in of (view item)))) items.now }
-{
-    items
-        .iter()
-        .any(|item| matches!(range(of, item), Err(ConfigFault::Range)))
-}
-
-/// The fault of a list of items for a field of a rule.
-fn ranges_fault(of: Scalar, items: &[Value]) -> Option<ConfigFault>
-    ensures { result ≡ list_fault (λ item. result_err (range_in of item)) 1 4 (map view items.now) }
-{
-    let kinds = items_have_kind(of, items);
-    let ranges = items_have_range(of, items);
-    fault_by(kinds, ranges, 1, MAX_RANGES, items.len())
+    let kinds = have_kind(shape, items);
+    let ranges = have_range(shape, items);
+    fault_by(kinds, ranges, least, most, items.len())
 }
 
 /// The fault of a value: the first of `Kind`, `Range` and `TooMany` that it has.
@@ -167,33 +195,33 @@ fn value_fault(shape: Shape, value: &Value) -> Option<ConfigFault>
 {
     match shape {
         Shape::One(scalar) => scalar_fault(scalar, value),
-        Shape::List { of, least, most } => match value::list(value) {
-            Ok(values) => list_fault(of, least, most, values),
+        Shape::List { of: _, least, most } => match value::list(value) {
+            Ok(items) => list_fault(shape, least, most, items),
             Err(fault) => Some(fault),
         },
-        Shape::Ranges(of) => match value::list(value) {
-            Ok(values) => ranges_fault(of, values),
+        Shape::Ranges(_) => match value::list(value) {
+            Ok(items) => list_fault(shape, 1, MAX_RANGES, items),
             Err(fault) => Some(fault),
         },
     }
 }
 
-pub(crate) fn is_key(fields: &[Field], key: &str) -> bool
+fn is_key(fields: &[Field], key: &str) -> bool
     ensures { result ≡ is_key fields.now key.now }
 {
     fields.iter().any(|field| field.key == key)
 }
 
-/// Whether each key of the table is that of a field.
-fn knows(fields: &[Field], table: &Table) -> bool
-    ensures { result ≡ knows fields.now (table_view table.now) }
+/// The first key of the table that is that of no field.
+fn stranger<'a>(fields: &[Field], table: &'a Table) -> Option<&'a str>
+    ensures { option_map (λ key. key.now) result ≡ stranger fields.now (table_view table.now) }
 {
     for key in table.keys() {
         if !is_key(fields, key.as_str()) {
-            return false;
+            return Some(key.as_str());
         }
     }
-    true
+    None
 }
 
 fn has_missing(fields: &[Field], table: &Table) -> bool
@@ -222,12 +250,20 @@ fn has_too_many(fields: &[Field], table: &Table) -> bool
 
 /// The fault of a table, each of the five judged for the whole table before the next.
 #[tactic(auto, unfolding(crate::specs::Field::fault_of))]
-pub(crate) fn fault_of(fields: &[Field], table: &Table) -> Option<ConfigFault>
+fn fault_of(fields: &[Field], table: &Table) -> Option<ConfigFault>
     ensures { result ≡ fault_of fields.now (table_view table.now) }
 {
-    if !knows(fields, table) {
-        Some(ConfigFault::UnknownKey)
-    } else if has_missing(fields, table) {
+    match stranger(fields, table) {
+        Some(_) => Some(ConfigFault::UnknownKey),
+        None => fault_of_fields(fields, table),
+    }
+}
+
+/// The fault of a table that has no other keys than those of the fields.
+fn fault_of_fields(fields: &[Field], table: &Table) -> Option<ConfigFault>
+    ensures { result ≡ fault_of_fields fields.now (table_view table.now) }
+{
+    if has_missing(fields, table) {
         Some(ConfigFault::Missing)
     } else if has_kind(fields, table) {
         Some(ConfigFault::Kind)
@@ -237,5 +273,60 @@ pub(crate) fn fault_of(fields: &[Field], table: &Table) -> Option<ConfigFault>
         Some(ConfigFault::TooMany)
     } else {
         None
+    }
+}
+
+/// Whether a fault that was found is this one, of the four that a field may have.
+fn is_this(fault: ConfigFault, found: Option<ConfigFault>) -> bool
+    ensures { result ≡ is_this fault found }
+{
+    match fault {
+        ConfigFault::Missing => matches!(found, Some(ConfigFault::Missing)),
+        ConfigFault::Kind => matches!(found, Some(ConfigFault::Kind)),
+        ConfigFault::Range => matches!(found, Some(ConfigFault::Range)),
+        ConfigFault::TooMany => matches!(found, Some(ConfigFault::TooMany)),
+        _ => false,
+    }
+}
+
+/// The first field that has this fault.
+fn field_with<'f>(fault: ConfigFault, fields: &'f [Field], table: &Table) -> Option<&'f Field>
+    ensures { option_map (λ f. f.now) result ≡ field_with fault fields.now (table_view table.now) }
+{
+    fields
+        .iter()
+        .find(|field| is_this(fault, field.fault(table)))
+}
+
+/// This fault of a table, where it is.
+fn located_as<'a>(
+    place: Place,
+    fields: &[Field],
+    table: &'a Table,
+    fault: ConfigFault,
+) -> Located<'a>
+    ensures { located_view result ≡ located_as place fields.now (table_view table.now) fault }
+{
+    match fault {
+        ConfigFault::UnknownKey => Located::at_table(place, fault, stranger(fields, table)),
+        _ => match field_with(fault, fields, table) {
+            Some(field) => field.located(place, fault, table),
+            None => Located::at_table(place, fault, None),
+        },
+    }
+}
+
+/// The fault of a table with these fields, with its place.
+#[tactic(auto, unfolding(crate::specs::Field::located_in))]
+pub(crate) fn located_in<'a>(
+    place: Place,
+    fields: &[Field],
+    table: &'a Table,
+) -> Option<Located<'a>>
+    ensures { option_map located_view result ≡ located_in place fields.now (table_view table.now) }
+{
+    match fault_of(fields, table) {
+        Some(fault) => Some(located_as(place, fields, table, fault)),
+        None => None,
     }
 }

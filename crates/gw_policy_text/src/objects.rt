@@ -1,21 +1,24 @@
 //! What the objects of a configuration are read to.
-ghost use Rattle.std.specs.Prelude.{◌≡◌, ◌≤◌, codes, length, map, IfOk};
+ghost use Rattle.std.specs.Prelude.{◌≡◌, ◌≤◌, codes, length, map, option_map, IfOk};
 ghost use Rattle.gw_addr.specs.Reading as plain;
 ghost use Rattle.toml.specs.View.{table_view, view};
-ghost use Rattle.gw_policy_text.specs.Configuration.{binary_value, character_string_value, count_at, each, integer_value, kind_at, multi_state_value, object_in, object_of, object_of_kind, object_parts, positive_integer_value, signed_at, states_with, value_of};
-ghost use Rattle.gw_policy_text.specs.Field as field;
-ghost use Rattle.gw_policy_text.specs.Reading.{Gives, Tells, TellsFault};
+ghost use Rattle.gw_policy_text.specs.Configuration.{binary_value, character_string_value, count_at, each, each_at, integer_value, kind_at, multi_state_value, object_in, object_of, object_of_kind, object_parts, positive_integer_value, signed_at, states_with, type_located, value_of};
+ghost use Rattle.gw_policy_text.specs.Field.{located_in};
+ghost use Rattle.gw_policy_text.specs.Located.{located_view};
+ghost use Rattle.gw_policy_text.specs.Reading.{Finds, Gives, Tells, TellsFault};
 ghost use Rattle.gw_policy_text.specs.Tables.{object_fields};
 ghost use Rattle.gw_policy_text.specs.Value.{text_in};
+ghost use Rattle.gw_policy_text.specs.declared.located.Place.TheVariants as places;
 
-use crate::field::fault_of;
+use crate::field::located_in;
+use crate::located::{Located, Place};
 use crate::object::MAX_STATES;
 use crate::reading::{
     any_list, at, instance_at, list_at, long_at, number_at, optional_text, short_at, text_at,
 };
 use crate::tables::{
     binary_fields, character_string_fields, integer_fields, multi_state_fields,
-    positive_integer_fields,
+    positive_integer_fields, type_field,
 };
 use crate::value::{self, string, table};
 use crate::{ConfigFault, MultiState, Object, ObjectKind, ObjectValue, Text};
@@ -24,64 +27,93 @@ use std::alloc::Global;
 use toml::{Table, Value};
 
 /// The objects that some values say, in order.
-pub(crate) fn objects(alloc: Global, values: &[Value]) -> Result<Sequence<Object>, ConfigFault>
+pub(crate) fn objects<'a>(
+    alloc: Global,
+    values: &'a [Value],
+) -> Result<Sequence<Object>, Located<'a>>
     ensures count { IfOk result (λ os. length os ≡ length values.now) }
-    ensures objects { Gives (λ os. os) result (each object_in (map view values.now)) }
+    ensures objects { Finds (λ os. os) result (each_at object_in 0 (map view values.now)) }
 {
     let mut all = Sequence::new(alloc);
-    for value in values {
-        all.push(object(alloc, value)?)?;
+    for (place, value) in values.iter().enumerate() {
+        all.push(object(alloc, place, value)?)?;
     }
     Ok(all)
 }
 
-/// The object that a value says.
-fn object(alloc: Global, value: &Value) -> Result<Object, ConfigFault>
-    ensures { Gives (λ o. o) result (object_in (view value.now)) }
+/// The object that a value says, at this position.
+fn object<'a>(alloc: Global, object: usize, value: &'a Value) -> Result<Object, Located<'a>>
+    ensures { Finds (λ o. o) result (object_in object (view value.now)) }
 {
-    object_of_table(alloc, table(value)?)
+    object_of_table(alloc, object, table(value)?)
 }
 
 /// Its type is judged first.
-fn object_of_table(alloc: Global, table: &Table) -> Result<Object, ConfigFault>
-    ensures { Gives (λ o. o) result (object_of (table_view table.now)) }
+fn object_of_table<'a>(
+    alloc: Global,
+    object: usize,
+    table: &'a Table,
+) -> Result<Object, Located<'a>>
+    ensures { Finds (λ o. o) result (object_of object (table_view table.now)) }
 {
-    object_of_kind(alloc, kind_at(table)?, table)
+    match type_located(object, table) {
+        Some(located) => Err(located),
+        None => object_of_kind(alloc, object, kind_at(table)?, table),
+    }
 }
 
-pub(crate) fn kind_at(table: &Table) -> Result<ObjectKind, ConfigFault>
+/// The fault of its type.
+fn type_located<'a>(object: usize, table: &'a Table) -> Option<Located<'a>>
+    ensures { option_map located_view result ≡ type_located object (table_view table.now) }
+{
+    let field = type_field();
+    match field.fault(table) {
+        Some(fault) => Some(field.located(Place::Object(object), fault, table)),
+        None => None,
+    }
+}
+
+fn kind_at(table: &Table) -> Result<ObjectKind, ConfigFault>
     ensures { plain.Gives (λ k. k) result (kind_at (codes "type") (table_view table.now)) }
 {
     value::kind(at("type", table)?)
 }
 
 #[tactic(auto, unfolding(crate::specs::Configuration::object_of_kind))]
-fn object_of_kind(alloc: Global, kind: ObjectKind, table: &Table) -> Result<Object, ConfigFault>
-    ensures object { Gives (λ o. o) result (object_of_kind kind (table_view table.now)) }
+fn object_of_kind<'a>(
+    alloc: Global,
+    object: usize,
+    kind: ObjectKind,
+    table: &'a Table,
+) -> Result<Object, Located<'a>>
+    ensures object { Finds (λ o. o) result (object_of_kind object kind (table_view table.now)) }
     ensures told { let states = count_at (codes "states") (table_view table.now) in
-        TellsFault result (field.fault_of (object_fields kind states) (table_view table.now)) }
+        TellsFault result (located_in (places.Object object) (object_fields kind states) (table_view table.now)) }
 {
-    match object_fault(kind, table) {
-        Some(fault) => Err(fault),
-        None => object_parts(alloc, kind, table),
+    match object_located(Place::Object(object), kind, table) {
+        Some(located) => Err(located),
+        None => Ok(object_parts(alloc, kind, table)?),
     }
 }
 
 /// The fault of the table of an object of that type.
-fn object_fault(kind: ObjectKind, table: &Table) -> Option<ConfigFault>
-    ensures { result ≡ field.fault_of (object_fields kind (count_at (codes "states") (table_view table.now))) (table_view table.now) }
+fn object_located<'a>(place: Place, kind: ObjectKind, table: &'a Table) -> Option<Located<'a>>
+    ensures { let states = count_at (codes "states") (table_view table.now) in
+        option_map located_view result ≡ located_in place (object_fields kind states) (table_view table.now) }
 {
     match kind {
-        ObjectKind::BinaryValue => fault_of(&binary_fields(), table),
-        ObjectKind::MultiStateValue => fault_of(&multi_state_fields(count_at(table)), table),
-        ObjectKind::CharacterStringValue => fault_of(&character_string_fields(), table),
-        ObjectKind::IntegerValue => fault_of(&integer_fields(), table),
-        ObjectKind::PositiveIntegerValue => fault_of(&positive_integer_fields(), table),
+        ObjectKind::BinaryValue => located_in(place, &binary_fields(), table),
+        ObjectKind::MultiStateValue => {
+            located_in(place, &multi_state_fields(count_at(table)), table)
+        }
+        ObjectKind::CharacterStringValue => located_in(place, &character_string_fields(), table),
+        ObjectKind::IntegerValue => located_in(place, &integer_fields(), table),
+        ObjectKind::PositiveIntegerValue => located_in(place, &positive_integer_fields(), table),
     }
 }
 
 /// How many states there are.
-pub(crate) fn count_at(table: &Table) -> usize
+fn count_at(table: &Table) -> usize
     ensures { result ≡ count_at (codes "states") (table_view table.now) }
 {
     match any_list("states", table) {

@@ -3,9 +3,10 @@ ghost use Rattle.std.specs.Prelude.{◌≡◌, ◌≤◌, codes, length, IfOk, I
 ghost use Rattle.std.specs.List.{list_all};
 ghost use Rattle.toml.specs.View.{table_view};
 ghost use Rattle.gw_policy_text.specs.Configuration.{device_at, is_by, objects_at, parts_of, parts_of_format, policy_of, ports_at, routes_at, rules_at};
-ghost use Rattle.gw_policy_text.specs.Reading.{Gives};
+ghost use Rattle.gw_policy_text.specs.Reading.{Finds, Gives};
 
 use crate::format::format_at;
+use crate::located::Located;
 use crate::reading::{at, list_at};
 use crate::{ConfigFault, Device, Format, Object, Port, Route, objects, port, route, rules, value};
 use gw_addr::{MAX_PORTS, Sequence};
@@ -115,15 +116,15 @@ impl Parts {
     }
 
     /// The parts that the tables say, in their order.
-    pub(crate) fn read(alloc: Global, top: &Table) -> Result<Self, ConfigFault>
-        ensures { Gives (λ c. c) result (parts_of (table_view top.now)) }
+    pub(crate) fn read<'a>(alloc: Global, top: &'a Table) -> Result<Self, Located<'a>>
+        ensures { Finds (λ c. c) result (parts_of (table_view top.now)) }
     {
         Parts::of_format(alloc, format_at("format", top)?, top)
     }
 
     /// The parts of a configuration of this format.
-    fn of_format(alloc: Global, format: Format, top: &Table) -> Result<Self, ConfigFault>
-        ensures { Gives (λ c. c) result (parts_of_format format (table_view top.now)) }
+    fn of_format<'a>(alloc: Global, format: Format, top: &'a Table) -> Result<Self, Located<'a>>
+        ensures { Finds (λ c. c) result (parts_of_format format (table_view top.now)) }
     {
         let device = device_at(alloc, top)?;
         let ports = ports_at(alloc, top)?;
@@ -141,37 +142,37 @@ impl Parts {
     }
 }
 
-fn device_at(alloc: Global, top: &Table) -> Result<Device, ConfigFault>
-    ensures { Gives (λ d. d) result (device_at (codes "device") (table_view top.now)) }
+fn device_at<'a>(alloc: Global, top: &'a Table) -> Result<Device, Located<'a>>
+    ensures { Finds (λ d. d) result (device_at (codes "device") (table_view top.now)) }
 {
     Device::read(alloc, value::table(at("device", top)?)?)
 }
 
-fn ports_at(alloc: Global, top: &Table) -> Result<Sequence<Port>, ConfigFault>
-    ensures ports { Gives (λ ps. ps) result (ports_at (codes "port") (table_view top.now)) }
+fn ports_at<'a>(alloc: Global, top: &'a Table) -> Result<Sequence<Port>, Located<'a>>
+    ensures ports { Finds (λ ps. ps) result (ports_at (codes "port") (table_view top.now)) }
     ensures some { IfOk result (λ ps. 1 ≤ length ps) }
     ensures most { IfOk result (λ ps. length ps ≤ MAX_PORTS) }
 {
     port::ports(alloc, list_at(1, MAX_PORTS, "port", top)?)
 }
 
-fn routes_at(alloc: Global, ports: u8, top: &Table) -> Result<Sequence<Route>, ConfigFault>
-    ensures routes { Gives (λ rs. rs) result (routes_at ports (codes "route") (table_view top.now)) }
+fn routes_at<'a>(alloc: Global, ports: u8, top: &'a Table) -> Result<Sequence<Route>, Located<'a>>
+    ensures routes { Finds (λ rs. rs) result (routes_at ports (codes "route") (table_view top.now)) }
     ensures most { IfOk result (λ rs. length rs ≤ 512) }
     ensures by { IfOk result (λ rs. IsTrue (list_all (is_by ports) rs)) }
 {
     route::routes(alloc, ports, list_at(0, MAX_ROUTES, "route", top)?)
 }
 
-fn objects_at(alloc: Global, top: &Table) -> Result<Sequence<Object>, ConfigFault>
-    ensures objects { Gives (λ os. os) result (objects_at (codes "object") (table_view top.now)) }
+fn objects_at<'a>(alloc: Global, top: &'a Table) -> Result<Sequence<Object>, Located<'a>>
+    ensures objects { Finds (λ os. os) result (objects_at (codes "object") (table_view top.now)) }
     ensures most { IfOk result (λ os. length os ≤ 256) }
 {
     objects::objects(alloc, list_at(0, MAX_OBJECTS, "object", top)?)
 }
 
-fn rules_at(alloc: Global, top: &Table) -> Result<Vec<Rule>, ConfigFault>
-    ensures { Gives (λ rs. rs.items) result (rules_at (codes "rule") (table_view top.now)) }
+fn rules_at<'a>(alloc: Global, top: &'a Table) -> Result<Vec<Rule>, Located<'a>>
+    ensures { Finds (λ rs. rs.items) result (rules_at (codes "rule") (table_view top.now)) }
 {
     rules::rules(alloc, list_at(0, MAX_RULES, "rule", top)?)
 }

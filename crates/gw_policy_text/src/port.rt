@@ -1,15 +1,17 @@
 //! The ports of a gateway.
 
-ghost use Rattle.std.specs.Prelude.{◌≡◌, ◌≤◌, length, map, IfOk};
+ghost use Rattle.std.specs.Prelude.{◌≡◌, ◌≤◌, codes, length, map, IfOk};
 ghost use Rattle.toml.specs.View.{table_view, view};
-ghost use Rattle.gw_policy_text.specs.Configuration.{each, peer_in, peer_of, peer_parts, port_in, port_of, port_parts};
-ghost use Rattle.gw_policy_text.specs.Field.{fault_of};
-ghost use Rattle.gw_policy_text.specs.Reading.{Gives, TellsFault};
+ghost use Rattle.gw_policy_text.specs.Configuration.{each_at, peer_in, peer_of, peer_parts, peers_at, port_in, port_of, port_parts};
+ghost use Rattle.gw_policy_text.specs.Field.{located_in};
+ghost use Rattle.gw_policy_text.specs.Reading.{Finds, TellsFault};
+ghost use Rattle.gw_policy_text.specs.declared.located.Place.TheVariants as places;
 ghost use Rattle.gw_policy_text.specs.Tables.{port_fields};
 ghost use Rattle.gw_addr.specs.Reading as plain;
 
 use crate::ConfigFault;
-use crate::field::fault_of;
+use crate::field::located_in;
+use crate::located::{Located, Place};
 use crate::reading::{address_at, list_at, mask_at, network_at};
 use crate::tables::{peer_fields, port_fields};
 use crate::value::table;
@@ -75,81 +77,84 @@ impl Peers {
 }
 
 impl Port {
-    /// The port that a value says.
-    fn read(alloc: Global, value: &Value) -> Result<Self, ConfigFault>
-        ensures { Gives (λ p. p) result (port_in (view value.now)) }
+    /// The port that a value says, at this position.
+    fn read<'a>(alloc: Global, port: usize, value: &'a Value) -> Result<Self, Located<'a>>
+        ensures { Finds (λ p. p) result (port_in port (view value.now)) }
     {
-        Port::of_table(alloc, table(value)?)
+        Port::of_table(alloc, port, table(value)?)
     }
 
-    fn of_table(alloc: Global, table: &Table) -> Result<Self, ConfigFault>
-        ensures port { Gives (λ p. p) result (port_of (table_view table.now)) }
-        ensures told { TellsFault result (fault_of port_fields (table_view table.now)) }
+    fn of_table<'a>(alloc: Global, port: usize, table: &'a Table) -> Result<Self, Located<'a>>
+        ensures port { Finds (λ p. p) result (port_of port (table_view table.now)) }
+        ensures told { TellsFault result (located_in (places.Port port) port_fields (table_view table.now)) }
     {
-        match fault_of(&port_fields(), table) {
-            Some(fault) => Err(fault),
-            None => Port::parts(alloc, table),
+        match located_in(Place::Port(port), &port_fields(), table) {
+            Some(located) => Err(located),
+            None => Port::parts(alloc, port, table),
         }
     }
 
-    /// The parts of a table without a fault.
-    fn parts(alloc: Global, table: &Table) -> Result<Self, ConfigFault>
-        ensures { Gives (λ p. p) result (port_parts (table_view table.now)) }
+    /// The parts of a table without a fault of its own.
+    fn parts<'a>(alloc: Global, port: usize, table: &'a Table) -> Result<Self, Located<'a>>
+        ensures { Finds (λ p. p) result (port_parts port (table_view table.now)) }
     {
         Ok(Port {
             network: network_at("network", table)?,
             address: address_at("address", table)?,
             broadcast: address_at("broadcast", table)?,
-            peers: peers_of(alloc, list_at(0, MAX_PEERS, "peer", table)?)?,
+            peers: peers_at(alloc, port, table)?,
         })
     }
 }
 
 /// The ports that some values say, in order.
-pub(crate) fn ports(alloc: Global, values: &[Value]) -> Result<Sequence<Port>, ConfigFault>
+pub(crate) fn ports<'a>(alloc: Global, values: &'a [Value]) -> Result<Sequence<Port>, Located<'a>>
     ensures count { IfOk result (λ ps. length ps ≡ length values.now) }
-    ensures ports { Gives (λ ps. ps) result (each port_in (map view values.now)) }
+    ensures ports { Finds (λ ps. ps) result (each_at port_in 0 (map view values.now)) }
 {
     let mut all = Sequence::new(alloc);
-    for value in values {
-        all.push(Port::read(alloc, value)?)?;
+    for (place, value) in values.iter().enumerate() {
+        all.push(Port::read(alloc, place, value)?)?;
     }
     Ok(all)
 }
 
-/// The peers that some values say, in order.
-fn peers_of(alloc: Global, values: &[Value]) -> Result<Peers, ConfigFault>
-    requires { length values.now ≤ 64 }
-    ensures { Gives (λ ps. ps) result (each peer_in (map view values.now)) }
+/// The peers in the table of the port at this position.
+fn peers_at<'a>(alloc: Global, port: usize, table: &'a Table) -> Result<Peers, Located<'a>>
+    ensures { Finds (λ ps. ps) result (peers_at port (codes "peer") (table_view table.now)) }
 {
-    let entries = entries(alloc, values)?;
+    let entries = entries(alloc, port, list_at(0, MAX_PEERS, "peer", table)?)?;
     Ok(Peers { entries })
 }
 
-fn entries(alloc: Global, values: &[Value]) -> Result<Sequence<BdtEntry>, ConfigFault>
+fn entries<'a>(
+    alloc: Global,
+    port: usize,
+    values: &'a [Value],
+) -> Result<Sequence<BdtEntry>, Located<'a>>
     ensures count { IfOk result (λ ps. length ps ≡ length values.now) }
-    ensures entries { Gives (λ ps. ps) result (each peer_in (map view values.now)) }
+    ensures entries { Finds (λ ps. ps) result (each_at (peer_in port) 0 (map view values.now)) }
 {
     let mut all = Sequence::new(alloc);
-    for value in values {
-        all.push(peer(value)?)?;
+    for (place, value) in values.iter().enumerate() {
+        all.push(peer(port, place, value)?)?;
     }
     Ok(all)
 }
 
 /// The peer that a value says.
-fn peer(value: &Value) -> Result<BdtEntry, ConfigFault>
-    ensures { plain.Gives (λ p. p) result (peer_in (view value.now)) }
+fn peer<'a>(port: usize, peer: usize, value: &'a Value) -> Result<BdtEntry, Located<'a>>
+    ensures { Finds (λ p. p) result (peer_in port peer (view value.now)) }
 {
-    peer_of_table(table(value)?)
+    peer_of_table(port, peer, table(value)?)
 }
 
-fn peer_of_table(table: &Table) -> Result<BdtEntry, ConfigFault>
-    ensures { plain.Gives (λ p. p) result (peer_of (table_view table.now)) }
+fn peer_of_table<'a>(port: usize, peer: usize, table: &'a Table) -> Result<BdtEntry, Located<'a>>
+    ensures { Finds (λ p. p) result (peer_of port peer (table_view table.now)) }
 {
-    match fault_of(&peer_fields(), table) {
-        Some(fault) => Err(fault),
-        None => peer_parts(table),
+    match located_in(Place::Peer { port, peer }, &peer_fields(), table) {
+        Some(located) => Err(located),
+        None => Ok(peer_parts(table)?),
     }
 }
 

@@ -41,7 +41,7 @@ fn ordered(low: u64, high: u64) -> Result<Range, ConfigFault>
     }
 }
 
-fn between(of: Scalar, low: &Value, high: &Value) -> Result<Range, ConfigFault>
+pub(crate) fn between(of: Scalar, low: &Value, high: &Value) -> Result<Range, ConfigFault>
     ensures { Gives (λ r. r) result (between of (view low.now) (view high.now)) }
 {
     let low = point(of, low)?;

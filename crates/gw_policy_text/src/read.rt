@@ -2,12 +2,14 @@
 ghost use Rattle.std.specs.Prelude.{◌≡◌, ◌<◌, Err, length};
 ghost use Rattle.toml.specs.View.{table_view};
 ghost use Rattle.gw_policy_text.specs.Document.{configuration, configuration_of, document};
-ghost use Rattle.gw_policy_text.specs.Field.{fault_of};
-ghost use Rattle.gw_policy_text.specs.Reading.{Gives, TellsFault};
+ghost use Rattle.gw_policy_text.specs.Field.{located_in};
+ghost use Rattle.gw_policy_text.specs.Reading.{Finds, Gives, TellsFault};
 ghost use Rattle.gw_policy_text.specs.Tables.{top_fields};
 ghost use Rattle.gw_policy_text.specs.declared.fault.ConfigFault.TheVariants.{TooMany};
+ghost use Rattle.gw_policy_text.specs.declared.located.Place.TheVariants as places;
 
-use crate::field::fault_of;
+use crate::field::located_in;
+use crate::located::{Located, Place};
 use crate::parts::Parts;
 use crate::tables::top_fields;
 use crate::{Config, ConfigFault};
@@ -25,7 +27,7 @@ pub const MAX_OCTETS: usize = 1_048_576;
 /// are judged in this order `UnknownKey`, `Missing`, `Kind`, `Range` and `TooMany`, each for the
 /// whole table; last of all `Duplicate`. `Memory` where there is none for what would be judged
 /// next.
-#[tactic(auto, unfolding(crate::specs::Document::configuration))]
+#[tactic(auto, unfolding(crate::specs::Document::located_configuration))]
 pub fn read_config(alloc: Global, text: &[u8]) -> Result<Config, ConfigFault>
     ensures configuration { Gives (λ c. c) result (configuration text.now) }
     ensures too_long { 1048576 < length text.now → result ≡ Err TooMany }
@@ -34,7 +36,10 @@ pub fn read_config(alloc: Global, text: &[u8]) -> Result<Config, ConfigFault>
         return Err(ConfigFault::TooMany);
     }
     let top = document(alloc, text)?;
-    config_of(alloc, &top)
+    match config_of(alloc, &top) {
+        Ok(config) => Ok(config),
+        Err(located) => Err(located.fault),
+    }
 }
 
 /// The TOML document that a text is.
@@ -51,14 +56,14 @@ fn document(alloc: Global, text: &[u8]) -> Result<Table, ConfigFault>
     }
 }
 
-/// The configuration of a document.
+/// The configuration of a document, or its first fault with its place.
 #[tactic(auto, unfolding(crate::specs::Document::configuration_of))]
-fn config_of(alloc: Global, top: &Table) -> Result<Config, ConfigFault>
-    ensures configuration { Gives (λ c. c) result (configuration_of (table_view top.now)) }
-    ensures told { TellsFault result (fault_of top_fields (table_view top.now)) }
+pub(crate) fn config_of<'a>(alloc: Global, top: &'a Table) -> Result<Config, Located<'a>>
+    ensures configuration { Finds (λ c. c) result (configuration_of (table_view top.now)) }
+    ensures told { TellsFault result (located_in places.Top top_fields (table_view top.now)) }
 {
-    match fault_of(&top_fields(), top) {
-        Some(fault) => Err(fault),
+    match located_in(Place::Top, &top_fields(), top) {
+        Some(located) => Err(located),
         None => Config::of_parts(alloc, Parts::read(alloc, top)?),
     }
 }

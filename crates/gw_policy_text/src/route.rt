@@ -3,12 +3,13 @@
 ghost use Rattle.std.specs.Prelude.{◌≡◌, length, map, IfOk, IsTrue};
 ghost use Rattle.std.specs.List.{list_all};
 ghost use Rattle.toml.specs.View.{table_view, view};
-ghost use Rattle.gw_policy_text.specs.Configuration.{each, is_by, route_in, route_of, route_parts};
-ghost use Rattle.gw_policy_text.specs.Reading.{Gives};
+ghost use Rattle.gw_policy_text.specs.Configuration.{each_at, is_by, route_in, route_of, route_parts};
+ghost use Rattle.gw_policy_text.specs.Reading.{Finds};
 ghost use Rattle.gw_addr.specs.Reading as plain;
 
 use crate::ConfigFault;
-use crate::field::fault_of;
+use crate::field::located_in;
+use crate::located::{Located, Place};
 use crate::reading::{address_at, network_at, number_at};
 use crate::tables::route_fields;
 use crate::value::table;
@@ -28,21 +29,21 @@ pub struct Route {
 }
 
 impl Route {
-    /// The route that a value says, by one of so many ports.
-    fn read(ports: u8, value: &Value) -> Result<Self, ConfigFault>
+    /// The route that a value says, by one of so many ports, at this position.
+    fn read<'a>(ports: u8, route: usize, value: &'a Value) -> Result<Self, Located<'a>>
         ensures exists { IfOk result (λ r. IsTrue (is_by ports r)) }
-        ensures route { plain.Gives (λ r. r) result (route_in ports (view value.now)) }
+        ensures route { Finds (λ r. r) result (route_in ports route (view value.now)) }
     {
-        Route::of_table(ports, table(value)?)
+        Route::of_table(ports, route, table(value)?)
     }
 
-    fn of_table(ports: u8, table: &Table) -> Result<Self, ConfigFault>
+    fn of_table<'a>(ports: u8, route: usize, table: &'a Table) -> Result<Self, Located<'a>>
         ensures exists { IfOk result (λ r. IsTrue (is_by ports r)) }
-        ensures route { plain.Gives (λ r. r) result (route_of ports (table_view table.now)) }
+        ensures route { Finds (λ r. r) result (route_of ports route (table_view table.now)) }
     {
-        match fault_of(&route_fields(ports), table) {
-            Some(fault) => Err(fault),
-            None => Route::parts(ports, table),
+        match located_in(Place::Route(route), &route_fields(ports), table) {
+            Some(located) => Err(located),
+            None => Ok(Route::parts(ports, table)?),
         }
     }
 
@@ -60,18 +61,18 @@ impl Route {
 }
 
 /// The routes that some values say, in order, each by one of so many ports.
-pub(crate) fn routes(
+pub(crate) fn routes<'a>(
     alloc: Global,
     ports: u8,
-    values: &[Value],
-) -> Result<Sequence<Route>, ConfigFault>
+    values: &'a [Value],
+) -> Result<Sequence<Route>, Located<'a>>
     ensures count { IfOk result (λ rs. length rs ≡ length values.now) }
     ensures exist { IfOk result (λ rs. IsTrue (list_all (is_by ports) rs)) }
-    ensures routes { Gives (λ rs. rs) result (each (route_in ports) (map view values.now)) }
+    ensures routes { Finds (λ rs. rs) result (each_at (route_in ports) 0 (map view values.now)) }
 {
     let mut all = Sequence::new(alloc);
-    for value in values {
-        all.push(Route::read(ports, value)?)?;
+    for (place, value) in values.iter().enumerate() {
+        all.push(Route::read(ports, place, value)?)?;
     }
     Ok(all)
 }

@@ -2,13 +2,15 @@
 ghost use Rattle.std.specs.Prelude.{◌≡◌, codes, map};
 ghost use Rattle.gw_addr.specs.Reading as plain;
 ghost use Rattle.toml.specs.View.{table_view, view};
-ghost use Rattle.gw_policy_text.specs.Configuration.{boolean_at, each, fields_of, ranges_at, rule_in, rule_name_at, rule_of, rule_parts};
-ghost use Rattle.gw_policy_text.specs.Field.{fault_of, range_in};
-ghost use Rattle.gw_policy_text.specs.Reading.{Gives, Tells, TellsFault};
+ghost use Rattle.gw_policy_text.specs.Configuration.{boolean_at, each, each_at, fields_of, ranges_at, rule_in, rule_name_at, rule_of, rule_parts};
+ghost use Rattle.gw_policy_text.specs.Field.{located_in, range_in};
+ghost use Rattle.gw_policy_text.specs.Reading.{Finds, Gives, Tells, TellsFault};
 ghost use Rattle.gw_policy_text.specs.Tables.{rule_fields};
+ghost use Rattle.gw_policy_text.specs.declared.located.Place.TheVariants as places;
 
 use crate::ConfigFault;
-use crate::field::fault_of;
+use crate::field::located_in;
+use crate::located::{Located, Place};
 use crate::range::range;
 use crate::reading::{at, list_at};
 use crate::shape::Scalar;
@@ -19,31 +21,31 @@ use std::alloc::Global;
 use toml::{Table, Value};
 
 /// The rules that some values say, in order.
-pub(crate) fn rules(alloc: Global, values: &[Value]) -> Result<Vec<Rule>, ConfigFault>
-    ensures { Gives (λ rs. rs.items) result (each rule_in (map view values.now)) }
+pub(crate) fn rules<'a>(alloc: Global, values: &'a [Value]) -> Result<Vec<Rule>, Located<'a>>
+    ensures { Finds (λ rs. rs.items) result (each_at rule_in 0 (map view values.now)) }
 {
     let mut all = Vec::new(alloc);
-    for value in values {
-        all.push(rule(alloc, value)?)?;
+    for (place, value) in values.iter().enumerate() {
+        all.push(rule(alloc, place, value)?)?;
     }
     Ok(all)
 }
 
-/// The rule that a value says.
-fn rule(alloc: Global, value: &Value) -> Result<Rule, ConfigFault>
-    ensures { Gives (λ r. r) result (rule_in (view value.now)) }
+/// The rule that a value says, at this position.
+fn rule<'a>(alloc: Global, rule: usize, value: &'a Value) -> Result<Rule, Located<'a>>
+    ensures { Finds (λ r. r) result (rule_in rule (view value.now)) }
 {
-    rule_of_table(alloc, table(value)?)
+    rule_of_table(alloc, rule, table(value)?)
 }
 
 #[tactic(auto, unfolding(crate::specs::Configuration::rule_of))]
-fn rule_of_table(alloc: Global, table: &Table) -> Result<Rule, ConfigFault>
-    ensures rule { Gives (λ r. r) result (rule_of (table_view table.now)) }
-    ensures told { TellsFault result (fault_of rule_fields (table_view table.now)) }
+fn rule_of_table<'a>(alloc: Global, rule: usize, table: &'a Table) -> Result<Rule, Located<'a>>
+    ensures rule { Finds (λ r. r) result (rule_of rule (table_view table.now)) }
+    ensures told { TellsFault result (located_in (places.Rule rule) rule_fields (table_view table.now)) }
 {
-    match fault_of(&rule_fields(), table) {
-        Some(fault) => Err(fault),
-        None => rule_parts(alloc, table),
+    match located_in(Place::Rule(rule), &rule_fields(), table) {
+        Some(located) => Err(located),
+        None => Ok(rule_parts(alloc, table)?),
     }
 }
 

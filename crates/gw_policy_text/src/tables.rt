@@ -139,6 +139,13 @@ pub(crate) fn route_fields(ports: u8) -> [Field; 3]
     ]
 }
 
+/// The type of an object.
+pub(crate) fn type_field() -> Field
+    ensures { result ≡ spec.type_field }
+{
+    Field::needs("type", Shape::One(Scalar::ObjectType))
+}
+
 /// The fields of a Binary Value.
 pub(crate) fn binary_fields() -> [Field; 7]
     ensures { result ≡ spec.object_fields ObjectKind.BinaryValue 0 }

@@ -1,7 +1,7 @@
 use Rattle.std.proofs.Common.{◌≡◌, length}
 use Rattle.gw_policy_text.specs.Configuration.{object_in}
-use Rattle.gw_policy_text.proofs.Each.{IsReadTo}
+use Rattle.gw_policy_text.proofs.EachAt.{IsReadAt}
 use Rattle.gw_policy_text.proofs.objects.objects.Given as goal
 
-abbrev pub invariant-loop-value : goal.invariant-loop-value
-invariant-loop-value l = record { read : IsReadTo object_in l.values l.value-index l.all; count : length l.all ≡ l.value-index }
+abbrev pub invariant-loop-place : goal.invariant-loop-place
+invariant-loop-place l = record { read : IsReadAt object_in l.values l.place l.all; count : length l.all ≡ l.place }

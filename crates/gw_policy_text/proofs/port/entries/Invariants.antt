@@ -1,7 +1,7 @@
 use Rattle.std.proofs.Common.{◌≡◌, length}
 use Rattle.gw_policy_text.specs.Configuration.{peer_in}
-use Rattle.gw_policy_text.proofs.Each.{IsReadTo}
+use Rattle.gw_policy_text.proofs.EachAt.{IsReadAt}
 use Rattle.gw_policy_text.proofs.port.entries.Given as goal
 
-abbrev pub invariant-loop-value : goal.invariant-loop-value
-invariant-loop-value l = record { read : IsReadTo peer_in l.values l.value-index l.all; count : length l.all ≡ l.value-index }
+abbrev pub invariant-loop-place : goal.invariant-loop-place
+invariant-loop-place l = record { read : IsReadAt (peer_in l.port) l.values l.place l.all; count : length l.all ≡ l.place }

@@ -1,7 +1,7 @@
 use Rattle.std.proofs.Common.{◌≡◌, length}
 use Rattle.gw_policy_text.specs.Configuration.{port_in}
-use Rattle.gw_policy_text.proofs.Each.{IsReadTo}
+use Rattle.gw_policy_text.proofs.EachAt.{IsReadAt}
 use Rattle.gw_policy_text.proofs.port.ports.Given as goal
 
-abbrev pub invariant-loop-value : goal.invariant-loop-value
-invariant-loop-value l = record { read : IsReadTo port_in l.values l.value-index l.all; count : length l.all ≡ l.value-index }
+abbrev pub invariant-loop-place : goal.invariant-loop-place
+invariant-loop-place l = record { read : IsReadAt port_in l.values l.place l.all; count : length l.all ≡ l.place }

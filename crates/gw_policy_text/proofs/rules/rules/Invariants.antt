@@ -1,6 +1,6 @@
 use Rattle.gw_policy_text.specs.Configuration.{rule_in}
-use Rattle.gw_policy_text.proofs.Each.{IsReadTo}
+use Rattle.gw_policy_text.proofs.EachAt.{IsReadAt}
 use Rattle.gw_policy_text.proofs.rules.rules.Given as goal
 
-abbrev pub invariant-loop-value : goal.invariant-loop-value
-invariant-loop-value l = IsReadTo rule_in l.values l.value-index l.all.items
+abbrev pub invariant-loop-place : goal.invariant-loop-place
+invariant-loop-place l = IsReadAt rule_in l.values l.place l.all.items

@@ -1,0 +1,34 @@
+#!/usr/bin/env bash
+# Runs the built `bacgw check --explain` on each wrong text of the table in docs/spec/configuration.md, and compares the fault and the
+# line that explains it. A row has what stands in the text that the page shows, what is written in its place, the fault and the line;
+# `\n` is a line feed. It wants the program built, as `./bacgw prove` leaves it, and python3. The last line says how many agreed.
+set -euo pipefail
+exec python3 - "$(cd "$(dirname "$0")/.." && pwd)" "${BACGW:-}" <<'END'
+import os, re, subprocess, sys, tempfile
+
+top, program = sys.argv[1], sys.argv[2]
+program = program or os.path.join(top, "crates/bacgw/out/bacgw")
+if not os.access(program, os.X_OK):
+    sys.exit("build bacgw first: ./bacgw prove")
+page = open(os.path.join(top, "docs/spec/configuration.md")).read()
+section = page.split("## Wrong texts, and what is told of them")[1].split("\n## ")[0]
+text = open(os.path.join(top, "examples/base.toml")).read() + re.search(r"```toml\n(.*?)```", section, re.S).group(1)
+passed = failed = 0
+with tempfile.TemporaryDirectory() as work:
+    name = os.path.join(work, "text.toml")
+    for row in re.findall(r"^\| `(.*?)` \| `(.*?)` \| `(\w+)` \| `(.*)` \|$", section, re.M):
+        old, new, fault, line = row
+        old, new = old.replace("\\n", "\n"), new.replace("\\n", "\n")
+        assert old in text, old
+        with open(name, "w") as file:
+            file.write(text.replace(old, new, 1))
+        run = subprocess.run([program, "check", "--config", name, "--explain"], capture_output=True, text=True)
+        told = (run.returncode, run.stdout, run.stderr)
+        if told == (2, line + "\n", f"bacgw: configuration: {fault}\n"):
+            passed += 1
+        else:
+            failed += 1
+            print(f"not as expected: {old!r} as {new!r}: {told}")
+print(f"{passed} passed, {failed} failed")
+sys.exit(1 if failed or passed < 40 else 0)
+END
