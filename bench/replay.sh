@@ -1,10 +1,13 @@
 #!/usr/bin/env bash
 # How fast `bacgw replay` is: the instructions of a line of each kind, with start-up taken off, and its calls of the allocator; and for
-# a mix of all kinds the least time of several runs and the peak memory. It writes the table of docs/PERFORMANCE.md, beside the same
-# figures of bench/yardstick/replay.rs, a program in plain Rust, where rustc is there.
+# three mixes the least time of several runs and the peak memory. It writes the table of docs/PERFORMANCE.md, beside the same figures of
+# another gateway, one in plain Rust, where it is given.
 #
-#     bench/replay.sh [RUNS]            # 11 runs unless told otherwise; writes docs/PERFORMANCE.md
-#     bench/replay.sh --print [RUNS]    # prints the table alone
+#     bench/replay.sh [RUNS]                         # 11 runs unless told otherwise; writes docs/PERFORMANCE.md
+#     bench/replay.sh --print [RUNS]                 # prints the table alone
+#     YARDSTICK=PROGRAM bench/replay.sh [RUNS]       # the other gateway, whose `replay` has the same built-in configuration
+#
+# It begins by comparing what the two write for each script, and ends where they differ.
 #
 # It wants the program built, as `./bacgw prove` leaves it, and valgrind, python3 and /usr/bin/time.
 set -euo pipefail
@@ -21,14 +24,10 @@ trap 'rm -rf "$work"' EXIT
 for tool in valgrind python3 /usr/bin/time; do
     command -v "$tool" > /dev/null || { echo "this wants $tool" >&2; exit 1; }
 done
-yardstick=$work/yardstick
-if ! command -v rustc > /dev/null || ! rustc --edition 2024 -O -o "$yardstick" "$top/bench/yardstick/replay.rs"; then
-    yardstick=
-fi
+yardstick=${YARDSTICK:-}
 
-kinds="answered denied cut routed long tick mix"
-requests="write multiple who_is device" # what the yardstick doesn't know
-passed="register spread_3 spread_192 onward unknown router passing" # nor this
+kinds="answered denied cut routed long tick write multiple who_is register spread_3 spread_192 onward unknown router"
+mixes="mix device passing"
 declare -A name=(
     [answered]="read, answered" [denied]="read, denied" [cut]="broken, cut" [routed]="source behind a router of 255 octets"
     [long]="1,632 octets" [tick]="tick" [mix]="a mix of all"
@@ -230,36 +229,38 @@ seconds() {
 # row NAME OURS PLAIN: a line of the table, with the ratio of the two
 row() {
     local ratio=-
-    [ "$3" = - ] || ratio=$(awk -v a="$2" -v b="$3" 'BEGIN { printf "%.2f", a / b }')
+    [ "$3" = "not measured" ] || ratio=$(awk -v a="$2" -v b="$3" 'BEGIN { printf "%.2f", a / b }')
     echo "| $1 | $(grouped <<< "$2") | $(grouped <<< "$3") | $ratio |"
 }
+
+if [ -n "$yardstick" ]; then
+    for kind in $kinds $mixes; do
+        cmp <("$program" replay < "$work/$kind.3000") <("$yardstick" replay < "$work/$kind.3000")
+    done
+fi
+
+# beside FIGURE KIND: the figure of the yardstick
+beside() {
+    if [ -n "$yardstick" ]; then "$1" "$2" "$yardstick" replay; else echo "not measured"; fi
+}
+
+whole_instructions() { each instructions "$@" | sed 's/\..*//'; }
+each_allocation() { each allocations "$@"; }
 
 {
     echo "| A line of this kind | bacgw | Plain Rust | Ratio |"
     echo "|---|---|---|---|"
+    for kind in $kinds $mixes; do
+        row "instructions: ${name[$kind]}" "$(whole_instructions "$kind" "$program" replay)" "$(beside whole_instructions "$kind")"
+    done
     for kind in $kinds; do
-        plain=-
-        [ -z "$yardstick" ] || plain=$(each instructions "$kind" "$yardstick" | sed 's/\..*//')
-        row "instructions: ${name[$kind]}" "$(each instructions "$kind" "$program" replay | sed 's/\..*//')" "$plain"
+        echo "| allocations: ${name[$kind]} | $(each_allocation "$kind" "$program" replay) | $(beside each_allocation "$kind") | |"
     done
-    for kind in $requests $passed; do
-        row "instructions: ${name[$kind]}" "$(each instructions "$kind" "$program" replay | sed 's/\..*//')" -
+    for kind in $mixes; do
+        row "seconds for 300,000 lines, least of $runs: ${name[$kind]}" "$(seconds "$kind" "$program" replay)" "$(beside seconds "$kind")"
     done
-    for kind in answered denied cut; do
-        plain=-
-        [ -z "$yardstick" ] || plain=$(each allocations "$kind" "$yardstick")
-        echo "| allocations: ${name[$kind]} | $(each allocations "$kind" "$program" replay) | $plain | |"
-    done
-    for kind in write multiple who_is register spread_3 spread_192 onward unknown router; do
-        echo "| allocations: ${name[$kind]} | $(each allocations "$kind" "$program" replay) | - | |"
-    done
-    plain=-
-    [ -z "$yardstick" ] || plain=$(seconds mix "$yardstick")
-    row "seconds for 300,000 lines of the mix, least of $runs" "$(seconds mix "$program" replay)" "$plain"
-    row "seconds for 300,000 lines of the device's requests" "$(seconds device "$program" replay)" -
-    row "seconds for 300,000 lines of what is passed on" "$(seconds passing "$program" replay)" -
     /usr/bin/time -o "$work/peak" -f %M "$program" replay < "$work/mix.300000" > /dev/null
-    echo "| peak memory over them, MiB | $(awk '{ printf "%.1f", $1 / 1024 }' "$work/peak") | | |"
+    echo "| peak memory over the mix of all, MiB | $(awk '{ printf "%.1f", $1 / 1024 }' "$work/peak") | | |"
 } | tee "$work/table"
 
 if [ -n "$page" ]; then

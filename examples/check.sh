@@ -57,6 +57,17 @@ for script in "$here"/*.script; do
     fi
 done
 
+# The capture of the demo site: its event lines are those that are stored, where tshark is there, and play as they did.
+"$program" replay --config "$here/site/site.toml" < "$here/capture/site.script" > "$work/out" 2> "$work/err"
+status=$?
+agrees "$here/capture/site.script" 0 "$here/capture/site.out" /dev/null
+if command -v tshark > /dev/null; then
+    "$here/capture/events.sh" "$here/site/site.toml" "$here/capture/site.pcap" > "$work/out" 2> /dev/null
+    status=$?
+    : > "$work/err"
+    agrees "$here/capture/site.pcap" 0 "$here/capture/site.script" /dev/null
+fi
+
 echo 'bacgw: bad command line' > "$work/refusal"
 
 # refused WORDS...: the words are refused, and behind the line stands what is wrong with them

@@ -52,7 +52,7 @@ cd "$work"
 if [ -n "${CAPTURE:-}" ]; then
     ip netns exec bacgw-gateway tcpdump -q -U -i any -w capture 'udp port 47808' 2> sniffer &
     sniffer=$!
-    until grep -q 'listening' sniffer; do sleep 0.1; done
+    until grep -q listening sniffer 2> /dev/null; do sleep 0.1; done
 fi
 ip netns exec bacgw-gateway "$program" run --config "$here/site.toml" --log denials.log --verbose 2> told &
 gateway=$!

@@ -1,4 +1,5 @@
 pub mod Reading
+pub mod Appending
 pub mod Text
 pub mod Address
 pub mod Mask

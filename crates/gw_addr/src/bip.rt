@@ -1,16 +1,15 @@
 //! BACnet/IP addresses (Annex J.1.2): an IPv4 address and a UDP port.
 
-ghost use Rattle.std.specs.Prelude.{◌≡◌, ◌≢◌, ◌↔◌, ◌+◌, ◌++◌, ◌≤◌, length, vec_len};
-ghost use Rattle.std.specs.Prelude.{Some, IsTrue, IsOk, IfOk, IfErr, IfSome, OnOk};
-ghost use Rattle.std.specs.Vec.{vec_capacity};
+ghost use Rattle.std.specs.Prelude.{◌≡◌, ◌≢◌, ◌↔◌, length};
+ghost use Rattle.std.specs.Prelude.{Some, IsTrue, IfOk, IfErr, IfSome};
 ghost use Rattle.gw_addr.specs.Address.{octets_of, address_of, address_in, IsAddress};
 ghost use Rattle.gw_addr.specs.Address.{big_endian, text_of};
-ghost use Rattle.gw_addr.specs.Reading.{Keeps};
+ghost use Rattle.gw_addr.specs.Appending.{IsAppended};
 
-use crate::digits::{number_in, octet_before, put_decimal, put_four};
+use crate::digits::{number_in, octet_before, put_four};
 use crate::fault::{OctetsFault, TextFault};
 use crate::station::Mac;
-use crate::writers::put_octet;
+use crate::writers::{put_decimal, put_octet};
 use std::alloc::AllocError;
 use std::fmt;
 
@@ -106,11 +105,7 @@ impl BipAddr {
     /// Appends the address as it is written, `a.b.c.d:port`. An `Err` only where the buffer had no
     /// room for it; then a front of it may stand there.
     pub fn put_text(self, out: &mut Vec<u8>) -> Result<(), AllocError>
-        ensures ok { OnOk result (out.new.items ≡ out.old.items ++ text_of self) }
-        ensures front { Keeps out.old.items out.new.items }
-        ensures room { let text = text_of self in
-            vec_len out.old + length text ≤ vec_capacity out.old → IsOk result }
-        ensures capacity { vec_capacity out.old ≤ vec_capacity out.new }
+        ensures { IsAppended (text_of self) out.old out.new result }
     {
         put_four(out, self.ip)?;
         put_octet(out, b':')?;

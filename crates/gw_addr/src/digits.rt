@@ -1,18 +1,16 @@
 //! Numbers in decimal digits without leading zeros, as addresses and masks are written with them.
 
-ghost use Rattle.std.specs.Prelude.{◌≡◌, ◌<◌, ◌≤◌, ◌+◌, ◌^◌, ◌++◌, ◌∷◌, ◌↔◌, ℕ, List, length, vec_len};
+ghost use Rattle.std.specs.Prelude.{◌≡◌, ◌<◌, ◌+◌, ◌^◌, ◌++◌, ◌∷◌, ◌↔◌, ℕ, List, length};
 ghost use Rattle.std.specs.Prelude.{take, drop, slice_index, IsTrue};
-ghost use Rattle.std.specs.Prelude.{Some, IsOk, IfSome, IsSomeAnd, OnOk};
+ghost use Rattle.std.specs.Prelude.{Some, IfSome, IsSomeAnd};
 ghost use Rattle.std.specs.Char.{IsAsciiDigit};
 ghost use Rattle.std.specs.Fmt.{decimal};
-ghost use Rattle.std.specs.Vec.{vec_capacity};
 ghost use Rattle.gw_addr.specs.internal.Digits.{begins_canonical_of};
-ghost use Rattle.gw_addr.specs.Reading.{Keeps};
+ghost use Rattle.gw_addr.specs.Appending.{IsAppended};
 ghost use Rattle.gw_addr.specs.Text.{four_text};
 ghost use Rattle.gw_addr.specs.internal.Digits.{pair_text};
 
-use crate::writers::put_octet;
-use itoa::Buffer;
+use crate::writers::{put_decimal, put_octet};
 use std::alloc::AllocError;
 
 /// How many digits a number below 65536 has at most.
@@ -101,37 +99,19 @@ pub fn octet_before(text: &[u8], separator: u8) -> Option<(u8, &[u8])>
     None
 }
 
-/// Appends the decimal digits of a number.
-pub fn put_decimal(out: &mut Vec<u8>, number: u16) -> Result<(), AllocError>
-    ensures ok { OnOk result (out.new.items ≡ out.old.items ++ decimal number) }
-    ensures front { Keeps out.old.items out.new.items }
-    ensures room { vec_len out.old + length (decimal number) ≤ vec_capacity out.old → IsOk result }
-    ensures capacity { vec_capacity out.old ≤ vec_capacity out.new }
-{
-    out.extend_from_slice(Buffer::new().format(number).as_bytes())
-}
-
 /// Appends two numbers with a point between them.
 #[tactic(auto, unfolding(crate::specs::internal::Digits::pair_text))]
 fn put_pair(out: &mut Vec<u8>, first: u8, second: u8) -> Result<(), AllocError>
-    ensures ok { OnOk result (out.new.items ≡ out.old.items ++ pair_text first second) }
-    ensures front { Keeps out.old.items out.new.items }
-    ensures room { let text = pair_text first second in
-        vec_len out.old + length text ≤ vec_capacity out.old → IsOk result }
-    ensures capacity { vec_capacity out.old ≤ vec_capacity out.new }
+    ensures { IsAppended (pair_text first second) out.old out.new result }
 {
-    put_decimal(out, u16::from(first))?;
+    put_decimal(out, first)?;
     put_octet(out, b'.')?;
-    put_decimal(out, u16::from(second))
+    put_decimal(out, second)
 }
 
 /// Appends four numbers with points between them.
 pub fn put_four(out: &mut Vec<u8>, octets: [u8; 4]) -> Result<(), AllocError>
-    ensures ok { OnOk result (out.new.items ≡ out.old.items ++ four_text octets) }
-    ensures front { Keeps out.old.items out.new.items }
-    ensures room { let text = four_text octets in
-        vec_len out.old + length text ≤ vec_capacity out.old → IsOk result }
-    ensures capacity { vec_capacity out.old ≤ vec_capacity out.new }
+    ensures { IsAppended (four_text octets) out.old out.new result }
 {
     let [a, b, c, d] = octets;
     put_pair(out, a, b)?;

@@ -5,7 +5,13 @@ ghost use Rattle.std.specs.Prelude.{◌≡◌, ◌<◌, ◌^◌};
 ghost use Rattle.gw_addr.specs.declared.bip.BipAddr.{BipAddr};
 ghost use Rattle.gw_addr.specs.Address.{octets_of, big_endian, text_of, IsAddress};
 
+use crate::MAX_PORTS;
 use crate::bip::BipAddr;
+
+/// The limit is 8 ports.
+pub fn limits()
+    ensures { MAX_PORTS ≡ 8 }
+{}
 
 /// Each value of the type has four octets and a port.
 pub fn fits(address: BipAddr)

@@ -14,6 +14,9 @@ mod sequence;
 mod station;
 mod writers;
 
+/// How many ports a gateway has at most, a limit of ours. A script names each by one digit.
+pub const MAX_PORTS: usize = 8;
+
 pub use bip::{BipAddr, bip_from_slice};
 pub use entry::{BdtEntry, FdtEntry};
 pub use fault::{OctetsFault, TextFault};
@@ -22,4 +25,4 @@ pub use network::NetNum;
 pub use readers::{address, front, long_number, number, octet};
 pub use sequence::Sequence;
 pub use station::{Mac, Source};
-pub use writers::{put_long_number, put_number, put_octet, put_slice};
+pub use writers::{keep_whole, put_decimal, put_long_number, put_number, put_octet, put_slice};

@@ -1,9 +1,8 @@
 //! Masks as they are written, `a.b.c.d`.
 
-ghost use Rattle.std.specs.Prelude.{◌≡◌, ◌+◌, ◌++◌, ◌≤◌, length, vec_len, Some, IsOk, IfSome, OnOk};
-ghost use Rattle.std.specs.Vec.{vec_capacity};
+ghost use Rattle.std.specs.Prelude.{◌≡◌, Some, IfSome};
 ghost use Rattle.gw_addr.specs.Mask.{mask_text, IsMask};
-ghost use Rattle.gw_addr.specs.Reading.{Keeps};
+ghost use Rattle.gw_addr.specs.Appending.{IsAppended};
 
 use crate::digits::{octet_before, octet_in, put_four};
 use std::alloc::AllocError;
@@ -37,11 +36,7 @@ impl Mask {
     /// Appends the mask as it is written, `a.b.c.d`. An `Err` only where the buffer had no room for
     /// it; then a front of it may stand there.
     pub fn put_text(self, out: &mut Vec<u8>) -> Result<(), AllocError>
-        ensures ok { OnOk result (out.new.items ≡ out.old.items ++ mask_text self) }
-        ensures front { Keeps out.old.items out.new.items }
-        ensures room { let text = mask_text self in
-            vec_len out.old + length text ≤ vec_capacity out.old → IsOk result }
-        ensures capacity { vec_capacity out.old ≤ vec_capacity out.new }
+        ensures { IsAppended (mask_text self) out.old out.new result }
     {
         put_four(out, self.octets)
     }

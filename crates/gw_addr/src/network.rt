@@ -1,13 +1,12 @@
 //! Network numbers (clause 6.1): 1 to 65534. 0 is no network, and 65535 stands for all of them.
 
-ghost use Rattle.std.specs.Prelude.{◌≡◌, ◌↔◌, ◌≤◌, ◌+◌, ◌++◌, length, vec_len};
-ghost use Rattle.std.specs.Prelude.{Some, IsTrue, IsOk, OnOk};
+ghost use Rattle.std.specs.Prelude.{◌≡◌, ◌↔◌, ◌≤◌};
+ghost use Rattle.std.specs.Prelude.{Some, IsTrue};
 ghost use Rattle.std.specs.Fmt.{decimal};
-ghost use Rattle.std.specs.Vec.{vec_capacity};
-ghost use Rattle.gw_addr.specs.Reading.{Keeps};
+ghost use Rattle.gw_addr.specs.Appending.{IsAppended};
 ghost use Rattle.gw_addr.specs.Station.{network_of};
 
-use crate::digits::put_decimal;
+use crate::writers::put_decimal;
 use std::alloc::AllocError;
 use std::fmt;
 use std::marker::Model;
@@ -61,11 +60,7 @@ impl NetNum {
     /// Appends the decimal digits of the number. An `Err` only where the buffer had no room for
     /// them.
     pub fn put_text(self, out: &mut Vec<u8>) -> Result<(), AllocError>
-        ensures ok { OnOk result (out.new.items ≡ out.old.items ++ decimal self) }
-        ensures front { Keeps out.old.items out.new.items }
-        ensures room { let text = decimal self in
-            vec_len out.old + length text ≤ vec_capacity out.old → IsOk result }
-        ensures capacity { vec_capacity out.old ≤ vec_capacity out.new }
+        ensures { IsAppended (decimal self) out.old out.new result }
     {
         put_decimal(out, self.number)
     }

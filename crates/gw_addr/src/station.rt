@@ -1,10 +1,9 @@
 //! The addresses of stations (clauses 6.2.2 and 6.3): a network, and 1 to 255 octets on it.
 
-ghost use Rattle.std.specs.Prelude.{◌≡◌, ◌↔◌, ◌<◌, ◌≤◌, ◌+◌, ◌-◌, ◌++◌, length, replicate, vec_len};
-ghost use Rattle.std.specs.Prelude.{Some, IsTrue, IsOk, OnOk};
+ghost use Rattle.std.specs.Prelude.{◌≡◌, ◌↔◌, ◌<◌, ◌≤◌, ◌-◌, ◌++◌, length, replicate};
+ghost use Rattle.std.specs.Prelude.{Some, IsTrue};
 ghost use Rattle.std.specs.List.{flat_map};
-ghost use Rattle.std.specs.Vec.{vec_capacity};
-ghost use Rattle.gw_addr.specs.Reading.{Keeps};
+ghost use Rattle.gw_addr.specs.Appending.{IsAppended};
 ghost use Rattle.gw_addr.specs.Station.{station_of, key_of, digit_of, two_digits};
 
 use crate::network::NetNum;
@@ -88,11 +87,7 @@ impl Mac {
     /// Appends the octets as they are printed, two upper-case hexadecimal digits for each. An `Err`
     /// only where the buffer had no room for them; then a front of them may stand there.
     pub fn put_text(&self, out: &mut Vec<u8>) -> Result<(), AllocError>
-        ensures ok { OnOk result (out.new.items ≡ out.old.items ++ flat_map two_digits self.now) }
-        ensures front { Keeps out.old.items out.new.items }
-        ensures room { let text = flat_map two_digits self.now in
-            vec_len out.old + length text ≤ vec_capacity out.old → IsOk result }
-        ensures capacity { vec_capacity out.old ≤ vec_capacity out.new }
+        ensures { IsAppended (flat_map two_digits self.now) out.old out.new result }
     {
         for octet in self.as_slice() {
             put_digits(out, *octet)?;
@@ -139,10 +134,7 @@ fn kept(octets: &[u8], len: u8) -> Mac
 
 /// Appends an octet as two upper-case hexadecimal digits.
 fn put_digits(out: &mut Vec<u8>, octet: u8) -> Result<(), AllocError>
-    ensures ok { OnOk result (out.new.items ≡ out.old.items ++ two_digits octet) }
-    ensures front { Keeps out.old.items out.new.items }
-    ensures room { vec_len out.old + 2 ≤ vec_capacity out.old → IsOk result }
-    ensures capacity { vec_capacity out.old ≤ vec_capacity out.new }
+    ensures { IsAppended (two_digits octet) out.old out.new result }
 {
     let high = upper_digit(octet >> 4);
     let low = upper_digit(octet & 15);

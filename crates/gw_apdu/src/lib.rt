@@ -15,5 +15,6 @@ pub use pdu_type::PduType;
 pub use reading::{decode, service_code};
 pub use reason::{AbortReason, RejectReason};
 pub use writing::{
-    ServiceError, write_abort, write_complex, write_error, write_reject, write_simple,
+    ServiceError, put_class_and_code, write_abort, write_complex, write_error, write_reject,
+    write_simple,
 };

@@ -1,13 +1,11 @@
 //! Writing the answers to a confirmed request: their headers, and errors whole (clauses 20.1.4,
 //! 20.1.5 and 20.1.7 to 20.1.9).
 
-ghost use Rattle.std.specs.Prelude.{◌≡◌, ◌≤◌, ◌+◌, ◌++◌, length, vec_len, IsOk, OnOk, OnErr};
-ghost use Rattle.std.specs.Vec.{vec_capacity};
-ghost use Rattle.gw_addr.specs.Reading.{Keeps};
+ghost use Rattle.gw_addr.specs.Appending.{IsAppended, IsAppendedWhole};
 ghost use Rattle.gw_apdu.specs.Answers.{simple_ack, complex_ack, error, class_and_code, reject, abort};
 
 use crate::reason::{AbortReason, RejectReason};
-use gw_addr::put_slice;
+use gw_addr::{keep_whole, put_slice};
 use gw_tags::{AppValue, write_value};
 use std::alloc::AllocError;
 
@@ -26,10 +24,7 @@ pub struct ServiceError {
 ///
 /// 1 Memory, only where the buffer had no room.
 pub fn write_simple(out: &mut Vec<u8>, invoke: u8, service: u8) -> Result<(), AllocError>
-    ensures ok { OnOk result (out.new.items ≡ out.old.items ++ simple_ack invoke service) }
-    ensures err { OnErr result (out.new.items ≡ out.old.items) }
-    ensures room { vec_len out.old + 3 ≤ vec_capacity out.old → IsOk result }
-    ensures capacity { vec_capacity out.old ≤ vec_capacity out.new }
+    ensures { IsAppendedWhole (simple_ack invoke service) out.old out.new result }
 {
     out.extend_from_slice(&[0x20, invoke, service])
 }
@@ -41,10 +36,7 @@ pub fn write_simple(out: &mut Vec<u8>, invoke: u8, service: u8) -> Result<(), Al
 ///
 /// 1 Memory, only where the buffer had no room.
 pub fn write_complex(out: &mut Vec<u8>, invoke: u8, service: u8) -> Result<(), AllocError>
-    ensures ok { OnOk result (out.new.items ≡ out.old.items ++ complex_ack invoke service) }
-    ensures err { OnErr result (out.new.items ≡ out.old.items) }
-    ensures room { vec_len out.old + 3 ≤ vec_capacity out.old → IsOk result }
-    ensures capacity { vec_capacity out.old ≤ vec_capacity out.new }
+    ensures { IsAppendedWhole (complex_ack invoke service) out.old out.new result }
 {
     out.extend_from_slice(&[0x30, invoke, service])
 }
@@ -55,10 +47,7 @@ pub fn write_complex(out: &mut Vec<u8>, invoke: u8, service: u8) -> Result<(), A
 ///
 /// 1 Memory, only where the buffer had no room.
 pub fn write_reject(out: &mut Vec<u8>, invoke: u8, reason: RejectReason) -> Result<(), AllocError>
-    ensures ok { OnOk result (out.new.items ≡ out.old.items ++ reject invoke reason.0) }
-    ensures err { OnErr result (out.new.items ≡ out.old.items) }
-    ensures room { vec_len out.old + 3 ≤ vec_capacity out.old → IsOk result }
-    ensures capacity { vec_capacity out.old ≤ vec_capacity out.new }
+    ensures { IsAppendedWhole (reject invoke reason.0) out.old out.new result }
 {
     out.extend_from_slice(&[0x60, invoke, reason.0])
 }
@@ -70,21 +59,15 @@ pub fn write_reject(out: &mut Vec<u8>, invoke: u8, reason: RejectReason) -> Resu
 ///
 /// 1 Memory, only where the buffer had no room.
 pub fn write_abort(out: &mut Vec<u8>, invoke: u8, reason: AbortReason) -> Result<(), AllocError>
-    ensures ok { OnOk result (out.new.items ≡ out.old.items ++ abort invoke reason.0) }
-    ensures err { OnErr result (out.new.items ≡ out.old.items) }
-    ensures room { vec_len out.old + 3 ≤ vec_capacity out.old → IsOk result }
-    ensures capacity { vec_capacity out.old ≤ vec_capacity out.new }
+    ensures { IsAppendedWhole (abort invoke reason.0) out.old out.new result }
 {
     out.extend_from_slice(&[0x71, invoke, reason.0])
 }
 
-/// An error's class and code, one behind the other.
-fn put_class_and_code(out: &mut Vec<u8>, why: ServiceError) -> Result<(), AllocError>
-    ensures ok { OnOk result (out.new.items ≡ out.old.items ++ class_and_code why) }
-    ensures front { Keeps out.old.items out.new.items }
-    ensures room { vec_len out.old + length (class_and_code why) ≤ vec_capacity out.old
-        → IsOk result }
-    ensures capacity { vec_capacity out.old ≤ vec_capacity out.new }
+/// Appends an error's class and code, one behind the other (clause 21, Error). After an `Err` a
+/// front of them may stand there.
+pub fn put_class_and_code(out: &mut Vec<u8>, why: ServiceError) -> Result<(), AllocError>
+    ensures { IsAppended (class_and_code why) out.old out.new result }
 {
     write_value(out, AppValue::Enumerated(u32::from(why.class)))?;
     write_value(out, AppValue::Enumerated(u32::from(why.code)))
@@ -97,11 +80,7 @@ fn put_error(
     service: u8,
     why: ServiceError,
 ) -> Result<(), AllocError>
-    ensures ok { OnOk result (out.new.items ≡ out.old.items ++ error invoke service why) }
-    ensures front { Keeps out.old.items out.new.items }
-    ensures room { vec_len out.old + length (error invoke service why) ≤ vec_capacity out.old
-        → IsOk result }
-    ensures capacity { vec_capacity out.old ≤ vec_capacity out.new }
+    ensures { IsAppended (error invoke service why) out.old out.new result }
 {
     put_slice(out, &[0x50, invoke, service])?;
     put_class_and_code(out, why)
@@ -118,16 +97,9 @@ pub fn write_error(
     service: u8,
     why: ServiceError,
 ) -> Result<(), AllocError>
-    ensures ok { OnOk result (out.new.items ≡ out.old.items ++ error invoke service why) }
-    ensures err { OnErr result (out.new.items ≡ out.old.items) }
-    ensures room { vec_len out.old + length (error invoke service why) ≤ vec_capacity out.old
-        → IsOk result }
-    ensures capacity { vec_capacity out.old ≤ vec_capacity out.new }
+    ensures { IsAppendedWhole (error invoke service why) out.old out.new result }
 {
     let len = out.len();
     let written = put_error(out, invoke, service, why);
-    if written.is_err() {
-        out.truncate(len);
-    }
-    written
+    keep_whole(out, len, written)
 }

@@ -1,15 +1,13 @@
 //! The line of a denial, piece by piece behind what a buffer holds.
 
-ghost use Rattle.std.specs.Prelude.{◌≡◌, ◌+◌, ◌≤◌, ◌++◌, length, IsOk, OnOk, OnErr, vec_len, vec_capacity};
-ghost use Rattle.std.specs.Fmt.{decimal};
-ghost use Rattle.gw_addr.specs.Reading.{Keeps};
+ghost use Rattle.std.specs.Prelude.{◌≡◌, ◌++◌};
+ghost use Rattle.gw_addr.specs.Appending.{IsAppended, IsAppendedWhole};
 ghost use Rattle.gw_audit.specs.Line.{field_text, line_text, operation_of, operation_text};
 ghost use Rattle.gw_audit.specs.internal.Parts.{counts_text, object_text, request_text, rule_text, source_text};
 
 use crate::denial::Denial;
-use gw_addr::{Source, put_octet, put_slice};
+use gw_addr::{Source, keep_whole, put_decimal, put_octet, put_slice};
 use gw_rules::{Ask, Operation, RuleName};
-use itoa::Buffer;
 use std::alloc::AllocError;
 
 /// What stands in the place of a field that the ask doesn't have.
@@ -24,27 +22,16 @@ const ABSENT: &[u8] = b"-";
 ///
 /// 1 Memory, only where the buffer had no room: it then holds what it held. Its capacity never falls.
 pub fn line(denial: &Denial, out: &mut Vec<u8>) -> Result<(), AllocError>
-    ensures ok { OnOk result (out.new.items ≡ out.old.items ++ line_text denial.now) }
-    ensures err { OnErr result (out.new.items ≡ out.old.items) }
-    ensures room { let text = line_text denial.now in
-        vec_len out.old + length text ≤ vec_capacity out.old → IsOk result }
-    ensures capacity { vec_capacity out.old ≤ vec_capacity out.new }
+    ensures { IsAppendedWhole (line_text denial.now) out.old out.new result }
 {
     let len = out.len();
-    if put_line(out, denial).is_err() {
-        out.truncate(len);
-        return Err(AllocError);
-    }
-    Ok(())
+    let put = put_line(out, denial);
+    keep_whole(out, len, put)
 }
 
 /// Appends the line of a denial. A front of it stands there where a growth was refused.
 fn put_line(out: &mut Vec<u8>, denial: &Denial) -> Result<(), AllocError>
-    ensures ok { OnOk result (out.new.items ≡ out.old.items ++ line_text denial.now) }
-    ensures front { Keeps out.old.items out.new.items }
-    ensures room { let text = line_text denial.now in
-        vec_len out.old + length text ≤ vec_capacity out.old → IsOk result }
-    ensures capacity { vec_capacity out.old ≤ vec_capacity out.new }
+    ensures { IsAppended (line_text denial.now) out.old out.new result }
 {
     put_counts(out, denial)?;
     put_source(out, &denial.source)?;
@@ -56,28 +43,20 @@ fn put_line(out: &mut Vec<u8>, denial: &Denial) -> Result<(), AllocError>
 /// Appends the three counts, each with a space behind it.
 #[tactic(auto, unfolding(crate::specs::internal::Parts::counts_text))]
 fn put_counts(out: &mut Vec<u8>, denial: &Denial) -> Result<(), AllocError>
-    ensures ok { OnOk result (out.new.items ≡ out.old.items ++ counts_text denial.now) }
-    ensures front { Keeps out.old.items out.new.items }
-    ensures room { let text = counts_text denial.now in
-        vec_len out.old + length text ≤ vec_capacity out.old → IsOk result }
-    ensures capacity { vec_capacity out.old ≤ vec_capacity out.new }
+    ensures { IsAppended (counts_text denial.now) out.old out.new result }
 {
-    put_number(out, denial.number)?;
+    put_decimal(out, denial.number)?;
     put_octet(out, b' ')?;
-    put_number(out, denial.tick)?;
+    put_decimal(out, denial.tick)?;
     put_octet(out, b' ')?;
-    put_number(out, u64::from(denial.port))?;
+    put_decimal(out, denial.port)?;
     put_octet(out, b' ')
 }
 
 /// Appends a station: its network and its octets, with a colon between.
 #[tactic(auto, unfolding(crate::specs::internal::Parts::source_text))]
 fn put_source(out: &mut Vec<u8>, source: &Source) -> Result<(), AllocError>
-    ensures ok { OnOk result (out.new.items ≡ out.old.items ++ source_text source.now) }
-    ensures front { Keeps out.old.items out.new.items }
-    ensures room { let text = source_text source.now in
-        vec_len out.old + length text ≤ vec_capacity out.old → IsOk result }
-    ensures capacity { vec_capacity out.old ≤ vec_capacity out.new }
+    ensures { IsAppended (source_text source.now) out.old out.new result }
 {
     source.net.put_text(out)?;
     put_octet(out, b':')?;
@@ -87,11 +66,7 @@ fn put_source(out: &mut Vec<u8>, source: &Source) -> Result<(), AllocError>
 /// Appends what was asked, and to which network: the operation, the destination and the service.
 #[tactic(auto, unfolding(crate::specs::internal::Parts::request_text))]
 fn put_request(out: &mut Vec<u8>, ask: &Ask) -> Result<(), AllocError>
-    ensures ok { OnOk result (out.new.items ≡ out.old.items ++ request_text ask.now) }
-    ensures front { Keeps out.old.items out.new.items }
-    ensures room { let text = request_text ask.now in
-        vec_len out.old + length text ≤ vec_capacity out.old → IsOk result }
-    ensures capacity { vec_capacity out.old ≤ vec_capacity out.new }
+    ensures { IsAppended (request_text ask.now) out.old out.new result }
 {
     put_octet(out, b' ')?;
     put_operation(out, ask.operation)?;
@@ -102,11 +77,7 @@ fn put_request(out: &mut Vec<u8>, ask: &Ask) -> Result<(), AllocError>
 /// Appends what it was asked of: the object, the property and the priority.
 #[tactic(auto, unfolding(crate::specs::internal::Parts::object_text))]
 fn put_object(out: &mut Vec<u8>, ask: &Ask) -> Result<(), AllocError>
-    ensures ok { OnOk result (out.new.items ≡ out.old.items ++ object_text ask.now) }
-    ensures front { Keeps out.old.items out.new.items }
-    ensures room { let text = object_text ask.now in
-        vec_len out.old + length text ≤ vec_capacity out.old → IsOk result }
-    ensures capacity { vec_capacity out.old ≤ vec_capacity out.new }
+    ensures { IsAppended (object_text ask.now) out.old out.new result }
 {
     put_field(out, b" obj=", ask.object_type)?;
     put_field(out, b",", ask.instance)?;
@@ -117,11 +88,7 @@ fn put_object(out: &mut Vec<u8>, ask: &Ask) -> Result<(), AllocError>
 /// Appends the name of a rule, and the line's end.
 #[tactic(auto, unfolding(crate::specs::internal::Parts::rule_text))]
 fn put_rule(out: &mut Vec<u8>, rule: &RuleName) -> Result<(), AllocError>
-    ensures ok { OnOk result (out.new.items ≡ out.old.items ++ rule_text rule.now) }
-    ensures front { Keeps out.old.items out.new.items }
-    ensures room { let text = rule_text rule.now in
-        vec_len out.old + length text ≤ vec_capacity out.old → IsOk result }
-    ensures capacity { vec_capacity out.old ≤ vec_capacity out.new }
+    ensures { IsAppended (rule_text rule.now) out.old out.new result }
 {
     put_slice(out, b" rule=")?;
     put_slice(out, rule.as_str().as_bytes())?;
@@ -130,18 +97,14 @@ fn put_rule(out: &mut Vec<u8>, rule: &RuleName) -> Result<(), AllocError>
 
 /// Appends the name of an operation by its number, or that number where no operation has it.
 fn put_operation(out: &mut Vec<u8>, number: Option<u64>) -> Result<(), AllocError>
-    ensures ok { OnOk result (out.new.items ≡ out.old.items ++ operation_text number) }
-    ensures front { Keeps out.old.items out.new.items }
-    ensures room { let text = operation_text number in
-        vec_len out.old + length text ≤ vec_capacity out.old → IsOk result }
-    ensures capacity { vec_capacity out.old ≤ vec_capacity out.new }
+    ensures { IsAppended (operation_text number) out.old out.new result }
 {
     let Some(number) = number else {
         return put_slice(out, ABSENT);
     };
     match operation_of(number) {
         Some(operation) => put_slice(out, operation.name().as_bytes()),
-        None => put_number(out, number),
+        None => put_decimal(out, number),
     }
 }
 
@@ -154,26 +117,11 @@ fn operation_of(number: u64) -> Option<Operation>
 
 /// Appends a label and the value of a field behind it.
 fn put_field(out: &mut Vec<u8>, label: &[u8], value: Option<u64>) -> Result<(), AllocError>
-    ensures ok { OnOk result (out.new.items ≡ out.old.items ++ label.now ++ field_text value) }
-    ensures front { Keeps out.old.items out.new.items }
-    ensures room { let text = label.now ++ field_text value in
-        vec_len out.old + length text ≤ vec_capacity out.old → IsOk result }
-    ensures capacity { vec_capacity out.old ≤ vec_capacity out.new }
+    ensures { IsAppended (label.now ++ field_text value) out.old out.new result }
 {
     put_slice(out, label)?;
     match value {
-        Some(number) => put_number(out, number),
+        Some(number) => put_decimal(out, number),
         None => put_slice(out, ABSENT),
     }
-}
-
-/// Appends the decimal digits of a number.
-fn put_number(out: &mut Vec<u8>, number: u64) -> Result<(), AllocError>
-    ensures ok { OnOk result (out.new.items ≡ out.old.items ++ decimal number) }
-    ensures front { Keeps out.old.items out.new.items }
-    ensures room { let text = decimal number in
-        vec_len out.old + length text ≤ vec_capacity out.old → IsOk result }
-    ensures capacity { vec_capacity out.old ≤ vec_capacity out.new }
-{
-    put_slice(out, Buffer::new().format(number).as_bytes())
 }

@@ -1,10 +1,10 @@
 //! Writing a message into a datagram (Annex J.2).
 
 ghost use Rattle.std.specs.Prelude.{◌≡◌, ◌++◌, ◌+◌, ◌∷◌, ◌<◌, ◌≤◌, ◌↔◌, length, vec_len};
-ghost use Rattle.std.specs.Prelude.{IsOk, OnOk, OnErr};
+ghost use Rattle.std.specs.Prelude.{OnOk, OnErr};
 ghost use Rattle.std.specs.Vec.{vec_capacity};
 ghost use Rattle.std.specs.Int.{w16, to_be_bytes};
-ghost use Rattle.gw_addr.specs.Reading.{Keeps};
+ghost use Rattle.gw_addr.specs.Appending.{IsAppended};
 ghost use Rattle.gw_bvll.specs.Bvll.{view, body_of, octet_of, function_of, encoding, IsValid};
 
 use crate::fault::EncodeFault;
@@ -36,11 +36,7 @@ fn body_len(message: &Bvll<'_>) -> usize
 
 /// Appends what stands behind the header.
 fn put_body(message: &Bvll<'_>, out: &mut Vec<u8>) -> Result<(), AllocError>
-    ensures ok { OnOk result (out.new.items ≡ out.old.items ++ body_of (view message.now)) }
-    ensures front { Keeps out.old.items out.new.items }
-    ensures room { let body = body_of (view message.now) in
-        vec_len out.old + length body ≤ vec_capacity out.old → IsOk result }
-    ensures capacity { vec_capacity out.old ≤ vec_capacity out.new }
+    ensures { IsAppended (body_of (view message.now)) out.old out.new result }
 {
     match message {
         Bvll::Result(code) => put_number(out, code.0),
@@ -61,13 +57,9 @@ fn put_body(message: &Bvll<'_>, out: &mut Vec<u8>) -> Result<(), AllocError>
 
 /// Appends the header, with the length of the whole message, and the body.
 fn put_message(message: &Bvll<'_>, len: u16, out: &mut Vec<u8>) -> Result<(), AllocError>
-    ensures ok { let m = view message.now in
+    ensures { let m = view message.now in
         let header = 0x81 ∷ octet_of (function_of m) ∷ to_be_bytes w16 len in
-        OnOk result (out.new.items ≡ out.old.items ++ (header ++ body_of m)) }
-    ensures front { Keeps out.old.items out.new.items }
-    ensures room { let body = body_of (view message.now) in
-        vec_len out.old + (4 + length body) ≤ vec_capacity out.old → IsOk result }
-    ensures capacity { vec_capacity out.old ≤ vec_capacity out.new }
+        IsAppended (header ++ body_of m) out.old out.new result }
 {
     put_octet(out, MARKER)?;
     put_octet(out, message.function().octet())?;
@@ -83,7 +75,7 @@ pub fn encode(message: &Bvll<'_>, out: &mut Vec<u8>) -> Result<(), EncodeFault>
     // What was written is read again: the message is a valid one.
     ensures valid { OnOk result (IsValid (view message.now)) }
     ensures too_long { let octets = encoding (view message.now) in
-        (result ≡ Err EncodeFault.TooLong) ↔ (1507 < length octets) }
+        (result ≡ Err EncodeFault.TooLong) ↔ (MAX_LEN < length octets) }
     // Memory only where the buffer had no room for the message.
     ensures memory { let octets = encoding (view message.now) in
         result ≡ Err EncodeFault.Memory → vec_capacity out.old < vec_len out.old + length octets }

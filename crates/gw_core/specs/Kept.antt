@@ -1,5 +1,6 @@
 -- What a gateway keeps true of its parts.
 use Rattle.std.specs.Prelude.{◌≡◌, ◌^◌, ◌≤◌, ℕ, length}
+use Rattle.gw_addr.specs.declared.TheConstants.{MAX_PORTS}
 use Rattle.gw_relay.specs.State.{Relay}
 use Rattle.gw_core.specs.declared.event.Counts.{Counts}
 
@@ -7,7 +8,7 @@ use Rattle.gw_core.specs.declared.event.Counts.{Counts}
 -- gateway's.
 pub record IsKept (ports : ℕ) (relay : Relay) (counts : Counts) : Type 0 where
   pub some : 1 ≤ ports
-  pub most : ports ≤ 8
+  pub most : ports ≤ MAX_PORTS
   pub links : length relay.links ≡ ports
   pub later : relay.ticks ≤ counts.ticks
   pub ticks : counts.ticks ≤ 2 ^ 63

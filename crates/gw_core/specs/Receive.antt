@@ -5,9 +5,11 @@ use Rattle.gw_addr.specs.declared.bip.BipAddr.{BipAddr}
 use Rattle.gw_addr.specs.declared.station.Source.{Source}
 use Rattle.gw_addr.specs.Address.{octets_of, big_endian}
 use Rattle.gw_bvll.specs.Reading.{bvll_at}
+use Rattle.gw_bvll.specs.declared.writing.TheConstants.{MAX_LEN}
 use Rattle.gw_bvll.specs.Bvll.{write_bdt, read_bdt, forwarded, register, read_fdt, delete, distribute, original_unicast, original_broadcast}
 use Rattle.gw_bvll.specs.Bvll.{Message as Frame}
 use Rattle.gw_npdu.specs.Npdu.{Fields, Address}
+use Rattle.gw_npdu.specs.Numbers.{max_len}
 use Rattle.gw_npdu.specs.Reading.{npdu_at}
 use Rattle.gw_relay.specs.Cast.{accepts, is_unregistered}
 use Rattle.gw_relay.specs.Claim.{local_source}
@@ -34,7 +36,7 @@ is_same_address a b = big_endian (octets_of a) == big_endian (octets_of b)
 
 -- a datagram of at most 1507 octets that doesn't come from the port's own address
 abbrev pub comes_in : BipAddr → BipAddr → List ℕ → Bool
-comes_in own from octets = nat_le (length octets) 1507 && not (is_same_address own from)
+comes_in own from octets = nat_le (length octets) MAX_LEN && not (is_same_address own from)
 
 -- ---- the frame (Annex J.2)
 
@@ -70,7 +72,7 @@ claims_direct links device (Some s) = is_direct links device s.network
 -- an NPDU of at most 1497 octets that claims no source on a network of the gateway's own
 unfoldable pub npdu_of : List PortState → ℕ → List ℕ → Option Fields
 npdu_of links device octets =
-    if nat_le (length octets) 1497 then (elim (npdu_at octets) [
+    if nat_le (length octets) max_len then (elim (npdu_at octets) [
       | Ok npdu ↦ if claims_direct links device npdu.source then None else Some npdu
       | Err fault ↦ None
     ]) else None

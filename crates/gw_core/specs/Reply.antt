@@ -4,7 +4,7 @@ use Rattle.std.specs.Prelude.{ℕ, ◌-◌, Bool, true, false, List, [], ◌∷�
 use Rattle.std.specs.Option.{option_map}
 use Rattle.gw_addr.specs.Station.{key_of}
 use Rattle.gw_npdu.specs.Npdu.{Fields, Address, Destination, Payload, apdu, message}
-use Rattle.gw_npdu.specs.Numbers.{every_network}
+use Rattle.gw_npdu.specs.Numbers.{every_network, max_len}
 use Rattle.gw_npdu.specs.Npdu as npdu
 use Rattle.gw_relay.specs.Sends.{Sending}
 use Rattle.gw_relay.specs.Steps.{broadcast, unicast}
@@ -76,14 +76,10 @@ reply_npdu network request answer = record {
 
 -- ---- what the device is told
 
--- the most octets that an NPDU has (Annex J.1.5)
-abbrev pub most_octets : ℕ
-most_octets = 1497
-
 -- how many octets the APDU may have that goes back to the station that asked
 abbrev pub max_reply_apdu : ℕ → Fields → ℕ
 max_reply_apdu network request =
-    most_octets - length (npdu.header (reply_npdu network request (record { apdu = []; broadcast = false })))
+    max_len - length (npdu.header (reply_npdu network request (record { apdu = []; broadcast = false })))
 
 -- where a message came from, whether it goes to more than the device, and the room for the answer
 abbrev pub context_of : ℕ → Message → Context

@@ -2,6 +2,7 @@
 use Rattle.std.specs.Prelude.{◌≡◌, ℕ, ◌≤◌, List, ◌++◌, take, Option, Some, None, Result, Ok, Err, ⊤}
 use Rattle.gw_script.specs.Event.{Event, Datagram, Tick}
 use Rattle.gw_relay.specs.Sends.{Sending}
+use Rattle.gw_core.specs.declared.wire.TheConstants.{RECEIVE_ROOM}
 use Rattle.gw_core.specs.declared.wire.Got.{Got}
 use Rattle.gw_core.specs.declared.wire.Got.TheVariants as got
 use Rattle.gw_core.specs.declared.wire.WireFault.{WireFault}
@@ -53,6 +54,6 @@ failures_of (Err fault) = 1
 
 -- what is handed in fits the buffer, and its port is one of so many
 abbrev pub IsHandedIn : ℕ → Got → Type 0
-IsHandedIn ports (got.Datagram port from len) = (1 ≤ port) × (port ≤ ports) × (len ≤ 1508)
+IsHandedIn ports (got.Datagram port from len) = (1 ≤ port) × (port ≤ ports) × (len ≤ RECEIVE_ROOM)
 IsHandedIn ports got.Tick = ⊤
 IsHandedIn ports got.Idle = ⊤

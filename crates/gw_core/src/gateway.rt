@@ -3,6 +3,7 @@
 ghost use Rattle.std.specs.Prelude.{◌≡◌, ◌+◌, ◌≤◌, ◌<◌, ◌^◌, ◌↔◌, ℕ, [], false, true, length, map, None};
 ghost use Rattle.std.specs.Prelude.{IsOk, IfOk, OnOk, OnErr, IsErrOf, List};
 ghost use Rattle.std.specs.Option.{option_map};
+ghost use Rattle.gw_addr.specs.declared.TheConstants.{MAX_PORTS};
 ghost use Rattle.gw_objects.specs.Write.{Write};
 ghost use Rattle.gw_policy_text.specs.Configuration.{Configuration};
 ghost use Rattle.gw_device.specs.Response.{HasPlace};
@@ -154,7 +155,7 @@ impl Gateway {
     pub fn ports(&self) -> u8
         ensures count { result ≡ length self.now.relay.links }
         ensures least { 1 ≤ result }
-        ensures most { result ≤ 8 }
+        ensures most { result ≤ MAX_PORTS }
     {
         self.ports
     }

@@ -7,15 +7,15 @@ ghost use Rattle.std.specs.Int.{w16, to_be_bytes};
 ghost use Rattle.std.specs.Option.{option_map};
 ghost use Rattle.gw_device.specs.Response.{answer_view};
 ghost use Rattle.gw_npdu.specs.Npdu.{destination_view, payload_view, address_view, encoding, max_header_len, view as npdu_view};
+ghost use Rattle.gw_npdu.specs.Numbers.{max_len};
 ghost use Rattle.gw_core.specs.Effects.{answer_sends};
 ghost use Rattle.gw_bvll.specs.Bvll.{original_unicast};
 ghost use Rattle.gw_bvll.specs.Bvll.{encoding as bvll_encoding};
 ghost use Rattle.gw_relay.specs.Steps.{broadcast, npdu_octets, unicast};
-ghost use Rattle.gw_core.specs.Reply.{apdu_for, apdu_of, context_of, goes_to_all, is_broadcast, is_device, is_local_broadcast, most_octets, reply_npdu, reply_sends, max_reply_apdu, reply_destination};
+ghost use Rattle.gw_core.specs.Reply.{apdu_for, apdu_of, context_of, goes_to_all, is_broadcast, is_device, is_local_broadcast, reply_npdu, reply_sends, max_reply_apdu, reply_destination};
 ghost use Rattle.gw_relay.specs.Message.{message_view};
 
 use gw_addr::NetNum;
-use gw_bvll::Bvll;
 use gw_device::{Answer, Context};
 use gw_npdu::{AddressRef, Destination, Npdu, Payload};
 use gw_relay::{Batch, Message, Sends};
@@ -27,6 +27,8 @@ const DEVICE_STATION: u8 = 1;
 const WHOLE_COUNT: u8 = 255;
 /// How many octets of a frame stand before its NPDU (Annex J.2.11, J.2.12).
 const FRAME_HEADER: usize = 4;
+/// An Original-Unicast-NPDU without an NPDU (Annex J.2.11).
+const EMPTY_UNICAST: [u8; FRAME_HEADER] = [0x81, 0x0A, 0x00, 0x04];
 /// How many octets most replies have before the APDU, so that a buffer seldom grows.
 const REPLY_HEADERS: usize = 32;
 
@@ -114,7 +116,7 @@ fn reply_npdu<'a>(network: NetNum, request: &Npdu<'a>, apdu: &'a [u8], broadcast
 /// How many octets the APDU may have that goes back to the station that asked.
 fn max_reply_apdu(network: NetNum, request: &Npdu<'_>) -> usize
     ensures room { result ≡ max_reply_apdu network (npdu_view request.now) }
-    ensures least { most_octets ≤ result + max_header_len }
+    ensures least { max_len ≤ result + max_header_len }
 {
     gw_npdu::MAX_LEN - reply_npdu(network, request, &[], false).header_len()
 }
@@ -122,7 +124,7 @@ fn max_reply_apdu(network: NetNum, request: &Npdu<'_>) -> usize
 /// What the device is told of a message.
 pub fn context_of(network: NetNum, message: &Message<'_>) -> Context
     ensures context { result ≡ context_of network (message_view message.now) }
-    ensures room { most_octets ≤ result.room + max_header_len }
+    ensures room { max_len ≤ result.room + max_header_len }
 {
     Context {
         port: message.here.port.number,
@@ -137,10 +139,7 @@ pub fn context_of(network: NetNum, message: &Message<'_>) -> Context
 fn put_frame(out: &mut Vec<u8>) -> Result<(), AllocError>
     ensures { OnOk result (out.new.items ≡ out.old.items ++ bvll_encoding (original_unicast [])) }
 {
-    match gw_bvll::encode(&Bvll::OriginalUnicast(&[]), out) {
-        Ok(()) => Ok(()),
-        Err(_) => Err(AllocError),
-    }
+    out.extend_from_slice(&EMPTY_UNICAST)
 }
 
 /// Appends the NPDU that carries an answer back. It answers whether that was done: not where it
@@ -156,10 +155,10 @@ fn put_reply(
         OnOk result (result ≡ Ok true → out.new.items ≡ out.old.items ++ encoding npdu) }
     ensures within { let request = npdu_view message.now.npdu in
         let npdu = reply_npdu network request (answer_view answer.now) in
-        result ≡ Ok true → length (encoding npdu) ≤ 1497 }
+        result ≡ Ok true → length (encoding npdu) ≤ max_len }
     ensures no_room { let request = npdu_view message.now.npdu in
         let npdu = reply_npdu network request (answer_view answer.now) in
-        result ≡ Ok false → 1497 < length (encoding npdu) }
+        result ≡ Ok false → max_len < length (encoding npdu) }
 {
     let npdu = reply_npdu(network, &message.npdu, &answer.apdu, answer.broadcast);
     match gw_npdu::encode(&npdu, out) {

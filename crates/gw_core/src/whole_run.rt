@@ -12,6 +12,7 @@ use gw_script::Event;
 use std::alloc::Global;
 
 /// Takes one event of either kind.
+#[inline(always)]
 pub(crate) fn take_event(
     alloc: Global,
     gateway: &mut Gateway,

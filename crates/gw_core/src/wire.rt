@@ -8,7 +8,7 @@ use thiserror::Error;
 
 /// How many octets a datagram is received to: one more than the longest that is heard, so that a
 /// longer one is told from it.
-pub const RECEIVE_ROOM: usize = 1508;
+pub const RECEIVE_ROOM: usize = gw_bvll::MAX_LEN + 1;
 
 /// What a wire hands in.
 #[derive(Clone, Copy, Debug, PartialEq, Eq)]

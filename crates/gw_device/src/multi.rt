@@ -1,29 +1,29 @@
 //! ReadPropertyMultiple (clause 15.7): the answer is written while it is judged, each error in its
 //! place.
 
-ghost use Rattle.std.specs.Prelude.{◌≡◌, ◌++◌, List, ℕ, map, None, IfOk, OnOk};
+ghost use Rattle.std.specs.Prelude.{◌≡◌, ◌++◌, List, map, None, IfOk, OnOk};
 ghost use Rattle.gw_rules.specs.declared.rule.Rule.{Rule};
 ghost use Rattle.gw_rules.specs.Authorizer.{denied_of};
 ghost use Rattle.gw_objects.specs.Objects.{type_at};
 ghost use Rattle.gw_objects.specs.Table.{read_of};
-ghost use Rattle.gw_services.specs.Multi.{head_part, list_ends, multi_view, reference_view, tail_part};
+ghost use Rattle.gw_services.specs.Multi.{multi_view, reference_view};
 ghost use Rattle.gw_tags.specs.Object.{object_view};
 ghost use Rattle.gw_device.specs.Multi.{item, members_part, multi_ask, multi_part, multi_response, named_part, properties_part, property_part, reference_part, set_part};
-ghost use Rattle.gw_device.specs.Read.{or_error, read_value};
+ghost use Rattle.gw_device.specs.Read.{or_error};
 ghost use Rattle.gw_device.specs.Response.{IsReply};
 ghost use Rattle.gw_device.specs.Services.{set_of};
 
 use crate::ask::{named_object, property_ask};
 use crate::error::{READ_DENIED, UNKNOWN_OBJECT, read_error};
 use crate::services::set_of;
-use crate::short::{fit, most_octets};
+use crate::short::{first_room, fit};
 use crate::{Answer, Context, Reply};
 use gw_apdu::{ConfirmedRequest, write_complex};
 use gw_objects::{ObjectDb, Property, PropertySet, properties};
 use gw_rules::{Ask, Authorizer, Judge, Operation, Service};
 use gw_services::{
-    MultiReq, READ_PROPERTY_MULTIPLE, Reference, write_error_item, write_object_head,
-    write_object_tail, write_value_item_head, write_value_item_tail,
+    MultiReq, READ_PROPERTY_MULTIPLE, Reference, list_ends, put_list_head, put_list_tail,
+    write_error_item, write_value_item_head, write_value_item_tail,
 };
 use gw_tags::ObjectId;
 use std::alloc::{AllocError, Global};
@@ -223,26 +223,6 @@ fn put_named<J: Judge>(
     }
 }
 
-/// Appends the head of an object's list, where it begins.
-fn put_head(out: &mut Vec<u8>, begins: bool, object: ObjectId) -> Result<(), AllocError>
-    ensures { OnOk result (out.new.items ≡ out.old.items ++ head_part begins (object_view object)) }
-{
-    if begins {
-        write_object_head(out, object)?;
-    }
-    Ok(())
-}
-
-/// Appends the tail of an object's list, where it ends.
-fn put_tail(out: &mut Vec<u8>, ends: bool) -> Result<(), AllocError>
-    ensures { OnOk result (out.new.items ≡ out.old.items ++ tail_part ends) }
-{
-    if ends {
-        write_object_tail(out)?;
-    }
-    Ok(())
-}
-
 /// Appends what a reference asks for; the list of its object ends with it, or goes on.
 fn put_reference<J: Judge>(
     objects: &ObjectDb,
@@ -264,7 +244,7 @@ fn put_reference<J: Judge>(
     ensures judge { authorizer.new.judge ≡ authorizer.old.judge }
 {
     let object = named_object(objects.configured(), reference.object);
-    put_head(out, reference.begins, object)?;
+    put_list_head(out, reference.begins, object)?;
     put_named(
         objects,
         authorizer,
@@ -274,17 +254,7 @@ fn put_reference<J: Judge>(
         reference.index,
         out,
     )?;
-    put_tail(out, ends)
-}
-
-/// Whether an object's list ends before these.
-fn list_ends(references: &[Reference]) -> bool
-    ensures { result ≡ list_ends (map reference_view references.now) }
-{
-    match references {
-        [] => true,
-        [first, ..] => first.begins,
-    }
+    put_list_tail(out, ends)
 }
 
 /// Appends what references ask for, in their order.
@@ -326,7 +296,7 @@ pub(crate) fn read_multiple<J: Judge>(
     ensures place { IfOk result (λ reply. reply.change ≡ None) }
 {
     let mut authorizer = Authorizer::new(alloc, judge);
-    let mut apdu = Vec::with_capacity(alloc, most_octets(header, context))?;
+    let mut apdu = Vec::with_capacity(alloc, first_room(header, context))?;
     write_complex(&mut apdu, header.invoke, READ_PROPERTY_MULTIPLE)?;
     put_references(
         objects,

@@ -11,7 +11,7 @@ ghost use Rattle.gw_device.specs.Response.{IsReply};
 
 use crate::ask::{named_object, property_ask};
 use crate::error::{READ_DENIED, read_error};
-use crate::short::{error, fit, most_octets};
+use crate::short::{error, first_room, fit};
 use crate::{Answer, Context, Reply};
 use gw_apdu::{ConfirmedRequest, write_complex, write_error};
 use gw_objects::ObjectDb;
@@ -56,7 +56,7 @@ fn value_apdu(
         ≡ read_answer header.now context.now read
         (or_error (read_of objects.now read.object read.property read.index))) }
 {
-    let mut apdu = Vec::with_capacity(alloc, most_octets(header, context))?;
+    let mut apdu = Vec::with_capacity(alloc, first_room(header, context))?;
     write_complex(&mut apdu, header.invoke, READ_PROPERTY)?;
     write_read_answer_head(&mut apdu, request)?;
     match objects.read(request.object, request.property, request.index, &mut apdu) {

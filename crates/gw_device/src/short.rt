@@ -13,6 +13,8 @@ use std::alloc::{AllocError, Global};
 
 /// How many octets a short answer has at most.
 const MOST_OCTETS: usize = 9;
+/// How many octets an answer with values has room for at first, so that the allocator serves it quickly; it grows where it has more.
+const FIRST_ROOM: usize = 480;
 
 /// An Error.
 pub(crate) fn error(
@@ -55,14 +57,9 @@ pub(crate) fn simple_ack(alloc: Global, invoke: u8, service: u8) -> Result<Vec<u
     Ok(apdu)
 }
 
-/// How many octets a ComplexACK may have.
-pub(crate) fn most_octets(request: &ConfirmedRequest, context: &Context) -> usize {
-    let most = request.max_apdu_len();
-    if most <= context.room {
-        most
-    } else {
-        context.room
-    }
+/// How many octets a ComplexACK has room for at first: as many as most answers have.
+pub(crate) fn first_room(request: &ConfirmedRequest, context: &Context) -> usize {
+    request.max_apdu_len().min(context.room).min(FIRST_ROOM)
 }
 
 /// Whether a ComplexACK of that length can be sent.

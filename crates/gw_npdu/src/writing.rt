@@ -1,9 +1,9 @@
 //! Writing a message of the network layer: the one canonical encoding, by clause 6.2.
 
 ghost use Rattle.std.specs.Prelude.{◌≡◌, ◌+◌, ◌<◌, ◌≤◌, ◌^◌, ◌↔◌, ◌++◌, length, option_map};
-ghost use Rattle.std.specs.Prelude.{vec_len, IsOk, OnOk, OnErr, IsErrOf};
+ghost use Rattle.std.specs.Prelude.{vec_len, OnOk, OnErr, IsErrOf};
 ghost use Rattle.std.specs.Vec.{vec_capacity};
-ghost use Rattle.gw_addr.specs.Reading.{Keeps};
+ghost use Rattle.gw_addr.specs.Appending.{IsAppended};
 ghost use Rattle.gw_npdu.specs.Numbers.{max_len};
 ghost use Rattle.gw_npdu.specs.Npdu.{Address, IsValid, max_header_len, control, header, encoding};
 ghost use Rattle.gw_npdu.specs.Npdu.{address_part, destination_part, source_part, hops_part};
@@ -107,12 +107,8 @@ fn payload_len(payload: &Payload<'_>) -> usize
 /// A network and the address of a station there.
 fn put_address(out: &mut Vec<u8>, network: u16, mac: &[u8]) -> Result<(), AllocError>
     requires { length mac.now < 2 ^ 8 }
-    ensures ok { let a : Address = record { network = network; mac = mac.now } in
-        OnOk result (out.new.items ≡ out.old.items ++ address_part a) }
-    ensures front { Keeps out.old.items out.new.items }
-    ensures room { let a : Address = record { network = network; mac = mac.now } in
-        vec_len out.old + length (address_part a) ≤ vec_capacity out.old → IsOk result }
-    ensures capacity { vec_capacity out.old ≤ vec_capacity out.new }
+    ensures { let a : Address = record { network = network; mac = mac.now } in
+        IsAppended (address_part a) out.old out.new result }
 {
     put_number(out, network)?;
     put_octet(out, mac.len() as u8)?;
@@ -124,12 +120,8 @@ fn put_destination(
     out: &mut Vec<u8>,
     destination: &Option<Destination<'_>>,
 ) -> Result<(), AllocError>
-    ensures ok { let part = destination_part (option_map destination_view destination.now) in
-        OnOk result (out.new.items ≡ out.old.items ++ part) }
-    ensures front { Keeps out.old.items out.new.items }
-    ensures room { let part = destination_part (option_map destination_view destination.now) in
-        vec_len out.old + length part ≤ vec_capacity out.old → IsOk result }
-    ensures capacity { vec_capacity out.old ≤ vec_capacity out.new }
+    ensures { let part = destination_part (option_map destination_view destination.now) in
+        IsAppended part out.old out.new result }
 {
     match destination {
         None => Ok(()),
@@ -139,12 +131,8 @@ fn put_destination(
 
 /// SNET, SLEN and SADR.
 fn put_source(out: &mut Vec<u8>, source: &Option<AddressRef<'_>>) -> Result<(), AllocError>
-    ensures ok { let part = source_part (option_map address_view source.now) in
-        OnOk result (out.new.items ≡ out.old.items ++ part) }
-    ensures front { Keeps out.old.items out.new.items }
-    ensures room { let part = source_part (option_map address_view source.now) in
-        vec_len out.old + length part ≤ vec_capacity out.old → IsOk result }
-    ensures capacity { vec_capacity out.old ≤ vec_capacity out.new }
+    ensures { let part = source_part (option_map address_view source.now) in
+        IsAppended part out.old out.new result }
 {
     match source {
         None => Ok(()),
@@ -153,12 +141,8 @@ fn put_source(out: &mut Vec<u8>, source: &Option<AddressRef<'_>>) -> Result<(), 
 }
 
 fn put_hops(out: &mut Vec<u8>, destination: &Option<Destination<'_>>) -> Result<(), AllocError>
-    ensures ok { let part = hops_part (option_map destination_view destination.now) in
-        OnOk result (out.new.items ≡ out.old.items ++ part) }
-    ensures front { Keeps out.old.items out.new.items }
-    ensures room { let part = hops_part (option_map destination_view destination.now) in
-        vec_len out.old + length part ≤ vec_capacity out.old → IsOk result }
-    ensures capacity { vec_capacity out.old ≤ vec_capacity out.new }
+    ensures { let part = hops_part (option_map destination_view destination.now) in
+        IsAppended part out.old out.new result }
 {
     if let Some(destination) = destination {
         put_octet(out, destination.hops)?;
@@ -168,12 +152,8 @@ fn put_hops(out: &mut Vec<u8>, destination: &Option<Destination<'_>>) -> Result<
 
 /// The type and the vendor of a network layer message.
 fn put_payload_part(out: &mut Vec<u8>, payload: &Payload<'_>) -> Result<(), AllocError>
-    ensures ok { let part = payload_part (payload_view payload.now) in
-        OnOk result (out.new.items ≡ out.old.items ++ part) }
-    ensures front { Keeps out.old.items out.new.items }
-    ensures room { let part = payload_part (payload_view payload.now) in
-        vec_len out.old + length part ≤ vec_capacity out.old → IsOk result }
-    ensures capacity { vec_capacity out.old ≤ vec_capacity out.new }
+    ensures { let part = payload_part (payload_view payload.now) in
+        IsAppended part out.old out.new result }
 {
     let Payload::Message(message) = payload else {
         return Ok(());
@@ -187,14 +167,9 @@ fn put_payload_part(out: &mut Vec<u8>, payload: &Payload<'_>) -> Result<(), Allo
 
 /// DNET, DLEN and DADR, then SNET, SLEN and SADR.
 fn put_addresses(out: &mut Vec<u8>, npdu: &Npdu<'_>) -> Result<(), AllocError>
-    ensures ok { let f = view npdu.now in
+    ensures { let f = view npdu.now in
         let part = destination_part f.destination ++ source_part f.source in
-        OnOk result (out.new.items ≡ out.old.items ++ part) }
-    ensures front { Keeps out.old.items out.new.items }
-    ensures room { let f = view npdu.now in
-        let part = destination_part f.destination ++ source_part f.source in
-        vec_len out.old + length part ≤ vec_capacity out.old → IsOk result }
-    ensures capacity { vec_capacity out.old ≤ vec_capacity out.new }
+        IsAppended part out.old out.new result }
 {
     put_destination(out, &npdu.destination)?;
     put_source(out, &npdu.source)
@@ -202,11 +177,7 @@ fn put_addresses(out: &mut Vec<u8>, npdu: &Npdu<'_>) -> Result<(), AllocError>
 
 /// Everything in front of the payload's own octets.
 pub(crate) fn put_header(out: &mut Vec<u8>, npdu: &Npdu<'_>) -> Result<(), AllocError>
-    ensures ok { OnOk result (out.new.items ≡ out.old.items ++ header (view npdu.now)) }
-    ensures front { Keeps out.old.items out.new.items }
-    ensures room { let part = header (view npdu.now) in
-        vec_len out.old + length part ≤ vec_capacity out.old → IsOk result }
-    ensures capacity { vec_capacity out.old ≤ vec_capacity out.new }
+    ensures { IsAppended (header (view npdu.now)) out.old out.new result }
 {
     put_octet(out, PROTOCOL_VERSION)?;
     put_octet(out, npdu.control().bits())?;
@@ -216,11 +187,7 @@ pub(crate) fn put_header(out: &mut Vec<u8>, npdu: &Npdu<'_>) -> Result<(), Alloc
 }
 
 fn put(out: &mut Vec<u8>, npdu: &Npdu<'_>) -> Result<(), AllocError>
-    ensures ok { OnOk result (out.new.items ≡ out.old.items ++ encoding (view npdu.now)) }
-    ensures front { Keeps out.old.items out.new.items }
-    ensures room { let part = encoding (view npdu.now) in
-        vec_len out.old + length part ≤ vec_capacity out.old → IsOk result }
-    ensures capacity { vec_capacity out.old ≤ vec_capacity out.new }
+    ensures { IsAppended (encoding (view npdu.now)) out.old out.new result }
 {
     put_header(out, npdu)?;
     put_slice(out, npdu.payload.octets())

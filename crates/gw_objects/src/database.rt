@@ -226,10 +226,8 @@ fn read(
         → result ≢ Err ReadFault.Memory }
     ensures capacity { vec_capacity out.old ≤ vec_capacity out.new }
 {
-    match contents(configured, states, id, property) {
-        Ok(contents) => append(out, &contents, index),
-        Err(fault) => Err(fault),
-    }
+    let contents = contents(configured, states, id, property)?;
+    append(out, &contents, index)
 }
 
 /// Appends what a property holds, or one element of it. After an `Err` the buffer holds what it

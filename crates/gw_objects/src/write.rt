@@ -137,14 +137,9 @@ fn object_act(
         (act_of object.now property index priority value.now) }
     ensures can { IfOk result (λ act. CanAct (act_view act)) }
 {
-    let property = match property_for(object.details.object_type(), property, index, priority) {
-        Ok(property) => property,
-        Err(fault) => return Err(fault),
-    };
-    match whole(value) {
-        Ok(value) => act_for(alloc, &object.details, property, priority, &value),
-        Err(fault) => Err(fault),
-    }
+    let property = property_for(object.details.object_type(), property, index, priority)?;
+    let value = whole(value)?;
+    act_for(alloc, &object.details, property, priority, &value)
 }
 
 /// The property, where it can be written.
@@ -218,10 +213,7 @@ fn act_for(
 {
     match property {
         Property::PresentValue => present_act(alloc, details, priority, value),
-        Property::RelinquishDefault => match value_for(alloc, details, value) {
-            Ok(value) => Ok(Act::SetDefault(value)),
-            Err(fault) => Err(fault),
-        },
+        Property::RelinquishDefault => Ok(Act::SetDefault(value_for(alloc, details, value)?)),
         _ => Err(WriteFault::NotWritable),
     }
 }
@@ -242,10 +234,7 @@ fn present_act(
     if let AppValue::Null = value {
         return Ok(Act::Relinquish(priority));
     }
-    match value_for(alloc, details, value) {
-        Ok(value) => Ok(Act::Command(priority, value)),
-        Err(fault) => Err(fault),
-    }
+    Ok(Act::Command(priority, value_for(alloc, details, value)?))
 }
 
 /// The value that an object takes, by its type.

@@ -3,6 +3,7 @@ use Rattle.std.specs.Prelude.{ℕ, ℤ, List, [], ◌∷◌, length, Bool, codes
 use Rattle.std.specs.Option.{ok_or}
 use Rattle.toml.specs.Data.{Data, Members, get_member}
 use Rattle.gw_addr.specs.Reading.{◌>>=◌}
+use Rattle.gw_addr.specs.declared.TheConstants.{MAX_PORTS}
 use Rattle.gw_addr.specs.declared.bip.BipAddr.{BipAddr}
 use Rattle.gw_addr.specs.declared.mask.Mask.{Mask}
 use Rattle.gw_addr.specs.declared.entry.BdtEntry.{BdtEntry}
@@ -251,7 +252,7 @@ boolean_at key table = at key table >>= boolean_in
 abbrev pub fields_of : Members → Read (Fields (List RuleRange))
 fields_of table = do
   operation ← ranges_at Operation (codes "operation") table
-  port ← ranges_at (Number 1 8) (codes "port") table
+  port ← ranges_at (Number 1 MAX_PORTS) (codes "port") table
   source_network ← ranges_at (Number 1 65534) (codes "source_network") table
   source_key ← ranges_at Address (codes "source") table
   destination_network ← ranges_at (Number 1 65534) (codes "destination") table
@@ -308,7 +309,7 @@ abbrev pub device_at : List ℕ → Members → Read Device
 device_at key table = at key table >>= table_in >>= device_of
 
 abbrev pub ports_at : List ℕ → Members → Read (List Port)
-ports_at key table = list_at 1 8 key table >>= each port_in
+ports_at key table = list_at 1 MAX_PORTS key table >>= each port_in
 
 abbrev pub routes_at : ℕ → List ℕ → Members → Read (List Route)
 routes_at ports key table = list_at 0 512 key table >>= each (route_in ports)

@@ -1,5 +1,6 @@
 -- The tables of a configuration, key by key, with what each key's value may be.
 use Rattle.std.specs.Prelude.{ℕ, ◌++◌, List, [], ◌∷◌, true, false, codes}
+use Rattle.gw_addr.specs.declared.TheConstants.{MAX_PORTS}
 use Rattle.gw_policy_text.specs.declared.object.ObjectKind.{ObjectKind}
 use Rattle.gw_policy_text.specs.declared.object.ObjectKind.TheVariants.{BinaryValue, MultiStateValue, CharacterStringValue, IntegerValue, PositiveIntegerValue}
 use Rattle.gw_policy_text.specs.declared.shape.Scalar.TheVariants.{Number, Signed, ObjectType, Text, RuleName, Operation, Boolean, Address, Mask, Table}
@@ -39,7 +40,7 @@ abbrev pub top_fields : List Field
 top_fields =
     needs (codes "format") (number 1 2)
     ∷ needs (codes "device") (One Table)
-    ∷ needs (codes "port") (tables 1 8)
+    ∷ needs (codes "port") (tables 1 MAX_PORTS)
     ∷ may (codes "route") (tables 0 512)
     ∷ may (codes "object") (tables 0 256)
     ∷ may (codes "rule") (tables 0 512)
@@ -109,7 +110,7 @@ rule_fields =
     needs (codes "name") (One RuleName)
     ∷ needs (codes "allow") (One Boolean)
     ∷ may (codes "operation") (Ranges Operation)
-    ∷ may (codes "port") (Ranges (Number 1 8))
+    ∷ may (codes "port") (Ranges (Number 1 MAX_PORTS))
     ∷ may (codes "source_network") (Ranges (Number 1 65534))
     ∷ may (codes "source") (Ranges Address)
     ∷ may (codes "destination") (Ranges (Number 1 65534))

@@ -1,6 +1,7 @@
 //! What a gateway is configured with.
 ghost use Rattle.std.specs.Prelude.{◌≡◌, ◌≤◌, length, IsFalse, IsTrue};
 ghost use Rattle.std.specs.List.{list_all};
+ghost use Rattle.gw_addr.specs.declared.TheConstants.{MAX_PORTS};
 ghost use Rattle.gw_policy_text.specs.Configuration.{is_by};
 ghost use Rattle.gw_policy_text.specs.Duplicates.{has_duplicates, unique};
 ghost use Rattle.gw_policy_text.specs.Reading.{Gives};
@@ -78,7 +79,7 @@ impl Config {
     pub fn ports(&self) -> &[Port]
         ensures ports { result.now ≡ self.now.ports }
         ensures some { 1 ≤ length self.now.ports }
-        ensures most { length self.now.ports ≤ 8 }
+        ensures most { length self.now.ports ≤ MAX_PORTS }
         // No network, address, identifier or name stands twice in the whole configuration.
         ensures once { IsFalse (has_duplicates self.now) }
     {

@@ -6,11 +6,12 @@ ghost use Rattle.gw_policy_text.specs.declared.format.Format.TheVariants.{One, T
 
 use crate::instance::MAX_INSTANCE;
 use crate::object::MAX_STATES;
-use crate::parts::{MAX_OBJECTS, MAX_PORTS, MAX_ROUTES};
+use crate::parts::{MAX_OBJECTS, MAX_ROUTES};
 use crate::port::MAX_PEERS;
 use crate::read::MAX_OCTETS;
 use crate::text::MAX_TEXT;
 use crate::value::MAX_RULE_NAME;
+use gw_addr::MAX_PORTS;
 
 /// The limits are 1,048,576 octets of a configuration, 8 ports, 64 peers of each, 512 routes, 256
 /// objects, 64 states of each, 255 octets of a text, 32 of a rule's name, and the last instance,

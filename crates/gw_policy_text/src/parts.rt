@@ -8,14 +8,12 @@ ghost use Rattle.gw_policy_text.specs.Reading.{Gives};
 use crate::format::format_at;
 use crate::reading::{at, list_at};
 use crate::{ConfigFault, Device, Format, Object, Port, Route, objects, port, route, rules, value};
-use gw_addr::Sequence;
+use gw_addr::{MAX_PORTS, Sequence};
 use gw_rules::{MAX_RULES, Rule, RuleFault, RuleList};
 use std::alloc::Global;
 use std::marker::Model;
 use toml::Table;
 
-/// How many ports a gateway has at most.
-pub const MAX_PORTS: usize = 8;
 /// How many routes it starts with at most.
 pub const MAX_ROUTES: usize = 512;
 /// How many objects its device has at most, beside the Device object.
@@ -49,13 +47,14 @@ impl Drop for Parts {
 impl Model for Parts {
     ghost use Rattle.std.specs.Prelude.{◌≤◌, length, IsTrue};
     ghost use Rattle.std.specs.List.{list_all};
+    ghost use Rattle.gw_addr.specs.declared.TheConstants.{MAX_PORTS};
     ghost use Rattle.gw_policy_text.specs.Configuration.{Configuration, is_by};
 
     ghost Value = { Configuration };
 
     ghost view = { λ c. record { format = c.format; device = c.device; ports = c.ports; routes = c.routes; objects = c.objects; rules = c.rules } };
 
-    ghost invariant = { λ c. (1 ≤ length c.ports) × ((length c.ports ≤ 8) × ((length c.routes ≤ 512)
+    ghost invariant = { λ c. (1 ≤ length c.ports) × ((length c.ports ≤ MAX_PORTS) × ((length c.routes ≤ 512)
         × ((length c.objects ≤ 256) × IsTrue (list_all (is_by (length c.ports)) c.routes)))) };
 }
 
@@ -75,7 +74,7 @@ impl Parts {
     pub(crate) fn ports(&self) -> &[Port]
         ensures ports { result.now ≡ self.now.ports }
         ensures some { 1 ≤ length self.now.ports }
-        ensures most { length self.now.ports ≤ 8 }
+        ensures most { length self.now.ports ≤ MAX_PORTS }
     {
         self.ports.as_slice()
     }
@@ -151,7 +150,7 @@ fn device_at(alloc: Global, top: &Table) -> Result<Device, ConfigFault>
 fn ports_at(alloc: Global, top: &Table) -> Result<Sequence<Port>, ConfigFault>
     ensures ports { Gives (λ ps. ps) result (ports_at (codes "port") (table_view top.now)) }
     ensures some { IfOk result (λ ps. 1 ≤ length ps) }
-    ensures most { IfOk result (λ ps. length ps ≤ 8) }
+    ensures most { IfOk result (λ ps. length ps ≤ MAX_PORTS) }
 {
     port::ports(alloc, list_at(1, MAX_PORTS, "port", top)?)
 }

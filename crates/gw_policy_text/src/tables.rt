@@ -5,9 +5,10 @@ ghost use Rattle.gw_policy_text.specs.declared.object.ObjectKind.{ObjectKind};
 
 use crate::field::Field;
 use crate::object::MAX_STATES;
-use crate::parts::{MAX_OBJECTS, MAX_PORTS, MAX_ROUTES};
+use crate::parts::{MAX_OBJECTS, MAX_ROUTES};
 use crate::port::MAX_PEERS;
 use crate::shape::{Scalar, Shape};
+use gw_addr::MAX_PORTS;
 use gw_rules::MAX_RULES;
 
 /// A network.
@@ -16,7 +17,10 @@ pub(crate) const NETWORK: Scalar = Scalar::Number {
     high: 65534,
 };
 /// The number of a port.
-pub(crate) const PORT: Scalar = Scalar::Number { low: 1, high: 8 };
+pub(crate) const PORT: Scalar = Scalar::Number {
+    low: 1,
+    high: MAX_PORTS as u64,
+};
 /// A service, by the number that rules have for it.
 pub(crate) const SERVICE: Scalar = Scalar::Number { low: 0, high: 1031 };
 /// The type of an object, of ten bits.

@@ -15,6 +15,7 @@ pub struct Ports<S> {
 
 impl<S> Model for Ports<S> {
     ghost use Rattle.std.specs.Prelude.{◌≤◌, ◌^◌, length};
+    ghost use Rattle.gw_addr.specs.declared.TheConstants.{MAX_PORTS};
     ghost use Rattle.gw_ports.specs.Ports.{Ports, last_number};
 
     ghost Value = { Ports S };
@@ -26,5 +27,5 @@ impl<S> Model for Ports<S> {
       failures = p.failures;
     } };
 
-    ghost invariant = { λ p. (length p.pairs.items ≤ 8) × (p.ticks ≤ 2 ^ 63) × (last_number p.last ≤ length p.pairs.items) };
+    ghost invariant = { λ p. (length p.pairs.items ≤ MAX_PORTS) × (p.ticks ≤ 2 ^ 63) × (last_number p.last ≤ length p.pairs.items) };
 }

@@ -1,6 +1,7 @@
 //! Whose turn it is among the sockets of the ports.
 
 ghost use Rattle.std.specs.Prelude.{◌≡◌, ◌∷◌, [], ◌+◌, ◌-◌, ◌≤◌, ◌<◌, ◌^◌, length, min, slice_index_or, IfOk, IfSome, OnOk, None};
+ghost use Rattle.gw_addr.specs.declared.TheConstants.{MAX_PORTS};
 ghost use Rattle.gw_ports.specs.declared.sock_pair.SockPair.{SockPair};
 ghost use Rattle.gw_ports.specs.Socket.{FitsBuffer};
 ghost use Rattle.gw_core.specs.Wire.{IsHandedIn, Tells, failures_of, receive_answer, receive_call, send_call};
@@ -22,7 +23,7 @@ impl<S: Sock> Ports<S> {
     /// The sockets of so many ports, from 1 to 8, in their order. Each port's own socket is asked
     /// first, from port 1 on, and no tick is due.
     pub fn new(pairs: Vec<SockPair<S>>) -> Self
-        requires { length pairs.items ≤ 8 }
+        requires { length pairs.items ≤ MAX_PORTS }
         ensures { result ≡ record { pairs = pairs.items; ticks = 0; last = None; failures = 0 } }
     {
         Ports {
@@ -102,7 +103,7 @@ impl<S: Sock> Ports<S> {
             (last_number self.old.last) self.new.pairs result buf.new }
         ensures rest { self.new ≡ asked self.new.pairs self.old }
         ensures fits { IfSome result (λ answered. FitsBuffer (some_answer answered.1)) }
-        ensures few { IfSome result (λ answered. answered.0 < 8) }
+        ensures few { IfSome result (λ answered. answered.0 < MAX_PORTS) }
     {
         let last = self.last_place();
         let count = self.count();
@@ -142,7 +143,7 @@ impl<S: Sock> Ports<S> {
     /// How many ports there are.
     pub fn count(&self) -> usize
         ensures count { result ≡ length self.now.pairs }
-        ensures most { result ≤ 8 }
+        ensures most { result ≤ MAX_PORTS }
     {
         self.pairs.len()
     }
@@ -154,7 +155,7 @@ impl<S: Sock> Ports<S> {
         answer: Result<(usize, BipAddr), SockFault>,
     ) -> Result<Got, WireFault>
         requires place { place < length self.old.pairs }
-        requires few { place < 8 }
+        requires few { place < MAX_PORTS }
         requires failures { self.old.failures < 2 ^ 128 - 1 }
         ensures given { result ≡ got_of (place + 1) answer }
         ensures last { self.new ≡ handed_in place answer self.old }

@@ -14,7 +14,8 @@ use Rattle.gw_relay.specs.Asks.{link_ask, link_asks, management_of}
 use Rattle.gw_relay.specs.Cast.{cast_ask, cast_asks, cast_sends, goes_on, is_broadcast, accepts, is_unregistered, passed_on, targets}
 use Rattle.gw_relay.specs.Link.{answer_to, change_of, is_granted, link_answer, link_change, link_grants, refused, told}
 use Rattle.gw_relay.specs.Message.{Message}
-use Rattle.gw_relay.specs.Sends.{max_message, sendings, sent}
+use Rattle.gw_bvll.specs.declared.writing.TheConstants.{MAX_LEN}
+use Rattle.gw_relay.specs.Sends.{sendings, sent}
 use Rattle.gw_relay.specs.internal.Serving.{judged, served, served_change}
 use Rattle.gw_relay.specs.declared.port.PortState.{PortState}
 use Rattle.gw_relay.specs.declared.change.Change.{Change}
@@ -112,7 +113,7 @@ none_if true port octets = refl
 none_if false port octets = refl
 
 pub sent_nowhere : (port : ℕ) (message : Frame) → sent port [] message ≡ []
-sent_nowhere port message = none_if (nat_le (length (encoding message)) max_message) port (encoding message)
+sent_nowhere port message = none_if (nat_le (length (encoding message)) MAX_LEN) port (encoding message)
 
 -- a broadcast that is heard, and no unregistered sender's, asks once
 pub cast_asked : (m : Message) → accepts m.here m.from m.frame ≡ true → is_unregistered m.here m.from m.frame ≡ false

@@ -3,6 +3,7 @@ use Rattle.std.specs.Prelude.{ℕ, List, [], length, map, nat_le, if◌then◌el
 use Rattle.gw_addr.specs.declared.bip.BipAddr.{BipAddr}
 use Rattle.gw_bvll.specs.Bvll.{encoding}
 use Rattle.gw_bvll.specs.Bvll.{Message as Frame}
+use Rattle.gw_bvll.specs.declared.writing.TheConstants.{MAX_LEN}
 
 -- a datagram: the number of the port that it is sent on, whom it is sent to, and what it holds
 pub record Sending : Type 0 where
@@ -28,12 +29,8 @@ sendings port targets octets = map (sending port octets) targets
 abbrev pub sendings_of : Batch → List Sending
 sendings_of batch = sendings batch.port batch.targets batch.octets
 
--- the most octets of a message (ours): an NPDU of 1497 behind the ten of a Forwarded-NPDU
-abbrev pub max_message : ℕ
-max_message = 1507
-
 -- a message to each of the addresses; one that is too long isn't sent
 abbrev pub sent : ℕ → List BipAddr → Frame → List Sending
 sent port targets message =
-    if nat_le (length (encoding message)) max_message
+    if nat_le (length (encoding message)) MAX_LEN
     then sendings port targets (encoding message) else []

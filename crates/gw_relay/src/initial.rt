@@ -2,6 +2,7 @@
 
 ghost use Rattle.std.specs.Prelude.{◌≡◌, ◌++◌, ◌∷◌, ◌≤◌, [], length, map, IsFalse, IfOk, OnOk};
 ghost use Rattle.std.specs.List.{AllByRecursion};
+ghost use Rattle.gw_addr.specs.declared.TheConstants.{MAX_PORTS};
 ghost use Rattle.gw_bdt_fdt.specs.Peers.{has_twice};
 ghost use Rattle.gw_routes.specs.Table.{table_of};
 ghost use Rattle.gw_relay.specs.Initial.{direct_of, link_of, links_from, routed_of};
@@ -18,7 +19,7 @@ pub(crate) fn links_of(
     alloc: Global,
     ports: &[ConfiguredPort],
 ) -> Result<Vec<PortState>, AllocError>
-    requires few { length ports.now ≤ 8 }
+    requires few { length ports.now ≤ MAX_PORTS }
     requires once { AllByRecursion (λ p. IsFalse (has_twice p.peers)) ports.now }
     ensures { IfOk result (λ links. links.items ≡ links_from 1 ports.now) }
 {

@@ -45,6 +45,7 @@ impl RelayResponse {
     /// This, and behind it what a later step answers. What is to be committed is this one's, and
     /// where there is none, the later one's. Where the later one sends nothing and had nothing
     /// denied it takes no memory.
+    #[inline(always)]
     pub fn append(self, later: RelayResponse) -> Result<Self, AllocError>
         ensures sends { IfOk result (λ given. given.sends ≡ self.sends ++ later.sends) }
         ensures refusals { IfOk result (λ given. given.refusals ≡ self.refusals ++ later.refusals) }

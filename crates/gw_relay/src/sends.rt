@@ -122,6 +122,7 @@ impl Sends {
     }
 
     /// The datagrams of one message. An `Err` where there is no memory for the list.
+    #[inline(always)]
     pub fn of(alloc: Global, batch: Batch) -> Result<Self, AllocError>
         ensures { IfOk result (λ sends. sends ≡ sendings_of batch) }
     {
@@ -143,6 +144,7 @@ impl Sends {
     /// Adds the datagrams of a message behind the others; one that goes to nobody is let go. An
     /// `Err` where there is no memory for the list, or where there would be more than 2^64 - 1
     /// datagrams, which no memory holds: they are as before.
+    #[inline(always)]
     pub fn push(&mut self, batch: Batch) -> Result<(), AllocError>
         ensures ok { OnOk result (self.new ≡ self.old ++ sendings_of batch) }
         ensures err { OnErr result (self.new ≡ self.old) }
@@ -159,6 +161,7 @@ impl Sends {
     /// Adds others behind them. An `Err` where there is no memory for the list, or where there would
     /// be more than 2^64 - 1 datagrams, which no memory holds: they are as before. Where there are no
     /// others, or were none before, it takes no memory.
+    #[inline(always)]
     pub fn append(&mut self, others: Sends) -> Result<(), AllocError>
         ensures ok { OnOk result (self.new ≡ self.old ++ others) }
         ensures err { OnErr result (self.new ≡ self.old) }

@@ -1,9 +1,7 @@
 //! A row of an index: a bit for each rule.
-ghost use Rattle.std.specs.Prelude.{◌≡◌, ℕ, ◌+◌, ◌≤◌, ◌<◌, ◌&&◌, Bool, List, Option, length, true, nat_lt, position, slice_index, bit_and, IfSome};
+ghost use Rattle.std.specs.Prelude.{◌≡◌, ℕ, ◌+◌, ◌≤◌, ◌<◌, ◌&&◌, Bool, List, length, true, nat_lt, position, slice_index, bit_and, IfSome};
 ghost use Rattle.std.specs.Int.{bit_at};
 ghost use Rattle.std.specs.Option.{option_map};
-ghost use Rattle.gw_rules.specs.Range.{admits, holds};
-ghost use Rattle.std.specs.List.{list_any};
 ghost use Rattle.gw_rules.specs.declared.rule.Rule.{Rule};
 ghost use Rattle.gw_rules.specs.declared.rule_list.TheConstants.{MAX_RULES};
 ghost use Rattle.gw_rule_index.specs.declared.counted.TheConstants.{MAX_ANDS};
@@ -11,7 +9,7 @@ ghost use Rattle.gw_rule_index.specs.declared.row.TheConstants.{WORD_BITS};
 ghost use Rattle.gw_rule_index.specs.internal.Row.{Marks, admits_in, bit, is_marked};
 
 use crate::Counted;
-use gw_rules::{FieldName, Range, Rule};
+use gw_rules::{FieldName, Rule, admit};
 use std::simd::u64x8;
 
 /// How many bits a word has.
@@ -131,23 +129,4 @@ fn admits_at(rules: &[Rule], place: usize, field: FieldName, value: Option<u64>)
         Some(rule) => admit(rule.ranges(field).as_slice(), value),
         None => false,
     }
-}
-
-/// Whether a rule with these ranges for a field admits what an ask has there.
-fn admit(ranges: &[Range], value: Option<u64>) -> bool
-    ensures { result ≡ admits ranges.now value }
-{
-    if ranges.is_empty() {
-        return true;
-    }
-    match value {
-        Some(value) => any_holds(ranges, value),
-        None => false,
-    }
-}
-
-fn any_holds(ranges: &[Range], value: u64) -> bool
-    ensures { result ≡ list_any (holds value) ranges.now }
-{
-    ranges.iter().any(|range| range.holds(value))
 }

@@ -33,7 +33,7 @@ pub use judge::Judge;
 pub use name::RuleName;
 pub use operation::Operation;
 pub use range::Range;
-pub use ranges::Ranges;
+pub use ranges::{Ranges, admit};
 pub use refusal::{Refusal, Refusals};
 pub use rule::{MAX_RANGES, Rule};
 pub use rule_list::{MAX_RULES, RuleList};

@@ -1,10 +1,11 @@
 //! The grammar of a line: `tick`, or a datagram as `<port> <address> <hex>`.
 
 ghost use Rattle.std.specs.Prelude.{◌≡◌, ◌≢◌, ◌+◌, ◌*◌, ◌<◌, ◌≤◌, ◌++◌, ◌∷◌, ℕ, List, length};
-ghost use Rattle.std.specs.Prelude.{Ok, None, Some, IsErr, IfSome, IsNone, unwrap_or};
+ghost use Rattle.std.specs.Prelude.{Ok, None, Some, IsErr, IfSome, IsNone};
 ghost use Rattle.std.specs.Bool.{OnTrue, OnFalse};
 ghost use Rattle.std.specs.Option.{option_map};
 ghost use Rattle.hex.specs.Hex.{decode_of, hex_digit_value};
+ghost use Rattle.gw_addr.specs.declared.TheConstants.{MAX_PORTS};
 ghost use Rattle.gw_addr.specs.declared.bip.BipAddr.{BipAddr};
 ghost use Rattle.gw_addr.specs.Address.{IsAddress, text_of};
 ghost use Rattle.gw_script.specs.Event.{Event as PlainEvent, IsOnPort, event_view, sender_of};
@@ -25,7 +26,7 @@ pub fn parse_line<'a>(
     line: &[u8],
     buffer: &'a mut [u8; MAX_DATAGRAM],
 ) -> Option<Event<'a>>
-    requires ports { ports ≤ 8 }
+    requires ports { ports ≤ MAX_PORTS }
     requires most { length line.now ≤ 4096 }
     ensures on { IfSome result (λ event. IsOnPort ports (event_view event)) }
     ensures found { IfSome result (λ event. IsLine ports line.now (event_view event)) }
@@ -44,7 +45,7 @@ pub fn parse_spelled<'a, 'b>(
     line: &'b [u8],
     buffer: &'a mut [u8; MAX_DATAGRAM],
 ) -> Option<(Event<'a>, Option<SpelledAddr<'b>>)>
-    requires ports { ports ≤ 8 }
+    requires ports { ports ≤ MAX_PORTS }
     requires most { length line.now ≤ 4096 }
     ensures on { IfSome result (λ x. IsOnPort ports (event_view x.0)) }
     ensures found { IfSome result (λ x. IsLine ports line.now (event_view x.0)) }
@@ -63,7 +64,7 @@ fn parse_datagram<'a, 'b>(
     line: &'b [u8],
     buffer: &'a mut [u8; MAX_DATAGRAM],
 ) -> Option<(Event<'a>, Option<SpelledAddr<'b>>)>
-    requires ports { ports ≤ 8 }
+    requires ports { ports ≤ MAX_PORTS }
     requires most { length line.now ≤ 4096 }
     ensures on { IfSome result (λ x. IsOnPort ports (event_view x.0)) }
     ensures found { IfSome result (λ x. Writes ports line.now (event_view x.0)) }
@@ -87,7 +88,7 @@ fn parse_datagram<'a, 'b>(
 
 /// The port that a digit names.
 fn port_of(ports: u8, digit: u8) -> Option<u8>
-    requires { ports ≤ 8 }
+    requires { ports ≤ MAX_PORTS }
     ensures found { IfSome result (λ port. (1 ≤ port) × (port ≤ ports) × (digit ≡ 48 + port)) }
     ensures only { IsNone result → (port : ℕ) → 1 ≤ port → port ≤ ports → digit ≢ 48 + port }
 {

@@ -1,15 +1,13 @@
 //! The pieces of the text that a replay writes, each appended to a buffer.
 
-ghost use Rattle.std.specs.Prelude.{◌≡◌, ◌+◌, ◌*◌, ◌<◌, ◌≤◌, ◌++◌, length, slice_index, IsOk, OnOk, OnErr, vec_len, vec_capacity};
-ghost use Rattle.std.specs.Fmt.{decimal};
+ghost use Rattle.std.specs.Prelude.{◌≡◌, ◌*◌, ◌<◌, length, slice_index};
 ghost use Rattle.hex.specs.Hex.{encode_upper, upper_digits};
 ghost use Rattle.gw_addr.specs.Address.{text_of};
-ghost use Rattle.gw_addr.specs.Reading.{Keeps};
+ghost use Rattle.gw_addr.specs.Appending.{IsAppended, IsAppendedWhole};
 ghost use Rattle.gw_script.specs.Text.{end_line, send_head, send_line};
 
 use crate::event::SpelledAddr;
-use gw_addr::{BipAddr, put_octet, put_slice};
-use itoa::Buffer;
+use gw_addr::{BipAddr, keep_whole, put_decimal, put_octet, put_slice};
 use std::alloc::AllocError;
 
 /// Appends the line of a datagram that is sent. Refused only where the buffer had no room for it; the buffer then holds what it held.
@@ -19,10 +17,7 @@ pub fn append_send(
     to: BipAddr,
     octets: &[u8],
 ) -> Result<(), AllocError>
-    ensures ok { OnOk result (out.new.items ≡ out.old.items ++ send_line port to octets.now) }
-    ensures err { OnErr result (out.new.items ≡ out.old.items) }
-    ensures room { vec_len out.old + length (send_line port to octets.now) ≤ vec_capacity out.old → IsOk result }
-    ensures capacity { vec_capacity out.old ≤ vec_capacity out.new }
+    ensures { IsAppendedWhole (send_line port to octets.now) out.old out.new result }
 {
     append_send_to(out, port, to, &None, octets)
 }
@@ -36,25 +31,16 @@ pub fn append_send_to(
     at_hand: &Option<SpelledAddr<'_>>,
     octets: &[u8],
 ) -> Result<(), AllocError>
-    ensures ok { OnOk result (out.new.items ≡ out.old.items ++ send_line port to octets.now) }
-    ensures err { OnErr result (out.new.items ≡ out.old.items) }
-    ensures room { vec_len out.old + length (send_line port to octets.now) ≤ vec_capacity out.old → IsOk result }
-    ensures capacity { vec_capacity out.old ≤ vec_capacity out.new }
+    ensures { IsAppendedWhole (send_line port to octets.now) out.old out.new result }
 {
     let len = out.len();
-    if put_send(out, port, to, at_hand, octets).is_err() {
-        out.truncate(len);
-        return Err(AllocError);
-    }
-    Ok(())
+    let put = put_send(out, port, to, at_hand, octets);
+    keep_whole(out, len, put)
 }
 
 /// Appends the line behind the last of an event. Refused only where the buffer had no room for it.
 pub fn append_end(out: &mut Vec<u8>) -> Result<(), AllocError>
-    ensures ok { OnOk result (out.new.items ≡ out.old.items ++ end_line) }
-    ensures err { OnErr result (out.new.items ≡ out.old.items) }
-    ensures room { vec_len out.old + length end_line ≤ vec_capacity out.old → IsOk result }
-    ensures capacity { vec_capacity out.old ≤ vec_capacity out.new }
+    ensures { IsAppendedWhole end_line out.old out.new result }
 {
     out.extend_from_slice(b"end\n")
 }
@@ -68,10 +54,7 @@ fn put_send(
     at_hand: &Option<SpelledAddr<'_>>,
     octets: &[u8],
 ) -> Result<(), AllocError>
-    ensures ok { OnOk result (out.new.items ≡ out.old.items ++ send_line port to octets.now) }
-    ensures room { vec_len out.old + length (send_line port to octets.now) ≤ vec_capacity out.old → IsOk result }
-    ensures front { Keeps out.old.items out.new.items }
-    ensures capacity { vec_capacity out.old ≤ vec_capacity out.new }
+    ensures { IsAppended (send_line port to octets.now) out.old out.new result }
 {
     put_head(out, port, to, at_hand)?;
     put_octets(out, octets)?;
@@ -85,13 +68,10 @@ fn put_head(
     to: BipAddr,
     at_hand: &Option<SpelledAddr<'_>>,
 ) -> Result<(), AllocError>
-    ensures ok { OnOk result (out.new.items ≡ out.old.items ++ send_head port to) }
-    ensures room { vec_len out.old + length (send_head port to) ≤ vec_capacity out.old → IsOk result }
-    ensures front { Keeps out.old.items out.new.items }
-    ensures capacity { vec_capacity out.old ≤ vec_capacity out.new }
+    ensures { IsAppended (send_head port to) out.old out.new result }
 {
     put_slice(out, b"send ")?;
-    put_decimal(out, u64::from(port))?;
+    put_decimal(out, port)?;
     put_octet(out, b' ')?;
     put_address(out, to, at_hand)?;
     put_octet(out, b' ')
@@ -103,10 +83,7 @@ fn put_address(
     address: BipAddr,
     at_hand: &Option<SpelledAddr<'_>>,
 ) -> Result<(), AllocError>
-    ensures ok { OnOk result (out.new.items ≡ out.old.items ++ text_of address) }
-    ensures room { vec_len out.old + length (text_of address) ≤ vec_capacity out.old → IsOk result }
-    ensures front { Keeps out.old.items out.new.items }
-    ensures capacity { vec_capacity out.old ≤ vec_capacity out.new }
+    ensures { IsAppended (text_of address) out.old out.new result }
 {
     match at_hand {
         Some(spelled) if spelled.address.is_same(address) => put_slice(out, spelled.text),
@@ -114,22 +91,9 @@ fn put_address(
     }
 }
 
-/// Appends the decimal digits of a number.
-fn put_decimal(out: &mut Vec<u8>, number: u64) -> Result<(), AllocError>
-    ensures ok { OnOk result (out.new.items ≡ out.old.items ++ decimal number) }
-    ensures room { vec_len out.old + length (decimal number) ≤ vec_capacity out.old → IsOk result }
-    ensures front { Keeps out.old.items out.new.items }
-    ensures capacity { vec_capacity out.old ≤ vec_capacity out.new }
-{
-    out.extend_from_slice(Buffer::new().format(number).as_bytes())
-}
-
 /// Appends octets in upper-case digits.
 fn put_octets(out: &mut Vec<u8>, octets: &[u8]) -> Result<(), AllocError>
-    ensures ok { OnOk result (out.new.items ≡ out.old.items ++ encode_upper octets.now) }
-    ensures front { Keeps out.old.items out.new.items }
-    ensures room { vec_len out.old + length (encode_upper octets.now) ≤ vec_capacity out.old → IsOk result }
-    ensures capacity { vec_capacity out.old ≤ vec_capacity out.new }
+    ensures { IsAppended (encode_upper octets.now) out.old out.new result }
 {
     let Some(count) = octets.len().checked_mul(2) else {
         return Err(AllocError);

@@ -7,7 +7,6 @@ use Rattle.gw_tags.specs.Tag.{canonical}
 use Rattle.gw_tags.specs.List.{context}
 use Rattle.gw_tags.specs.Context.{in_context}
 use Rattle.gw_tags.specs.Number.{unsigned_encoding}
-use Rattle.gw_tags.specs.Object.{Object, object_octets}
 use Rattle.gw_apdu.specs.declared.writing.ServiceError.{ServiceError}
 use Rattle.gw_apdu.specs.Answers.{class_and_code}
 use Rattle.gw_services.specs.Read.{Read, read_encoding, number_part}
@@ -26,14 +25,8 @@ read_answer_head r = read_encoding r ++ opening 3
 abbrev pub read_answer_tail : List ℕ
 read_answer_tail = closing 3
 
--- ReadPropertyMultiple, for each object: [0] object, then its items between [1] and [1]
-abbrev pub object_head : Object → List ℕ
-object_head id = in_context 0 (object_octets id) ++ opening 1
-
-abbrev pub object_tail : List ℕ
-object_tail = closing 1
-
--- an item: [2] property, [3] index where it was asked for
+-- an item of an object in the answer to a ReadPropertyMultiple: [2] property, [3] index where it was
+-- asked for. The object's list is opened and closed as in the request (Multi.antt).
 abbrev pub item_name : ℕ → Option ℕ → List ℕ
 item_name p i = in_context 2 (unsigned_encoding p) ++ number_part 3 i
 

@@ -1,8 +1,8 @@
 //! I-Am (clause 16.10).
 
-ghost use Rattle.std.specs.Prelude.{◌≡◌, ◌↔◌, ◌≤◌, ◌<◌, ◌+◌, ◌++◌, ◌^◌, List, ℕ, length, vec_len, IfOk, IsOkAnd, IsOk, OnOk, OnErr, Err};
-ghost use Rattle.std.specs.Vec.{vec_capacity};
-ghost use Rattle.gw_addr.specs.Reading.{Gives, Keeps};
+ghost use Rattle.std.specs.Prelude.{◌≡◌, ◌↔◌, ◌≤◌, IfOk, IsOkAnd, Err};
+ghost use Rattle.gw_addr.specs.Appending.{IsAppended, IsAppendedWhole};
+ghost use Rattle.gw_addr.specs.Reading.{Gives};
 ghost use Rattle.gw_services.specs.Body.{HasFault};
 ghost use Rattle.gw_services.specs.Limits.{last_segmentation};
 ghost use Rattle.gw_services.specs.IAm.{IAm as IAmFields, i_am_view, i_am_body, IsIAm, i_am_at, i_am_encoding, segmentation_number};
@@ -11,6 +11,7 @@ use crate::discovery::IAm;
 use crate::fault::BodyFault;
 use crate::parameter::{plain_enumerated, plain_object, plain_unsigned};
 use crate::segmentation::Segmentation;
+use gw_addr::keep_whole;
 use gw_tags::{AppValue, write_value};
 use std::alloc::AllocError;
 
@@ -72,12 +73,7 @@ pub fn decode_i_am(octets: &[u8]) -> Result<IAm, BodyFault>
 }
 
 fn put(out: &mut Vec<u8>, announced: &IAm) -> Result<(), AllocError>
-    ensures ok { OnOk result (out.new.items
-        ≡ out.old.items ++ i_am_encoding (i_am_view announced.now)) }
-    ensures front { Keeps out.old.items out.new.items }
-    ensures room { vec_len out.old + length (i_am_encoding (i_am_view announced.now)) ≤ vec_capacity out.old
-        → IsOk result }
-    ensures capacity { vec_capacity out.old ≤ vec_capacity out.new }
+    ensures { IsAppended (i_am_encoding (i_am_view announced.now)) out.old out.new result }
 {
     write_value(out, AppValue::Object(announced.device))?;
     write_value(out, AppValue::Unsigned(u32::from(announced.max_apdu)))?;
@@ -93,17 +89,9 @@ fn put(out: &mut Vec<u8>, announced: &IAm) -> Result<(), AllocError>
 ///
 /// 1 Memory, only where the buffer had no room.
 pub fn encode_i_am(announced: &IAm, out: &mut Vec<u8>) -> Result<(), AllocError>
-    ensures ok { OnOk result (out.new.items
-        ≡ out.old.items ++ i_am_encoding (i_am_view announced.now)) }
-    ensures err { OnErr result (out.new.items ≡ out.old.items) }
-    ensures room { vec_len out.old + length (i_am_encoding (i_am_view announced.now)) ≤ vec_capacity out.old
-        → IsOk result }
-    ensures capacity { vec_capacity out.old ≤ vec_capacity out.new }
+    ensures { IsAppendedWhole (i_am_encoding (i_am_view announced.now)) out.old out.new result }
 {
     let len = out.len();
     let written = put(out, announced);
-    if written.is_err() {
-        out.truncate(len);
-    }
-    written
+    keep_whole(out, len, written)
 }

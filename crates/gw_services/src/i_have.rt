@@ -1,8 +1,8 @@
 //! I-Have (clause 16.9).
 
-ghost use Rattle.std.specs.Prelude.{◌≡◌, ◌↔◌, ◌≤◌, ◌<◌, ◌+◌, ◌++◌, ◌^◌, List, ℕ, length, vec_len, IfOk, IsOkAnd, IsOk, OnOk, OnErr, Err};
-ghost use Rattle.std.specs.Vec.{vec_capacity};
-ghost use Rattle.gw_addr.specs.Reading.{Gives, Keeps};
+ghost use Rattle.std.specs.Prelude.{◌≡◌, ◌↔◌, IfOk, IsOkAnd, Err};
+ghost use Rattle.gw_addr.specs.Appending.{IsAppended, IsAppendedWhole};
+ghost use Rattle.gw_addr.specs.Reading.{Gives};
 ghost use Rattle.gw_services.specs.Body.{HasFault};
 ghost use Rattle.gw_tags.specs.Value.{LengthFits, character_string};
 ghost use Rattle.gw_services.specs.IHave.{IHave as IHaveFields, i_have_view, i_have_body, IsIHave, i_have_at, i_have_encoding};
@@ -10,6 +10,7 @@ ghost use Rattle.gw_services.specs.IHave.{IHave as IHaveFields, i_have_view, i_h
 use crate::discovery::IHave;
 use crate::fault::BodyFault;
 use crate::parameter::{plain_object, plain_text};
+use gw_addr::keep_whole;
 use gw_tags::{AppValue, write_value};
 use std::alloc::AllocError;
 
@@ -53,12 +54,7 @@ pub fn decode_i_have(octets: &[u8]) -> Result<IHave<'_>, BodyFault>
 fn put(out: &mut Vec<u8>, announced: &IHave<'_>) -> Result<(), AllocError>
     // A name has fewer than 2 to the power of 32 octets.
     requires { LengthFits (character_string announced.now.name.charset announced.now.name.octets.now) }
-    ensures ok { OnOk result (out.new.items
-        ≡ out.old.items ++ i_have_encoding (i_have_view announced.now)) }
-    ensures front { Keeps out.old.items out.new.items }
-    ensures room { vec_len out.old + length (i_have_encoding (i_have_view announced.now)) ≤ vec_capacity out.old
-        → IsOk result }
-    ensures capacity { vec_capacity out.old ≤ vec_capacity out.new }
+    ensures { IsAppended (i_have_encoding (i_have_view announced.now)) out.old out.new result }
 {
     write_value(out, AppValue::Object(announced.device))?;
     write_value(out, AppValue::Object(announced.object))?;
@@ -74,17 +70,9 @@ fn put(out: &mut Vec<u8>, announced: &IHave<'_>) -> Result<(), AllocError>
 pub fn encode_i_have(announced: &IHave<'_>, out: &mut Vec<u8>) -> Result<(), AllocError>
     // A name has fewer than 2 to the power of 32 octets.
     requires { LengthFits (character_string announced.now.name.charset announced.now.name.octets.now) }
-    ensures ok { OnOk result (out.new.items
-        ≡ out.old.items ++ i_have_encoding (i_have_view announced.now)) }
-    ensures err { OnErr result (out.new.items ≡ out.old.items) }
-    ensures room { vec_len out.old + length (i_have_encoding (i_have_view announced.now)) ≤ vec_capacity out.old
-        → IsOk result }
-    ensures capacity { vec_capacity out.old ≤ vec_capacity out.new }
+    ensures { IsAppendedWhole (i_have_encoding (i_have_view announced.now)) out.old out.new result }
 {
     let len = out.len();
     let written = put(out, announced);
-    if written.is_err() {
-        out.truncate(len);
-    }
-    written
+    keep_whole(out, len, written)
 }

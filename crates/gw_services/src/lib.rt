@@ -28,13 +28,15 @@ pub use discovery::{IAm, IHave, Limits, Sought, WhoHas, WhoIs};
 pub use fault::BodyFault;
 pub use i_am::{decode_i_am, encode_i_am};
 pub use i_have::{decode_i_have, encode_i_have};
-pub use multi::{MAX_REFERENCES, decode_multi, encode_multi};
+pub use multi::{
+    MAX_REFERENCES, decode_multi, encode_multi, list_ends, put_list_head, put_list_tail,
+};
 pub use multi_req::{MultiReq, Reference};
 pub use next::Next;
 pub use read::{decode_read, encode_read};
 pub use reply::{
-    write_error_item, write_object_head, write_object_tail, write_read_answer_head,
-    write_read_answer_tail, write_value_item_head, write_value_item_tail,
+    write_error_item, write_read_answer_head, write_read_answer_tail, write_value_item_head,
+    write_value_item_tail,
 };
 pub use request::{ReadReq, WriteReq};
 pub use segmentation::Segmentation;

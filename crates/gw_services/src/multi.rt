@@ -1,9 +1,9 @@
 //! ReadPropertyMultiple (clause 15.7).
 
-ghost use Rattle.std.specs.Prelude.{◌≡◌, ◌≢◌, ◌≤◌, ◌<◌, ◌+◌, ◌++◌, ◌⊎◌, List, [], ℕ, map, None, length, vec_len, IfOk, IsOk, MatchResult, OnOk, OnErr, Ok, Err};
-ghost use Rattle.std.specs.Vec.{vec_capacity};
+ghost use Rattle.std.specs.Prelude.{◌≡◌, ◌≢◌, ◌≤◌, ◌⊎◌, List, [], map, None, vec_len, IfOk, MatchResult, OnOk, Ok, Err};
 ghost use Rattle.std.specs.Option.{option_map};
-ghost use Rattle.gw_addr.specs.Reading.{Gives, Keeps};
+ghost use Rattle.gw_addr.specs.Appending.{IsAppended, IsAppendedWhole};
+ghost use Rattle.gw_addr.specs.Reading.{Gives};
 ghost use Rattle.gw_tags.specs.Object.{object_view};
 ghost use Rattle.gw_services.specs.Multi.{Reference as ReferenceFields, reference_view, multi_view, IsMulti, HasMultiFault, is_consistent, is_set_name, most_references, head_part, tail_part, name_part, list_ends, reference_part, multi_encoding};
 ghost use Rattle.gw_services.specs.MultiReading.{opened_at, named_at, reference_at, next_at, references_at, multi_at, behind_these};
@@ -15,6 +15,7 @@ use crate::next::Next;
 use crate::parameter::{number, number_maybe, object};
 use crate::read::put_number;
 use crate::request::LAST_PROPERTY;
+use gw_addr::keep_whole;
 use gw_tags::{
     ObjectId, read_closing, read_opening, write_closing, write_context, write_context_unsigned,
     write_opening,
@@ -201,15 +202,10 @@ pub fn decode_multi(alloc: Global, octets: &[u8]) -> Result<MultiReq, BodyFault>
     read(alloc, octets)
 }
 
-/// The head of an object's list.
-fn put_head(out: &mut Vec<u8>, begins: bool, object: ObjectId) -> Result<(), AllocError>
-    ensures ok { OnOk result (out.new.items
-        ≡ out.old.items ++ head_part begins (object_view object)) }
-    ensures front { Keeps out.old.items out.new.items }
-    ensures room { vec_len out.old + length (head_part begins (object_view object))
-        ≤ vec_capacity out.old
-        → IsOk result }
-    ensures capacity { vec_capacity out.old ≤ vec_capacity out.new }
+/// Appends the head of an object's list, in a request or its answer, where a list begins: [0] the object,
+/// [1] opening (clause 15.7). After an `Err` a front of it may stand there.
+pub fn put_list_head(out: &mut Vec<u8>, begins: bool, object: ObjectId) -> Result<(), AllocError>
+    ensures { IsAppended (head_part begins (object_view object)) out.old out.new result }
 {
     if begins {
         write_context(out, 0, &object.to_octets())?;
@@ -218,12 +214,9 @@ fn put_head(out: &mut Vec<u8>, begins: bool, object: ObjectId) -> Result<(), All
     Ok(())
 }
 
-/// The end of an object's list.
-fn put_tail(out: &mut Vec<u8>, ends: bool) -> Result<(), AllocError>
-    ensures ok { OnOk result (out.new.items ≡ out.old.items ++ tail_part ends) }
-    ensures front { Keeps out.old.items out.new.items }
-    ensures room { vec_len out.old + length (tail_part ends) ≤ vec_capacity out.old → IsOk result }
-    ensures capacity { vec_capacity out.old ≤ vec_capacity out.new }
+/// Appends the end of an object's list, where a list ends: [1] closing.
+pub fn put_list_tail(out: &mut Vec<u8>, ends: bool) -> Result<(), AllocError>
+    ensures { IsAppended (tail_part ends) out.old out.new result }
 {
     if ends {
         write_closing(out, 1)?;
@@ -233,32 +226,23 @@ fn put_tail(out: &mut Vec<u8>, ends: bool) -> Result<(), AllocError>
 
 /// A property, and its index where it is given.
 fn put_name(out: &mut Vec<u8>, property: u32, index: Option<u32>) -> Result<(), AllocError>
-    ensures ok { OnOk result (out.new.items ≡ out.old.items ++ name_part property index) }
-    ensures front { Keeps out.old.items out.new.items }
-    ensures room { vec_len out.old + length (name_part property index) ≤ vec_capacity out.old
-        → IsOk result }
-    ensures capacity { vec_capacity out.old ≤ vec_capacity out.new }
+    ensures { IsAppended (name_part property index) out.old out.new result }
 {
     write_context_unsigned(out, 0, property)?;
     put_number(out, 1, index)
 }
 
 fn put_reference(out: &mut Vec<u8>, reference: &Reference, ends: bool) -> Result<(), AllocError>
-    ensures ok { OnOk result (out.new.items
-        ≡ out.old.items ++ reference_part (reference_view reference.now) ends) }
-    ensures front { Keeps out.old.items out.new.items }
-    ensures room { vec_len out.old + length (reference_part (reference_view reference.now) ends)
-        ≤ vec_capacity out.old
-        → IsOk result }
-    ensures capacity { vec_capacity out.old ≤ vec_capacity out.new }
+    ensures { IsAppended (reference_part (reference_view reference.now) ends) out.old out.new result }
 {
-    put_head(out, reference.begins, reference.object)?;
+    put_list_head(out, reference.begins, reference.object)?;
     put_name(out, reference.property, reference.index)?;
-    put_tail(out, ends)
+    put_list_tail(out, ends)
 }
 
-/// Whether an object's list ends before these.
-fn list_ends(references: &[Reference]) -> bool
+/// Whether an object's list ends before these references: there are none, or the first begins another
+/// (clause 15.7.3.1).
+pub fn list_ends(references: &[Reference]) -> bool
     ensures { result ≡ list_ends (map reference_view references.now) }
 {
     match references {
@@ -269,13 +253,7 @@ fn list_ends(references: &[Reference]) -> bool
 
 /// Appends the references. After an `Err` a front of them may stand there.
 fn put(out: &mut Vec<u8>, references: &[Reference]) -> Result<(), AllocError>
-    ensures ok { OnOk result (out.new.items
-        ≡ out.old.items ++ multi_encoding (map reference_view references.now)) }
-    ensures front { Keeps out.old.items out.new.items }
-    ensures room { vec_len out.old
-        + length (multi_encoding (map reference_view references.now)) ≤ vec_capacity out.old
-        → IsOk result }
-    ensures capacity { vec_capacity out.old ≤ vec_capacity out.new }
+    ensures { IsAppended (multi_encoding (map reference_view references.now)) out.old out.new result }
 {
     let Some((first, others)) = references.split_first() else {
         return Ok(());
@@ -293,18 +271,9 @@ fn put(out: &mut Vec<u8>, references: &[Reference]) -> Result<(), AllocError>
 pub fn encode_multi(request: &MultiReq, out: &mut Vec<u8>) -> Result<(), AllocError>
     // A body names at most 128 properties.
     requires { vec_len request.now.references ≤ most_references }
-    ensures ok { OnOk result (out.new.items
-        ≡ out.old.items ++ multi_encoding (multi_view request.now)) }
-    ensures err { OnErr result (out.new.items ≡ out.old.items) }
-    ensures room { vec_len out.old + length (multi_encoding (multi_view request.now))
-        ≤ vec_capacity out.old
-        → IsOk result }
-    ensures capacity { vec_capacity out.old ≤ vec_capacity out.new }
+    ensures { IsAppendedWhole (multi_encoding (multi_view request.now)) out.old out.new result }
 {
     let len = out.len();
     let written = put(out, request.references.as_slice());
-    if written.is_err() {
-        out.truncate(len);
-    }
-    written
+    keep_whole(out, len, written)
 }

@@ -90,7 +90,8 @@ fn given(tag: u8, octets: &[u8]) -> Result<Option<Content<'_>>, BodyFault>
     }
 }
 
-/// An object that has to be there.
+/// An object identifier under this context tag, and the octets behind it. `Missing` where the octets end here, and
+/// `InvalidTag` where something else stands there.
 pub fn object(tag: u8, octets: &[u8]) -> Result<(ObjectId, &[u8]), BodyFault>
     requires { tag < 255 }
     ensures { Gives (λ x. (object_view x.0, x.1.now)) result (object_at tag octets.now) }
@@ -100,7 +101,8 @@ pub fn object(tag: u8, octets: &[u8]) -> Result<(ObjectId, &[u8]), BodyFault>
     Ok((object, rest))
 }
 
-/// A number that has to be there, with its range.
+/// A number of at least `least` and at most `most` under this context tag, and the octets behind it. `Missing` where the
+/// octets end here, `InvalidTag` where something else stands there, and `OutOfRange` for another number.
 pub fn number(tag: u8, least: u32, most: u32, octets: &[u8]) -> Result<(u32, &[u8]), BodyFault>
     requires { tag < 255 }
     ensures exact { Gives (λ x. (x.0, x.1.now)) result (number_at tag least most octets.now) }
@@ -111,7 +113,8 @@ pub fn number(tag: u8, least: u32, most: u32, octets: &[u8]) -> Result<(u32, &[u
     Ok((number, rest))
 }
 
-/// A number that may be there, with its range.
+/// The same number, where its tag stands there, or none. `InvalidTag` where there is no whole tag or no number under it,
+/// and `OutOfRange` for a number outside its range.
 pub fn number_maybe(
     tag: u8,
     least: u32,
@@ -129,7 +132,8 @@ pub fn number_maybe(
     Ok((Some(number), rest))
 }
 
-/// An object that may be there.
+/// An object identifier under this context tag, where that stands there, or none, and the octets behind it. `InvalidTag`
+/// where there is no whole tag or no object identifier under it.
 pub fn object_maybe(tag: u8, octets: &[u8]) -> Result<(Option<ObjectId>, &[u8]), BodyFault>
     requires { tag < 255 }
     ensures { Gives (λ x. (option_map object_view x.0, x.1.now))
@@ -142,7 +146,8 @@ pub fn object_maybe(tag: u8, octets: &[u8]) -> Result<(Option<ObjectId>, &[u8]),
     Ok((Some(object), rest))
 }
 
-/// A character string that has to be there.
+/// A character string under this context tag, and the octets behind it. `Missing` where the octets end here, and
+/// `InvalidTag` where something else stands there.
 pub fn text(tag: u8, octets: &[u8]) -> Result<(CharacterString<'_>, &[u8]), BodyFault>
     requires { tag < 255 }
     ensures { Gives (λ x. ((x.0.charset, x.0.octets.now), x.1.now)) result (text_at tag octets.now) }
@@ -152,7 +157,8 @@ pub fn text(tag: u8, octets: &[u8]) -> Result<(CharacterString<'_>, &[u8]), Body
     Ok((text, rest))
 }
 
-/// The values between an opening and a closing tag, which have to be there.
+/// The octets of the values between this opening tag and its closing one, and the octets behind it. `Missing` where the
+/// octets end here, and `InvalidTag` where the tags don't stand there or what is between them isn't balanced.
 pub fn values(tag: u8, octets: &[u8]) -> Result<(&[u8], &[u8]), BodyFault>
     requires { tag < 255 }
     ensures { Gives (λ x. (x.0.now, x.1.now)) result (values_at tag octets.now) }
@@ -182,7 +188,8 @@ fn any_value(octets: &[u8]) -> Result<(AppValue<'_>, &[u8]), BodyFault>
     }
 }
 
-/// An Object that has to be there.
+/// An object identifier by its application tag, and the octets behind it. `Missing` where the octets end here, and
+/// `InvalidTag` for any other value.
 pub fn plain_object(octets: &[u8]) -> Result<(ObjectId, &[u8]), BodyFault>
     ensures { Gives (λ x. (object_view x.0, x.1.now))
         result (value_of_kind_at object_value octets.now) }
@@ -194,7 +201,8 @@ pub fn plain_object(octets: &[u8]) -> Result<(ObjectId, &[u8]), BodyFault>
     }
 }
 
-/// An Unsigned that has to be there, at most so much.
+/// An Unsigned of at most `most`, and the octets behind it. `Missing` where the octets end here, `InvalidTag` for any other
+/// value, and `OutOfRange` for a greater one.
 pub fn plain_unsigned(most: u32, octets: &[u8]) -> Result<(u32, &[u8]), BodyFault>
     ensures exact { Gives (λ x. (x.0, x.1.now))
         result (number_of_kind_at unsigned_value 0 most octets.now) }
@@ -210,7 +218,8 @@ pub fn plain_unsigned(most: u32, octets: &[u8]) -> Result<(u32, &[u8]), BodyFaul
     }
 }
 
-/// An Enumerated that has to be there, at most so much.
+/// An Enumerated of at most `most`, and the octets behind it. `Missing` where the octets end here, `InvalidTag` for any
+/// other value, and `OutOfRange` for a greater one.
 pub fn plain_enumerated(most: u32, octets: &[u8]) -> Result<(u32, &[u8]), BodyFault>
     ensures exact { Gives (λ x. (x.0, x.1.now))
         result (number_of_kind_at enumerated_value 0 most octets.now) }
@@ -226,7 +235,8 @@ pub fn plain_enumerated(most: u32, octets: &[u8]) -> Result<(u32, &[u8]), BodyFa
     }
 }
 
-/// A character string that has to be there, with its application tag.
+/// A character string by its application tag, and the octets behind it. `Missing` where the octets end here, and
+/// `InvalidTag` for any other value.
 pub fn plain_text(octets: &[u8]) -> Result<(CharacterString<'_>, &[u8]), BodyFault>
     ensures { Gives (λ x. ((x.0.charset, x.0.octets.now), x.1.now))
         result (value_of_kind_at text_value octets.now) }

@@ -1,14 +1,15 @@
 //! ReadProperty (clause 15.5).
 
-ghost use Rattle.std.specs.Prelude.{◌≡◌, ◌↔◌, ◌≤◌, ◌<◌, ◌+◌, ◌++◌, List, ℕ, length, vec_len, IfOk, IsOkAnd, IsOk, OnOk, OnErr, Err};
-ghost use Rattle.std.specs.Vec.{vec_capacity};
-ghost use Rattle.gw_addr.specs.Reading.{Gives, Keeps};
+ghost use Rattle.std.specs.Prelude.{◌≡◌, ◌↔◌, ◌<◌, IfOk, IsOkAnd, Err};
+ghost use Rattle.gw_addr.specs.Appending.{IsAppended, IsAppendedWhole};
+ghost use Rattle.gw_addr.specs.Reading.{Gives};
 ghost use Rattle.gw_services.specs.Body.{HasFault};
 ghost use Rattle.gw_services.specs.Read.{Read, read_view, read_body, IsRead, read_at, read_encoding, number_part};
 
 use crate::fault::BodyFault;
 use crate::parameter::{number, number_maybe, object};
 use crate::request::{LAST_PROPERTY, ReadReq};
+use gw_addr::keep_whole;
 use gw_tags::{write_context, write_context_unsigned};
 use std::alloc::AllocError;
 
@@ -50,11 +51,7 @@ pub fn decode_read(octets: &[u8]) -> Result<ReadReq, BodyFault>
 /// A number that may be there.
 pub(crate) fn put_number(out: &mut Vec<u8>, tag: u8, number: Option<u32>) -> Result<(), AllocError>
     requires { tag < 255 }
-    ensures ok { OnOk result (out.new.items ≡ out.old.items ++ number_part tag number) }
-    ensures err { OnErr result (out.new.items ≡ out.old.items) }
-    ensures room { vec_len out.old + length (number_part tag number) ≤ vec_capacity out.old
-        → IsOk result }
-    ensures capacity { vec_capacity out.old ≤ vec_capacity out.new }
+    ensures { IsAppendedWhole (number_part tag number) out.old out.new result }
 {
     match number {
         None => Ok(()),
@@ -64,13 +61,7 @@ pub(crate) fn put_number(out: &mut Vec<u8>, tag: u8, number: Option<u32>) -> Res
 
 /// Appends the body. After an `Err` a front of it may stand there.
 pub(crate) fn put(out: &mut Vec<u8>, request: &ReadReq) -> Result<(), AllocError>
-    ensures ok { OnOk result (out.new.items
-        ≡ out.old.items ++ read_encoding (read_view request.now)) }
-    ensures front { Keeps out.old.items out.new.items }
-    ensures room { vec_len out.old + length (read_encoding (read_view request.now))
-        ≤ vec_capacity out.old
-        → IsOk result }
-    ensures capacity { vec_capacity out.old ≤ vec_capacity out.new }
+    ensures { IsAppended (read_encoding (read_view request.now)) out.old out.new result }
 {
     write_context(out, 0, &request.object.to_octets())?;
     write_context_unsigned(out, 1, request.property)?;
@@ -84,18 +75,9 @@ pub(crate) fn put(out: &mut Vec<u8>, request: &ReadReq) -> Result<(), AllocError
 ///
 /// 1 Memory, only where the buffer had no room.
 pub fn encode_read(request: &ReadReq, out: &mut Vec<u8>) -> Result<(), AllocError>
-    ensures ok { OnOk result (out.new.items
-        ≡ out.old.items ++ read_encoding (read_view request.now)) }
-    ensures err { OnErr result (out.new.items ≡ out.old.items) }
-    ensures room { vec_len out.old + length (read_encoding (read_view request.now))
-        ≤ vec_capacity out.old
-        → IsOk result }
-    ensures capacity { vec_capacity out.old ≤ vec_capacity out.new }
+    ensures { IsAppendedWhole (read_encoding (read_view request.now)) out.old out.new result }
 {
     let len = out.len();
     let written = put(out, request);
-    if written.is_err() {
-        out.truncate(len);
-    }
-    written
+    keep_whole(out, len, written)
 }

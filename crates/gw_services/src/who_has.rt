@@ -1,10 +1,10 @@
 //! Who-Has (clause 16.9).
 
-ghost use Rattle.std.specs.Prelude.{◌≡◌, ◌↔◌, ◌≤◌, ◌<◌, ◌+◌, ◌++◌, ◌∷◌, ◌^◌, List, ℕ, length, vec_len, IfOk, IsOkAnd, IsOk, OnOk, OnErr, Err};
-ghost use Rattle.std.specs.Vec.{vec_capacity};
-ghost use Rattle.gw_addr.specs.Reading.{Gives, Keeps};
+ghost use Rattle.std.specs.Prelude.{◌≡◌, ◌↔◌, ◌<◌, ◌∷◌, ◌^◌, length, IfOk, IsOkAnd, Err};
+ghost use Rattle.gw_addr.specs.Reading.{Gives};
 ghost use Rattle.gw_services.specs.Body.{HasFault};
 ghost use Rattle.std.specs.Option.{option_map};
+ghost use Rattle.gw_addr.specs.Appending.{IsAppended, IsAppendedWhole};
 ghost use Rattle.gw_services.specs.WhoIs.{limits_view};
 ghost use Rattle.gw_services.specs.WhoHas.{WhoHas as WhoHasFields, who_has_view, who_has_body, IsWhoHas, who_has_at, who_has_encoding, sought_view, sought_at, sought_part, asked_for, NameFits};
 ghost use Rattle.gw_services.specs.Reading.{ended};
@@ -17,7 +17,7 @@ use crate::discovery::{Limits, Sought, WhoHas};
 use crate::fault::BodyFault;
 use crate::parameter::{object_maybe, text};
 use crate::who_is::{limits, put_limits};
-use gw_addr::{put_octet, put_slice};
+use gw_addr::{keep_whole, put_octet, put_slice};
 use gw_tags::{CharacterString, Kind, Tag, write_context, write_tag};
 use std::alloc::AllocError;
 
@@ -82,13 +82,7 @@ pub fn decode_who_has(octets: &[u8]) -> Result<WhoHas<'_>, BodyFault>
 
 /// Context tag 3, which announces so many octets.
 fn put_name_tag(out: &mut Vec<u8>, count: u32) -> Result<(), AllocError>
-    ensures ok { OnOk result (out.new.items
-        ≡ out.old.items ++ canonical (context 3 (Length count))) }
-    ensures front { Keeps out.old.items out.new.items }
-    ensures room { vec_len out.old + length (canonical (context 3 (Length count)))
-        ≤ vec_capacity out.old
-        → IsOk result }
-    ensures capacity { vec_capacity out.old ≤ vec_capacity out.new }
+    ensures { IsAppended (canonical (context 3 (Length count))) out.old out.new result }
 {
     let tag = Tag {
         number: 3,
@@ -101,13 +95,7 @@ fn put_name_tag(out: &mut Vec<u8>, count: u32) -> Result<(), AllocError>
 /// A name, as a character set and octets under context tag 3.
 fn put_name(out: &mut Vec<u8>, name: &CharacterString<'_>) -> Result<(), AllocError>
     requires { length (name.now.charset ∷ name.now.octets.now) < 2 ^ 32 }
-    ensures ok { OnOk result (out.new.items
-        ≡ out.old.items ++ in_context 3 (name.now.charset ∷ name.now.octets.now)) }
-    ensures front { Keeps out.old.items out.new.items }
-    ensures room { vec_len out.old
-        + length (in_context 3 (name.now.charset ∷ name.now.octets.now)) ≤ vec_capacity out.old
-        → IsOk result }
-    ensures capacity { vec_capacity out.old ≤ vec_capacity out.new }
+    ensures { IsAppended (in_context 3 (name.now.charset ∷ name.now.octets.now)) out.old out.new result }
 {
     put_name_tag(out, name.octets.len() as u32 + 1)?;
     put_octet(out, name.charset)?;
@@ -117,12 +105,7 @@ fn put_name(out: &mut Vec<u8>, name: &CharacterString<'_>) -> Result<(), AllocEr
 /// What is sought.
 fn put_sought(out: &mut Vec<u8>, sought: &Sought<'_>) -> Result<(), AllocError>
     requires { NameFits (sought_view sought.now) }
-    ensures ok { OnOk result (out.new.items ≡ out.old.items ++ sought_part (sought_view sought.now)) }
-    ensures front { Keeps out.old.items out.new.items }
-    ensures room { vec_len out.old + length (sought_part (sought_view sought.now))
-        ≤ vec_capacity out.old
-        → IsOk result }
-    ensures capacity { vec_capacity out.old ≤ vec_capacity out.new }
+    ensures { IsAppended (sought_part (sought_view sought.now)) out.old out.new result }
 {
     match sought {
         Sought::Object(object) => write_context(out, 2, &object.to_octets()),
@@ -133,12 +116,7 @@ fn put_sought(out: &mut Vec<u8>, sought: &Sought<'_>) -> Result<(), AllocError>
 fn put(out: &mut Vec<u8>, request: &WhoHas<'_>) -> Result<(), AllocError>
     // A name has fewer than 2 to the power of 32 octets.
     requires { NameFits (sought_view request.now.sought) }
-    ensures ok { OnOk result (out.new.items
-        ≡ out.old.items ++ who_has_encoding (who_has_view request.now)) }
-    ensures front { Keeps out.old.items out.new.items }
-    ensures room { vec_len out.old + length (who_has_encoding (who_has_view request.now)) ≤ vec_capacity out.old
-        → IsOk result }
-    ensures capacity { vec_capacity out.old ≤ vec_capacity out.new }
+    ensures { IsAppended (who_has_encoding (who_has_view request.now)) out.old out.new result }
 {
     put_limits(out, &request.limits)?;
     put_sought(out, &request.sought)
@@ -153,17 +131,9 @@ fn put(out: &mut Vec<u8>, request: &WhoHas<'_>) -> Result<(), AllocError>
 pub fn encode_who_has(request: &WhoHas<'_>, out: &mut Vec<u8>) -> Result<(), AllocError>
     // A name has fewer than 2 to the power of 32 octets.
     requires { NameFits (sought_view request.now.sought) }
-    ensures ok { OnOk result (out.new.items
-        ≡ out.old.items ++ who_has_encoding (who_has_view request.now)) }
-    ensures err { OnErr result (out.new.items ≡ out.old.items) }
-    ensures room { vec_len out.old + length (who_has_encoding (who_has_view request.now)) ≤ vec_capacity out.old
-        → IsOk result }
-    ensures capacity { vec_capacity out.old ≤ vec_capacity out.new }
+    ensures { IsAppendedWhole (who_has_encoding (who_has_view request.now)) out.old out.new result }
 {
     let len = out.len();
     let written = put(out, request);
-    if written.is_err() {
-        out.truncate(len);
-    }
-    written
+    keep_whole(out, len, written)
 }

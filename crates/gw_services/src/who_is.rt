@@ -1,15 +1,16 @@
 //! Who-Is (clause 16.10).
 
-ghost use Rattle.std.specs.Prelude.{◌≡◌, ◌↔◌, ◌≤◌, ◌<◌, ◌+◌, ◌++◌, ◌^◌, List, ℕ, length, vec_len, IfOk, IsOkAnd, IsOk, OnOk, OnErr, Err};
-ghost use Rattle.std.specs.Vec.{vec_capacity};
-ghost use Rattle.gw_addr.specs.Reading.{Gives, Keeps};
+ghost use Rattle.std.specs.Prelude.{◌≡◌, ◌↔◌, IfOk, IsOkAnd, Err};
+ghost use Rattle.gw_addr.specs.Reading.{Gives};
 ghost use Rattle.gw_services.specs.Body.{HasFault};
 ghost use Rattle.std.specs.Option.{option_map};
+ghost use Rattle.gw_addr.specs.Appending.{IsAppended, IsAppendedWhole};
 ghost use Rattle.gw_services.specs.WhoIs.{WhoIs as WhoIsFields, who_is_view, who_is_body, IsWhoIs, who_is_at, who_is_encoding, limits_view, limits_at, limits_part};
 
 use crate::discovery::{LAST_INSTANCE, Limits, WhoIs};
 use crate::fault::BodyFault;
 use crate::parameter::{number, number_maybe};
+use gw_addr::keep_whole;
 use gw_tags::write_context_unsigned;
 use std::alloc::AllocError;
 
@@ -60,13 +61,7 @@ pub fn decode_who_is(octets: &[u8]) -> Result<WhoIs, BodyFault>
 
 /// The limits, where there are any. After an `Err` a front of them may stand there.
 pub(crate) fn put_limits(out: &mut Vec<u8>, limits: &Option<Limits>) -> Result<(), AllocError>
-    ensures ok { OnOk result (out.new.items
-        ≡ out.old.items ++ limits_part (option_map limits_view limits.now)) }
-    ensures front { Keeps out.old.items out.new.items }
-    ensures room { vec_len out.old + length (limits_part (option_map limits_view limits.now))
-        ≤ vec_capacity out.old
-        → IsOk result }
-    ensures capacity { vec_capacity out.old ≤ vec_capacity out.new }
+    ensures { IsAppended (limits_part (option_map limits_view limits.now)) out.old out.new result }
 {
     match limits {
         None => Ok(()),
@@ -78,12 +73,7 @@ pub(crate) fn put_limits(out: &mut Vec<u8>, limits: &Option<Limits>) -> Result<(
 }
 
 fn put(out: &mut Vec<u8>, request: &WhoIs) -> Result<(), AllocError>
-    ensures ok { OnOk result (out.new.items
-        ≡ out.old.items ++ who_is_encoding (who_is_view request.now)) }
-    ensures front { Keeps out.old.items out.new.items }
-    ensures room { vec_len out.old + length (who_is_encoding (who_is_view request.now)) ≤ vec_capacity out.old
-        → IsOk result }
-    ensures capacity { vec_capacity out.old ≤ vec_capacity out.new }
+    ensures { IsAppended (who_is_encoding (who_is_view request.now)) out.old out.new result }
 {
     put_limits(out, &request.limits)
 }
@@ -95,17 +85,9 @@ fn put(out: &mut Vec<u8>, request: &WhoIs) -> Result<(), AllocError>
 ///
 /// 1 Memory, only where the buffer had no room.
 pub fn encode_who_is(request: &WhoIs, out: &mut Vec<u8>) -> Result<(), AllocError>
-    ensures ok { OnOk result (out.new.items
-        ≡ out.old.items ++ who_is_encoding (who_is_view request.now)) }
-    ensures err { OnErr result (out.new.items ≡ out.old.items) }
-    ensures room { vec_len out.old + length (who_is_encoding (who_is_view request.now)) ≤ vec_capacity out.old
-        → IsOk result }
-    ensures capacity { vec_capacity out.old ≤ vec_capacity out.new }
+    ensures { IsAppendedWhole (who_is_encoding (who_is_view request.now)) out.old out.new result }
 {
     let len = out.len();
     let written = put(out, request);
-    if written.is_err() {
-        out.truncate(len);
-    }
-    written
+    keep_whole(out, len, written)
 }

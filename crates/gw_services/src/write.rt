@@ -1,8 +1,8 @@
 //! WriteProperty (clause 15.9).
 
-ghost use Rattle.std.specs.Prelude.{◌≡◌, ◌↔◌, ◌≤◌, ◌<◌, ◌+◌, ◌++◌, ◌^◌, List, ℕ, length, vec_len, IfOk, IfSome, IsOkAnd, IsOk, OnOk, OnErr, Err};
-ghost use Rattle.std.specs.Vec.{vec_capacity};
-ghost use Rattle.gw_addr.specs.Reading.{Gives, Keeps};
+ghost use Rattle.std.specs.Prelude.{◌≡◌, ◌↔◌, ◌≤◌, ◌<◌, IfOk, IfSome, IsOkAnd, Err};
+ghost use Rattle.gw_addr.specs.Appending.{IsAppended, IsAppendedWhole};
+ghost use Rattle.gw_addr.specs.Reading.{Gives};
 ghost use Rattle.gw_services.specs.Body.{HasFault};
 ghost use Rattle.gw_services.specs.Limits.{last_priority};
 ghost use Rattle.gw_services.specs.Write.{Write, write_view, write_body, IsWrite, write_at, write_encoding, values_part, priority_at, target_of};
@@ -12,7 +12,7 @@ use crate::fault::BodyFault;
 use crate::parameter::{number, number_maybe, object, values};
 use crate::read::{put as put_target, put_number};
 use crate::request::{LAST_PROPERTY, ReadReq, WriteReq};
-use gw_addr::put_slice;
+use gw_addr::{keep_whole, put_slice};
 use gw_tags::{write_closing, write_opening};
 use std::alloc::AllocError;
 
@@ -101,11 +101,7 @@ pub fn decode_write(octets: &[u8]) -> Result<WriteReq<'_>, BodyFault>
 /// Values between an opening and a closing tag. After an `Err` a front of them may stand there.
 pub(crate) fn put_values(out: &mut Vec<u8>, tag: u8, own: &[u8]) -> Result<(), AllocError>
     requires { tag < 255 }
-    ensures ok { OnOk result (out.new.items ≡ out.old.items ++ values_part tag own.now) }
-    ensures front { Keeps out.old.items out.new.items }
-    ensures room { vec_len out.old + length (values_part tag own.now) ≤ vec_capacity out.old
-        → IsOk result }
-    ensures capacity { vec_capacity out.old ≤ vec_capacity out.new }
+    ensures { IsAppended (values_part tag own.now) out.old out.new result }
 {
     write_opening(out, tag)?;
     put_slice(out, own)?;
@@ -124,12 +120,7 @@ fn target(request: &WriteReq<'_>) -> ReadReq
 }
 
 fn put(out: &mut Vec<u8>, request: &WriteReq<'_>) -> Result<(), AllocError>
-    ensures ok { OnOk result (out.new.items
-        ≡ out.old.items ++ write_encoding (write_view request.now)) }
-    ensures front { Keeps out.old.items out.new.items }
-    ensures room { vec_len out.old + length (write_encoding (write_view request.now)) ≤ vec_capacity out.old
-        → IsOk result }
-    ensures capacity { vec_capacity out.old ≤ vec_capacity out.new }
+    ensures { IsAppended (write_encoding (write_view request.now)) out.old out.new result }
 {
     put_target(out, &target(request))?;
     put_values(out, 3, request.value)?;
@@ -143,17 +134,9 @@ fn put(out: &mut Vec<u8>, request: &WriteReq<'_>) -> Result<(), AllocError>
 ///
 /// 1 Memory, only where the buffer had no room.
 pub fn encode_write(request: &WriteReq<'_>, out: &mut Vec<u8>) -> Result<(), AllocError>
-    ensures ok { OnOk result (out.new.items
-        ≡ out.old.items ++ write_encoding (write_view request.now)) }
-    ensures err { OnErr result (out.new.items ≡ out.old.items) }
-    ensures room { vec_len out.old + length (write_encoding (write_view request.now)) ≤ vec_capacity out.old
-        → IsOk result }
-    ensures capacity { vec_capacity out.old ≤ vec_capacity out.new }
+    ensures { IsAppendedWhole (write_encoding (write_view request.now)) out.old out.new result }
 {
     let len = out.len();
     let written = put(out, request);
-    if written.is_err() {
-        out.truncate(len);
-    }
-    written
+    keep_whole(out, len, written)
 }

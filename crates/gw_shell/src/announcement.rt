@@ -1,11 +1,13 @@
 //! What `run --verbose` tells at the start: one line on what is served.
 
 ghost use Rattle.std.specs.Prelude.{◌≡◌, ◌++◌, ◌≤◌, length, map, option_map, string_bytes, IfOk, OnOk};
+ghost use Rattle.gw_addr.specs.declared.TheConstants.{MAX_PORTS};
 ghost use Rattle.gw_shell.specs.Announcement.{announcement, device_text, log_text, objects_text, port_text, rules_text, shown, told_text};
 ghost use Rattle.gw_shell.specs.Numbered.{numbered};
 
+use gw_addr::put_decimal;
 use gw_policy_text::{Config, Device, Port};
-use itoa::{Buffer, Integer};
+use itoa::Integer;
 use std::alloc::{AllocError, Global};
 
 /// The one control character of ASCII behind the printed ones.
@@ -43,13 +45,6 @@ pub fn told_text(
     }
 }
 
-/// Appends a number in decimal digits.
-fn put_decimal<N: Integer>(out: &mut Vec<u8>, number: N) -> Result<(), AllocError>
-    ensures { OnOk result (out.new.items ≡ out.old.items ++ N.text number) }
-{
-    out.extend_from_slice(Buffer::new().format(number).as_bytes())
-}
-
 /// Appends a port and its addresses.
 fn put_port(out: &mut Vec<u8>, number: usize, port: &Port) -> Result<(), AllocError>
     ensures { OnOk result (out.new.items ≡ out.old.items ++ port_text number port.now) }
@@ -65,7 +60,7 @@ fn put_port(out: &mut Vec<u8>, number: usize, port: &Port) -> Result<(), AllocEr
 
 /// Appends the ports in order.
 fn put_ports(out: &mut Vec<u8>, ports: &[Port]) -> Result<(), AllocError>
-    requires { length ports.now ≤ 8 }
+    requires { length ports.now ≤ MAX_PORTS }
     ensures { OnOk result (out.new.items ≡ out.old.items ++ numbered port_text 1 ports.now) }
 {
     for place in 0..ports.len() {

@@ -1,18 +1,16 @@
-//! Why the program ends without success: its line on standard error, and its exit status.
+//! Why the program ends without success, and its exit status.
 
-ghost use Rattle.std.specs.Prelude.{◌≡◌, ◌≢◌, Some};
-ghost use Rattle.gw_shell.specs.Ending.{fault_of, fault_of_configuration, fault_of_serving, name_of, status_of, text_of};
+ghost use Rattle.std.specs.Prelude.{◌≡◌, ◌≢◌};
+ghost use Rattle.gw_shell.specs.Ending.{fault_of, fault_of_configuration, fault_of_serving, name_of, status_of};
 ghost use Rattle.gw_shell.specs.declared.fault.Fault.TheVariants.{CommandLine, Memory};
 
 use gw_core::{RunFault, ServeFault};
 use gw_policy_text::ConfigFault;
 use std::alloc::AllocError;
-use std::fmt;
 use std::io::ErrorKind;
-use thiserror::Error;
 
-/// Why the program ends without success. `Display` gives its line on standard error, without the line feed.
-#[derive(Clone, Copy, Debug, PartialEq, Eq, Error)]
+/// Why the program ends without success.
+#[derive(Clone, Copy, Debug, PartialEq, Eq)]
 pub enum Fault {
     /// The words that the program was called with are none that it takes.
     CommandLine,
@@ -61,28 +59,6 @@ impl Fault {
             | Fault::Socket(_)
             | Fault::Memory
             | Fault::CountEnd => 1,
-        }
-    }
-}
-
-impl fmt::Display for Fault {
-    ghost output = { λ fault. Some (text_of fault) };
-
-    fn fmt<W: fmt::Write>(&self, f: &mut fmt::Formatter<W>) -> fmt::Result {
-        match self {
-            Fault::CommandLine => f.write_str("bacgw: bad command line"),
-            Fault::Unreadable => f.write_str("bacgw: cannot read configuration"),
-            Fault::Configuration(fault) => {
-                f.write_str("bacgw: configuration: ")?;
-                f.write_str(name_of(*fault))
-            }
-            Fault::Line(number) => write!(f, "bacgw: line {number}"),
-            Fault::Read => f.write_str("bacgw: read failed"),
-            Fault::Write => f.write_str("bacgw: write failed"),
-            Fault::Log => f.write_str("bacgw: log failed"),
-            Fault::Socket(port) => write!(f, "bacgw: socket failed on port {port}"),
-            Fault::Memory => f.write_str("bacgw: out of memory"),
-            Fault::CountEnd => f.write_str("bacgw: count at its end"),
         }
     }
 }

@@ -1,6 +1,7 @@
 //! What `run` takes of the machine: a log, and a wire over the sockets of the ports.
 
 ghost use Rattle.std.specs.Prelude.{◌≡◌, ◌≤◌, ℕ, Bool, List, length, ⊤, Result, Option, IfOk, IfErr};
+ghost use Rattle.gw_addr.specs.declared.TheConstants.{MAX_PORTS};
 ghost use Rattle.gw_policy_text.specs.declared.port.Port.{Port};
 ghost use Rattle.gw_shell.specs.declared.fault.Fault.{Fault};
 ghost use Rattle.gw_shell.specs.Host.{IsLogFault, IsSocketFailure};
@@ -57,7 +58,7 @@ pub trait Host {
     /// address first.
     fn open_sockets(&self, alloc: Global, ports: &[Port]) -> Result<Self::Sockets, SocketFailure>
         requires least { 1 ≤ length ports.now }
-        requires most { length ports.now ≤ 8 }
+        requires most { length ports.now ≤ MAX_PORTS }
         ensures opens { SocketsOpen self.now ports.now result }
         ensures ports { IfOk result (λ wire. Self.Sockets.port_count wire ≡ length ports.now) }
         ensures fresh { IfOk result (λ wire. Self.Sockets.failure_count wire ≡ 0) }
@@ -94,7 +95,7 @@ impl<'a, R: Net + Clock> SystemHost<'a, R> {
         alloc: Global,
         mut pairs: Vec<SockPair<UdpSock>>,
     ) -> io::Result<TimedPorts<UdpSock, SystemClock<'a, R>, PollWaiter>>
-        requires { length pairs.items ≤ 8 }
+        requires { length pairs.items ≤ MAX_PORTS }
         ensures ports { IfOk result
             (λ timed. length timed.ports.pairs ≡ length pairs.items) }
         ensures fresh { IfOk result (λ timed. timed.ports.failures ≡ 0) }

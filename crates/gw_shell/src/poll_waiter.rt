@@ -1,6 +1,7 @@
 //! What waits for datagrams at the sockets of the system.
 
 use crate::udp::UdpSock;
+use gw_addr::MAX_PORTS;
 use gw_ports::{SockPair, Waiter};
 use mio::{Events, Poll};
 use std::alloc::Global;
@@ -8,8 +9,8 @@ use std::io;
 use std::net::Net;
 use std::time::Duration;
 
-/// How many sockets may be told of at once: two of each of 8 ports.
-const MOST_SOCKETS: usize = 16;
+/// How many sockets may be told of at once: two of each port.
+const MOST_SOCKETS: usize = 2 * MAX_PORTS;
 
 /// What waits for datagrams at the sockets of the system.
 #[derive(Drop)]

@@ -1,6 +1,7 @@
 //! The UDP sockets of the system.
 
 ghost use Rattle.std.specs.Prelude.{◌≡◌, ◌≤◌, ℕ, ⊤, length, IfErr, IfOk};
+ghost use Rattle.gw_addr.specs.declared.TheConstants.{MAX_PORTS};
 ghost use Rattle.gw_shell.specs.Host.{IsSocketFailure};
 ghost use Rattle.gw_ports.specs.Socket.{FitsBuffer};
 
@@ -92,7 +93,7 @@ pub fn open_pairs(
     net: &impl Net,
     ports: &[Port],
 ) -> Result<Vec<SockPair<UdpSock>>, SocketFailure>
-    requires { length ports.now ≤ 8 }
+    requires { length ports.now ≤ MAX_PORTS }
     ensures count { IfOk result (λ pairs. length pairs.items ≡ length ports.now) }
     ensures failure { IfErr result (IsSocketFailure (length ports.now)) }
 {

@@ -1,7 +1,7 @@
 //! Parameters of a body under context tags (clauses 20.2.1.1 and 20.2.1.3).
 
-ghost use Rattle.std.specs.Prelude.{◌≡◌, ◌↔◌, ◌<◌, ◌≤◌, ◌+◌, ◌++◌, ◌^◌, ℕ, List, length, vec_len, IsOk, IfOk, IsOkAnd, OnOk, OnErr, Err};
-ghost use Rattle.std.specs.Vec.{vec_capacity};
+ghost use Rattle.std.specs.Prelude.{◌≡◌, ◌↔◌, ◌<◌, ◌^◌, ℕ, List, length, IfOk, IsOkAnd, Err};
+ghost use Rattle.gw_addr.specs.Appending.{IsAppended, IsAppendedWhole};
 ghost use Rattle.gw_addr.specs.Reading.{Gives};
 ghost use Rattle.gw_tags.specs.declared.tag.Kind.TheVariants.{Opening, Closing};
 ghost use Rattle.gw_tags.specs.Tag.{BeginsWith, IsBadTag, canonical};
@@ -15,7 +15,7 @@ use crate::number::leading_zeros;
 use crate::reading::read_tag;
 use crate::tag::{Kind, Tag};
 use crate::writing::{put_tag, write_tag};
-use gw_addr::{front, put_slice};
+use gw_addr::{front, keep_whole, put_slice};
 use std::alloc::AllocError;
 
 /// What `read_context` gives, said by the reading function alone.
@@ -98,6 +98,21 @@ pub fn read_closing(number: u8, octets: &[u8]) -> Result<&[u8], ContextFault>
     closing(number, octets)
 }
 
+/// Appends a content behind its context tag. After an `Err` a front of them may stand there.
+fn put_context(out: &mut Vec<u8>, number: u8, content: &[u8]) -> Result<(), AllocError>
+    requires numbered { number < 255 }
+    requires fits { length content.now < 2 ^ 32 }
+    ensures { IsAppended (in_context number content.now) out.old out.new result }
+{
+    let tag = Tag {
+        number,
+        context: true,
+        kind: Kind::Length(content.len() as u32),
+    };
+    put_tag(out, tag)?;
+    put_slice(out, content)
+}
+
 /// Appends a content under the context tag of this number. The buffer keeps what it held, also
 /// after an error.
 ///
@@ -107,26 +122,11 @@ pub fn read_closing(number: u8, octets: &[u8]) -> Result<&[u8], ContextFault>
 pub fn write_context(out: &mut Vec<u8>, number: u8, content: &[u8]) -> Result<(), AllocError>
     requires numbered { number < 255 }
     requires fits { length content.now < 2 ^ 32 }
-    ensures ok { OnOk result (out.new.items ≡ out.old.items ++ in_context number content.now) }
-    ensures err { OnErr result (out.new.items ≡ out.old.items) }
-    ensures room { vec_len out.old + length (in_context number content.now) ≤ vec_capacity out.old
-        → IsOk result }
-    ensures capacity { vec_capacity out.old ≤ vec_capacity out.new }
+    ensures { IsAppendedWhole (in_context number content.now) out.old out.new result }
 {
     let len = out.len();
-    let tag = Tag {
-        number,
-        context: true,
-        kind: Kind::Length(content.len() as u32),
-    };
-    let mut written = put_tag(out, tag);
-    if written.is_ok() {
-        written = put_slice(out, content);
-    }
-    if written.is_err() {
-        out.truncate(len);
-    }
-    written
+    let written = put_context(out, number, content);
+    keep_whole(out, len, written)
 }
 
 /// Appends a number in the fewest octets under the context tag of this number. The buffer keeps
@@ -137,13 +137,7 @@ pub fn write_context(out: &mut Vec<u8>, number: u8, content: &[u8]) -> Result<()
 /// 1 Memory, only where the buffer had no room.
 pub fn write_context_unsigned(out: &mut Vec<u8>, number: u8, value: u32) -> Result<(), AllocError>
     requires { number < 255 }
-    ensures ok { OnOk result (out.new.items ≡ out.old.items
-        ++ in_context number (unsigned_encoding value)) }
-    ensures err { OnErr result (out.new.items ≡ out.old.items) }
-    ensures room { vec_len out.old + length (in_context number (unsigned_encoding value))
-        ≤ vec_capacity out.old
-        → IsOk result }
-    ensures capacity { vec_capacity out.old ≤ vec_capacity out.new }
+    ensures { IsAppendedWhole (in_context number (unsigned_encoding value)) out.old out.new result }
 {
     let octets = value.to_be_bytes();
     write_context(out, number, &octets[leading_zeros(value)..])
@@ -156,12 +150,7 @@ pub fn write_context_unsigned(out: &mut Vec<u8>, number: u8, value: u32) -> Resu
 /// 1 Memory, only where the buffer had no room.
 pub fn write_opening(out: &mut Vec<u8>, number: u8) -> Result<(), AllocError>
     requires { number < 255 }
-    ensures ok { OnOk result (out.new.items ≡ out.old.items ++ canonical (context number Opening)) }
-    ensures err { OnErr result (out.new.items ≡ out.old.items) }
-    ensures room { vec_len out.old + length (canonical (context number Opening))
-        ≤ vec_capacity out.old
-        → IsOk result }
-    ensures capacity { vec_capacity out.old ≤ vec_capacity out.new }
+    ensures { IsAppendedWhole (canonical (context number Opening)) out.old out.new result }
 {
     let tag = Tag {
         number,
@@ -178,12 +167,7 @@ pub fn write_opening(out: &mut Vec<u8>, number: u8) -> Result<(), AllocError>
 /// 1 Memory, only where the buffer had no room.
 pub fn write_closing(out: &mut Vec<u8>, number: u8) -> Result<(), AllocError>
     requires { number < 255 }
-    ensures ok { OnOk result (out.new.items ≡ out.old.items ++ canonical (context number Closing)) }
-    ensures err { OnErr result (out.new.items ≡ out.old.items) }
-    ensures room { vec_len out.old + length (canonical (context number Closing))
-        ≤ vec_capacity out.old
-        → IsOk result }
-    ensures capacity { vec_capacity out.old ≤ vec_capacity out.new }
+    ensures { IsAppendedWhole (canonical (context number Closing)) out.old out.new result }
 {
     let tag = Tag {
         number,

@@ -23,7 +23,7 @@ pub enum Datatype {
     Object,
 }
 
-/// The kind whose tag has this number.
+/// The kind whose application tag has this number (clause 20.2.1.4). `BadTag` for 13 and above, which are reserved.
 pub fn of_number(number: u8) -> Result<Datatype, ValueFault>
     ensures { result ≡ datatype_of number }
 {

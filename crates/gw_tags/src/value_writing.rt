@@ -1,8 +1,7 @@
 //! Writing a value behind what a buffer has (clause 20.2).
 
-ghost use Rattle.std.specs.Prelude.{◌≡◌, ◌<◌, ◌≤◌, ◌+◌, ◌∷◌, ◌++◌, ◌^◌, length, vec_len, IsOk, OnOk, OnErr};
-ghost use Rattle.std.specs.Vec.{vec_capacity};
-ghost use Rattle.gw_addr.specs.Reading.{Keeps};
+ghost use Rattle.std.specs.Prelude.{◌<◌, ◌∷◌, ◌^◌, length};
+ghost use Rattle.gw_addr.specs.Appending.{IsAppended, IsAppendedWhole};
 ghost use Rattle.gw_tags.specs.Number.{unsigned_encoding, signed_encoding};
 ghost use Rattle.gw_tags.specs.Tag.{canonical};
 ghost use Rattle.gw_tags.specs.Value.{value_view, value_encoding, application, tagged, LengthFits};
@@ -11,19 +10,13 @@ use crate::number::{leading_signs, leading_zeros};
 use crate::tag::{Kind, Tag};
 use crate::value::AppValue;
 use crate::writing::put_tag;
-use gw_addr::{put_octet, put_slice};
+use gw_addr::{keep_whole, put_octet, put_slice};
 use std::alloc::AllocError;
 
 /// A tag of application class that announces so many octets.
 fn put_header(out: &mut Vec<u8>, number: u8, count: u32) -> Result<(), AllocError>
     requires { number < 255 }
-    ensures ok { OnOk result (out.new.items ≡ out.old.items
-        ++ canonical (application number count)) }
-    ensures front { Keeps out.old.items out.new.items }
-    ensures room { vec_len out.old + length (canonical (application number count))
-        ≤ vec_capacity out.old
-        → IsOk result }
-    ensures capacity { vec_capacity out.old ≤ vec_capacity out.new }
+    ensures { IsAppended (canonical (application number count)) out.old out.new result }
 {
     let tag = Tag {
         number,
@@ -37,11 +30,7 @@ fn put_header(out: &mut Vec<u8>, number: u8, count: u32) -> Result<(), AllocErro
 fn put_content(out: &mut Vec<u8>, number: u8, content: &[u8]) -> Result<(), AllocError>
     requires numbered { number < 255 }
     requires fits { length content.now < 2 ^ 32 }
-    ensures ok { OnOk result (out.new.items ≡ out.old.items ++ tagged number content.now) }
-    ensures front { Keeps out.old.items out.new.items }
-    ensures room { vec_len out.old + length (tagged number content.now) ≤ vec_capacity out.old
-        → IsOk result }
-    ensures capacity { vec_capacity out.old ≤ vec_capacity out.new }
+    ensures { IsAppended (tagged number content.now) out.old out.new result }
 {
     put_header(out, number, content.len() as u32)?;
     put_slice(out, content)
@@ -51,12 +40,7 @@ fn put_content(out: &mut Vec<u8>, number: u8, content: &[u8]) -> Result<(), Allo
 fn put_prefixed(out: &mut Vec<u8>, number: u8, first: u8, others: &[u8]) -> Result<(), AllocError>
     requires numbered { number < 255 }
     requires fits { length (first ∷ others.now) < 2 ^ 32 }
-    ensures ok { OnOk result (out.new.items ≡ out.old.items ++ tagged number (first ∷ others.now)) }
-    ensures front { Keeps out.old.items out.new.items }
-    ensures room { vec_len out.old + length (tagged number (first ∷ others.now))
-        ≤ vec_capacity out.old
-        → IsOk result }
-    ensures capacity { vec_capacity out.old ≤ vec_capacity out.new }
+    ensures { IsAppended (tagged number (first ∷ others.now)) out.old out.new result }
 {
     put_header(out, number, others.len() as u32 + 1)?;
     put_octet(out, first)?;
@@ -65,13 +49,7 @@ fn put_prefixed(out: &mut Vec<u8>, number: u8, first: u8, others: &[u8]) -> Resu
 
 fn put_unsigned(out: &mut Vec<u8>, kind: u8, number: u32) -> Result<(), AllocError>
     requires { kind < 255 }
-    ensures ok { OnOk result (out.new.items ≡ out.old.items
-        ++ tagged kind (unsigned_encoding number)) }
-    ensures front { Keeps out.old.items out.new.items }
-    ensures room { vec_len out.old + length (tagged kind (unsigned_encoding number))
-        ≤ vec_capacity out.old
-        → IsOk result }
-    ensures capacity { vec_capacity out.old ≤ vec_capacity out.new }
+    ensures { IsAppended (tagged kind (unsigned_encoding number)) out.old out.new result }
 {
     let octets = number.to_be_bytes();
     put_content(out, kind, &octets[leading_zeros(number)..])
@@ -79,13 +57,7 @@ fn put_unsigned(out: &mut Vec<u8>, kind: u8, number: u32) -> Result<(), AllocErr
 
 fn put_signed(out: &mut Vec<u8>, kind: u8, number: i32) -> Result<(), AllocError>
     requires { kind < 255 }
-    ensures ok { OnOk result (out.new.items ≡ out.old.items
-        ++ tagged kind (signed_encoding number)) }
-    ensures front { Keeps out.old.items out.new.items }
-    ensures room { vec_len out.old + length (tagged kind (signed_encoding number))
-        ≤ vec_capacity out.old
-        → IsOk result }
-    ensures capacity { vec_capacity out.old ≤ vec_capacity out.new }
+    ensures { IsAppended (tagged kind (signed_encoding number)) out.old out.new result }
 {
     let octets = number.to_be_bytes();
     put_content(out, kind, &octets[leading_signs(number)..])
@@ -94,13 +66,7 @@ fn put_signed(out: &mut Vec<u8>, kind: u8, number: i32) -> Result<(), AllocError
 /// Appends the value. After an `Err` a front of it may stand there.
 fn put_value(out: &mut Vec<u8>, value: AppValue<'_>) -> Result<(), AllocError>
     requires { LengthFits (value_view value) }
-    ensures ok { OnOk result (out.new.items ≡ out.old.items
-        ++ value_encoding (value_view value.entry)) }
-    ensures front { Keeps out.old.items out.new.items }
-    ensures room { vec_len out.old + length (value_encoding (value_view value.entry))
-        ≤ vec_capacity out.old
-        → IsOk result }
-    ensures capacity { vec_capacity out.old ≤ vec_capacity out.new }
+    ensures { IsAppended (value_encoding (value_view value.entry)) out.old out.new result }
 {
     match value {
         AppValue::Null => put_header(out, 0, 0),
@@ -127,18 +93,9 @@ fn put_value(out: &mut Vec<u8>, value: AppValue<'_>) -> Result<(), AllocError>
 pub fn write_value(out: &mut Vec<u8>, value: AppValue<'_>) -> Result<(), AllocError>
     // A content has fewer than 2 to the power of 32 octets.
     requires { LengthFits (value_view value) }
-    ensures ok { OnOk result (out.new.items ≡ out.old.items
-        ++ value_encoding (value_view value.entry)) }
-    ensures err { OnErr result (out.new.items ≡ out.old.items) }
-    ensures room { vec_len out.old + length (value_encoding (value_view value.entry))
-        ≤ vec_capacity out.old
-        → IsOk result }
-    ensures capacity { vec_capacity out.old ≤ vec_capacity out.new }
+    ensures { IsAppendedWhole (value_encoding (value_view value.entry)) out.old out.new result }
 {
     let len = out.len();
     let written = put_value(out, value);
-    if written.is_err() {
-        out.truncate(len);
-    }
-    written
+    keep_whole(out, len, written)
 }

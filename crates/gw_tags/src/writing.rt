@@ -1,12 +1,11 @@
 //! Writing a tag behind what a buffer has (clause 20.2.1).
 
-ghost use Rattle.std.specs.Prelude.{◌≡◌, ◌<◌, ◌≤◌, ◌+◌, ◌*◌, ◌++◌, length, vec_len, IsOk, IsErr, OnOk, OnErr};
-ghost use Rattle.std.specs.Vec.{vec_capacity};
-ghost use Rattle.gw_addr.specs.Reading.{Keeps};
+ghost use Rattle.std.specs.Prelude.{◌≡◌, ◌<◌, ◌+◌, ◌*◌};
+ghost use Rattle.gw_addr.specs.Appending.{IsAppended, IsAppendedWhole};
 ghost use Rattle.gw_tags.specs.Tag.{tag_view, class_of, low_of, length_octets, shortest_length, canonical};
 
 use crate::tag::{Kind, Tag};
-use gw_addr::{put_long_number, put_number, put_octet};
+use gw_addr::{keep_whole, put_long_number, put_number, put_octet};
 use std::alloc::AllocError;
 
 fn low_bits(kind: Kind) -> u8
@@ -22,13 +21,7 @@ fn low_bits(kind: Kind) -> u8
 }
 
 fn put_length(out: &mut Vec<u8>, kind: Kind) -> Result<(), AllocError>
-    ensures ok { OnOk result (out.new.items ≡ out.old.items
-        ++ length_octets kind (shortest_length kind)) }
-    ensures front { Keeps out.old.items out.new.items }
-    ensures capacity { vec_capacity out.old ≤ vec_capacity out.new }
-    ensures room { vec_len out.old + length (length_octets kind (shortest_length kind))
-        ≤ vec_capacity out.old
-        → IsOk result }
+    ensures { IsAppended (length_octets kind (shortest_length kind)) out.old out.new result }
 {
     match kind {
         Kind::Length(length) if length < 5 => {}
@@ -63,11 +56,7 @@ fn first_octet(high: u8, context: bool, low: u8) -> u8
 
 /// Appends the shortest tag_encoding of the tag. After an `Err` a front of it may stand there.
 pub fn put_tag(out: &mut Vec<u8>, tag: Tag) -> Result<(), AllocError>
-    ensures ok { OnOk result (out.new.items ≡ out.old.items ++ canonical (tag_view tag)) }
-    ensures front { Keeps out.old.items out.new.items }
-    ensures capacity { vec_capacity out.old ≤ vec_capacity out.new }
-    ensures room { vec_len out.old + length (canonical (tag_view tag)) ≤ vec_capacity out.old
-        → IsOk result }
+    ensures { IsAppended (canonical (tag_view tag)) out.old out.new result }
 {
     let low = low_bits(tag.kind);
     if tag.number < 15 {
@@ -86,16 +75,9 @@ pub fn put_tag(out: &mut Vec<u8>, tag: Tag) -> Result<(), AllocError>
 ///
 /// 1 Memory, only where the buffer had no room for the tag.
 pub fn write_tag(out: &mut Vec<u8>, tag: Tag) -> Result<(), AllocError>
-    ensures ok { OnOk result (out.new.items ≡ out.old.items ++ canonical (tag_view tag)) }
-    ensures err { OnErr result (out.new.items ≡ out.old.items) }
-    ensures room { vec_len out.old + length (canonical (tag_view tag)) ≤ vec_capacity out.old
-        → IsOk result }
-    ensures capacity { vec_capacity out.old ≤ vec_capacity out.new }
+    ensures { IsAppendedWhole (canonical (tag_view tag)) out.old out.new result }
 {
     let len = out.len();
     let written = put_tag(out, tag);
-    if written.is_err() {
-        out.truncate(len);
-    }
-    written
+    keep_whole(out, len, written)
 }

@@ -2,8 +2,8 @@
 use Rattle.std.specs.Prelude.{ℕ, List, length, Option, Some, None, nat_le, if◌then◌else◌}
 use Rattle.gw_bvll.specs.Bvll.{encoding}
 use Rattle.gw_bvll.specs.Bvll.{Message as Frame}
-use Rattle.gw_relay.specs.Sends.{max_message}
+use Rattle.gw_bvll.specs.declared.writing.TheConstants.{MAX_LEN}
 
 abbrev pub within : Frame → Option (List ℕ)
 within message =
-    if nat_le (length (encoding message)) max_message then Some (encoding message) else None
+    if nat_le (length (encoding message)) MAX_LEN then Some (encoding message) else None
