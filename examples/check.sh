@@ -241,6 +241,15 @@ printf '[[port]]\nnetwork = 3\naddress = "127.5.0.10:47808"\nbroadcast = "127.5.
 taken 127.5.0.10 3 own
 taken 127.5.0.255 3 broadcast
 
+# Each socket of eight ports is heard that was empty a moment ago, and in a flood at another one.
+for number in 4 5 6 7 8; do
+    printf '[[port]]\nnetwork = %s\naddress = "127.%s.0.10:47808"\nbroadcast = "127.%s.0.255:47808"\n' "$number" $((number + 2)) $((number + 2))
+done >> "$work/served.toml"
+python3 "$here/loopback.py" ports "$program" "$work/served.toml" 8 > "$work/out" 2>&1
+same 'each socket of eight ports is heard' "$(cat "$work/out")" '48 of 48 reads are answered
+48 of 48 in a flood at 127.3.0.10
+48 of 48 in a flood at 127.4.0.255'
+
 # A configuration of many octets is read whole: its last rule stands behind them.
 for octets in 4000 900000; do
     { cat "$here/two_subnets.toml"; head -c "$octets" /dev/zero | tr '\0' '#'; printf '\n[[rule]]\nname = "last"\nallow = true\n'; } > "$work/long.toml"

@@ -3,6 +3,7 @@
     loopback.py serve PROGRAM FILE LOG       reads points by each of its sockets, also behind a pause, and ends it by SIGTERM
     loopback.py taken PROGRAM FILE ADDRESS   runs it while a socket stands at this address
     loopback.py rotate PROGRAM FILE LOG      copies the log to LOG.1 and cuts it between two denied reads
+    loopback.py ports PROGRAM FILE COUNT     reads a point by each socket of so many ports, while nothing else comes and in a flood
 
 It prints the answers in hexadecimal and the exit status; what the gateway tells goes to standard error.
 """
@@ -13,10 +14,13 @@ import signal
 import socket
 import subprocess
 import sys
+import threading
 import time
 
 CLIENT, PORT_1, PORT_2, UDP = "127.3.0.5", "127.3.0.10", "127.4.0.10", 47808
 BROADCAST_1, BROADCAST_2 = "127.3.0.255", "127.4.0.255"
+FLOODER = "127.3.0.6"
+READ_FAN = bytes.fromhex("810A0016012400640101FF00050D0C0C014000011955")
 PAUSE = 2.5  # seconds without a datagram
 
 
@@ -87,4 +91,52 @@ def rotate(program, file, log):
         gateway.wait(timeout=10)
 
 
-{"serve": serve, "taken": taken, "rotate": rotate}[sys.argv[1]](*sys.argv[2:])
+def flood(to, is_over):
+    """Keeps 64 reads in flight at a socket, until it is over."""
+    line = socket.socket(socket.AF_INET, socket.SOCK_DGRAM)
+    line.bind((FLOODER, UDP))
+    line.settimeout(0.2)
+    for _ in range(64):
+        line.sendto(READ_FAN, (to, UDP))
+    while not is_over.is_set():
+        try:
+            line.recvfrom(1508)
+        except socket.timeout:
+            pass
+        line.sendto(READ_FAN, (to, UDP))
+    line.close()
+
+
+def answered(line, address):
+    """Whether a read by the socket at this address is answered."""
+    line.sendto(READ_FAN, (address, UDP))
+    try:
+        return line.recvfrom(1508)[0][:2] == b"\x81\x0a"
+    except socket.timeout:
+        return False
+
+
+def ports(program, file, count):
+    """Reads the fan by each socket of so many ports, each of which was empty a moment ago: three times while nothing else comes, and
+    three times while another socket is flooded."""
+    sockets = [f"127.{number}.0.{host}" for number in range(3, 3 + int(count)) for host in (10, 255)]
+    gateway = subprocess.Popen([program, "run", "--config", file, "--verbose"], stdin=subprocess.DEVNULL, stderr=subprocess.PIPE)
+    try:
+        gateway.stderr.readline()
+        line = open_line(CLIENT)
+        quiet = sum(answered(line, address) for _ in range(3) for address in sockets)
+        print(f"{quiet} of {3 * len(sockets)} reads are answered")
+        for flooded in (PORT_1, BROADCAST_2):
+            is_over = threading.Event()
+            flooder = threading.Thread(target=flood, args=(flooded, is_over))
+            flooder.start()
+            loud = sum(answered(line, address) for _ in range(3) for address in sockets)
+            is_over.set()
+            flooder.join()
+            print(f"{loud} of {3 * len(sockets)} in a flood at {flooded}")
+    finally:
+        gateway.terminate()
+        gateway.wait(timeout=10)
+
+
+{"serve": serve, "taken": taken, "rotate": rotate, "ports": ports}[sys.argv[1]](*sys.argv[2:])

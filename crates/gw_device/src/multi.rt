@@ -22,7 +22,7 @@ use gw_apdu::{ConfirmedRequest, write_complex};
 use gw_objects::{ObjectDb, Property, PropertySet, properties};
 use gw_rules::{Ask, Authorizer, Judge, Operation, Service};
 use gw_services::{
-    MultiReq, READ_PROPERTY_MULTIPLE, Reference, list_ends, put_list_head, put_list_tail,
+    MultiReq, READ_PROPERTY_MULTIPLE, Reference, list_ends, write_list_head, write_list_tail,
     write_error_item, write_value_item_head, write_value_item_tail,
 };
 use gw_tags::ObjectId;
@@ -244,7 +244,7 @@ fn put_reference<J: Judge>(
     ensures judge { authorizer.new.judge ≡ authorizer.old.judge }
 {
     let object = named_object(objects.configured(), reference.object);
-    put_list_head(out, reference.begins, object)?;
+    write_list_head(out, reference.begins, object)?;
     put_named(
         objects,
         authorizer,
@@ -254,7 +254,7 @@ fn put_reference<J: Judge>(
         reference.index,
         out,
     )?;
-    put_list_tail(out, ends)
+    write_list_tail(out, ends)
 }
 
 /// Appends what references ask for, in their order.

@@ -1,4 +1,5 @@
 pub mod Socket
+pub mod Watch
 pub mod SockPair
 pub mod Ports
 pub mod Timed

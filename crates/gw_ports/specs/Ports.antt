@@ -8,7 +8,7 @@ use Rattle.gw_core.specs.declared.wire.Got.{Got}
 use Rattle.gw_core.specs.declared.wire.Got.TheVariants as got
 use Rattle.gw_core.specs.declared.wire.WireFault.{WireFault}
 use Rattle.gw_core.specs.declared.wire.WireFault.TheVariants as wire_fault
-use Rattle.gw_ports.specs.SockPair.{ArePassed, IsAnswer}
+use Rattle.gw_ports.specs.SockPair.{ArePassed, AreWoken, IsAnswer}
 use Rattle.gw_ports.specs.Socket.{Answer}
 
 -- ---- the ports
@@ -113,3 +113,11 @@ pub data IsNext {S : Type 0} (looks : S → ℕ) (empty : S → Bool) (Answered 
       AreAskedInTurn looks empty Answered before.pairs (last_number before.last) pairs (Some (place, said)) buffer →
       after ≡ handed_in place said (asked pairs before) → given ≡ got_of (place + 1) said →
       IsNext looks empty Answered before after buffer given
+
+-- ---- what came while it was waited
+
+-- Of all sockets it is noted where something may wait, by the numbers of those at which nothing came.
+pub record AreAllWoken {S : Type 0} (Quiet : ℕ → Type 0) (before after : Ports S) : Type 0 where
+  pub each : (place : ℕ) → place < length before.pairs → AtPlace before.pairs after.pairs place (AreWoken Quiet place)
+  pub count : length after.pairs ≡ length before.pairs
+  pub rest : after ≡ asked after.pairs before

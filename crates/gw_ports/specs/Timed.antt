@@ -1,11 +1,13 @@
 -- How time passes at the ports: in whole seconds, each of which is a tick.
 use Rattle.std.specs.Prelude.{◌≡◌, ℕ, ◌+◌, ◌-◌, ◌*◌, ◌/◌, ◌%◌, ◌^◌, min, Bool, true, false, List, Result, Ok, Err}
 use Rattle.std.specs.Duration.{as_nanos, max_nanos}
+use Rattle.std.specs.List.{list_any}
 use Rattle.gw_core.specs.declared.wire.Got.{Got}
 use Rattle.gw_core.specs.declared.wire.Got.TheVariants as got
 use Rattle.gw_core.specs.declared.wire.WireFault.{WireFault}
-use Rattle.gw_ports.specs.Ports.{IsNext, Ports}
+use Rattle.gw_ports.specs.Ports.{AreAllWoken, IsNext, Ports}
 use Rattle.gw_ports.specs.Socket.{Answer}
+use Rattle.gw_ports.specs.SockPair.{is_awake}
 use Rattle.gw_ports.specs.declared.timed.TimedPorts.{TimedPorts}
 
 -- how many nanoseconds a second has
@@ -47,22 +49,36 @@ is_idle (Ok got.Idle) = true
 is_idle (Ok came) = false
 is_idle (Err fault) = false
 
+-- It was waited so long at most, and then noted where something may have come.
+pub record HasWaited {S C P : Type 0} (Waited Quiet : P → ℕ → Type 0) (before after : TimedPorts S C P) (most : ℕ) : Type 0 where
+  pub waited : Waited after.waiter most
+  pub woken : AreAllWoken (Quiet after.waiter) before.ports after.ports
+  pub counted : after.counted ≡ before.counted
+
+-- Where something may wait at a socket the waiter told, without a wait, where more came; else that is left to the wait behind it.
+pub record HasLooked {S C P : Type 0} (Waited Quiet : P → ℕ → Type 0) (before after : TimedPorts S C P) : Type 0 where
+  pub awake : list_any is_awake before.ports.pairs ≡ true → HasWaited Waited Quiet before after 0
+  pub asleep : list_any is_awake before.ports.pairs ≡ false → after ≡ before
+
 -- It was waited so long at most, then the seconds were counted, and this came next.
-pub record IsReceivedLater {S C P : Type 0} (Told : C → ℕ → Type 0) (Waited : P → ℕ → Type 0) (Follows : Following S)
+pub record IsReceivedLater {S C P : Type 0} (Told : C → ℕ → Type 0) (Waited Quiet : P → ℕ → Type 0) (Follows : Following S)
     (before after : TimedPorts S C P) (most : ℕ) (buffer : List ℕ) (given : Got) : Type 0 where
+  pub woken : TimedPorts S C P
   pub counted : TimedPorts S C P
   pub left : ℕ
-  pub waited : Waited after.waiter most
-  pub counts : IsCounted Told before counted left
+  pub waits : HasWaited Waited Quiet before woken most
+  pub waiter : after.waiter ≡ woken.waiter
+  pub counts : IsCounted Told woken counted left
   pub follows : Follows counted.ports after.ports buffer given
 
--- The seconds were counted, and something came next; or nothing did, and it was waited for as long as is left of the second.
-pub data IsReceived {S C P : Type 0} (Told : C → ℕ → Type 0) (Waited : P → ℕ → Type 0) (Follows : Following S)
+-- The seconds were counted, it was looked for what came, and something came next; or nothing did, and it was waited for as long as is left
+-- of the second.
+pub data IsReceived {S C P : Type 0} (Told : C → ℕ → Type 0) (Waited Quiet : P → ℕ → Type 0) (Follows : Following S)
     (before after : TimedPorts S C P) (buffer : List ℕ) (given : Got) : Type 0 where
-  at_once : (counted : TimedPorts S C P) (left : ℕ) → IsCounted Told before counted left →
-      Follows counted.ports after.ports buffer given → is_idle (Ok given) ≡ false →
-      IsReceived Told Waited Follows before after buffer given
-  later : (counted idle : TimedPorts S C P) (left : ℕ) (held : List ℕ) → IsCounted Told before counted left →
-      Follows counted.ports idle.ports held got.Idle → idle.counted ≡ counted.counted →
-      IsReceivedLater Told Waited Follows idle after left buffer given →
-      IsReceived Told Waited Follows before after buffer given
+  at_once : (counted looked : TimedPorts S C P) (left : ℕ) → IsCounted Told before counted left →
+      HasLooked Waited Quiet counted looked → Follows looked.ports after.ports buffer given → is_idle (Ok given) ≡ false →
+      IsReceived Told Waited Quiet Follows before after buffer given
+  later : (counted looked idle : TimedPorts S C P) (left : ℕ) (held : List ℕ) → IsCounted Told before counted left →
+      HasLooked Waited Quiet counted looked → Follows looked.ports idle.ports held got.Idle → idle.counted ≡ looked.counted →
+      IsReceivedLater Told Waited Quiet Follows idle after left buffer given →
+      IsReceived Told Waited Quiet Follows before after buffer given

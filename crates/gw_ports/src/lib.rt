@@ -10,10 +10,12 @@ mod timed;
 mod timepiece;
 mod turns;
 mod waiter;
+mod watch;
 
 pub use ports::Ports;
 pub use sock_pair::SockPair;
 pub use socket::{Sock, SockFault};
 pub use timed::TimedPorts;
 pub use timepiece::Timepiece;
-pub use waiter::Waiter;
+pub use waiter::{Waiter, socket_number};
+pub use watch::Watch;

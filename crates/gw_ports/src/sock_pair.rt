@@ -1,10 +1,14 @@
 //! The two sockets of a port.
 
+ghost use Rattle.gw_addr.specs.declared.TheConstants.{MAX_PORTS};
 ghost use Rattle.std.specs.Prelude.{◌≡◌, ◌≢◌, ◌+◌, ◌≤◌, ◌<◌, ◌^◌, true, false, length, IfOk, IfSome, OnOk};
 ghost use Rattle.gw_ports.specs.Socket.{FitsBuffer, is_nothing};
-ghost use Rattle.gw_ports.specs.SockPair.{ArePassed, HasAnswered, IsAnswer, IsPassed};
+ghost use Rattle.gw_ports.specs.SockPair.{ArePassed, AreWoken, IsAnswer, is_awake};
+ghost use Rattle.gw_ports.specs.Watch.{HasAnswered, IsPassed};
 
 use crate::socket::{Sock, SockFault};
+use crate::waiter::{Waiter, socket_number};
+use crate::watch::Watch;
 use gw_addr::BipAddr;
 use gw_core::RECEIVE_ROOM;
 
@@ -13,32 +17,50 @@ use gw_core::RECEIVE_ROOM;
 #[derive(Drop)]
 pub struct SockPair<S> {
     /// The socket of the port's own address.
-    pub own: S,
+    pub own: Watch<S>,
     /// The socket of its broadcast address.
-    pub broadcast: S,
+    pub broadcast: Watch<S>,
     /// Whether the own one is asked first.
     pub own_first: bool,
 }
 
 impl<S: Sock> SockPair<S> {
-    /// The sockets of a port, of which the own one is asked first.
+    /// The sockets of a port, of which the own one is asked first. Something may wait at both.
     pub fn new(own: S, broadcast: S) -> Self
-        ensures own { result.own ≡ own }
-        ensures broadcast { result.broadcast ≡ broadcast }
+        ensures own { result.own ≡ record { socket = own; is_awake = true } }
+        ensures broadcast { result.broadcast ≡ record { socket = broadcast; is_awake = true } }
         ensures first { result.own_first ≡ true }
     {
         SockPair {
-            own,
-            broadcast,
+            own: Watch::new(own),
+            broadcast: Watch::new(broadcast),
             own_first: true,
         }
     }
 
+    /// Whether something may wait at one of the two.
+    pub(crate) fn is_awake(&self) -> bool
+        ensures { result ≡ is_awake self.now }
+    {
+        self.own.is_awake || self.broadcast.is_awake
+    }
+
+    /// Notes at which of the two something may have come when it was last waited. The port is at this
+    /// place among all, from 0.
+    pub(crate) fn wake<P: Waiter>(&mut self, place: usize, waiter: &P)
+        requires { place < MAX_PORTS }
+        ensures { AreWoken (P.Quiet waiter.now) place self.old self.new }
+    {
+        self.own.wake(waiter.has_come(socket_number(place, true)));
+        self.broadcast
+            .wake(waiter.has_come(socket_number(place, false)));
+    }
+
     /// Sends a datagram by the own socket.
     pub(crate) fn send(&mut self, to: BipAddr, octets: &[u8]) -> Result<(), SockFault>
-        ensures { OnOk result (S.Sent self.new.own to octets.now) }
+        ensures { OnOk result (S.Sent self.new.own.socket to octets.now) }
     {
-        self.own.send_to(to, octets)
+        self.own.socket.send_to(to, octets)
     }
 
     /// Asks the own socket.
@@ -52,7 +74,7 @@ impl<S: Sock> SockPair<S> {
         ensures answered { is_nothing result ≡ false →
             HasAnswered S.look_count S.is_empty self.old.own self.new.own }
         ensures turns { is_nothing result ≡ false → self.new.own_first ≡ false }
-        ensures answer { S.Answered self.new.own result buf.new }
+        ensures answer { is_nothing result ≡ false → S.Answered self.new.own.socket result buf.new }
         ensures other { self.new.broadcast ≡ self.old.broadcast }
         ensures fits { FitsBuffer result }
     {
@@ -74,7 +96,8 @@ impl<S: Sock> SockPair<S> {
         ensures answered { is_nothing result ≡ false →
             HasAnswered S.look_count S.is_empty self.old.broadcast self.new.broadcast }
         ensures turns { is_nothing result ≡ false → self.new.own_first ≡ true }
-        ensures answer { S.Answered self.new.broadcast result buf.new }
+        ensures answer { is_nothing result ≡ false →
+            S.Answered self.new.broadcast.socket result buf.new }
         ensures other { self.new.own ≡ self.old.own }
         ensures fits { FitsBuffer result }
     {

@@ -1,10 +1,10 @@
 //! The ports and a clock: each second that passes is a tick, and where nothing waits it is waited for.
 
-ghost use Rattle.std.specs.Prelude.{◌≡◌, ◌+◌, ◌-◌, ◌*◌, ◌<◌, ◌^◌, ◌∷◌, [], length, min, slice_index_or, IfOk, OnOk, None};
+ghost use Rattle.std.specs.Prelude.{◌≡◌, ◌+◌, ◌-◌, ◌*◌, ◌<◌, ◌^◌, ◌∷◌, [], length, min, slice_index_or, true, false, IfOk, OnOk, None};
 ghost use Rattle.std.specs.Duration.{as_nanos, max_nanos};
 ghost use Rattle.gw_core.specs.Wire.{IsHandedIn, Tells, failures_of, receive_answer, receive_call, send_call};
 ghost use Rattle.gw_ports.specs.declared.sock_pair.SockPair.{SockPair};
-ghost use Rattle.gw_ports.specs.Timed.{ComesNext, IsCounted, IsReceived, IsReceivedLater, is_idle, rest_between, second, seconds_between, with_due};
+ghost use Rattle.gw_ports.specs.Timed.{ComesNext, HasLooked, HasWaited, IsCounted, IsReceived, IsReceivedLater, is_idle, rest_between, second, seconds_between, with_due};
 
 use crate::ports::Ports;
 use crate::socket::Sock;
@@ -17,7 +17,8 @@ use std::time::Duration;
 
 /// The ports as a wire in time. Before each receive the whole seconds are counted that passed since
 /// the last look at the clock, and so many ticks are due. Where nothing waits it waits for a
-/// datagram, up to the next second, and then asks once more.
+/// datagram, up to the next second, and then asks once more. Only sockets are asked at which
+/// something may wait, by what the waiter tells.
 #[derive(Drop)]
 pub struct TimedPorts<S, C, P> {
     /// The sockets of all ports, and the ticks that are due.
@@ -83,31 +84,79 @@ impl<S: Sock, C: Timepiece, P: Waiter> TimedPorts<S, C, P> {
         Ok(self.advance(now))
     }
 
+    /// Waits for a datagram, so long at most, and notes at which sockets one may have come.
+    fn wait(&mut self, most: Duration) -> io::Result<()>
+        ensures waits { OnOk result
+            (HasWaited P.Waited P.Quiet self.old self.new (as_nanos most)) }
+        ensures count { length self.new.ports.pairs ≡ length self.old.ports.pairs }
+        ensures failures { self.new.ports.failures ≡ self.old.ports.failures }
+    {
+        self.waiter.wait(most)?;
+        self.ports.wake(&self.waiter);
+        Ok(())
+    }
+
+    /// Notes at which sockets a datagram may have come, where something may wait already, so that it
+    /// keeps none from its turn. It doesn't wait.
+    fn look(&mut self) -> io::Result<()>
+        ensures looks { OnOk result (HasLooked P.Waited P.Quiet self.old self.new) }
+        ensures count { length self.new.ports.pairs ≡ length self.old.ports.pairs }
+        ensures failures { self.new.ports.failures ≡ self.old.ports.failures }
+    {
+        if self.ports.is_any_awake() {
+            self.wait(Duration::ZERO)
+        } else {
+            Ok(())
+        }
+    }
+
     /// Waits for a datagram, so long at most, and receives what has come then.
     fn recv_later(&mut self, most: Duration, buf: &mut [u8; RECEIVE_ROOM]) -> Result<Got, WireFault>
         requires { self.old.ports.failures < 2 ^ 128 - 1 }
-        ensures later { IfOk result (IsReceivedLater C.Told P.Waited
+        ensures later { IfOk result (IsReceivedLater C.Told P.Waited P.Quiet
             (ComesNext S.look_count S.is_empty S.Answered) self.old self.new (as_nanos most) buf.new) }
         ensures count { length self.new.ports.pairs ≡ length self.old.ports.pairs }
         ensures handed_in { IfOk result (IsHandedIn (length self.new.ports.pairs)) }
         ensures failures { self.new.ports.failures
             ≡ self.old.ports.failures + failures_of result }
     {
-        let Ok(()) = self.waiter.wait(most) else {
+        let Ok(()) = self.wait(most) else {
             return Err(self.ports.fail());
         };
         let Ok(_left) = self.count_seconds() else {
             return Err(self.ports.fail());
         };
-        self.ports.next(buf)
+        match self.ports.next(buf) {
+            Ok(given) => Ok(given),
+            Err(fault) => Err(fault),
+        }
     }
-}
 
-/// Whether nothing came.
-fn is_idle(given: &Result<Got, WireFault>) -> bool
-    ensures { result ≡ is_idle given.now }
-{
-    matches!(given, Ok(Got::Idle))
+    /// What came, or where nothing did, what comes later: it is waited so long at most.
+    fn recv_behind(
+        &mut self,
+        came: Result<Got, WireFault>,
+        most: Duration,
+        buf: &mut [u8; RECEIVE_ROOM],
+    ) -> Result<Got, WireFault>
+        requires failures { is_idle came ≡ true → self.old.ports.failures < 2 ^ 128 - 1 }
+        requires handed_in { IfOk came (IsHandedIn (length self.old.ports.pairs)) }
+        ensures came { is_idle came ≡ false → result ≡ came }
+        ensures stays { is_idle came ≡ false → self.new ≡ self.old }
+        ensures buffer { is_idle came ≡ false → buf.new ≡ buf.old }
+        ensures later { is_idle came ≡ true →
+            IfOk result (IsReceivedLater C.Told P.Waited P.Quiet
+            (ComesNext S.look_count S.is_empty S.Answered) self.old self.new (as_nanos most) buf.new) }
+        ensures count { length self.new.ports.pairs ≡ length self.old.ports.pairs }
+        ensures handed_in { IfOk result (IsHandedIn (length self.new.ports.pairs)) }
+        ensures failures { self.new.ports.failures + failures_of came
+            ≡ self.old.ports.failures + failures_of result }
+    {
+        match came {
+            Ok(Got::Idle) => self.recv_later(most, buf),
+            Ok(Got::Datagram { .. }) | Ok(Got::Tick) | Err(_) => came,
+        }
+    }
 }
 
 impl<S: Sock, C: Timepiece, P: Waiter> Wire for TimedPorts<S, C, P> {
@@ -127,7 +176,7 @@ impl<S: Sock, C: Timepiece, P: Waiter> Wire for TimedPorts<S, C, P> {
 
     fn recv(&mut self, buf: &mut [u8; RECEIVE_ROOM]) -> Result<Got, WireFault>
         requires { self.old.ports.failures < 2 ^ 128 - 1 }
-        ensures received { IfOk result (IsReceived C.Told P.Waited
+        ensures received { IfOk result (IsReceived C.Told P.Waited P.Quiet
             (ComesNext S.look_count S.is_empty S.Answered) self.old self.new buf.new) }
         ensures ports { length self.new.ports.pairs ≡ length self.old.ports.pairs }
         ensures handed_in { IfOk result (IsHandedIn (length self.new.ports.pairs)) }
@@ -139,18 +188,17 @@ impl<S: Sock, C: Timepiece, P: Waiter> Wire for TimedPorts<S, C, P> {
         let Ok(most) = self.count_seconds() else {
             return Err(self.ports.fail());
         };
-        let given = self.ports.next(buf);
-        if is_idle(&given) {
-            self.recv_later(most, buf)
-        } else {
-            given
-        }
+        let Ok(()) = self.look() else {
+            return Err(self.ports.fail());
+        };
+        let came = self.ports.next(buf);
+        self.recv_behind(came, most, buf)
     }
 
     fn send(&mut self, port: u8, to: BipAddr, octets: &[u8]) -> Result<(), WireFault>
         requires { self.old.ports.failures < 2 ^ 128 - 1 }
         ensures sent { (d : SockPair S) →
-            OnOk result (S.Sent (slice_index_or self.new.ports.pairs (port - 1) d).own to octets.now) }
+            OnOk result (S.Sent (slice_index_or self.new.ports.pairs (port - 1) d).own.socket to octets.now) }
         ensures ports { length self.new.ports.pairs ≡ length self.old.ports.pairs }
         ensures calls { let call = send_call result (record { port = port; to = to; octets = octets.now }) in
             Tells None None (call ∷ []) }

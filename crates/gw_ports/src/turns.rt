@@ -5,11 +5,14 @@ ghost use Rattle.gw_addr.specs.declared.TheConstants.{MAX_PORTS};
 ghost use Rattle.gw_ports.specs.declared.sock_pair.SockPair.{SockPair};
 ghost use Rattle.gw_ports.specs.Socket.{FitsBuffer};
 ghost use Rattle.gw_core.specs.Wire.{IsHandedIn, Tells, failures_of, receive_answer, receive_call, send_call};
-ghost use Rattle.gw_ports.specs.Ports.{AreAsked, AreAskedInTurn, IsNext, asked, got_of, handed_in, last_number, some_answer};
+ghost use Rattle.std.specs.List.{list_any};
+ghost use Rattle.gw_ports.specs.Ports.{AreAllWoken, AreAsked, AreAskedInTurn, IsNext, asked, got_of, handed_in, last_number, some_answer};
+ghost use Rattle.gw_ports.specs.SockPair.{is_awake};
 
 use crate::ports::Ports;
 use crate::sock_pair::SockPair;
 use crate::socket::{Sock, SockFault};
+use crate::waiter::Waiter;
 use gw_addr::BipAddr;
 use gw_core::{Got, RECEIVE_ROOM, Wire, WireFault};
 
@@ -84,12 +87,28 @@ impl<S: Sock> Ports<S> {
         }
     }
 
+    /// Whether something may wait at any socket.
+    pub(crate) fn is_any_awake(&self) -> bool
+        ensures { result ≡ list_any is_awake self.now.pairs }
+    {
+        self.pairs.iter().any(|pair| pair.is_awake())
+    }
+
+    /// Notes at which sockets something may have come when it was last waited.
+    pub(crate) fn wake<P: Waiter>(&mut self, waiter: &P)
+        ensures { AreAllWoken (P.Quiet waiter.now) self.old self.new }
+    {
+        for place in 0..self.count() {
+            self.pairs[place].wake(place, waiter);
+        }
+    }
+
     /// Sends a datagram by the own socket of the port of this number.
     fn send_on(&mut self, port: u8, to: BipAddr, octets: &[u8]) -> Result<(), SockFault>
         ensures count { length self.new.pairs ≡ length self.old.pairs }
         ensures rest { self.new ≡ asked self.new.pairs self.old }
         ensures sent { (d : SockPair S) →
-            OnOk result (S.Sent (slice_index_or self.new.pairs (port - 1) d).own to octets.now) }
+            OnOk result (S.Sent (slice_index_or self.new.pairs (port - 1) d).own.socket to octets.now) }
     {
         if port == 0 || usize::from(port) > self.pairs.len() {
             return Err(SockFault::Failed);
@@ -219,7 +238,7 @@ impl<S: Sock> Wire for Ports<S> {
     fn send(&mut self, port: u8, to: BipAddr, octets: &[u8]) -> Result<(), WireFault>
         requires { self.old.failures < 2 ^ 128 - 1 }
         ensures sent { (d : SockPair S) →
-            OnOk result (S.Sent (slice_index_or self.new.pairs (port - 1) d).own to octets.now) }
+            OnOk result (S.Sent (slice_index_or self.new.pairs (port - 1) d).own.socket to octets.now) }
         ensures ports { length self.new.pairs ≡ length self.old.pairs }
         ensures calls { let call = send_call result (record { port = port; to = to; octets = octets.now }) in
             Tells None None (call ∷ []) }

@@ -29,7 +29,7 @@ pub use fault::BodyFault;
 pub use i_am::{decode_i_am, encode_i_am};
 pub use i_have::{decode_i_have, encode_i_have};
 pub use multi::{
-    MAX_REFERENCES, decode_multi, encode_multi, list_ends, put_list_head, put_list_tail,
+    MAX_REFERENCES, decode_multi, encode_multi, list_ends, write_list_head, write_list_tail,
 };
 pub use multi_req::{MultiReq, Reference};
 pub use next::Next;

@@ -202,9 +202,8 @@ pub fn decode_multi(alloc: Global, octets: &[u8]) -> Result<MultiReq, BodyFault>
     read(alloc, octets)
 }
 
-/// Appends the head of an object's list, in a request or its answer, where a list begins: [0] the object,
-/// [1] opening (clause 15.7). After an `Err` a front of it may stand there.
-pub fn put_list_head(out: &mut Vec<u8>, begins: bool, object: ObjectId) -> Result<(), AllocError>
+/// The head of an object's list, where a list begins.
+fn put_list_head(out: &mut Vec<u8>, begins: bool, object: ObjectId) -> Result<(), AllocError>
     ensures { IsAppended (head_part begins (object_view object)) out.old out.new result }
 {
     if begins {
@@ -214,14 +213,46 @@ pub fn put_list_head(out: &mut Vec<u8>, begins: bool, object: ObjectId) -> Resul
     Ok(())
 }
 
-/// Appends the end of an object's list, where a list ends: [1] closing.
-pub fn put_list_tail(out: &mut Vec<u8>, ends: bool) -> Result<(), AllocError>
+/// The end of an object's list, where a list ends.
+fn put_list_tail(out: &mut Vec<u8>, ends: bool) -> Result<(), AllocError>
     ensures { IsAppended (tail_part ends) out.old out.new result }
 {
     if ends {
         write_closing(out, 1)?;
     }
     Ok(())
+}
+
+/// Appends the head of an object's list, in a request or its answer, where a list begins: [0] the object,
+/// [1] opening (clause 15.7). The buffer keeps what it held, also after an error.
+///
+/// # Errors
+///
+/// 1 Memory, only where the buffer had no room.
+pub fn write_list_head(
+    out: &mut Vec<u8>,
+    begins: bool,
+    object: ObjectId,
+) -> Result<(), AllocError>
+    ensures { IsAppendedWhole (head_part begins (object_view object)) out.old out.new result }
+{
+    let len = out.len();
+    let written = put_list_head(out, begins, object);
+    keep_whole(out, len, written)
+}
+
+/// Appends the end of an object's list, where a list ends: [1] closing (clause 15.7). The buffer keeps
+/// what it held, also after an error.
+///
+/// # Errors
+///
+/// 1 Memory, only where the buffer had no room.
+pub fn write_list_tail(out: &mut Vec<u8>, ends: bool) -> Result<(), AllocError>
+    ensures { IsAppendedWhole (tail_part ends) out.old out.new result }
+{
+    let len = out.len();
+    let written = put_list_tail(out, ends);
+    keep_whole(out, len, written)
 }
 
 /// A property, and its index where it is given.

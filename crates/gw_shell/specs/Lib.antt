@@ -10,3 +10,4 @@ pub mod Opening
 pub mod Program
 pub mod Replay
 pub mod Serving
+pub mod Waiting

@@ -17,9 +17,6 @@ use std::io;
 use std::io::ErrorKind;
 use std::net::{Ipv4Addr, Net, SocketAddr, SocketAddrV4};
 
-/// The token of each socket. All are asked after a wait, so none is told from another by it.
-const TOKEN: Token = Token(0);
-
 /// A UDP socket of the system, which never waits.
 #[derive(Drop)]
 pub struct UdpSock {
@@ -44,9 +41,9 @@ impl UdpSock {
         self.socket.set_broadcast(true)
     }
 
-    /// Registers the socket for readability.
-    pub fn register(&mut self, registry: &Registry) -> io::Result<()> {
-        registry.register(&mut self.socket, TOKEN, Interest::READABLE)
+    /// Registers the socket for readability, under this number among all sockets.
+    pub fn register(&mut self, registry: &Registry, number: usize) -> io::Result<()> {
+        registry.register(&mut self.socket, Token(number), Interest::READABLE)
     }
 
     /// What waits at it.

@@ -3,7 +3,7 @@ use Rattle.std.proofs.lemmas.List.{get_or_default}
 use Rattle.gw_ports.specs.SockPair.{ArePassed}
 use Rattle.gw_ports.specs.Socket.{is_nothing}
 use Rattle.gw_ports.specs.Ports.{ArePassedFrom, Stay}
-use Rattle.gw_ports.proofs.PortLemmas.{passed_set, stay_set}
+use Rattle.gw_ports.proofs.PortLemmas.{each_set, stay_set}
 use Rattle.gw_ports.proofs.ports.Ports.ask_from.Goals as goal
 
 pub loop-place-preserved : goal.loop-place-preserved
@@ -17,7 +17,7 @@ loop-place-preserved g c =
     (c.ask.ensures.passed (ap is_nothing (c.in-Ok-None.is ∙ ap Ok c.in-Ok-None.field-0-is))) in
     record {
       stay = stay_set c.args.from c.loop-place.place c.args.self.now.pairs pairs c.ask.new.self kept.stay c.loop-place.auto.place;
-      passed = passed_set g.S.Sock.look_count g.S.Sock.is_empty c.args.from c.loop-place.place c.args.self.now.pairs pairs c.ask.new.self kept.stay inside kept.passed here;
+      passed = each_set (λ _. ArePassed g.S.Sock.look_count g.S.Sock.is_empty) c.args.from c.loop-place.place c.args.self.now.pairs pairs c.ask.new.self kept.stay inside kept.passed here;
       ticks = kept.ticks;
       last = kept.last;
       failures = kept.failures;

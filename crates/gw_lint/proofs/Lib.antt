@@ -1,0 +1,10 @@
+pub mod Covering
+pub mod DeviceAsks
+pub mod Listing
+pub mod Lying
+pub mod Narrowing
+pub mod Parting
+pub mod Raised
+pub mod RelayAsks
+pub mod ShapeLaw
+pub mod Whence

@@ -1,0 +1,7 @@
+pub mod Cover
+pub mod Laws
+pub mod Meeting
+pub mod Pieces
+pub mod Search
+pub mod Shape
+pub mod Shapes

@@ -1,0 +1,15 @@
+//! What is odd about a policy: rules that can never decide, since no ask that the gateway raises
+//! comes to them.
+#![tactic(auto)]
+
+mod cover;
+pub mod laws;
+mod piece;
+mod search;
+mod shapes;
+mod side;
+
+pub use cover::{matches_nothing, takes_all};
+pub use search::{Outcome, search_for};
+pub use shapes::shapes_of;
+pub use side::{Shape, Side};
