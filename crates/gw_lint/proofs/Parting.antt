@@ -1,9 +1,9 @@
 -- What of a shape is outside another one lies in one of the pieces.
-use Rattle.std.proofs.Common.{◌≡◌, ◌∙◌, ◌⊎◌, inl, inr, ℕ, add-one, ap, append_assoc, drop, drop-cons, get_or, length, suc, sym, ◌+◌, ◌-◌, ◌≤◌, ◌<◌, Bool, true, false, cond, not, ◌&&◌, List, [], ◌∷◌, ◌++◌, Option, Some, None, IsTrue, refl, arith, nat_lt}
+use Rattle.std.proofs.Common.{◌≡◌, ◌∙◌, ◌⊎◌, inl, inr, ℕ, add-one, ap, append_assoc, drop, drop-cons, get_or, length, sym, ◌+◌, ◌≤◌, ◌<◌, Bool, true, false, List, [], ◌∷◌, ◌++◌, Option, Some, None, refl, arith, nat_lt}
 use Rattle.std.specs.List.{AllByRecursion}
 use Rattle.std.proofs.lemmas.Bool.{and_from, cond_both, lt-ltb, ltb-false, ltb-true}
 use Rattle.gw_rules.specs.Ask.{Ask}
-use Rattle.gw_rules.specs.Fields.{value_of, with_value}
+use Rattle.gw_rules.specs.Fields.{value_of}
 use Rattle.gw_rules.specs.declared.field.FieldName.{FieldName}
 use Rattle.gw_lint.specs.Pieces.{above, below, inside_at, missing, piece, pieces, pieces_at, shared}
 use Rattle.gw_lint.specs.Shape.{IsWithin, LiesIn, LiesInOne, Shape}

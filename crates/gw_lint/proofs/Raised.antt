@@ -1,15 +1,14 @@
 -- The asks of a message lie in the shapes of whence it comes.
-use Rattle.std.proofs.Common.{◌≡◌, ◌≤◌, ◌∙◌, sym, ap, refl, subst, ℕ, Bool, true, false, List, [], ◌∷◌, ◌++◌, Option, Some, None, inl, inr, arith}
-use Rattle.std.specs.Prelude.{◌&&◌, ◌||◌, ◌==◌, if◌then◌else◌, IfSome}
+use Rattle.std.proofs.Common.{◌≡◌, ◌≤◌, sym, refl, subst, ℕ, Bool, true, false, List, [], ◌∷◌, ◌++◌, Option, Some, None, inl, inr, arith}
+use Rattle.std.specs.Prelude.{◌&&◌, if◌then◌else◌, IfSome}
 use Rattle.std.specs.List.{AllByRecursion}
 use Rattle.gw_addr.specs.declared.bip.BipAddr.{BipAddr}
 use Rattle.gw_addr.specs.Address.{big_endian, octets_of}
 use Rattle.gw_bvll.specs.Bvll.{Message as Frame}
 use Rattle.gw_bvll.specs.Bvll as bvll
 use Rattle.gw_policy_text.specs.declared.format.Format.{Format}
-use Rattle.gw_policy_text.specs.declared.format.Format.TheVariants.{One, Two}
+use Rattle.gw_policy_text.specs.declared.format.Format.TheVariants.{Two}
 use Rattle.gw_rules.specs.Ask.{Ask}
-use Rattle.gw_rules.specs.declared.field.FieldName.{FieldName}
 use Rattle.gw_rules.specs.declared.field.FieldName.TheVariants.{SourceKey, DestinationNetwork, Service, ObjectType, Instance, Property, Priority}
 use Rattle.gw_rules.specs.declared.operation.Operation.{Operation}
 use Rattle.gw_rules.specs.declared.operation.Operation.TheVariants as operations
@@ -17,7 +16,6 @@ use Rattle.gw_rules.specs.declared.rule.Rule.{Rule}
 use Rattle.gw_rules.specs.Operation.{operation_number}
 use Rattle.gw_rules.proofs.EachAsk.{each_both}
 use Rattle.gw_objects.specs.Objects.{Database}
-use Rattle.gw_device.specs.declared.context.Context.{Context}
 use Rattle.gw_relay.specs.Cast.{cast_ask, cast_asks, goes_on, is_broadcast}
 use Rattle.gw_relay.specs.Asks as table
 use Rattle.gw_relay.specs.Message.{Message}
