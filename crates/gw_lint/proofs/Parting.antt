@@ -45,8 +45,13 @@ parted_number side cut n false false e f is =
     let over : n ≤ cut.range.high = ltb-false cut.range.high n f in
     let from = is.0 in
     let to = is.1 in
-    inl ((cond_both (nat_lt side.range.low cut.range.low) cut.range.low side.range.low (λ x. x ≤ n) (λ t. under) (λ t. from),
-    cond_both (nat_lt cut.range.high side.range.high) cut.range.high side.range.high (λ x. n ≤ x) (λ t. over) (λ t. to)), (under, over))
+    inl (
+      (
+        cond_both (nat_lt side.range.low cut.range.low) cut.range.low side.range.low (λ x. x ≤ n) (λ t. under) (λ t. from),
+        cond_both (nat_lt cut.range.high side.range.high) cut.range.high side.range.high (λ x. n ≤ x) (λ t. over) (λ t. to),
+      ),
+      (under, over),
+    )
 
 parted : (side cut : Side) (value : Option ℕ) → IsWithin side value → Parted side cut value
 parted side cut None is = parted_absent side cut cut.absent refl is

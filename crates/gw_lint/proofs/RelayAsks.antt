@@ -227,5 +227,6 @@ each_network P relay m cases =
   where
     i_am : is_i_am_router m.npdu ≡ true → is_kind IAmRouterToNetwork m.npdu.payload ≡ true
     i_am e = first_part _ _ (first_part _ _ (first_part _ _ (first_part _ _ e)))
+
     what : is_what_is_network_number m.npdu ≡ true → is_kind WhatIsNetworkNumber m.npdu.payload ≡ true
     what e = first_part _ _ (first_part _ _ (first_part _ _ e))

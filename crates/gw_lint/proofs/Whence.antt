@@ -44,9 +44,11 @@ pub all_links : (number : ℕ) (ports : List ConfiguredPort) (acts : List PortAc
     → AllByRecursion (λ link. InPorts number ports link.port) (all_after (ports_from number ports) acts)
 all_links number [] acts = tt
 all_links number (p ∷ ports) [] = tt
-all_links number (p ∷ ports) (a ∷ acts) =
-    (inl refl, each_weaker (λ (link : PortState). InPorts (number + 1) ports link.port) (λ (link : PortState). InPorts number (p ∷ ports) link.port)
-    (λ link there. inr there) (all_after (ports_from (number + 1) ports) acts) (all_links (number + 1) ports acts))
+all_links number (p ∷ ports) (a ∷ acts) = (
+  inl refl,
+  each_weaker (λ (link : PortState). InPorts (number + 1) ports link.port) (λ (link : PortState). InPorts number (p ∷ ports) link.port)
+      (λ link there. inr there) (all_after (ports_from (number + 1) ports) acts) (all_links (number + 1) ports acts),
+)
 
 pub port_bounds : (number : ℕ) (ports : List ConfiguredPort) (port : Port) → InPorts number ports port
     → (number ≤ port.number) × (port.number + 1 ≤ number + length ports)
@@ -152,6 +154,7 @@ undirect links device octets npdu is = outer (nat_le (length octets) 1497) (npdu
     inner false f c e =
         let same : f ≡ npdu = cc in
         subst (λ (g : Fields). claims_direct links device g.source ≡ false) same c
+
     outer : (b : Bool) (r : Result Fields NpduFault) → (if b then (elim r [
       | Ok npdu ↦ if claims_direct links device npdu.source then None else Some npdu
       | Err fault ↦ None
