@@ -1,9 +1,7 @@
 -- What the tests of a cover say in words.
-use Rattle.std.proofs.Common.{◌≡◌, ◌∙◌, ◌⊎◌, inl, inr, ℕ, ◌+◌, ◌≤◌, ◌<◌, Bool, true, false, not, ◌&&◌, ◌||◌, ◌==◌, List, [], ◌∷◌, length, Option, Some, None, refl, sym, ap, subst, arith, nat_le, get_or}
-use Rattle.std.specs.Prelude.{if◌then◌else◌, IsTrue}
+use Rattle.std.proofs.Common.{◌≡◌, ◌∙◌, ◌⊎◌, inl, inr, ℕ, Bool, true, false, not, ◌||◌, List, [], ◌∷◌, Option, Some, None, refl, sym, ap, arith, nat_le}
 use Rattle.std.specs.List.{Any, list_all, list_any}
-use Rattle.std.specs.Option.{IsSomeAnd}
-use Rattle.std.proofs.lemmas.Bool.{and_from, and_parts, both_ways, le-leb, leb-true, ne_eqb, or_parts}
+use Rattle.std.proofs.lemmas.Bool.{and_from, and_parts, both_ways, le-leb, leb-true, or_parts}
 use Rattle.std.proofs.lemmas.List.Folds.{Any-from_list_any}
 use Rattle.std.proofs.lemmas.List.Sums.{AllPass-from_list_all}
 use Rattle.gw_rules.specs.Ask.{Ask}
@@ -15,7 +13,7 @@ use Rattle.gw_rules.specs.declared.rule.Rule.{Rule}
 use Rattle.gw_rules.proofs.EachField.{each_field_at}
 use Rattle.gw_lint.specs.Cover.{MatchesNothing, TakesAll, lies_in, lies_in_any, takes_range, takes_shape, takes_side}
 use Rattle.gw_lint.specs.Meeting.{meets, overlaps}
-use Rattle.gw_lint.specs.Shape.{IsIn, IsWithin, LiesIn, LiesInOne, Shape}
+use Rattle.gw_lint.specs.Shape.{IsIn, IsWithin, LiesIn, Shape}
 use Rattle.gw_lint.specs.declared.side.Side.{Side}
 use Rattle.gw_lint.proofs.Narrowing.{Admitted, met, not_empty}
 
@@ -74,7 +72,7 @@ ranged side earlier range number t is at =
       ]
     ]
 
-negated : (b : Bool) → not b ≡ true → b ≡ false
+pub negated : (b : Bool) → not b ≡ true → b ≡ false
 negated true e = absurd cc
 negated false e = refl
 

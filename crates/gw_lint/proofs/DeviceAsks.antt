@@ -1,5 +1,5 @@
 -- What holds of each ask that the device can raise holds of all that it raises for an APDU.
-use Rattle.std.proofs.Common.{ℕ, Bool, true, false, List, [], ◌∷◌, ◌++◌, Option, Some, None, Result, Ok, Err}
+use Rattle.std.proofs.Common.{ℕ, Bool, true, false, List, [], ◌∷◌, Option, Some, None, Result, Ok, Err}
 use Rattle.std.specs.Prelude.{if◌then◌else◌, is_some, ◌==◌}
 use Rattle.std.specs.List.{AllByRecursion}
 use Rattle.gw_apdu.specs.declared.fault.ApduFault.{ApduFault}

@@ -1,5 +1,5 @@
 -- How the lists of shapes grow.
-use Rattle.std.proofs.Common.{◌≡◌, ◌∙◌, ap, sym, refl, ℕ, ◌+◌, ◌<◌, add-one, append_assoc, append-nil, arith, drop, drop-cons, get_or, length, suc, List, [], ◌∷◌, ◌++◌}
+use Rattle.std.proofs.Common.{◌≡◌, ◌∙◌, ap, sym, ℕ, ◌+◌, ◌<◌, add-one, append_assoc, arith, drop, drop-cons, get_or, length, suc, List, ◌∷◌, ◌++◌}
 use Rattle.std.specs.List.{flat_map}
 use Rattle.gw_policy_text.specs.declared.format.Format.{Format}
 use Rattle.gw_policy_text.specs.declared.format.Format.TheVariants.{Two}

@@ -1,5 +1,5 @@
 -- Which asks lie in a shape, and in one of several.
-use Rattle.std.proofs.Common.{◌≡◌, ◌⊎◌, inl, inr, List, [], ◌∷◌, ◌++◌, Option, Some, None, ℕ}
+use Rattle.std.proofs.Common.{◌⊎◌, inl, inr, List, [], ◌∷◌, ◌++◌}
 use Rattle.gw_rules.specs.Ask.{Ask}
 use Rattle.gw_rules.specs.Fields.{value_of, with_value}
 use Rattle.gw_rules.specs.declared.field.FieldName.{FieldName}

@@ -1,5 +1,5 @@
 -- What a step of the search keeps of the asks that come to a rule.
-use Rattle.std.proofs.Common.{◌≡◌, ◌⊎◌, inl, inr, ℕ, ◌-◌, ◌≤◌, ◌<◌, Bool, true, false, cond, ◌||◌, ◌==◌, List, [], ◌∷◌, ◌++◌, length, Option, Some, None, refl, sym, ap, subst, ◌∙◌, arith, find, slice_get, nat_le}
+use Rattle.std.proofs.Common.{◌≡◌, inl, inr, ℕ, ◌-◌, ◌<◌, Bool, true, false, cond, ◌||◌, ◌==◌, List, [], ◌∷◌, ◌++◌, length, Option, Some, None, refl, sym, ap, subst, ◌∙◌, arith, find, slice_get, nat_le}
 use Rattle.std.specs.List.{Any, AllByRecursion, list_any}
 use Rattle.std.specs.Option.{IsSomeAnd}
 use Rattle.std.proofs.lemmas.Bool.{and_from, and_parts, le-leb, leb-true, ne_eqb, or_left, or_right, both_ways}
@@ -7,9 +7,8 @@ use Rattle.std.proofs.lemmas.List.Folds.{Any-from_list_any, list_any-from_Any}
 use Rattle.gw_rules.specs.Ask.{Ask}
 use Rattle.gw_rules.specs.Fields.{value_of}
 use Rattle.gw_rules.specs.Range.{holds}
-use Rattle.gw_rules.specs.Rule.{Matches, each_field, ranges_of}
-use Rattle.gw_rules.specs.RuleList.{HasNumber, IsFirst, first}
-use Rattle.gw_rules.specs.declared.field.FieldName.{FieldName}
+use Rattle.gw_rules.specs.Rule.{Matches, ranges_of}
+use Rattle.gw_rules.specs.RuleList.{HasNumber, first}
 use Rattle.gw_rules.specs.declared.field.FieldName.TheVariants.{Operation, Port, SourceNetwork, SourceKey, DestinationNetwork, Service, ObjectType, Instance, Property, Priority}
 use Rattle.gw_rules.specs.declared.field.TheConstants.FieldName.{ALL}
 use Rattle.gw_rules.specs.declared.range.Range.{Range}
@@ -19,7 +18,7 @@ use Rattle.gw_rules.proofs.First.{first_iff}
 use Rattle.gw_lint.specs.Meeting.{has_number, meets, meets_side, overlaps}
 use Rattle.gw_lint.specs.Pieces.{held_shape, held_side, no_range, pieces, range_of}
 use Rattle.gw_lint.specs.Search.{Keeps}
-use Rattle.gw_lint.specs.Shape.{IsIn, IsWithin, LiesIn, LiesInOne, Shape}
+use Rattle.gw_lint.specs.Shape.{IsIn, IsWithin, LiesIn, Shape}
 use Rattle.gw_lint.specs.declared.side.Side.{Side}
 use Rattle.gw_lint.proofs.Lying.{in_either, in_front, in_rest, lies_by}
 use Rattle.gw_lint.proofs.Parting.{pieced}

@@ -1,9 +1,9 @@
 -- What of a shape is outside another one lies in one of the pieces.
-use Rattle.std.proofs.Common.{◌≡◌, ◌∙◌, ◌⊎◌, inl, inr, ℕ, add-one, ap, append_assoc, drop, drop-cons, get_or, length, suc, sym, ◌+◌, ◌-◌, ◌≤◌, ◌<◌, Bool, true, false, cond, not, ◌&&◌, List, [], ◌∷◌, ◌++◌, Option, Some, None, IsTrue, refl, arith, nat_lt}
+use Rattle.std.proofs.Common.{◌≡◌, ◌∙◌, ◌⊎◌, inl, inr, ℕ, add-one, ap, append_assoc, drop, drop-cons, get_or, length, sym, ◌+◌, ◌≤◌, ◌<◌, Bool, true, false, List, [], ◌∷◌, ◌++◌, Option, Some, None, refl, arith, nat_lt}
 use Rattle.std.specs.List.{AllByRecursion}
 use Rattle.std.proofs.lemmas.Bool.{and_from, cond_both, lt-ltb, ltb-false, ltb-true}
 use Rattle.gw_rules.specs.Ask.{Ask}
-use Rattle.gw_rules.specs.Fields.{value_of, with_value}
+use Rattle.gw_rules.specs.Fields.{value_of}
 use Rattle.gw_rules.specs.declared.field.FieldName.{FieldName}
 use Rattle.gw_lint.specs.Pieces.{above, below, inside_at, missing, piece, pieces, pieces_at, shared}
 use Rattle.gw_lint.specs.Shape.{IsWithin, LiesIn, LiesInOne, Shape}
@@ -45,8 +45,13 @@ parted_number side cut n false false e f is =
     let over : n ≤ cut.range.high = ltb-false cut.range.high n f in
     let from = is.0 in
     let to = is.1 in
-    inl ((cond_both (nat_lt side.range.low cut.range.low) cut.range.low side.range.low (λ x. x ≤ n) (λ t. under) (λ t. from),
-    cond_both (nat_lt cut.range.high side.range.high) cut.range.high side.range.high (λ x. n ≤ x) (λ t. over) (λ t. to)), (under, over))
+    inl (
+      (
+        cond_both (nat_lt side.range.low cut.range.low) cut.range.low side.range.low (λ x. x ≤ n) (λ t. under) (λ t. from),
+        cond_both (nat_lt cut.range.high side.range.high) cut.range.high side.range.high (λ x. n ≤ x) (λ t. over) (λ t. to),
+      ),
+      (under, over),
+    )
 
 parted : (side cut : Side) (value : Option ℕ) → IsWithin side value → Parted side cut value
 parted side cut None is = parted_absent side cut cut.absent refl is

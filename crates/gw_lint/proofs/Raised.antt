@@ -1,15 +1,14 @@
 -- The asks of a message lie in the shapes of whence it comes.
-use Rattle.std.proofs.Common.{◌≡◌, ◌≤◌, ◌∙◌, sym, ap, refl, subst, ℕ, Bool, true, false, List, [], ◌∷◌, ◌++◌, Option, Some, None, inl, inr, arith}
-use Rattle.std.specs.Prelude.{◌&&◌, ◌||◌, ◌==◌, if◌then◌else◌, IfSome}
+use Rattle.std.proofs.Common.{◌≡◌, ◌≤◌, sym, refl, subst, ℕ, Bool, true, false, List, [], ◌∷◌, ◌++◌, Option, Some, None, inl, inr, arith}
+use Rattle.std.specs.Prelude.{◌&&◌, if◌then◌else◌, IfSome}
 use Rattle.std.specs.List.{AllByRecursion}
 use Rattle.gw_addr.specs.declared.bip.BipAddr.{BipAddr}
 use Rattle.gw_addr.specs.Address.{big_endian, octets_of}
 use Rattle.gw_bvll.specs.Bvll.{Message as Frame}
 use Rattle.gw_bvll.specs.Bvll as bvll
 use Rattle.gw_policy_text.specs.declared.format.Format.{Format}
-use Rattle.gw_policy_text.specs.declared.format.Format.TheVariants.{One, Two}
+use Rattle.gw_policy_text.specs.declared.format.Format.TheVariants.{Two}
 use Rattle.gw_rules.specs.Ask.{Ask}
-use Rattle.gw_rules.specs.declared.field.FieldName.{FieldName}
 use Rattle.gw_rules.specs.declared.field.FieldName.TheVariants.{SourceKey, DestinationNetwork, Service, ObjectType, Instance, Property, Priority}
 use Rattle.gw_rules.specs.declared.operation.Operation.{Operation}
 use Rattle.gw_rules.specs.declared.operation.Operation.TheVariants as operations
@@ -17,7 +16,6 @@ use Rattle.gw_rules.specs.declared.rule.Rule.{Rule}
 use Rattle.gw_rules.specs.Operation.{operation_number}
 use Rattle.gw_rules.proofs.EachAsk.{each_both}
 use Rattle.gw_objects.specs.Objects.{Database}
-use Rattle.gw_device.specs.declared.context.Context.{Context}
 use Rattle.gw_relay.specs.Cast.{cast_ask, cast_asks, goes_on, is_broadcast}
 use Rattle.gw_relay.specs.Asks as table
 use Rattle.gw_relay.specs.Message.{Message}
@@ -96,23 +94,26 @@ cast_lies format device from m comes = by (goes_on m.here m.from m.frame && is_b
   where
     by : (b : Bool) → AllByRecursion (Lies format device from) (if b then cast_ask m ∷ [] else [])
     by false = tt
-    by true = (λ small. in_message format device from (cast_ask m)
-      (inl (relayed from m operations.Cast _ comes small)), tt)
+    by true = (
+      λ small. in_message format device from (cast_ask m)
+          (inl (relayed from m operations.Cast _ comes small)),
+      tt,
+    )
 
 network_cases : (format : Format) (device : ℕ) (from : Origin) (m : Message) → Comes from m → NetworkCases (Lies format device from) m
 network_cases format device from m comes = record {
   learn = λ is network small. in_message format device from _ (inr (inr (inl
-    (lies_by (bound from operations.Learn (only 513) some) (table.message_ask operations.Learn m (Some network))
-    (exactly 7) comes.port comes.network (anything _ (small SourceKey)) (within_some network (small DestinationNetwork)) (is_exactly 513 _ is)
-    refl refl refl refl))));
+      (lies_by (bound from operations.Learn (only 513) some) (table.message_ask operations.Learn m (Some network))
+      (exactly 7) comes.port comes.network (anything _ (small SourceKey)) (within_some network (small DestinationNetwork)) (is_exactly 513 _ is)
+      refl refl refl refl))));
   question = λ is network small. in_message format device from _ (inr (inr (inr (inl
-    (lies_by (bound from operations.Network (only 512) perhaps) (table.message_ask operations.Network m network)
-    (exactly 8) comes.port comes.network (anything _ (small SourceKey)) (anything network (small DestinationNetwork)) (is_exactly 512 _ is)
-    refl refl refl refl)))));
+      (lies_by (bound from operations.Network (only 512) perhaps) (table.message_ask operations.Network m network)
+      (exactly 8) comes.port comes.network (anything _ (small SourceKey)) (anything network (small DestinationNetwork)) (is_exactly 512 _ is)
+      refl refl refl refl)))));
   number = λ is small. in_message format device from _ (inr (inr (inr (inr (inl
-    (lies_by (plain from operations.Network (only 530)) (table.message_ask operations.Network m None)
-    (exactly 8) comes.port comes.network (anything _ (small SourceKey)) refl (is_exactly 530 _ is)
-    refl refl refl refl))))));
+      (lies_by (plain from operations.Network (only 530)) (table.message_ask operations.Network m None)
+      (exactly 8) comes.port comes.network (anything _ (small SourceKey)) refl (is_exactly 530 _ is)
+      refl refl refl refl))))));
 }
 
 -- a service of a read
@@ -123,23 +124,23 @@ named_cases : (format : Format) (device : ℕ) (from : Origin) (m : Message) (ne
     → NamedCases (Lies format device from) (route_ask m (Some network))
 named_cases format device from m network comes two = record {
   unnamed_read = λ service is low high small. in_request format device from _ two (inl
-    (lies_by (bound from operations.Read (numbers 12 14) some) _
-    (exactly 9) comes.port comes.network (anything _ (small SourceKey)) (within_some network (small DestinationNetwork))
-    (read_service service _ is low high) refl refl refl refl));
+      (lies_by (bound from operations.Read (numbers 12 14) some) _
+      (exactly 9) comes.port comes.network (anything _ (small SourceKey)) (within_some network (small DestinationNetwork))
+      (read_service service _ is low high) refl refl refl refl));
   named_read = λ service is low high object p small. in_request format device from _ two (inr (inl
-    (lies_by (named from operations.Read (numbers 12 14) some nothing) _
-    (exactly 9) comes.port comes.network (anything _ (small SourceKey)) (within_some network (small DestinationNetwork))
-    (read_service service _ is low high) (within_some object.kind (small ObjectType)) (within_some object.instance (small Instance))
-    (within_some p (small Property)) refl)));
+      (lies_by (named from operations.Read (numbers 12 14) some nothing) _
+      (exactly 9) comes.port comes.network (anything _ (small SourceKey)) (within_some network (small DestinationNetwork))
+      (read_service service _ is low high) (within_some object.kind (small ObjectType)) (within_some object.instance (small Instance))
+      (within_some p (small Property)) refl)));
   unnamed_write = λ is small. in_request format device from _ two (inr (inr (inl
-    (lies_by (bound from operations.Write (only 15) some) _
-    (exactly 10) comes.port comes.network (anything _ (small SourceKey)) (within_some network (small DestinationNetwork))
-    (is_exactly 15 _ is) refl refl refl refl))));
+      (lies_by (bound from operations.Write (only 15) some) _
+      (exactly 10) comes.port comes.network (anything _ (small SourceKey)) (within_some network (small DestinationNetwork))
+      (is_exactly 15 _ is) refl refl refl refl))));
   named_write = λ is object p priority small. in_request format device from _ two (inr (inr (inr (inl
-    (lies_by (named from operations.Write (only 15) some some) _
-    (exactly 10) comes.port comes.network (anything _ (small SourceKey)) (within_some network (small DestinationNetwork))
-    (is_exactly 15 _ is) (within_some object.kind (small ObjectType)) (within_some object.instance (small Instance))
-    (within_some p (small Property)) (within_some priority (small Priority)))))));
+      (lies_by (named from operations.Write (only 15) some some) _
+      (exactly 10) comes.port comes.network (anything _ (small SourceKey)) (within_some network (small DestinationNetwork))
+      (is_exactly 15 _ is) (within_some object.kind (small ObjectType)) (within_some object.instance (small Instance))
+      (within_some p (small Property)) (within_some priority (small Priority)))))));
 }
 
 route_cases : (format : Format) (device : ℕ) (from : Origin) (m : Message) → Comes from m → RouteCases (Lies format device from) format m
@@ -155,26 +156,26 @@ device_cases : (format : Format) (from : Origin) (d : Database) (m : Message) �
 device_cases format from d m comes =
     let device = device_network d in record {
       read = λ object p small. in_message format device from _ (inr (inr (inr (inr (inr (inl
-        (lies_by (named from operations.Read (only 12) (only device) nothing) _
-        (exactly 9) comes.port comes.network (anything _ (small SourceKey)) (exactly device) (exactly 12)
-        (within_some object.kind (small ObjectType)) (within_some object.instance (small Instance)) (within_some p (small Property)) refl)))))));
+          (lies_by (named from operations.Read (only 12) (only device) nothing) _
+          (exactly 9) comes.port comes.network (anything _ (small SourceKey)) (exactly device) (exactly 12)
+          (within_some object.kind (small ObjectType)) (within_some object.instance (small Instance)) (within_some p (small Property)) refl)))))));
       multi = λ object p small. in_message format device from _ (inr (inr (inr (inr (inr (inr (inl
-        (lies_by (named from operations.Read (only 14) (only device) nothing) _
-        (exactly 9) comes.port comes.network (anything _ (small SourceKey)) (exactly device) (exactly 14)
-        (within_some object.kind (small ObjectType)) (within_some object.instance (small Instance)) (within_some p (small Property)) refl))))))));
+          (lies_by (named from operations.Read (only 14) (only device) nothing) _
+          (exactly 9) comes.port comes.network (anything _ (small SourceKey)) (exactly device) (exactly 14)
+          (within_some object.kind (small ObjectType)) (within_some object.instance (small Instance)) (within_some p (small Property)) refl))))))));
       write = λ object p priority small. in_message format device from _ (inr (inr (inr (inr (inr (inr (inr (inl
-        (lies_by (named from operations.Write (only 15) (only device) some) _
-        (exactly 10) comes.port comes.network (anything _ (small SourceKey)) (exactly device) (exactly 15)
-        (within_some object.kind (small ObjectType)) (within_some object.instance (small Instance)) (within_some p (small Property))
-        (within_some priority (small Priority)))))))))));
+          (lies_by (named from operations.Write (only 15) (only device) some) _
+          (exactly 10) comes.port comes.network (anything _ (small SourceKey)) (exactly device) (exactly 15)
+          (within_some object.kind (small ObjectType)) (within_some object.instance (small Instance)) (within_some p (small Property))
+          (within_some priority (small Priority)))))))))));
       who_has = λ object p small. in_message format device from _ (inr (inr (inr (inr (inr (inr (inr (inr (inl
-        (lies_by (named from operations.List (only 263) (only device) nothing) _
-        (exactly 11) comes.port comes.network (anything _ (small SourceKey)) (exactly device) (exactly 263)
-        (within_some object.kind (small ObjectType)) (within_some object.instance (small Instance)) (within_some p (small Property)) refl))))))))));
+          (lies_by (named from operations.List (only 263) (only device) nothing) _
+          (exactly 11) comes.port comes.network (anything _ (small SourceKey)) (exactly device) (exactly 263)
+          (within_some object.kind (small ObjectType)) (within_some object.instance (small Instance)) (within_some p (small Property)) refl))))))))));
       who_is = λ object p small. in_message format device from _ (inr (inr (inr (inr (inr (inr (inr (inr (inr (inl
-        (lies_by (named from operations.List (only 264) (only device) nothing) _
-        (exactly 11) comes.port comes.network (anything _ (small SourceKey)) (exactly device) (exactly 264)
-        (within_some object.kind (small ObjectType)) (within_some object.instance (small Instance)) (within_some p (small Property)) refl)))))))))));
+          (lies_by (named from operations.List (only 264) (only device) nothing) _
+          (exactly 11) comes.port comes.network (anything _ (small SourceKey)) (exactly device) (exactly 264)
+          (within_some object.kind (small ObjectType)) (within_some object.instance (small Instance)) (within_some p (small Property)) refl)))))))))));
     }
 
 device_lies : (format : Format) (rules : List Rule) (d : Database) (from : Origin) (m : Message) (apdu : Option (List ℕ)) → Comes from m
@@ -204,16 +205,31 @@ message_lies rules relay d from m comes =
 table_lies : (from : Origin) (port : Port) (sender : BipAddr) (frame : Frame) → IsWithin from.port (Some port.number)
     → IsWithin from.network (Some port.network)
     → AllByRecursion (λ ask. IsOfNumbers ask → LiesInOne (table_shapes from) ask) (table.link_asks port sender frame)
-table_lies from port sender (bvll.write_bdt entries) at net = (λ small. inl (lies_by (plain from operations.WriteTable (only 769)) _
-  (exactly 6) at net (anything (Some (big_endian (octets_of sender))) (small SourceKey)) refl (exactly 769) refl refl refl refl), tt)
-table_lies from port sender bvll.read_bdt at net = (λ small. inr (inl (lies_by (plain from operations.ReadTable (only 770)) _
-  (exactly 5) at net (anything (Some (big_endian (octets_of sender))) (small SourceKey)) refl (exactly 770) refl refl refl refl)), tt)
-table_lies from port sender (bvll.register time_to_live) at net = (λ small. inr (inr (inl (lies_by (plain from operations.Register (only 773)) _
-  (exactly 3) at net (anything (Some (big_endian (octets_of sender))) (small SourceKey)) refl (exactly 773) refl refl refl refl))), tt)
-table_lies from port sender bvll.read_fdt at net = (λ small. inr (inr (inr (inl (lies_by (plain from operations.ReadTable (only 774)) _
-  (exactly 5) at net (anything (Some (big_endian (octets_of sender))) (small SourceKey)) refl (exactly 774) refl refl refl refl)))), tt)
-table_lies from port sender (bvll.delete address) at net = (λ small. inr (inr (inr (inr (inl (lies_by (plain from operations.Delete (only 776)) _
-  (exactly 4) at net (anything (Some (big_endian (octets_of sender))) (small SourceKey)) refl (exactly 776) refl refl refl refl))))), tt)
+table_lies from port sender (bvll.write_bdt entries) at net = (
+  λ small. inl (lies_by (plain from operations.WriteTable (only 769)) _
+      (exactly 6) at net (anything (Some (big_endian (octets_of sender))) (small SourceKey)) refl (exactly 769) refl refl refl refl),
+  tt,
+)
+table_lies from port sender bvll.read_bdt at net = (
+  λ small. inr (inl (lies_by (plain from operations.ReadTable (only 770)) _
+      (exactly 5) at net (anything (Some (big_endian (octets_of sender))) (small SourceKey)) refl (exactly 770) refl refl refl refl)),
+  tt,
+)
+table_lies from port sender (bvll.register time_to_live) at net = (
+  λ small. inr (inr (inl (lies_by (plain from operations.Register (only 773)) _
+      (exactly 3) at net (anything (Some (big_endian (octets_of sender))) (small SourceKey)) refl (exactly 773) refl refl refl refl))),
+  tt,
+)
+table_lies from port sender bvll.read_fdt at net = (
+  λ small. inr (inr (inr (inl (lies_by (plain from operations.ReadTable (only 774)) _
+      (exactly 5) at net (anything (Some (big_endian (octets_of sender))) (small SourceKey)) refl (exactly 774) refl refl refl refl)))),
+  tt,
+)
+table_lies from port sender (bvll.delete address) at net = (
+  λ small. inr (inr (inr (inr (inl (lies_by (plain from operations.Delete (only 776)) _
+      (exactly 4) at net (anything (Some (big_endian (octets_of sender))) (small SourceKey)) refl (exactly 776) refl refl refl refl))))),
+  tt,
+)
 table_lies from port sender (bvll.result_code code) at net = tt
 table_lies from port sender (bvll.read_bdt_ack entries) at net = tt
 table_lies from port sender (bvll.forwarded originator npdu) at net = tt

@@ -4,7 +4,7 @@ use Rattle.std.specs.Prelude.{◌&&◌, ◌||◌, ◌==◌, is_some, if◌then�
 use Rattle.std.specs.Int.{w16, from_be_bytes}
 use Rattle.std.specs.List.{AllByRecursion}
 use Rattle.std.specs.Option.{option_map, option_map_or}
-use Rattle.std.proofs.lemmas.Bool.{and_parts, eqb-true}
+use Rattle.std.proofs.lemmas.Bool.{eqb-true}
 use Rattle.gw_addr.specs.Station.{network_of}
 use Rattle.gw_apdu.specs.Apdu.{code_of}
 use Rattle.gw_apdu.specs.Apdu.{Fields as Apdu}
@@ -16,7 +16,7 @@ use Rattle.gw_apdu.specs.declared.header.Header.TheVariants as header
 use Rattle.gw_npdu.specs.declared.kind.MessageKind.{MessageKind}
 use Rattle.gw_npdu.specs.declared.kind.MessageKind.TheVariants.{IAmRouterToNetwork, WhatIsNetworkNumber, WhoIsRouterToNetwork}
 use Rattle.gw_npdu.specs.Kind.{kind_number}
-use Rattle.gw_npdu.specs.Npdu.{Destination, Fields, Payload, apdu, message, payload_octets}
+use Rattle.gw_npdu.specs.Npdu.{Destination, Payload, apdu, message, payload_octets}
 use Rattle.gw_policy_text.specs.declared.format.Format.{Format}
 use Rattle.gw_policy_text.specs.declared.format.Format.TheVariants.{One, Two}
 use Rattle.gw_routes.specs.Table.{way}
@@ -34,7 +34,7 @@ use Rattle.gw_services.specs.Write.{Write, write_at}
 use Rattle.gw_services.specs.declared.fault.BodyFault.{BodyFault}
 use Rattle.gw_tags.specs.Object.{Object}
 use Rattle.gw_relay.specs.Asks.{bound_for, service_of}
-use Rattle.gw_relay.specs.Manage.{is_for_all, is_i_am_router, is_what_is_network_number, is_who_is_router, learn_ask, manage_asks, named_networks, network_ask, question_of, question_steps}
+use Rattle.gw_relay.specs.Manage.{is_i_am_router, is_what_is_network_number, is_who_is_router, learn_ask, manage_asks, named_networks, network_ask, question_of, question_steps}
 use Rattle.gw_relay.specs.Message.{Message}
 use Rattle.gw_relay.specs.Named.{apdu_asks, body_asks, forward_asks, header_asks, multi_asks, named_ask, named_asks, read_asks, reference_ask, request_asks, segment_asks, unnamed_ask, write_asks}
 use Rattle.gw_relay.specs.Route.{copy, is_kind, is_local, leaves, others, route_ask, route_asks, steps_by}
@@ -227,5 +227,6 @@ each_network P relay m cases =
   where
     i_am : is_i_am_router m.npdu ≡ true → is_kind IAmRouterToNetwork m.npdu.payload ≡ true
     i_am e = first_part _ _ (first_part _ _ (first_part _ _ (first_part _ _ e)))
+
     what : is_what_is_network_number m.npdu ≡ true → is_kind WhatIsNetworkNumber m.npdu.payload ≡ true
     what e = first_part _ _ (first_part _ _ (first_part _ _ e))

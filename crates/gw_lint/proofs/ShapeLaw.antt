@@ -1,5 +1,5 @@
 -- Every ask that a gateway raises lies in a shape of its configuration.
-use Rattle.std.proofs.Common.{◌≡◌, ◌≢◌, ◌∙◌, ◌⊎◌, inl, inr, sym, ap, refl, subst, ℕ, ◌+◌, ◌≤◌, Bool, true, false, List, [], ◌∷◌, ◌++◌, length, nat_le, Option, Some, arith}
+use Rattle.std.proofs.Common.{◌≡◌, ◌≢◌, ◌∙◌, inl, inr, sym, ap, refl, subst, ℕ, ◌+◌, ◌≤◌, Bool, true, false, List, [], ◌∷◌, ◌++◌, length, nat_le, Option, Some, arith}
 use Rattle.std.specs.Prelude.{◌==◌, IfSome}
 use Rattle.std.specs.List.{AllByRecursion, flat_map, list_any}
 use Rattle.std.proofs.lemmas.Bool.{both_ways, eqb-false, le-leb, leb-true, or_parts}
@@ -12,9 +12,7 @@ use Rattle.gw_policy_text.specs.declared.format.Format.{Format}
 use Rattle.gw_policy_text.specs.declared.port.Port.{Port as ConfiguredPort}
 use Rattle.gw_relay.specs.Asks as table
 use Rattle.gw_relay.specs.History.{all_after, ports_from}
-use Rattle.gw_relay.specs.Initial.{port_of}
 use Rattle.gw_relay.specs.Message.{Message}
-use Rattle.gw_relay.specs.State.{Relay}
 use Rattle.gw_relay.specs.declared.port.Port.{Port}
 use Rattle.gw_relay.specs.declared.port.PortState.{PortState}
 use Rattle.gw_rules.specs.Ask.{Ask, IsFrom}
@@ -24,22 +22,21 @@ use Rattle.gw_rules.proofs.EachAsk.{each_both, each_weaker}
 use Rattle.gw_script.specs.Event.{Event}
 use Rattle.gw_core.specs.Asks.{asks, asks_for}
 use Rattle.gw_core.specs.History.{port_acts, state_after}
-use Rattle.gw_core.specs.Receive.{Received, dropped, is_direct, managed, message, receive, unregistered}
+use Rattle.gw_core.specs.Receive.{Received, dropped, managed, message, receive, unregistered}
 use Rattle.gw_core.specs.State.{State, device_network}
 use Rattle.gw_core.specs.declared.event.Counts.{Counts}
 use Rattle.gw_core.proofs.BlindLemmas.{asks_carry_their_claim}
 use Rattle.gw_core.proofs.FormatLemmas.{format_stays}
 use Rattle.gw_core.proofs.HistoryLemmas.{configuration_stays, ports_stay}
 use Rattle.gw_core.proofs.StandLemmas.{acts_leave_the_tables}
-use Rattle.gw_lint.specs.Laws.{AsksLieInShapes, IsOfNumbers, NeverDecides, NeverFirstNeverDecides}
+use Rattle.gw_lint.specs.Laws.{AsksLieInShapes, IsOfNumbers, NeverFirstNeverDecides}
 use Rattle.gw_lint.specs.Pieces.{most}
-use Rattle.gw_lint.specs.Search.{IsNeverFirst}
 use Rattle.gw_lint.specs.Shape.{IsWithin, LiesInOne, Shape}
 use Rattle.gw_lint.specs.Shapes.{foreign, foreign_shapes, gaps, own, own_shapes, shapes, shapes_from, shapes_of, table_shapes}
 use Rattle.gw_lint.specs.declared.side.Side.{Side}
 use Rattle.gw_lint.proofs.Lying.{in_front, in_rest}
 use Rattle.gw_lint.proofs.Raised.{Comes, Lies, link_lies, message_lies}
-use Rattle.gw_lint.proofs.Whence.{Heard, InPorts, IsHeard, WithinOne, all_links, apart, heard_at, in_gap, port_bounds}
+use Rattle.gw_lint.proofs.Whence.{Heard, InPorts, WithinOne, all_links, apart, heard_at, in_gap, port_bounds}
 
 -- ---- in the list of all shapes
 

@@ -1,9 +1,9 @@
 -- Every ask comes from a port's own network, or from none of the direct ones.
-use Rattle.std.proofs.Common.{◌≡◌, ◌≢◌, ◌∙◌, ◌⊎◌, inl, inr, sym, ap, refl, subst, ℕ, suc, ◌+◌, ◌-◌, ◌≤◌, ◌<◌, Bool, true, false, List, [], ◌∷◌, ◌++◌, length, Option, Some, None, Result, Ok, Err, arith, nat_lt, nat_le, get_or}
-use Rattle.std.specs.Prelude.{◌&&◌, ◌||◌, ◌==◌, not, if◌then◌else◌, slice_get}
-use Rattle.std.specs.List.{All, AllByRecursion, flat_map, list_any}
+use Rattle.std.proofs.Common.{◌≡◌, ◌≢◌, ◌∙◌, ◌⊎◌, inl, inr, sym, ap, refl, subst, ℕ, ◌+◌, ◌-◌, ◌≤◌, ◌<◌, Bool, true, false, List, [], ◌∷◌, ◌++◌, length, Option, Some, None, Result, Ok, Err, arith, nat_lt, nat_le, get_or}
+use Rattle.std.specs.Prelude.{◌==◌, not, if◌then◌else◌, slice_get}
+use Rattle.std.specs.List.{AllByRecursion, flat_map, list_any}
 use Rattle.std.specs.Option.{option_to_list}
-use Rattle.std.proofs.lemmas.Bool.{eqb-false, leb-true, le-leb, lt-ltb, ltb-false, ltb-true, and_from, or_parts}
+use Rattle.std.proofs.lemmas.Bool.{eqb-false, lt-ltb, ltb-false, ltb-true, or_parts}
 use Rattle.std.proofs.lemmas.List.Elements.{All-from_recursion}
 use Rattle.std.proofs.lemmas.Option.{get_or_from_slice_get, slice_get_within}
 use Rattle.gw_addr.specs.declared.bip.BipAddr.{BipAddr}
@@ -13,8 +13,6 @@ use Rattle.gw_bvll.specs.Reading.{bvll_at}
 use Rattle.gw_npdu.specs.declared.fault.NpduFault.{NpduFault}
 use Rattle.gw_npdu.specs.Npdu.{Address, Fields}
 use Rattle.gw_npdu.specs.Reading.{npdu_at}
-use Rattle.gw_policy_text.specs.Configuration.{Configuration}
-use Rattle.gw_policy_text.specs.declared.format.Format.{Format}
 use Rattle.gw_policy_text.specs.declared.port.Port.{Port as ConfiguredPort}
 use Rattle.gw_relay.specs.Cast.{accepts, is_unregistered}
 use Rattle.gw_relay.specs.Claim.{claimed, link_source}
@@ -46,9 +44,11 @@ pub all_links : (number : ℕ) (ports : List ConfiguredPort) (acts : List PortAc
     → AllByRecursion (λ link. InPorts number ports link.port) (all_after (ports_from number ports) acts)
 all_links number [] acts = tt
 all_links number (p ∷ ports) [] = tt
-all_links number (p ∷ ports) (a ∷ acts) =
-    (inl refl, each_weaker (λ (link : PortState). InPorts (number + 1) ports link.port) (λ (link : PortState). InPorts number (p ∷ ports) link.port)
-    (λ link there. inr there) (all_after (ports_from (number + 1) ports) acts) (all_links (number + 1) ports acts))
+all_links number (p ∷ ports) (a ∷ acts) = (
+  inl refl,
+  each_weaker (λ (link : PortState). InPorts (number + 1) ports link.port) (λ (link : PortState). InPorts number (p ∷ ports) link.port)
+      (λ link there. inr there) (all_after (ports_from (number + 1) ports) acts) (all_links (number + 1) ports acts),
+)
 
 pub port_bounds : (number : ℕ) (ports : List ConfiguredPort) (port : Port) → InPorts number ports port
     → (number ≤ port.number) × (port.number + 1 ≤ number + length ports)
@@ -154,6 +154,7 @@ undirect links device octets npdu is = outer (nat_le (length octets) 1497) (npdu
     inner false f c e =
         let same : f ≡ npdu = cc in
         subst (λ (g : Fields). claims_direct links device g.source ≡ false) same c
+
     outer : (b : Bool) (r : Result Fields NpduFault) → (if b then (elim r [
       | Ok npdu ↦ if claims_direct links device npdu.source then None else Some npdu
       | Err fault ↦ None

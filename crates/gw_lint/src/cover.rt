@@ -11,7 +11,6 @@ use crate::{Shape, Side};
 use gw_rules::{FieldName, Range, Rule};
 
 /// Whether the rule matches none of the asks of these shapes.
-#[tactic(auto, using(crate::proofs::Covering::nothing_met))]
 pub fn matches_nothing(shapes: &[Shape], rule: &Rule) -> bool
     ensures { IsTrue result → MatchesNothing shapes.now rule.now }
 {

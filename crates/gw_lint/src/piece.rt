@@ -83,16 +83,46 @@ pub(crate) fn with_side(shape: &Shape, field: FieldName, side: Side) -> Shape
     ensures { result ≡ with_value field side shape.now }
 {
     match field {
-        FieldName::Operation => Shape { operation: side, ..*shape },
-        FieldName::Port => Shape { port: side, ..*shape },
-        FieldName::SourceNetwork => Shape { source_network: side, ..*shape },
-        FieldName::SourceKey => Shape { source_key: side, ..*shape },
-        FieldName::DestinationNetwork => Shape { destination_network: side, ..*shape },
-        FieldName::Service => Shape { service: side, ..*shape },
-        FieldName::ObjectType => Shape { object_type: side, ..*shape },
-        FieldName::Instance => Shape { instance: side, ..*shape },
-        FieldName::Property => Shape { property: side, ..*shape },
-        FieldName::Priority => Shape { priority: side, ..*shape },
+        FieldName::Operation => Shape {
+            operation: side,
+            ..*shape
+        },
+        FieldName::Port => Shape {
+            port: side,
+            ..*shape
+        },
+        FieldName::SourceNetwork => Shape {
+            source_network: side,
+            ..*shape
+        },
+        FieldName::SourceKey => Shape {
+            source_key: side,
+            ..*shape
+        },
+        FieldName::DestinationNetwork => Shape {
+            destination_network: side,
+            ..*shape
+        },
+        FieldName::Service => Shape {
+            service: side,
+            ..*shape
+        },
+        FieldName::ObjectType => Shape {
+            object_type: side,
+            ..*shape
+        },
+        FieldName::Instance => Shape {
+            instance: side,
+            ..*shape
+        },
+        FieldName::Property => Shape {
+            property: side,
+            ..*shape
+        },
+        FieldName::Priority => Shape {
+            priority: side,
+            ..*shape
+        },
     }
 }
 

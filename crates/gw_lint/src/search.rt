@@ -32,11 +32,7 @@ pub(crate) fn rule_at(rules: &RuleList, number: u16) -> Option<&Rule>
 /// Takes the last of the shapes that are left. Where the rule of this number is the first that
 /// matches an ask of it, that ask is told; else what no earlier rule is seen to match of the shape is
 /// put back, in pieces.
-fn narrow(
-    rules: &RuleList,
-    number: u16,
-    left: &mut Vec<Shape>,
-) -> Result<Option<Ask>, AllocError>
+fn narrow(rules: &RuleList, number: u16, left: &mut Vec<Shape>) -> Result<Option<Ask>, AllocError>
     ensures found { IfOk result (λ found. IfSome found (λ ask. first rules.now ask ≡ Some number)) }
     ensures keeps { result ≡ Ok None → Keeps rules.now number left.old.items left.new.items }
 {

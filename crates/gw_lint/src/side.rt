@@ -53,9 +53,7 @@ fn any_overlaps(range: &Range, ranges: &[Range]) -> bool
 pub(crate) fn meets(shape: &Shape, rule: &Rule) -> bool
     ensures { result ≡ meets shape.now rule.now }
 {
-    FieldName::ALL
-        .iter()
-        .all(|field| meets_side(shape.get(*field), rule.ranges(*field).as_slice()))
+    FieldName::ALL.iter().all(|field| meets_side(shape.get(*field), rule.ranges(*field).as_slice()))
 }
 
 fn first_overlapping<'a>(range: &Range, ranges: &'a [Range]) -> Option<&'a Range>
@@ -100,10 +98,7 @@ pub(crate) fn corner(shape: &Shape, rule: &Rule) -> Ask
         port: corner_value(&shape.port, &ranges.port),
         source_network: corner_value(&shape.source_network, &ranges.source_network),
         source_key: corner_value(&shape.source_key, &ranges.source_key),
-        destination_network: corner_value(
-            &shape.destination_network,
-            &ranges.destination_network,
-        ),
+        destination_network: corner_value(&shape.destination_network, &ranges.destination_network),
         service: corner_value(&shape.service, &ranges.service),
         object_type: corner_value(&shape.object_type, &ranges.object_type),
         instance: corner_value(&shape.instance, &ranges.instance),
