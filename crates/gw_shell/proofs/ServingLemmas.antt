@@ -13,7 +13,7 @@ use Rattle.gw_core.specs.declared.serving.ServeStop.{ServeStop}
 use Rattle.gw_policy_text.specs.Configuration.{Configuration}
 use Rattle.gw_shell.specs.Ending.{fault_of_serving}
 use Rattle.gw_shell.specs.declared.fault.Fault.{Fault}
-use Rattle.gw_shell.specs.Serving.{Serves, ServesFrom, ServesWhole, ends, log_held, stopped, whole}
+use Rattle.gw_shell.specs.Serving.{Serves, ServesFrom, ServesWhole, ends, log_held}
 
 -- all turns that are served by a fresh gateway are served from the first state
 served_whole : (c : Configuration) (turns : ℕ) (first last : State) (log log_then : Option (List ℕ)) (calls calls_then : Option (List Call))
@@ -46,12 +46,11 @@ pub from_fresh : (c : Configuration) (turns : ℕ) (first last : State) (log log
     (outcome : Result (Unit {0}) Fault) → first ≡ state_after c no_counts []
     → ServesFrom turns (scene first log calls) (scene last log_then calls_then) outcome
     → Serves c turns (ends log calls) (ends log_then calls_then) outcome
-from_fresh c turns first last log log_then calls calls_then outcome is_first (whole served serves is) =
-    subst (λ (o : Result (Unit {0}) Fault). Serves c turns (ends log calls) (ends log_then calls_then) o) (sym is)
-    (served_whole c turns first last log log_then calls calls_then served is_first serves)
-from_fresh c turns first last log log_then calls calls_then outcome is_first (stopped stop stops is) =
-    subst (λ (o : Result (Unit {0}) Fault). Serves c turns (ends log calls) (ends log_then calls_then) o) (sym is)
-    (served_until c turns first last log log_then calls calls_then stop is_first stops)
+from_fresh c turns first last log log_then calls calls_then (Ok done) is_first from =
+    served_whole c turns first last log log_then calls calls_then from.0 is_first from.1
+from_fresh c turns first last log log_then calls calls_then (Err f) is_first from =
+    subst (λ (g : Fault). Serves c turns (ends log calls) (ends log_then calls_then) (Err g)) (sym from.2)
+    (served_until c turns first last log log_then calls calls_then from.0 is_first from.1)
 
 append_empty : (held : Option (List ℕ)) → append_known held [] ≡ held
 append_empty None = refl

@@ -57,10 +57,9 @@ Serves c turns before after (Err fault.CountEnd) = StopsBy serving.CountEnd c tu
 Serves c turns before after (Err _) = ⊥
 
 -- What serving from a state leaves at each outcome: all turns, or a stop by the fault.
-pub data ServesFrom (turns : ℕ) (before after : Scene) (outcome : Result (Unit {0}) Fault) : Type 0 where
-  whole : (served : Served) → ServesAll turns before served after → outcome ≡ Ok tt → ServesFrom turns before after outcome
-  stopped : (stop : ServeStop) → Stops turns before stop after → outcome ≡ Err (fault_of_serving stop.fault) →
-      ServesFrom turns before after outcome
+abbrev pub ServesFrom : ℕ → Scene → Scene → Result (Unit {0}) Fault → Type 0
+ServesFrom turns before after (Ok done) = (served : Served) × ServesAll turns before served after
+ServesFrom turns before after (Err f) = (stop : ServeStop) × Stops turns before stop after × (f ≡ fault_of_serving stop.fault)
 
 -- What opening and closing may give: of a machine, the log of a name, the sockets of some ports, and both when they are closed, the log
 -- where one was opened; and what a log holds and sockets tell.

@@ -18,7 +18,7 @@ use crate::announcement::told_text;
 use crate::ending::tell;
 use crate::fault::Fault;
 use crate::host::Host;
-use crate::opening::{OpenFailure, note_of};
+use crate::opening::{OpenFailure, SocketFailure, note_of};
 use crate::options::RunOptions;
 use gw_core::{Counts, Gateway, Wire, serve};
 use gw_policy_text::Config;
@@ -135,6 +135,18 @@ struct Opening<L, S> {
     sockets: S,
 }
 
+/// Opens the sockets of a configuration.
+fn open_sockets<H: Host>(
+    alloc: Global,
+    config: &Config,
+    host: &H,
+) -> Result<H::Sockets, SocketFailure>
+    ensures opens { H.SocketsOpen host.now config.now.ports result }
+    ensures fresh { IfOk result (λ sockets. H.Sockets.failure_count sockets ≡ 0) }
+{
+    host.open_sockets(alloc, config.ports())
+}
+
 /// Makes the line that is told at the start, opens the log and then the sockets.
 fn open<H: Host, W: Write + Drop>(
     alloc: Global,
@@ -163,7 +175,7 @@ fn open<H: Host, W: Write + Drop>(
         Ok(log) => log,
         Err(fault) => return Err(OpenFailure::Log(fault)),
     };
-    match host.open_sockets(alloc, config.ports()) {
+    match open_sockets(alloc, config, host) {
         Ok(sockets) => Ok(Opening { line, log, sockets }),
         Err(failure) => Err(OpenFailure::Sockets(failure)),
     }
