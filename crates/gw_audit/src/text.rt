@@ -3,7 +3,7 @@
 ghost use Rattle.std.specs.Prelude.{◌≡◌, ◌++◌};
 ghost use Rattle.gw_addr.specs.Appending.{IsAppended, IsAppendedWhole};
 ghost use Rattle.gw_audit.specs.Line.{field_text, line_text, operation_of, operation_text};
-ghost use Rattle.gw_audit.specs.internal.Parts.{counts_text, object_text, request_text, rule_text, source_text};
+ghost use Rattle.gw_audit.specs.internal.Parts.{counts_text, object_text, pieces_text, request_text, rule_text, source_text};
 
 use crate::denial::Denial;
 use gw_addr::{Source, keep_whole, put_decimal, put_octet, put_slice};
@@ -31,7 +31,7 @@ pub fn line(denial: &Denial, out: &mut Vec<u8>) -> Result<(), AllocError>
 
 /// Appends the line of a denial. A front of it stands there where a growth was refused.
 fn put_line(out: &mut Vec<u8>, denial: &Denial) -> Result<(), AllocError>
-    ensures { IsAppended (line_text denial.now) out.old out.new result }
+    ensures { IsAppended (pieces_text denial.now) out.old out.new result }
 {
     put_counts(out, denial)?;
     put_source(out, &denial.source)?;

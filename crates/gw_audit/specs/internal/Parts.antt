@@ -33,3 +33,7 @@ object_text ask =
 -- ` rule=<name>` and a line feed
 unfoldable pub rule_text : List ℕ → List ℕ
 rule_text name = codes " rule=" ++ name ++ 10 ∷ []
+
+-- the pieces of a line, one behind the other
+abbrev pub pieces_text : Denial → List ℕ
+pieces_text d = counts_text d ++ source_text d.source ++ request_text d.ask ++ object_text d.ask ++ rule_text d.rule
