@@ -22,8 +22,8 @@ use gw_apdu::{ConfirmedRequest, write_complex};
 use gw_objects::{ObjectDb, Property, PropertySet, properties};
 use gw_rules::{Ask, Authorizer, Judge, Operation, Service};
 use gw_services::{
-    MultiReq, READ_PROPERTY_MULTIPLE, Reference, list_ends, write_list_head, write_list_tail,
-    write_error_item, write_value_item_head, write_value_item_tail,
+    MultiReq, READ_PROPERTY_MULTIPLE, Reference, list_ends, write_error_item, write_list_head,
+    write_list_tail, write_value_item_head, write_value_item_tail,
 };
 use gw_tags::ObjectId;
 use std::alloc::{AllocError, Global};

@@ -229,11 +229,7 @@ fn put_list_tail(out: &mut Vec<u8>, ends: bool) -> Result<(), AllocError>
 /// # Errors
 ///
 /// 1 Memory, only where the buffer had no room.
-pub fn write_list_head(
-    out: &mut Vec<u8>,
-    begins: bool,
-    object: ObjectId,
-) -> Result<(), AllocError>
+pub fn write_list_head(out: &mut Vec<u8>, begins: bool, object: ObjectId) -> Result<(), AllocError>
     ensures { IsAppendedWhole (head_part begins (object_view object)) out.old out.new result }
 {
     let len = out.len();

@@ -13,5 +13,5 @@ returns-in_err-put_class_and_code c =
       front = Keeps-front c.args.out.now.items (opening 5) out
           (subst (λ (x : List ℕ). Keeps x out) c.in_ok-write_opening.ensures.ok c.in_err-put_class_and_code.ensures.front);
       room = grind (arith, common_steps);
-      capacity = grind (arith, common_steps)
+      capacity = grind (arith, common_steps);
     }
