@@ -1,6 +1,6 @@
 //! Numbers in decimal digits without leading zeros, as addresses and masks are written with them.
 
-ghost use Rattle.std.specs.Prelude.{◌≡◌, ◌<◌, ◌+◌, ◌^◌, ◌++◌, ◌∷◌, ◌↔◌, ℕ, List, length};
+ghost use Rattle.std.specs.Prelude.{◌≡◌, ◌<◌, ◌≤◌, ◌+◌, ◌^◌, ◌++◌, ◌∷◌, ◌↔◌, ℕ, List, length};
 ghost use Rattle.std.specs.Prelude.{take, drop, slice_index, IsTrue};
 ghost use Rattle.std.specs.Prelude.{Some, IfSome, IsSomeAnd};
 ghost use Rattle.std.specs.Char.{IsAsciiDigit};
@@ -8,13 +8,16 @@ ghost use Rattle.std.specs.Fmt.{decimal};
 ghost use Rattle.gw_addr.specs.internal.Digits.{begins_canonical_of};
 ghost use Rattle.gw_addr.specs.Appending.{IsAppended};
 ghost use Rattle.gw_addr.specs.Text.{four_text};
-ghost use Rattle.gw_addr.specs.internal.Digits.{pair_text};
 
-use crate::writers::{put_decimal, put_octet};
+use arrayvec::ArrayVec;
 use std::alloc::AllocError;
 
 /// How many digits a number below 65536 has at most.
 const MAX_DIGITS: usize = 5;
+/// How many digits a number below 256 has at most.
+const MAX_OCTET_DIGITS: usize = 3;
+/// How many octets four such numbers take at most, with points between them.
+const MAX_FOUR: usize = 4 * MAX_OCTET_DIGITS + 3;
 
 /// Whether digits begin as a number does that has no leading zeros.
 fn begins_canonical(digits: &[u8]) -> bool
@@ -99,14 +102,19 @@ pub fn octet_before(text: &[u8], separator: u8) -> Option<(u8, &[u8])>
     None
 }
 
-/// Appends two numbers with a point between them.
-#[tactic(auto, unfolding(crate::specs::internal::Digits::pair_text))]
-fn put_pair(out: &mut Vec<u8>, first: u8, second: u8) -> Result<(), AllocError>
-    ensures { IsAppended (pair_text first second) out.old out.new result }
+/// Adds a number below 256 in decimal digits.
+fn push_decimal(text: &mut ArrayVec<u8, MAX_FOUR>, number: u8)
+    requires { length text.old.items + MAX_OCTET_DIGITS ≤ MAX_FOUR }
+    ensures text { text.new.items ≡ text.old.items ++ decimal number }
+    ensures digits { length text.new.items ≤ length text.old.items + MAX_OCTET_DIGITS }
 {
-    put_decimal(out, first)?;
-    put_octet(out, b'.')?;
-    put_decimal(out, second)
+    if number >= 100 {
+        text.push(b'0' + number / 100);
+    }
+    if number >= 10 {
+        text.push(b'0' + number / 10 % 10);
+    }
+    text.push(b'0' + number % 10);
 }
 
 /// Appends four numbers with points between them.
@@ -114,7 +122,13 @@ pub fn put_four(out: &mut Vec<u8>, octets: [u8; 4]) -> Result<(), AllocError>
     ensures { IsAppended (four_text octets) out.old out.new result }
 {
     let [a, b, c, d] = octets;
-    put_pair(out, a, b)?;
-    put_octet(out, b'.')?;
-    put_pair(out, c, d)
+    let mut text = ArrayVec::new();
+    push_decimal(&mut text, a);
+    text.push(b'.');
+    push_decimal(&mut text, b);
+    text.push(b'.');
+    push_decimal(&mut text, c);
+    text.push(b'.');
+    push_decimal(&mut text, d);
+    out.extend_from_slice(text.as_slice())
 }
