@@ -1,10 +1,10 @@
 //! What the rules of a configuration are read to.
-ghost use Rattle.std.specs.Prelude.{◌≡◌, codes, map};
+ghost use Rattle.std.specs.Prelude.{◌≡◌, map};
 ghost use Rattle.gw_addr.specs.Reading as plain;
 ghost use Rattle.toml.specs.View.{table_view, view};
-ghost use Rattle.gw_policy_text.specs.Configuration.{boolean_at, each, each_at, fields_of, ranges_at, rule_in, rule_name_at, rule_of, rule_parts};
+ghost use Rattle.gw_policy_text.specs.Configuration.{boolean_at, each, each_at, fields_of, ranges_at, rule_in, rule_of, rule_parts};
 ghost use Rattle.gw_policy_text.specs.Field.{located_in, range_in};
-ghost use Rattle.gw_policy_text.specs.Reading.{Finds, Gives, Tells, TellsFault};
+ghost use Rattle.gw_policy_text.specs.Reading.{Finds, Gives, TellsFault};
 ghost use Rattle.gw_policy_text.specs.Tables.{rule_fields};
 ghost use Rattle.gw_policy_text.specs.declared.located.Place.TheVariants as places;
 
@@ -16,7 +16,7 @@ use crate::reading::{at, list_at};
 use crate::shape::Scalar;
 use crate::tables::{self, rule_fields};
 use crate::value::{self, table};
-use gw_rules::{Fields, MAX_RANGES, Ranges, Rule, RuleName};
+use gw_rules::{Fields, MAX_RANGES, Ranges, Rule};
 use std::alloc::Global;
 use toml::{Table, Value};
 
@@ -53,43 +53,30 @@ fn rule_of_table<'a>(alloc: Global, rule: usize, table: &'a Table) -> Result<Rul
 fn rule_parts(alloc: Global, table: &Table) -> Result<Rule, ConfigFault>
     ensures { Gives (λ r. r) result (rule_parts (table_view table.now)) }
 {
-    let name = name_at(alloc, table)?;
-    let allow = value::boolean(at("allow", table)?)?;
-    let ranges = fields(alloc, table)?;
-    Ok(Rule {
-        name,
-        allow,
-        ranges,
-    })
-}
-
-fn name_at(alloc: Global, table: &Table) -> Result<RuleName, ConfigFault>
-    ensures name { Gives (λ n. n) result (rule_name_at (codes "name") (table_view table.now)) }
-    ensures told { Tells result (rule_name_at (codes "name") (table_view table.now)) }
-{
     let name = value::rule_name(at("name", table)?)?;
-    match RuleName::new(alloc, name) {
-        Ok(name) => Ok(name),
-        Err(_) => Err(ConfigFault::Memory),
-    }
+    let allow = value::boolean(at("allow", table)?)?;
+    let Ok(mut rule) = Rule::new(alloc, name, allow) else {
+        return Err(ConfigFault::Memory);
+    };
+    put_ranges(alloc, &mut rule.ranges, table)?;
+    Ok(rule)
 }
 
-/// The ranges for each field of the rule.
-fn fields(alloc: Global, table: &Table) -> Result<Fields<Ranges>, ConfigFault>
-    ensures { Gives (λ fs. fs) result (fields_of (table_view table.now)) }
+/// Puts the ranges for each field of the rule in the place of what is there.
+fn put_ranges(alloc: Global, ranges: &mut Fields<Ranges>, table: &Table) -> Result<(), ConfigFault>
+    ensures { Gives (λ _. ranges.new) result (fields_of (table_view table.now)) }
 {
-    Ok(Fields {
-        operation: ranges_at(alloc, Scalar::Operation, "operation", table)?,
-        port: ranges_at(alloc, tables::PORT, "port", table)?,
-        source_network: ranges_at(alloc, tables::NETWORK, "source_network", table)?,
-        source_key: ranges_at(alloc, Scalar::Address, "source", table)?,
-        destination_network: ranges_at(alloc, tables::NETWORK, "destination", table)?,
-        service: ranges_at(alloc, tables::SERVICE, "service", table)?,
-        object_type: ranges_at(alloc, tables::OBJECT_TYPE, "object_type", table)?,
-        instance: ranges_at(alloc, tables::ANY_INSTANCE, "instance", table)?,
-        property: ranges_at(alloc, tables::PROPERTY, "property", table)?,
-        priority: ranges_at(alloc, tables::PRIORITY, "priority", table)?,
-    })
+    ranges.operation = ranges_at(alloc, Scalar::Operation, "operation", table)?;
+    ranges.port = ranges_at(alloc, tables::PORT, "port", table)?;
+    ranges.source_network = ranges_at(alloc, tables::NETWORK, "source_network", table)?;
+    ranges.source_key = ranges_at(alloc, Scalar::Address, "source", table)?;
+    ranges.destination_network = ranges_at(alloc, tables::NETWORK, "destination", table)?;
+    ranges.service = ranges_at(alloc, tables::SERVICE, "service", table)?;
+    ranges.object_type = ranges_at(alloc, tables::OBJECT_TYPE, "object_type", table)?;
+    ranges.instance = ranges_at(alloc, tables::ANY_INSTANCE, "instance", table)?;
+    ranges.property = ranges_at(alloc, tables::PROPERTY, "property", table)?;
+    ranges.priority = ranges_at(alloc, tables::PRIORITY, "priority", table)?;
+    Ok(())
 }
 
 fn ranges_at(alloc: Global, of: Scalar, key: &str, table: &Table) -> Result<Ranges, ConfigFault>
