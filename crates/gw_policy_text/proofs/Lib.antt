@@ -1,6 +1,7 @@
 pub mod Documents
 pub mod Each
 pub mod EachAt
+pub mod Explanations
 pub mod Named
 pub mod Repeats
 pub mod Twice

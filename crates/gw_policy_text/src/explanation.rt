@@ -1,7 +1,7 @@
 //! The line that says where a fault of a configuration is.
-ghost use Rattle.std.specs.Prelude.{◌≡◌, IsTrue};
+ghost use Rattle.std.specs.Prelude.{◌≡◌, map, IfOk, IsTrue};
 ghost use Rattle.std.specs.List.{list_all};
-ghost use Rattle.gw_policy_text.specs.Explanation.{is_printed};
+ghost use Rattle.gw_policy_text.specs.Explanation.{is_printed, shown};
 
 use std::alloc::{AllocError, Global};
 use std::marker::Model;
@@ -30,11 +30,16 @@ impl Model for Explanation {
 }
 
 impl Explanation {
-    /// An empty line.
-    pub(crate) fn new(alloc: Global) -> Self {
-        Explanation {
-            octets: Vec::new(alloc),
+    /// The line of some words, with a `?` in the place of each control character.
+    #[tactic(auto, using(crate::proofs::Explanations::all_shown))]
+    pub(crate) fn of_words(alloc: Global, words: &[u8]) -> Result<Self, AllocError>
+        ensures { IfOk result (λ line. line ≡ map shown words.now) }
+    {
+        let mut octets = Vec::new(alloc);
+        for octet in words {
+            octets.push(shown(*octet))?;
         }
+        Ok(Explanation { octets })
     }
 
     /// The octets of the line, which is UTF-8. None of them is a control character.
@@ -44,25 +49,11 @@ impl Explanation {
     {
         self.octets.as_slice()
     }
-
-    /// Adds a text, with a `?` in the place of each control character.
-    pub(crate) fn put(&mut self, text: &str) -> Result<(), AllocError> {
-        for octet in text.as_bytes() {
-            self.put_octet(*octet)?;
-        }
-        Ok(())
-    }
-
-    fn put_octet(&mut self, octet: u8) -> Result<(), AllocError> {
-        let octet = printed(octet);
-        self.octets.push(octet)?;
-        Ok(())
-    }
 }
 
 /// The octet, or `?` for a control character.
-fn printed(octet: u8) -> u8
-    ensures { IsTrue (is_printed result) }
+fn shown(octet: u8) -> u8
+    ensures { result ≡ shown octet }
 {
     if octet <= LAST_CONTROL || octet == DELETE {
         b'?'

@@ -26,6 +26,7 @@ mod setting;
 mod shape;
 mod tables;
 mod text;
+mod told;
 mod value;
 mod words;
 

@@ -43,7 +43,7 @@ pub fn read_config(alloc: Global, text: &[u8]) -> Result<Config, ConfigFault>
 }
 
 /// The TOML document that a text is.
-fn document(alloc: Global, text: &[u8]) -> Result<Table, ConfigFault>
+pub(crate) fn document(alloc: Global, text: &[u8]) -> Result<Table, ConfigFault>
     ensures { Gives (λ t. table_view t) result (document text.now) }
 {
     let Ok(text) = str::from_utf8(text) else {

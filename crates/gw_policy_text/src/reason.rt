@@ -1,73 +1,54 @@
-//! What is wrong at a place, in words.
+//! What is wanted at the place of a fault, in words.
 
 use crate::ConfigFault;
-use crate::explanation::Explanation;
 use crate::located::Located;
 use crate::range::between;
 use crate::shape::{Scalar, Shape};
 use crate::text::MAX_TEXT;
+use crate::told::put_value;
 use crate::value::member;
-use crate::words::{item_at, table_at};
-use gw_addr::Mask;
+use crate::words::table_at;
+use gw_addr::{Mask, put_decimal};
 use gw_rules::{MAX_RANGES, Operation};
-use itoa::Buffer;
 use std::alloc::AllocError;
 use toml::{Table, Value};
 
-/// How many octets of a text are shown at most.
-const MAX_SHOWN: usize = 64;
-
-/// Puts what is wrong at the place of a fault.
-pub(crate) fn put_reason(
-    line: &mut Explanation,
+/// Puts what is wanted at the place of a fault, behind what is told of it.
+pub(crate) fn put_wanted(
+    line: &mut Vec<u8>,
     located: &Located<'_>,
     top: &Table,
+    value: Option<&Value>,
 ) -> Result<(), AllocError> {
-    let table = table_at(located.place, top);
-    let value = value_at(located, table);
     match (located.fault, located.wanted, value) {
-        (ConfigFault::UnknownKey, _, _) => line.put("is no key of this table"),
-        (ConfigFault::Duplicate, _, Some(value)) => put_twice(line, value, kind_at(located, table)),
+        (ConfigFault::UnknownKey, _, _) => Ok(()),
+        (ConfigFault::Duplicate, _, _) => put_twice(line, kind_at(located, top)),
         (_, Some(shape), None) => put_missing(line, shape),
-        (fault, Some(shape), Some(value)) => put_value(line, fault, shape, located.item, value),
-        (_, None, _) => line.put("is at fault"),
-    }
-}
-
-/// The value at the key, or the item there.
-fn value_at<'a>(located: &Located<'_>, table: Option<&'a Table>) -> Option<&'a Value> {
-    let value = member(table?, located.key)?;
-    match located.item {
-        Some(item) => item_at(value, item),
-        None => Some(value),
+        (fault, Some(shape), Some(value)) => put_must(line, fault, shape, located.item, value),
+        (_, None, _) => line.extend_from_slice(b"is at fault"),
     }
 }
 
 /// Of an instance, the type of its object.
-fn kind_at<'a>(located: &Located<'_>, table: Option<&'a Table>) -> Option<&'a Value> {
+fn kind_at<'a>(located: &Located<'_>, top: &'a Table) -> Option<&'a Value> {
     if located.key != "instance" {
         return None;
     }
-    member(table?, "type")
+    member(table_at(located.place, top)?, "type")
 }
 
-/// Puts the value that stands twice.
-fn put_twice(
-    line: &mut Explanation,
-    value: &Value,
-    kind: Option<&Value>,
-) -> Result<(), AllocError> {
-    put_written(line, value)?;
-    line.put(" is named twice")?;
+/// Puts that a value stands twice.
+fn put_twice(line: &mut Vec<u8>, kind: Option<&Value>) -> Result<(), AllocError> {
+    line.extend_from_slice(b" is named twice")?;
     if let Some(kind) = kind {
-        line.put(" for type ")?;
-        put_written(line, kind)?;
+        line.extend_from_slice(b" for type ")?;
+        put_value(line, kind)?;
     }
     Ok(())
 }
 
-fn put_missing(line: &mut Explanation, shape: Shape) -> Result<(), AllocError> {
-    line.put("is missing; it must be ")?;
+fn put_missing(line: &mut Vec<u8>, shape: Shape) -> Result<(), AllocError> {
+    line.extend_from_slice(b"; it must be ")?;
     match shape {
         Shape::One(of) => put_range(line, of),
         Shape::List { of, least, most } => put_list(line, of, least, most),
@@ -76,83 +57,66 @@ fn put_missing(line: &mut Explanation, shape: Shape) -> Result<(), AllocError> {
 }
 
 /// Puts how many of what a list has.
-fn put_list(
-    line: &mut Explanation,
-    of: Scalar,
-    least: usize,
-    most: usize,
-) -> Result<(), AllocError> {
-    put_count(line, least)?;
-    line.put(" to ")?;
-    put_count(line, most)?;
-    line.put(match of {
-        Scalar::Table => " tables in double brackets",
-        _ => " texts in a list",
+fn put_list(line: &mut Vec<u8>, of: Scalar, least: usize, most: usize) -> Result<(), AllocError> {
+    put_bounds(line, least as u64, most as u64)?;
+    line.extend_from_slice(match of {
+        Scalar::Table => b" tables in double brackets",
+        _ => b" texts in a list",
     })
 }
 
-/// Puts the value that stands there, and what it must be.
-fn put_value(
-    line: &mut Explanation,
+/// Puts what a value must be.
+fn put_must(
+    line: &mut Vec<u8>,
     fault: ConfigFault,
     shape: Shape,
     item: Option<usize>,
     value: &Value,
 ) -> Result<(), AllocError> {
     match (shape, item) {
-        (Shape::One(of), _) => put_single(line, fault, of, value),
-        (Shape::List { of, .. }, Some(_)) => put_single(line, fault, of, value),
+        (Shape::One(of), _) | (Shape::List { of, .. }, Some(_)) => put_single(line, fault, of),
         (Shape::Ranges(of), Some(_)) => put_range_item(line, fault, of, value),
-        (Shape::List { of, least, most }, None) => put_length(
-            line,
-            fault,
-            of,
-            (least, most),
-            value,
-        ),
-        (Shape::Ranges(of), None) => put_length(line, fault, of, (1, MAX_RANGES), value),
+        (Shape::List { of, least, most }, None) => put_length(line, fault, of, least, most),
+        (Shape::Ranges(of), None) => put_length(line, fault, of, 1, MAX_RANGES),
     }
 }
 
-/// Puts a single value, and what it must be.
-fn put_single(
-    line: &mut Explanation,
-    fault: ConfigFault,
-    of: Scalar,
-    value: &Value,
-) -> Result<(), AllocError> {
-    put_written(line, value)?;
-    line.put(must_words(of, fault))?;
-    match fault {
-        ConfigFault::Kind => line.put(kind_words(of)),
-        _ => put_range(line, of),
-    }
-}
-
-/// Between a value and what it must be.
-fn must_words(of: Scalar, fault: ConfigFault) -> &'static str {
+/// Puts what a single value must be.
+fn put_single(line: &mut Vec<u8>, fault: ConfigFault, of: Scalar) -> Result<(), AllocError> {
     match (of, fault) {
-        (Scalar::ObjectType | Scalar::Operation, ConfigFault::Range) => " is none of ",
-        _ => " must be ",
+        (_, ConfigFault::Kind) => {
+            line.extend_from_slice(b" must be ")?;
+            line.extend_from_slice(kind_words(of).as_bytes())
+        }
+        (Scalar::ObjectType | Scalar::Operation, _) => {
+            line.extend_from_slice(b" is none of ")?;
+            put_range(line, of)
+        }
+        _ => {
+            line.extend_from_slice(b" must be ")?;
+            put_range(line, of)
+        }
     }
 }
 
-/// Puts an item for a field of a rule, and what it must be.
+/// Puts what an item for a field of a rule must be.
 fn put_range_item(
-    line: &mut Explanation,
+    line: &mut Vec<u8>,
     fault: ConfigFault,
     of: Scalar,
     item: &Value,
 ) -> Result<(), AllocError> {
     if is_reversed(of, item) {
-        put_written(line, item)?;
-        return line.put(" is reversed: the low end comes before the high one");
+        return line.extend_from_slice(b" is reversed: the low end comes before the high one");
     }
-    put_single(line, fault, of, item)?;
-    match of {
-        Scalar::Operation => Ok(()),
-        Scalar::Address => put_addresses(line, item),
-        _ => line.put(", or a list of two such, low and high"),
+    put_single(line, fault, of)?;
+    if matches!(of, Scalar::Operation) {
+        return Ok(());
+    }
+    line.extend_from_slice(b", or a list of two such, low and high")?;
+    match (of, item.as_str()) {
+        (Scalar::Address, Some(text)) => put_addresses(line, text),
+        _ => Ok(()),
     }
 }
 
@@ -167,21 +131,16 @@ fn is_reversed(of: Scalar, item: &Value) -> bool {
     }
 }
 
-/// Puts how a range of addresses is written; of a text without a UDP port, with every port of its
-/// addresses.
-fn put_addresses(line: &mut Explanation, item: &Value) -> Result<(), AllocError> {
-    line.put(", or a list of two such, low and high")?;
-    let Some(text) = item.as_str() else {
-        return Ok(());
-    };
+/// Puts, of a text without a UDP port, the range with every port of its addresses.
+fn put_addresses(line: &mut Vec<u8>, text: &str) -> Result<(), AllocError> {
     let Some((low, high)) = addresses_of(text) else {
         return Ok(());
     };
-    line.put("; with every UDP port it is [\"")?;
+    line.extend_from_slice(b"; with every UDP port it is [\"")?;
     put_ip(line, low)?;
-    line.put(":0\", \"")?;
+    line.extend_from_slice(b":0\", \"")?;
     put_ip(line, high)?;
-    line.put(":65535\"]")
+    line.extend_from_slice(b":65535\"]")
 }
 
 /// The first and the last address of a text `a.b.c.d` or `a.b.c.d/bits`.
@@ -206,40 +165,33 @@ fn number_of(text: &str) -> Option<u32> {
     Some(u32::from_be_bytes(octets))
 }
 
-fn put_ip(line: &mut Explanation, address: u32) -> Result<(), AllocError> {
+fn put_ip(line: &mut Vec<u8>, address: u32) -> Result<(), AllocError> {
     let octets = address.to_be_bytes();
     let mut between = "";
     for octet in &octets {
-        line.put(between)?;
-        line.put(Buffer::new().format(*octet))?;
+        line.extend_from_slice(between.as_bytes())?;
+        put_decimal(line, *octet)?;
         between = ".";
     }
     Ok(())
 }
 
-/// Puts how many items a list has and may have, or that it has to be one.
+/// Puts how many items a list may have, or that it has to be one.
 fn put_length(
-    line: &mut Explanation,
+    line: &mut Vec<u8>,
     fault: ConfigFault,
     of: Scalar,
-    bounds: (usize, usize),
-    value: &Value,
+    least: usize,
+    most: usize,
 ) -> Result<(), AllocError> {
     match (fault, of) {
         (ConfigFault::Kind, Scalar::Table) => {
-            put_written(line, value)?;
-            line.put(" must be tables in double brackets")
+            line.extend_from_slice(b" must be tables in double brackets")
         }
-        (ConfigFault::Kind, _) => {
-            put_written(line, value)?;
-            line.put(" must be a list")
-        }
+        (ConfigFault::Kind, _) => line.extend_from_slice(b" must be a list"),
         _ => {
-            put_written(line, value)?;
-            line.put(" must have ")?;
-            put_count(line, bounds.0)?;
-            line.put(" to ")?;
-            put_count(line, bounds.1)
+            line.extend_from_slice(b" must have ")?;
+            put_bounds(line, least as u64, most as u64)
         }
     }
 }
@@ -257,17 +209,30 @@ fn kind_words(of: Scalar) -> &'static str {
 }
 
 /// Puts the range of a value, or the shape of a text.
-fn put_range(line: &mut Explanation, of: Scalar) -> Result<(), AllocError> {
+fn put_range(line: &mut Vec<u8>, of: Scalar) -> Result<(), AllocError> {
     match of {
+        // Where there are no states, a default is none of them.
+        Scalar::Number { low, high } if high < low => line.extend_from_slice(b"one of the states"),
         Scalar::Number { low, high } => put_bounds(line, low, high),
-        Scalar::Signed => line.put("-2147483648 to 2147483647"),
-        Scalar::ObjectType => line.put(TYPES),
-        Scalar::Text { least } => put_octets(line, least),
-        Scalar::RuleName => line.put("1 to 32 of a to z, 0 to 9 and -, and not default"),
+        Scalar::Text { least } => {
+            line.extend_from_slice(b"a text of ")?;
+            put_bounds(line, least as u64, MAX_TEXT as u64)?;
+            line.extend_from_slice(b" octets")
+        }
         Scalar::Operation => put_operations(line),
-        Scalar::Address => line.put("an address and its UDP port, as 10.0.1.255:47808"),
-        Scalar::Mask => line.put("a mask as 255.255.255.0"),
-        Scalar::Boolean | Scalar::Table => line.put(kind_words(of)),
+        _ => line.extend_from_slice(shape_words(of).as_bytes()),
+    }
+}
+
+/// The shape of other values.
+fn shape_words(of: Scalar) -> &'static str {
+    match of {
+        Scalar::Signed => "-2147483648 to 2147483647",
+        Scalar::ObjectType => TYPES,
+        Scalar::RuleName => "1 to 32 of a to z, 0 to 9 and -, and not default",
+        Scalar::Address => "an address and its UDP port, as 10.0.1.255:47808",
+        Scalar::Mask => "a mask as 255.255.255.0",
+        _ => kind_words(of),
     }
 }
 
@@ -277,86 +242,22 @@ const TYPES: &str =
     48 Positive Integer Value";
 
 /// Puts the names of the operations.
-fn put_operations(line: &mut Explanation) -> Result<(), AllocError> {
+fn put_operations(line: &mut Vec<u8>) -> Result<(), AllocError> {
     let mut between = "";
     for operation in &Operation::ALL {
-        line.put(between)?;
-        line.put(operation.name())?;
+        line.extend_from_slice(between.as_bytes())?;
+        line.extend_from_slice(operation.name().as_bytes())?;
         between = ", ";
     }
     Ok(())
 }
 
-/// Puts the bounds of a number. Where there are no states, a default is none of them.
-fn put_bounds(line: &mut Explanation, low: u64, high: u64) -> Result<(), AllocError> {
-    if high < low {
-        return line.put("one of the states");
-    }
-    line.put(Buffer::new().format(low))?;
+/// Puts the bounds of a number.
+fn put_bounds(line: &mut Vec<u8>, low: u64, high: u64) -> Result<(), AllocError> {
+    put_decimal(line, low)?;
     if low < high {
-        line.put(" to ")?;
-        line.put(Buffer::new().format(high))?;
+        line.extend_from_slice(b" to ")?;
+        put_decimal(line, high)?;
     }
     Ok(())
-}
-
-fn put_octets(line: &mut Explanation, least: usize) -> Result<(), AllocError> {
-    line.put("a text of ")?;
-    put_count(line, least)?;
-    line.put(" to ")?;
-    put_count(line, MAX_TEXT)?;
-    line.put(" octets")
-}
-
-fn put_count(line: &mut Explanation, count: usize) -> Result<(), AllocError> {
-    line.put(Buffer::new().format(count))
-}
-
-/// Puts a value as it stands in the text: a number, a text that isn't long, true or false, or a list of
-/// two of these; of others what it is.
-fn put_written(line: &mut Explanation, value: &Value) -> Result<(), AllocError> {
-    match value {
-        Value::Array(items) => put_items(line, items.as_slice()),
-        value => put_scalar(line, value),
-    }
-}
-
-fn put_items(line: &mut Explanation, items: &[Value]) -> Result<(), AllocError> {
-    match items {
-        [low, high] => {
-            line.put("[")?;
-            put_scalar(line, low)?;
-            line.put(", ")?;
-            put_scalar(line, high)?;
-            line.put("]")
-        }
-        _ => {
-            line.put("a list of ")?;
-            put_count(line, items.len())
-        }
-    }
-}
-
-fn put_scalar(line: &mut Explanation, value: &Value) -> Result<(), AllocError> {
-    match value {
-        Value::Integer(number) => line.put(Buffer::new().format(*number)),
-        Value::String(text) => put_text(line, text.as_str()),
-        Value::Boolean(true) => line.put("true"),
-        Value::Boolean(false) => line.put("false"),
-        Value::Float(_) => line.put("a number with a fraction"),
-        Value::Datetime(_) => line.put("a date or a time"),
-        Value::Array(_) => line.put("a list"),
-        Value::Table(_) => line.put("a table"),
-    }
-}
-
-fn put_text(line: &mut Explanation, text: &str) -> Result<(), AllocError> {
-    if MAX_SHOWN < text.len() {
-        line.put("a text of ")?;
-        put_count(line, text.len())?;
-        return line.put(" octets");
-    }
-    line.put("\"")?;
-    line.put(text)?;
-    line.put("\"")
 }

@@ -1,40 +1,49 @@
 //! The place of a fault in words.
+ghost use Rattle.std.specs.Prelude.{◌≡◌, ◌++◌, OnOk, option_map};
+ghost use Rattle.toml.specs.View.{table_view};
+ghost use Rattle.gw_policy_text.specs.Explanation.{item_part, key_part, listed_table, name_at, name_words, numbered, place_words, table_at, table_part, table_words};
+ghost use Rattle.gw_policy_text.specs.Located.{located_view};
 
-use crate::explanation::Explanation;
 use crate::located::{Located, Place};
-use crate::value::member;
-use itoa::Buffer;
+use crate::value::{member, string};
+use gw_addr::put_decimal;
 use std::alloc::AllocError;
-use toml::{Table, Value};
+use toml::Table;
 
 /// Puts the table, by its name too, the key and the item.
 pub(crate) fn put_place(
-    line: &mut Explanation,
+    line: &mut Vec<u8>,
     located: &Located<'_>,
     top: &Table,
-) -> Result<(), AllocError> {
-    put_table(line, located.place, name_of(located.place, top))?;
+) -> Result<(), AllocError>
+    ensures { let words = place_words (located_view located.now) (table_view top.now) in
+        OnOk result (line.new.items ≡ line.old.items ++ words) }
+{
+    put_table(line, located.place, name_at(located.place, top))?;
     put_key(line, located.key)?;
     put_item(line, located.item)
 }
 
 /// Puts the table and its name.
-fn put_table(line: &mut Explanation, place: Place, name: Option<&str>) -> Result<(), AllocError> {
-    match place {
-        Place::Top => Ok(()),
-        _ => {
-            put_part(line, place)?;
-            put_name(line, name)?;
-            line.put(": ")
-        }
+fn put_table(line: &mut Vec<u8>, place: Place, name: Option<&str>) -> Result<(), AllocError>
+    ensures { let words = table_part place (option_map (λ n. n.now) name.entry) in
+        OnOk result (line.new.items ≡ line.old.items ++ words) }
+{
+    if matches!(place, Place::Top) {
+        return Ok(());
     }
+    put_part(line, place)?;
+    put_name(line, name)?;
+    line.extend_from_slice(b": ")
 }
 
-fn put_part(line: &mut Explanation, place: Place) -> Result<(), AllocError> {
+fn put_part(line: &mut Vec<u8>, place: Place) -> Result<(), AllocError>
+    ensures { OnOk result (line.new.items ≡ line.old.items ++ table_words place) }
+{
     match place {
-        Place::Text => line.put("the text"),
+        Place::Text => line.extend_from_slice(b"the text"),
         Place::Top => Ok(()),
-        Place::Device => line.put("device"),
+        Place::Device => line.extend_from_slice(b"device"),
         Place::Port(port) => put_numbered(line, "port ", port),
         Place::Peer { port, peer } => {
             put_numbered(line, "port ", port)?;
@@ -47,50 +56,63 @@ fn put_part(line: &mut Explanation, place: Place) -> Result<(), AllocError> {
 }
 
 /// Puts one of several, by its number from 1.
-fn put_numbered(line: &mut Explanation, name: &str, position: usize) -> Result<(), AllocError> {
-    line.put(name)?;
-    line.put(Buffer::new().format(position as u128 + 1))
+fn put_numbered(line: &mut Vec<u8>, word: &str, position: usize) -> Result<(), AllocError>
+    ensures { OnOk result (line.new.items ≡ line.old.items ++ numbered word.now position) }
+{
+    line.extend_from_slice(word.as_bytes())?;
+    put_decimal(line, position as u128 + 1)
 }
 
-fn put_name(line: &mut Explanation, name: Option<&str>) -> Result<(), AllocError> {
+fn put_name(line: &mut Vec<u8>, name: Option<&str>) -> Result<(), AllocError>
+    ensures { let words = name_words (option_map (λ n. n.now) name.entry) in
+        OnOk result (line.new.items ≡ line.old.items ++ words) }
+{
     match name {
         Some(name) => {
-            line.put(" \"")?;
-            line.put(name)?;
-            line.put("\"")
+            line.extend_from_slice(b" \"")?;
+            line.extend_from_slice(name.as_bytes())?;
+            line.extend_from_slice(b"\"")
         }
         None => Ok(()),
     }
 }
 
-fn put_key(line: &mut Explanation, key: &str) -> Result<(), AllocError> {
+fn put_key(line: &mut Vec<u8>, key: &str) -> Result<(), AllocError>
+    ensures { OnOk result (line.new.items ≡ line.old.items ++ key_part key.now) }
+{
     if key.is_empty() {
         return Ok(());
     }
-    line.put(key)?;
-    line.put(": ")
+    line.extend_from_slice(key.as_bytes())?;
+    line.extend_from_slice(b": ")
 }
 
-fn put_item(line: &mut Explanation, item: Option<usize>) -> Result<(), AllocError> {
+fn put_item(line: &mut Vec<u8>, item: Option<usize>) -> Result<(), AllocError>
+    ensures { OnOk result (line.new.items ≡ line.old.items ++ item_part item) }
+{
     match item {
         Some(item) => {
             put_numbered(line, "item ", item)?;
-            line.put(": ")
+            line.extend_from_slice(b": ")
         }
         None => Ok(()),
     }
 }
 
 /// The name of a rule or an object, where it is a text.
-fn name_of(place: Place, top: &Table) -> Option<&str> {
+fn name_at(place: Place, top: &Table) -> Option<&str>
+    ensures { option_map (λ n. n.now) result ≡ name_at place (table_view top.now) }
+{
     match place {
-        Place::Object(_) | Place::Rule(_) => member(table_at(place, top)?, "name")?.as_str(),
+        Place::Object(_) | Place::Rule(_) => string(member(table_at(place, top)?, "name")?),
         _ => None,
     }
 }
 
 /// The table at a place.
-pub(crate) fn table_at(place: Place, top: &Table) -> Option<&Table> {
+pub(crate) fn table_at(place: Place, top: &Table) -> Option<&Table>
+    ensures { option_map (λ t. table_view t.now) result ≡ table_at place (table_view top.now) }
+{
     match place {
         Place::Text => None,
         Place::Top => Some(top),
@@ -104,11 +126,8 @@ pub(crate) fn table_at(place: Place, top: &Table) -> Option<&Table> {
 }
 
 /// The table at this position of the list at a key.
-fn table_in<'a>(table: &'a Table, key: &str, position: usize) -> Option<&'a Table> {
-    item_at(member(table, key)?, position)?.as_table()
-}
-
-/// The item at a position, of a list.
-pub(crate) fn item_at(value: &Value, position: usize) -> Option<&Value> {
-    value.as_array()?.get(position)
+fn table_in<'a>(table: &'a Table, key: &str, position: usize) -> Option<&'a Table>
+    ensures { option_map (λ t. table_view t.now) result ≡ listed_table key.now position (table_view table.now) }
+{
+    member(table, key)?.get(position)?.as_table()
 }
