@@ -7,4 +7,5 @@ pub mod Parting
 pub mod Raised
 pub mod RelayAsks
 pub mod ShapeLaw
+pub mod Taking
 pub mod Whence

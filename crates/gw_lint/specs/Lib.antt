@@ -1,4 +1,5 @@
 pub mod Cover
+pub mod Finding
 pub mod Laws
 pub mod Meeting
 pub mod Pieces

@@ -1,9 +1,10 @@
 //! Rules that match nothing, and rules whose asks an earlier rule takes.
-ghost use Rattle.std.specs.Prelude.{◌≡◌, IsTrue};
+ghost use Rattle.std.specs.Prelude.{◌≡◌, IsTrue, not};
 ghost use Rattle.std.specs.List.{list_all, list_any};
 ghost use Rattle.gw_lint.specs.Cover.{MatchesNothing, TakesAll, lies_in_any, takes_range, takes_shape, takes_side};
 ghost use Rattle.gw_rules.specs.Fields.{value_of};
 ghost use Rattle.gw_rules.specs.Rule.{each_field, ranges_of};
+ghost use Rattle.gw_lint.specs.Finding.{is_met, takes_all};
 ghost use Rattle.gw_lint.specs.Meeting.{meets};
 
 use crate::side::{meets, overlaps};
@@ -12,7 +13,8 @@ use gw_rules::{FieldName, Range, Rule};
 
 /// Whether the rule matches none of the asks of these shapes.
 pub fn matches_nothing(shapes: &[Shape], rule: &Rule) -> bool
-    ensures { IsTrue result → MatchesNothing shapes.now rule.now }
+    ensures nothing { IsTrue result → MatchesNothing shapes.now rule.now }
+    ensures exact { result ≡ not (is_met shapes.now rule.now) }
 {
     !any_meets(shapes, rule)
 }
@@ -91,7 +93,8 @@ fn takes_each_shape(shapes: &[Shape], earlier: &Rule, later: &Rule) -> bool
 /// field one of its ranges holds what a range of the other holds there.
 #[tactic(auto, using(crate::proofs::Covering::all_taken))]
 pub fn takes_all(shapes: &[Shape], earlier: &Rule, later: &Rule) -> bool
-    ensures { IsTrue result → TakesAll shapes.now earlier.now later.now }
+    ensures takes { IsTrue result → TakesAll shapes.now earlier.now later.now }
+    ensures exact { result ≡ takes_all shapes.now earlier.now later.now }
 {
     takes_each_shape(shapes, earlier, later)
 }

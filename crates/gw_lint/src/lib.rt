@@ -3,6 +3,7 @@
 #![tactic(auto)]
 
 mod cover;
+mod finding;
 pub mod laws;
 mod piece;
 mod search;
@@ -10,6 +11,7 @@ mod shapes;
 mod side;
 
 pub use cover::{matches_nothing, takes_all};
+pub use finding::{Finding, MAX_STEPS, finding_of};
 pub use search::{Outcome, search_for};
 pub use shapes::shapes_of;
 pub use side::{Shape, Side};

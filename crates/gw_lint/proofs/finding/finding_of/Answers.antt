@@ -1,0 +1,17 @@
+use Rattle.std.proofs.Common.{◌≡◌, ◌∙◌, ◌-◌, ℕ, List, Some, ap, sym, take}
+use Rattle.gw_rules.specs.declared.rule.Rule.{Rule}
+use Rattle.gw_lint.proofs.Taking.{denied, taken_by}
+use Rattle.gw_lint.specs.Finding.{is_met, taker}
+use Rattle.gw_lint.proofs.finding.finding_of.Goals as goal
+
+pub returns-in-Some : goal.returns-in-Some
+returns-in-Some c =
+    let shapes = c.args.shapes.now in
+    let rule = c.args.rule.now in
+    let number = c.args.number in
+    let found : taker shapes (take (number - 1) c.args.rules.now) rule ≡ Some c.in-Some.place =
+    ap (λ (n : ℕ). taker shapes (take (n - 1) c.args.rules.now) rule) (sym c.from.ensures)
+    ∙ ap (λ (rules : List Rule). taker shapes (take (c.from.result - 1) rules) rule) (sym c.rules.ensures.rules)
+    ∙ sym c.in-Some.ensures.place in
+    (denied (is_met shapes rule) c.matches_nothing.result c.matches_nothing.ensures.exact c.if-matches_nothing.false,
+    taken_by shapes c.args.rules.now number c.in-Some.place rule c.requires found)

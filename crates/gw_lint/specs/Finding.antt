@@ -1,0 +1,46 @@
+-- What is found of a rule, and when it is true of it.
+use Rattle.std.specs.Prelude.{◌≡◌, ℕ, ◌-◌, ◌<◌, Bool, true, List, Option, Some, None, position, take}
+use Rattle.std.specs.List.{list_all, list_any}
+use Rattle.gw_rules.specs.RuleList.{HasNumber, first}
+use Rattle.gw_rules.specs.declared.rule.Rule.{Rule}
+use Rattle.gw_lint.specs.Cover.{MatchesNothing, TakesAll, takes_shape}
+use Rattle.gw_lint.specs.Meeting.{meets}
+use Rattle.gw_lint.specs.Search.{IsNeverFirst}
+use Rattle.gw_lint.specs.Shape.{Shape}
+use Rattle.gw_lint.specs.declared.finding.Finding.{Finding}
+use Rattle.gw_lint.specs.declared.finding.Finding.TheVariants as finding
+
+-- one of the shapes meets the rule
+abbrev pub is_met : List Shape → Rule → Bool
+is_met shapes rule = list_any (λ shape. meets shape rule) shapes
+
+-- in each shape one rule is seen to match whatever another one matches
+abbrev pub takes_all : List Shape → Rule → Rule → Bool
+takes_all shapes earlier later = list_all (takes_shape earlier later) shapes
+
+-- the place of the first of these rules that is seen to match whatever another one matches
+abbrev pub taker : List Shape → List Rule → Rule → Option ℕ
+taker shapes rules later = position (λ earlier. takes_all shapes earlier later) rules
+
+-- of the rules before one that matches something, that of this number is the first that takes all of it
+pub record IsTakenBy (shapes : List Shape) (rules : List Rule) (number by : ℕ) (later : Rule) : Type 0 where
+  pub earlier : Rule
+  pub numbered : HasNumber rules by earlier
+  pub before : by < number
+  pub takes : TakesAll shapes earlier later
+  pub least : taker shapes (take (number - 1) rules) later ≡ Some (by - 1)
+
+-- no rule before it is seen to take all that it matches
+abbrev pub IsTakenByNone : List Shape → List Rule → ℕ → Rule → Type 0
+IsTakenByNone shapes rules number later = taker shapes (take (number - 1) rules) later ≡ None
+
+-- what a finding says of a rule: of an ask that it decides, that it is the first to match that, and where nothing is known,
+-- that neither of the first two is found
+abbrev pub Tells : List Shape → List Rule → ℕ → Rule → Finding → Type 0
+Tells shapes rules number rule finding.MatchesNothing = MatchesNothing shapes rule
+Tells shapes rules number rule (finding.TakenBy by) = (is_met shapes rule ≡ true) × IsTakenBy shapes rules number by rule
+Tells shapes rules number rule finding.TakenTogether =
+    (is_met shapes rule ≡ true) × IsTakenByNone shapes rules number rule × IsNeverFirst shapes rules number
+Tells shapes rules number rule (finding.Decides ask) =
+    (is_met shapes rule ≡ true) × IsTakenByNone shapes rules number rule × (first rules ask ≡ Some number)
+Tells shapes rules number rule finding.Unknown = (is_met shapes rule ≡ true) × IsTakenByNone shapes rules number rule

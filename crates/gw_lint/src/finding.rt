@@ -1,0 +1,62 @@
+//! What is found of each rule of a policy.
+ghost use Rattle.std.specs.Prelude.{◌≡◌, ◌<◌, ◌-◌, IfOk, IfSome, length, take};
+ghost use Rattle.gw_rules.specs.RuleList.{HasNumber};
+ghost use Rattle.gw_lint.specs.Finding.{Tells, taker};
+
+use crate::Shape;
+use crate::cover::{matches_nothing, takes_all};
+use crate::search::{Outcome, search_for};
+use gw_rules::{Ask, Rule, RuleList};
+use std::alloc::{AllocError, Global};
+
+/// How many steps a search for an ask that one rule decides has at most.
+pub const MAX_STEPS: u32 = 4096;
+
+/// What is found of a rule, over the asks of some shapes.
+#[derive(Clone, Copy, Debug, PartialEq, Eq)]
+pub enum Finding {
+    /// The rule matches none of them.
+    MatchesNothing,
+    /// It matches some, and the rule of this number, which stands before it, matches all of these.
+    TakenBy(u16),
+    /// The rules before it together match all that it matches.
+    TakenTogether,
+    /// It is the first rule that matches this ask.
+    Decides(Ask),
+    /// The search ended before it could tell.
+    Unknown,
+}
+
+/// The place of the first of these rules that is seen to match whatever another one matches.
+fn taker(shapes: &[Shape], rules: &[Rule], later: &Rule) -> Option<usize>
+    ensures place { result ≡ taker shapes.now rules.now later.now }
+    ensures within { IfSome result (λ place. place < length rules.now) }
+{
+    rules.iter().position(|earlier| takes_all(shapes, earlier, later))
+}
+
+/// What is found of the rule of this number, over these shapes. An `Err` only where a growth of memory
+/// was refused.
+pub fn finding_of(
+    alloc: Global,
+    shapes: &[Shape],
+    rules: &RuleList,
+    number: u16,
+    rule: &Rule,
+) -> Result<Finding, AllocError>
+    requires { HasNumber rules.now number rule.now }
+    ensures { IfOk result (Tells shapes.now rules.now number rule.now) }
+{
+    if matches_nothing(shapes, rule) {
+        return Ok(Finding::MatchesNothing);
+    }
+    let earlier = &rules.rules()[..usize::from(number) - 1];
+    if let Some(place) = taker(shapes, earlier, rule) {
+        return Ok(Finding::TakenBy(place as u16 + 1));
+    }
+    match search_for(alloc, rules, number, shapes, MAX_STEPS)? {
+        Outcome::Decides(ask) => Ok(Finding::Decides(ask)),
+        Outcome::Never => Ok(Finding::TakenTogether),
+        Outcome::Unknown => Ok(Finding::Unknown),
+    }
+}
