@@ -7,9 +7,9 @@
 #     FORMAT=2 bench/fuzz.sh                  # under the second format of the policy
 #
 # A datagram is cut, lengthened, spliced with another, or gets other bits, octets or repeated parts; two in three get the length of
-# their BVLL put right, and every fourth comes as it is worked. They come in scripts of a thousand, with ticks between, from stations
-# that are peers, registered, of the port's network or of none. Last comes what was answered, by kind, and how often: of each kind that
-# the gateway makes itself there must be a hundred.
+# their BVLL put right, and every fourth comes as it is worked. They come in scripts of a thousand, and of 250 for the trial, of which
+# 1 MiB of output is shown at most; with ticks between, from stations that are peers, registered, of the port's network or of none.
+# Last comes what was answered, by kind, and how often: of each kind that the gateway makes itself there must be a hundred.
 #
 # It wants python3 and the built program: ./bacgw prove.
 set -euo pipefail
@@ -31,7 +31,7 @@ from pathlib import Path
 top, program, wanted, seed, yardstick = Path(sys.argv[1]), sys.argv[2], int(sys.argv[3]), int(sys.argv[4]), sys.argv[5]
 format = sys.argv[6]
 chance = random.Random(seed)
-EACH = 1000  # datagrams of a script
+EACH = 1000 if yardstick else 250  # datagrams of a script; of a trial 1 MiB is shown at most
 LEAST = 100  # of each kind that the gateway makes itself
 OWN_KINDS = [
     "nothing", "sent broadcast table", "sent device table", "sent broadcast unconfirmed request", "sent forwarded unconfirmed request",
