@@ -1,6 +1,7 @@
 -- What several writes one after the other append.
-use Rattle.std.proofs.Common.{◌∙◌, ◌++◌, ap, append_assoc, ℕ, List, Result, Ok, Err, Option, Some, None, OnOk}
+use Rattle.std.proofs.Common.{◌≡◌, ◌∙◌, ◌++◌, ap, append_assoc, sym, subst, rules, ℕ, List, [], Result, Ok, Err, Option, Some, None, OnOk, OnErr}
 use Rattle.std.specs.Io.KnownBytes.{Appends}
+use Rattle.gw_shell.specs.Program.{AppendsFront}
 
 -- three texts that are appended are appended as one
 pub appends_three : (a b c d : Option (List ℕ)) (x y z : List ℕ) → Appends a b x → Appends b c y → Appends c d z → Appends a d (x ++ (y ++ z))
@@ -16,3 +17,17 @@ appends_three (Some a) (Some b) (Some c) (Some d) x y z first second third =
 pub three_writes : {T E : Type 0} (r : Result T E) (a b c d : Option (List ℕ)) (x y z : List ℕ) → Appends a b x → Appends b c y → OnOk r (Appends c d z) → OnOk r (Appends a d (x ++ (y ++ z)))
 three_writes (Ok done) a b c d x y z first second third = appends_three a b c d x y z first second third
 three_writes (Err failed) a b c d x y z first second third = tt
+
+nothing_behind : (text : List ℕ) → text ++ [] ≡ text
+nothing_behind text = search rules
+
+-- a write has appended a front of its text, whether it went through or not
+pub front_written : {T E : Type 0} (r : Result T E) (held holds : Option (List ℕ)) (text note : List ℕ) → text ≡ note →
+    OnOk r (Appends held holds text) → OnErr r (AppendsFront held holds text) → AppendsFront held holds note
+front_written (Ok done) held holds text note same whole front = record {
+  front = note;
+  unwritten = [];
+  parts = sym (nothing_behind note);
+  appends = subst (λ (t : List ℕ). Appends held holds t) same whole;
+}
+front_written (Err failed) held holds text note same whole front = subst (λ (t : List ℕ). AppendsFront held holds t) same front

@@ -1,7 +1,7 @@
 -- What the program tells of a fault: the line on standard error, and the exit status.
-use Rattle.std.specs.Prelude.{◌≡◌, ◌⊎◌, IsTrue, ℕ, Bool, true, false, List, [], ◌∷◌, ◌++◌, codes, decimal, Result, Ok, Err, string_bytes}
+use Rattle.std.specs.Prelude.{◌≡◌, ◌⊎◌, IsTrue, ℕ, Bool, true, false, List, [], ◌∷◌, ◌++◌, codes, decimal, Some, Result, Ok, Err, string_bytes}
 use Rattle.std.specs.List.{list_all}
-use Rattle.gw_policy_text.specs.Explanation.{is_printed}
+use Rattle.gw_policy_text.specs.Explanation.{ExplainsText, is_printed}
 use Rattle.gw_shell.specs.declared.command_line.Choice.{Choice}
 use Rattle.gw_shell.specs.declared.command_line.Choice.TheVariants as choice
 use Rattle.gw_shell.specs.declared.fault.Fault.{Fault}
@@ -85,16 +85,18 @@ abbrev pub status_after : Result (Unit {0}) Fault → ℕ
 status_after (Ok done) = 0
 status_after (Err of_program) = status_of of_program
 
--- one line, with no control character but its line feed
-pub record IsLine (text : List ℕ) : Type 0 where
+-- the line that explains this fault of a text, with no control character but its line feed
+pub record IsExplainedBy (text : List ℕ) (f : ConfigFault) (note : List ℕ) : Type 0 where
   pub line : List ℕ
+  pub explains : ExplainsText text f (Some line)
   pub printed : IsTrue (list_all is_printed line)
-  pub parts : text ≡ line ++ 10 ∷ []
+  pub parts : note ≡ line ++ 10 ∷ []
 
--- What is told of a fault before its line: where a fault of the configuration is, where that is asked for and can be said.
-abbrev pub FaultNote : Bool → Fault → List ℕ → Type 0
-FaultNote true (fault.Configuration f) note = (note ≡ []) ⊎ IsLine note
-FaultNote _ _ note = note ≡ []
+-- What is told of a fault before its line: where that of the text is which was read for a configuration, where that is asked for and can be
+-- said.
+abbrev pub FaultNote : Bool → Result (List ℕ) Fault → Fault → List ℕ → Type 0
+FaultNote true (Ok text) (fault.Configuration f) note = (note ≡ []) ⊎ IsExplainedBy text f note
+FaultNote _ _ _ note = note ≡ []
 
 -- what is told behind the line of words that are no command line: how the program is called
 abbrev pub usage_of : Result Choice Fault → List ℕ

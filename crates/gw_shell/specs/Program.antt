@@ -21,24 +21,27 @@ pub record AppendsFront (held holds : Option (List ℕ)) (text : List ℕ) : Typ
   pub appends : Appends held holds front
 
 -- What is left at a fault: where it is, of which a failed write may leave a front.
-abbrev pub LeavesFault : Bool → Fault → Option (List ℕ) → Option (List ℕ) → Type 0
-LeavesFault explains f held holds = (note : List ℕ) × FaultNote explains f note × AppendsFront held holds note
+abbrev pub LeavesFault : Bool → Result (List ℕ) Fault → Fault → Option (List ℕ) → Option (List ℕ) → Type 0
+LeavesFault explains text f held holds = (note : List ℕ) × FaultNote explains text f note × AppendsFront held holds note
 
--- What `check` leaves of the configuration that was read: its text, of which a failed write may leave a front. Where there is none
--- the outcome is why, whatever became of the explanation.
-abbrev pub LeavesChecked : Bool → Option (List ℕ) → Option (List ℕ)
+-- What `check` leaves of a configuration: what it says of it, of which a failed write may leave a front.
+abbrev pub LeavesConfigured : Bool → Option (List ℕ) → Option (List ℕ) → Configuration → Result (Unit {0}) Fault → Type 0
+LeavesConfigured explains held holds c (Ok done) = Appends held holds (checked_text explains c)
+LeavesConfigured explains held holds c (Err fault.Write) = AppendsFront held holds (checked_text explains c)
+LeavesConfigured explains held holds c (Err fault.Memory) = holds ≡ held
+LeavesConfigured explains held holds c (Err _) = ⊥
+
+-- What it leaves of what was read of a text. Where there is no configuration the outcome is why, whatever became of the explanation.
+abbrev pub LeavesChecked : Bool → Result (List ℕ) Fault → Option (List ℕ) → Option (List ℕ)
     → Result Configuration Fault → Result (Unit {0}) Fault → Type 0
-LeavesChecked explains held holds (Ok c) (Ok done) = Appends held holds (checked_text explains c)
-LeavesChecked explains held holds (Ok c) (Err fault.Write) = AppendsFront held holds (checked_text explains c)
-LeavesChecked explains held holds (Ok c) (Err fault.Memory) = holds ≡ held
-LeavesChecked explains held holds (Ok c) (Err _) = ⊥
-LeavesChecked explains held holds (Err f) outcome = (outcome ≡ Err f) × LeavesFault explains f held holds
+LeavesChecked explains text held holds (Ok c) outcome = LeavesConfigured explains held holds c outcome
+LeavesChecked explains text held holds (Err f) outcome = (outcome ≡ Err f) × LeavesFault explains text f held holds
 
 -- what `check` leaves of a text that was read, or of why none was
 abbrev pub LeavesOfText : Bool → Result (List ℕ) Fault → Option (List ℕ) → Option (List ℕ)
     → Result (Unit {0}) Fault → Type 0
 LeavesOfText explains text held holds outcome =
-    (c : Result Configuration Fault) × IsConfigurationOf text c × LeavesChecked explains held holds c outcome
+    (c : Result Configuration Fault) × IsConfigurationOf text c × LeavesChecked explains text held holds c outcome
 
 -- What `replay` leaves under the configuration that was read. Where there is none the script isn't played, and the outcome is why.
 abbrev pub LeavesPlayed : Option (List ℕ) → Option (List ℕ) → Option (List ℕ)
@@ -52,12 +55,12 @@ LeavesPlayed input held holds (Err f) outcome = (outcome ≡ Err f) × (holds �
 abbrev pub LeavesOutput : {Log Sockets : Type 0} → (Reads : List ℕ → Result (List ℕ) Fault → Type 0) → Machine Log Sockets
     → Option (List ℕ) → Option (List ℕ) → Option (List ℕ) → List ℕ → Result Choice Fault → Result (Unit {0}) Fault → Type 0
 LeavesOutput Reads machine input held holds told (Ok (choice.Check file explains)) outcome =
-    (c : Result Configuration Fault) × IsConfigured Reads (Some (string_bytes file)) c × LeavesChecked explains held holds c outcome
+    (text : Result (List ℕ) Fault) × Reads (string_bytes file) text × LeavesOfText explains text held holds outcome
 LeavesOutput Reads machine input held holds told (Ok (choice.Replay file)) outcome =
     (c : Result Configuration Fault) × IsConfigured Reads (option_map string_bytes file) c × LeavesPlayed input held holds c outcome
 LeavesOutput Reads machine input held holds told (Ok (choice.Run options)) outcome =
-    (c : Result Configuration Fault) × IsConfigured Reads (Some (string_bytes options.config)) c
-    × LeavesRun machine held holds options c told outcome
+    (text : Result (List ℕ) Fault) × Reads (string_bytes options.config) text
+    × (c : Result Configuration Fault) × IsConfigurationOf text c × LeavesRun machine text held holds options c told outcome
 LeavesOutput Reads machine input held holds told (Ok (choice.Help text)) (Ok done) = Appends held holds (string_bytes text)
 LeavesOutput Reads machine input held holds told (Ok (choice.Help text)) (Err f) =
     (f ≡ fault.Write) × AppendsFront held holds (string_bytes text)

@@ -135,11 +135,12 @@ pub data LeavesServed {Log Sockets : Type 0} (machine : Machine Log Sockets) (na
       (ends (log_held machine.held log_then holds) (machine.calls sockets_then)) outcome →
       told ≡ line → LeavesServed machine name held holds c turns is_verbose line told outcome
 
--- What `run` leaves under the configuration that was read. Where there is none nothing is opened, the outcome is why, and it may be told
+-- What `run` leaves under the configuration that was read from a text. Where there is none nothing is opened, the outcome is why, and it may be told
 -- where its fault is.
-abbrev pub LeavesRun : {Log Sockets : Type 0} → Machine Log Sockets → (held holds : Option (List ℕ)) → RunOptions
+abbrev pub LeavesRun : {Log Sockets : Type 0} → Machine Log Sockets → Result (List ℕ) Fault → (held holds : Option (List ℕ)) → RunOptions
     → Result Configuration Fault → (told : List ℕ) → Result (Unit {0}) Fault → Type 0
-LeavesRun machine held holds options (Ok c) told outcome =
+LeavesRun machine text held holds options (Ok c) told outcome =
     let name = option_map string_bytes options.log in
     LeavesServed machine name held holds c options.turns options.verbose (told_text options.verbose c name) told outcome
-LeavesRun machine held holds options (Err f) told outcome = (outcome ≡ Err f) × (holds ≡ held) × FaultNote options.verbose f told
+LeavesRun machine text held holds options (Err f) told outcome =
+    (outcome ≡ Err f) × (holds ≡ held) × FaultNote options.verbose text f told

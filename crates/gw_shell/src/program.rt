@@ -1,16 +1,16 @@
 //! The whole program, over any words, reader and writers.
 
-ghost use Rattle.std.specs.Prelude.{◌≡◌, ◌⊎◌, [], List, ℕ, Ok, Result, map, option_map, string_bytes, MatchResult, IfErr, IfOk, IsOk, OnOk, OnErr};
+ghost use Rattle.std.specs.Prelude.{◌≡◌, ◌⊎◌, ◌++◌, ◌∷◌, [], List, ℕ, Ok, Result, map, option_map, string_bytes, MatchResult, IfErr, IfOk, IsOk, OnOk, OnErr};
 ghost use Rattle.std.specs.Io.Buffered.{writer_buffer, writer_contents};
 ghost use Rattle.std.specs.Io.KnownBytes.{Appends};
 ghost use Rattle.std.specs.Process.{exit_status};
 ghost use Rattle.gw_policy_text.specs.Configuration.{Configuration};
 ghost use Rattle.gw_shell.specs.CommandLine.{IsAnswer};
 ghost use Rattle.gw_shell.specs.Configured.{IsConfigurationOf};
-ghost use Rattle.gw_shell.specs.Ending.{FaultNote, IsLine};
+ghost use Rattle.gw_shell.specs.Ending.{FaultNote, IsExplainedBy};
 ghost use Rattle.gw_shell.specs.Files.{result_map};
 ghost use Rattle.gw_shell.specs.Host.{OpensAtLine};
-ghost use Rattle.gw_shell.specs.Program.{AppendsFront, IsFlushed, IsFollowed, IsRun, LeavesChecked, LeavesOfText, LeavesOutput, LeavesPlayed};
+ghost use Rattle.gw_shell.specs.Program.{AppendsFront, IsFlushed, IsFollowed, IsRun, LeavesConfigured, LeavesOfText, LeavesOutput, LeavesPlayed};
 ghost use Rattle.gw_shell.specs.Serving.{IsFlushedFor, LeavesRun, machine};
 ghost use Rattle.gw_shell.specs.declared.fault.Fault.{Fault};
 ghost use Rattle.gw_shell.specs.declared.fault.Fault.TheVariants as fault;
@@ -86,7 +86,7 @@ fn print_checked<W: Write + Drop>(
 ) -> Result<(), Fault>
     ensures output { let held = writer_contents W.contents output.old in
         let holds = writer_contents W.contents output.new in
-        LeavesChecked explains held holds (Ok config.now) result }
+        LeavesConfigured explains held holds config.now result }
     ensures flush { OnOk result (writer_buffer output.new ≡ []) }
 {
     let text = checked_text(alloc, explains, config)?;
@@ -96,7 +96,7 @@ fn print_checked<W: Write + Drop>(
 /// What is told of the fault of a text that was read, where that is asked for: where in the text a fault
 /// of the configuration is. It is left out where there is no memory for it.
 fn fault_note(alloc: Global, is_asked: bool, text: &Result<Vec<u8>, Fault>, fault: Fault) -> Vec<u8>
-    ensures { FaultNote is_asked fault result.items }
+    ensures { FaultNote is_asked (result_map (λ octets. octets.items) text.now) fault result.items }
 {
     if let (true, Ok(text), Fault::Configuration(fault)) = (is_asked, text, fault) {
         return explanation(alloc, text, fault);
@@ -106,7 +106,7 @@ fn fault_note(alloc: Global, is_asked: bool, text: &Result<Vec<u8>, Fault>, faul
 
 /// The line that explains this fault of a text, or nothing where there is none.
 fn explanation(alloc: Global, text: &[u8], fault: ConfigFault) -> Vec<u8>
-    ensures { (result.items ≡ []) ⊎ IsLine result.items }
+    ensures { (result.items ≡ []) ⊎ IsExplainedBy text.now fault result.items }
 {
     let line = match explain(alloc, text, fault) {
         Ok(Some(explanation)) => line_of(alloc, &explanation),
@@ -120,7 +120,7 @@ fn explanation(alloc: Global, text: &[u8], fault: ConfigFault) -> Vec<u8>
 
 /// An explanation with its line feed.
 fn line_of(alloc: Global, explanation: &Explanation) -> Result<Vec<u8>, AllocError>
-    ensures { IfOk result (λ octets. IsLine octets.items) }
+    ensures { IfOk result (λ octets. octets.items ≡ explanation.now ++ 10 ∷ []) }
 {
     let mut line = Vec::from_slice(alloc, explanation.as_bytes())?;
     line.push(b'\n')?;
@@ -180,6 +180,7 @@ fn serve<H: Host, W: Write + Drop, E: OctetSink>(
         × IsConfigurationOf (result_map (λ octets. octets.items) text.now) config
         × LeavesRun (machine (OpensAtLine (H.LogOpens host.old) (H.LogIsCut host.old) H.Log.held)
         (H.SocketsOpen host.old) (H.Closes host.new) H.Log.held H.Sockets.calls)
+        (result_map (λ octets. octets.items) text.now)
         (writer_contents W.contents output.old) (writer_contents W.contents output.new) options.now
         config told result
         × (E.NeverFails errors.old → Appends (E.held errors.old) (E.held errors.new) told) }

@@ -11,7 +11,7 @@ ghost use Rattle.gw_core.specs.Replay.{no_counts};
 ghost use Rattle.gw_core.specs.Serve.{scene};
 ghost use Rattle.gw_shell.specs.Announcement.{told_text};
 ghost use Rattle.gw_shell.specs.Host.{OpensAtLine};
-ghost use Rattle.gw_shell.specs.Serving.{AreOpen, ArentOpen, IsFlushedFor, LeavesRun, LogIsOpen, LogIsShut, LogStays, Serves, ServesFrom, ends, log_held, machine};
+ghost use Rattle.gw_shell.specs.Serving.{AreOpen, ArentOpen, IsFlushedFor, LeavesServed, LogIsOpen, LogIsShut, LogStays, Serves, ServesFrom, ends, log_held, machine};
 ghost use Rattle.gw_shell.specs.declared.fault.Fault.TheVariants as fault;
 
 use crate::announcement::told_text;
@@ -219,11 +219,12 @@ pub fn serve_ports<H: Host, W: Write + Drop, E: OctetSink>(
     output: &mut BufWriter<W>,
     errors: &mut E,
 ) -> Result<(), Fault>
-    ensures served { (told : List ℕ)
-        × LeavesRun (machine (OpensAtLine (H.LogOpens host.old) (H.LogIsCut host.old) H.Log.held)
+    ensures served { let name = option_map string_bytes options.now.log in
+        (told : List ℕ)
+        × LeavesServed (machine (OpensAtLine (H.LogOpens host.old) (H.LogIsCut host.old) H.Log.held)
         (H.SocketsOpen host.old) (H.Closes host.new) H.Log.held H.Sockets.calls)
-        (writer_contents W.contents output.old)
-        (writer_contents W.contents output.new) options.now (Ok config) told result
+        name (writer_contents W.contents output.old) (writer_contents W.contents output.new) config
+        options.now.turns options.now.verbose (told_text options.now.verbose config name) told result
         × (E.NeverFails errors.old → Appends (E.held errors.old) (E.held errors.new) told) }
     ensures lasting { E.NeverFails errors.old → E.NeverFails errors.new }
     ensures flush { OnOk result (IsFlushedFor (option_map string_bytes options.now.log)

@@ -1,4 +1,6 @@
-use Rattle.std.proofs.Common.{◌≡◌, Ok, refl, rules}
+use Rattle.std.proofs.Common.{◌≡◌, Ok, refl, rules, subst, ℕ, List}
+use Rattle.std.specs.Global.{Vec}
+use Rattle.gw_shell.specs.Files.{result_map}
 use Rattle.gw_shell.specs.declared.command_line.Choice.TheVariants as choice
 use Rattle.gw_shell.proofs.ChoiceLemmas.{followed}
 use Rattle.gw_shell.proofs.ServingLemmas.{appends_nothing}
@@ -9,3 +11,12 @@ returns-in-Ok-Replay-clause-followed g c =
     let is : c.args.choice.now ≡ Ok (choice.Replay c.in-Ok-Replay.file) = search rules in
     followed _ _ c.args.choice.now (Ok (choice.Replay c.in-Ok-Replay.file)) c.play.result is refl
     (c.configuration-config.result, c.configuration-config.ensures, c.play.ensures.output) (λ never. appends_nothing (g.E.OctetSink.held c.args.errors.now))
+
+pub returns-in-Ok-Check-clause-followed : goal.returns-in-Ok-Check-clause-followed
+returns-in-Ok-Check-clause-followed g c =
+    let chosen = choice.Check c.in-Ok-Check.file c.in-Ok-Check.explains in
+    let is : c.args.choice.now ≡ Ok chosen = search rules in
+    let text = result_map (λ (octets : Vec ℕ). octets.items) c.read-text.result in
+    let reads = subst (λ (name : List ℕ). g.F.ConfigFiles.Reads c.args.files.now name text) c.deref.ensures c.read-text.ensures in
+    followed _ _ c.args.choice.now (Ok chosen) c.check.result is refl (text, reads, c.check.ensures.output)
+    (λ never. appends_nothing (g.E.OctetSink.held c.args.errors.now))
