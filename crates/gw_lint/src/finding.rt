@@ -32,7 +32,9 @@ fn taker(shapes: &[Shape], rules: &[Rule], later: &Rule) -> Option<usize>
     ensures place { result ≡ taker shapes.now rules.now later.now }
     ensures within { IfSome result (λ place. place < length rules.now) }
 {
-    rules.iter().position(|earlier| takes_all(shapes, earlier, later))
+    rules
+        .iter()
+        .position(|earlier| takes_all(shapes, earlier, later))
 }
 
 /// What is found of the rule of this number, over these shapes. An `Err` only where a growth of memory

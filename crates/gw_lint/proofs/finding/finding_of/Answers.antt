@@ -12,6 +12,7 @@ returns-in-Some c =
     let found : taker shapes (take (number - 1) c.args.rules.now) rule ≡ Some c.in-Some.place =
     ap (λ (n : ℕ). taker shapes (take (n - 1) c.args.rules.now) rule) (sym c.from.ensures)
     ∙ ap (λ (rules : List Rule). taker shapes (take (c.from.result - 1) rules) rule) (sym c.rules.ensures.rules)
-    ∙ sym c.in-Some.ensures.place in
-    (denied (is_met shapes rule) c.matches_nothing.result c.matches_nothing.ensures.exact c.if-matches_nothing.false,
-    taken_by shapes c.args.rules.now number c.in-Some.place rule c.requires found)
+    ∙ sym c.in-Some.ensures.place in (
+      denied (is_met shapes rule) c.matches_nothing.result c.matches_nothing.ensures.exact c.if-matches_nothing.false,
+      taken_by shapes c.args.rules.now number c.in-Some.place rule c.requires found,
+    )
