@@ -11,7 +11,7 @@ use Rattle.gw_policy_text.specs.declared.object.Object.{Object}
 use Rattle.gw_rules.specs.declared.rule.Rule.{Rule}
 use Rattle.gw_policy_text.specs.Configuration.{Configuration}
 use Rattle.gw_relay.proofs.Histories.{changes_extend, configured_stand, ticks_extend}
-use Rattle.gw_relay.specs.History.{StandAfter, acts_moved, learned_moved, ports_from}
+use Rattle.gw_relay.specs.History.{AreStatesAfter, acts_moved, learned_moved, ports_from}
 use Rattle.gw_relay.specs.History.{Acts as PortActs}
 use Rattle.gw_relay.specs.Initial.{direct_of, routed_of}
 use Rattle.gw_relay.specs.State.{Move, Commit, Relay, moved, moved_by}
@@ -33,8 +33,8 @@ use Rattle.gw_core.specs.State.{State, device_network}
 use Rattle.gw_core.specs.declared.event.Counts.{Counts}
 use Rattle.gw_core.proofs.HistoryLemmas.{state_next}
 
-tables_moved : (m : Option Move) (relay : Relay) (ports : List Port) (acts : List PortActs) → StandAfter relay.links ports acts
-    → StandAfter (moved m relay).links ports (acts_moved m acts)
+tables_moved : (m : Option Move) (relay : Relay) (ports : List Port) (acts : List PortActs) → AreStatesAfter relay.links ports acts
+    → AreStatesAfter (moved m relay).links ports (acts_moved m acts)
 tables_moved None relay ports acts stand = stand
 tables_moved (Some (Commit change)) relay ports acts stand = changes_extend change relay.links ports acts stand
 tables_moved (Some Later) relay ports acts stand = ticks_extend relay.links ports acts stand

@@ -5,13 +5,13 @@ use Rattle.gw_core.specs.declared.effects.Effects.{Effects}
 use Rattle.gw_core.specs.declared.event.Counts.{Counts}
 use Rattle.gw_script.specs.Event.{Event}
 use Rattle.gw_policy_text.specs.Configuration.{Configuration}
-use Rattle.gw_objects.specs.History.{IsStateAfter as StandsAfter}
+use Rattle.gw_objects.specs.History.{IsStateAfter as AreSlotsAfter}
 use Rattle.gw_objects.specs.Objects.{Database, database_of, defaults_of}
 use Rattle.gw_objects.specs.Write.{Write}
 use Rattle.gw_routes.specs.History.{History as Learned}
 use Rattle.gw_routes.specs.History.{IsStateAfter as IsTableAfter}
 use Rattle.gw_relay.specs.History.{Acts as PortActs}
-use Rattle.gw_relay.specs.History.{StandAfter, acts_moved, initial_acts, learned_moved, ports_from}
+use Rattle.gw_relay.specs.History.{AreStatesAfter, acts_moved, initial_acts, learned_moved, ports_from}
 use Rattle.gw_relay.specs.Initial.{direct_of, initial, routed_of}
 use Rattle.gw_relay.specs.State.{Move, moved, moved_by}
 use Rattle.gw_core.specs.Denials.{denials_at}
@@ -99,7 +99,7 @@ history_after h (e ∷ l) = history_after (e ∷ h) l
 -- Each slot and each default of the device's objects is what these granted writes left, newest first: the
 -- last write to it, or the default that is configured (clause 19.2).
 abbrev pub WritesStand : Configuration → List Write → State → Type 0
-WritesStand c writes w = StandsAfter (defaults_of c) writes w.device.states
+WritesStand c writes w = AreSlotsAfter (defaults_of c) writes w.device.states
 
 -- What stood before an event stands after it, with the write that it is granted, where it is granted one.
 abbrev pub WritesGoOn : State → Event → State → Type 0
@@ -109,7 +109,7 @@ WritesGoOn before event after = (c : Configuration) (writes : List Write) →
 -- The ports' tables are those that the last granted entries, the granted registrations and deletions and
 -- the ticks left (Annex J.4, J.5).
 abbrev pub TablesStand : Configuration → List PortActs → State → Type 0
-TablesStand c acts w = StandAfter w.relay.links (ports_from 1 c.ports) acts
+TablesStand c acts w = AreStatesAfter w.relay.links (ports_from 1 c.ports) acts
 
 -- What stood before an event stands after it, with what becomes of the tables, where something does.
 abbrev pub TablesGoOn : State → Event → State → Type 0

@@ -9,13 +9,13 @@ ghost use Rattle.gw_policy_text.specs.Configuration.{Configuration};
 ghost use Rattle.gw_device.specs.Response.{HasPlace};
 ghost use Rattle.gw_relay.specs.History.{acts_moved, initial_acts, learned_moved};
 ghost use Rattle.gw_relay.specs.History.{Acts as PortActs};
-ghost use Rattle.gw_relay.specs.History.{StandAfter};
+ghost use Rattle.gw_relay.specs.History.{AreStatesAfter};
 ghost use Rattle.gw_relay.specs.State.{Commit, moved};
 ghost use Rattle.gw_relay.specs.declared.port.Port.{Port};
 ghost use Rattle.gw_routes.specs.History.{History as Learned};
 ghost use Rattle.gw_routes.specs.History.{IsStateAfter as IsTableAfter};
 ghost use Rattle.gw_routes.specs.Table.{Routed};
-ghost use Rattle.gw_objects.specs.History.{IsStateAfter as StandsAfter};
+ghost use Rattle.gw_objects.specs.History.{IsStateAfter as AreSlotsAfter};
 ghost use Rattle.gw_objects.specs.declared.value.PropertyValue.{PropertyValue};
 ghost use Rattle.gw_core.specs.Effects.{changed};
 ghost use Rattle.gw_core.specs.History.{with_granted};
@@ -52,8 +52,8 @@ struct Outcome {
 fn commit_change(relay: &mut Relay, change: Option<RelayChange>) -> Result<(), AllocError>
     ensures state { OnOk result (relay.new ≡ moved (option_map Commit change) relay.old) }
     ensures tables { OnOk result ((ports : List Port) (acts : List PortActs) →
-        StandAfter relay.old.links ports acts →
-        StandAfter relay.new.links ports (acts_moved (option_map Commit change) acts)) }
+        AreStatesAfter relay.old.links ports acts →
+        AreStatesAfter relay.new.links ports (acts_moved (option_map Commit change) acts)) }
     ensures routes { OnOk result ((direct : List ℕ) (configured : Routed) (learned : Learned) →
         IsTableAfter relay.old.routes direct configured learned →
         IsTableAfter relay.new.routes direct configured
@@ -72,8 +72,8 @@ fn commit_write(device: &mut Device, write: Option<Change>)
     requires place { HasPlace device.old write }
     ensures state { device.new ≡ changed write device.old }
     ensures writes { (defaults : List PropertyValue) (writes : List Write) →
-        StandsAfter defaults writes device.old.states →
-        StandsAfter defaults (with_granted write writes) device.new.states }
+        AreSlotsAfter defaults writes device.old.states →
+        AreSlotsAfter defaults (with_granted write writes) device.new.states }
 {
     if let Some(write) = write {
         device.commit(write);

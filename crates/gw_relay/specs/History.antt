@@ -34,8 +34,8 @@ all_after (port ∷ ports) [] = []
 all_after (port ∷ ports) (first ∷ acts) = link_after port first ∷ all_after ports acts
 
 -- links stand as the acts of their ports leave them
-abbrev pub StandAfter : List PortState → List Port → List Acts → Type 0
-StandAfter links ports acts = links ≡ all_after ports acts
+abbrev pub AreStatesAfter : List PortState → List Port → List Acts → Type 0
+AreStatesAfter links ports acts = links ≡ all_after ports acts
 
 -- the ports as they are configured, with their numbers counted on from one
 abbrev pub ports_from : ℕ → List ConfiguredPort → List Port

@@ -17,7 +17,7 @@ use Rattle.gw_rules.specs.Allowed.{NoChangeAllowed, NoneAllowed}
 use Rattle.gw_rules.specs.Ask.{Ask, IsFor, IsFrom}
 use Rattle.gw_relay.specs.Asks.{link_asks}
 use Rattle.gw_relay.specs.Cast.{cast_asks, devices_but, directed}
-use Rattle.gw_relay.specs.History.{Acts, acts_after, acts_later, initial_acts, ports_from, StandAfter}
+use Rattle.gw_relay.specs.History.{Acts, acts_after, acts_later, initial_acts, ports_from, AreStatesAfter}
 use Rattle.gw_relay.specs.Initial.{links_from}
 use Rattle.gw_relay.specs.Link.{link_change}
 use Rattle.gw_relay.specs.Manage.{manage_asks, manage_change}
@@ -31,17 +31,17 @@ use Rattle.gw_relay.specs.declared.port.Port.{Port}
 -- Links as they are configured stand after no acts.
 abbrev pub ConfiguredLinksStand : Type 0
 ConfiguredLinksStand = (number : ℕ) (ports : List ConfiguredPort) →
-    StandAfter (links_from number ports) (ports_from number ports) (map initial_acts ports)
+    AreStatesAfter (links_from number ports) (ports_from number ports) (map initial_acts ports)
 
 -- A change extends every history: what stood after some acts stands after the acts with it.
 abbrev pub ChangesExtendHistories : Type 0
 ChangesExtendHistories = (change : Change) (links : List PortState) (ports : List Port) (acts : List Acts) →
-    StandAfter links ports acts → StandAfter (links_after change links) ports (acts_after change acts)
+    AreStatesAfter links ports acts → AreStatesAfter (links_after change links) ports (acts_after change acts)
 
 -- So does a tick.
 abbrev pub TicksExtendHistories : Type 0
 TicksExtendHistories = (links : List PortState) (ports : List Port) (acts : List Acts) →
-    StandAfter links ports acts → StandAfter (map link_later links) ports (map acts_later acts)
+    AreStatesAfter links ports acts → AreStatesAfter (map link_later links) ports (map acts_later acts)
 
 -- Whoever sent a Distribute-Broadcast-To-Network is not among the foreign devices that it goes to.
 abbrev pub SenderIsLeftOut : Type 0

@@ -16,7 +16,7 @@ ghost use Rattle.gw_routes.specs.History.{IsStateAfter};
 ghost use Rattle.gw_routes.specs.History.{History as Learned};
 ghost use Rattle.gw_routes.specs.Table.{Routed};
 ghost use Rattle.gw_relay.specs.declared.port.PortState.{PortState};
-ghost use Rattle.gw_relay.specs.History.{Acts, StandAfter, acts_after, acts_later, initial_acts, learned_after, ports_from};
+ghost use Rattle.gw_relay.specs.History.{Acts, AreStatesAfter, acts_after, acts_later, initial_acts, learned_after, ports_from};
 ghost use Rattle.gw_relay.specs.State.{after, at_port, later, link_at, wants_room};
 ghost use Rattle.gw_relay.specs.declared.port.Port.{Port};
 
@@ -83,7 +83,7 @@ impl Relay {
         ensures initial { IfOk result (λ relay. relay ≡ initial config.now) }
         ensures stands { let ports = config.now.ports in
             IfOk result (λ relay.
-            StandAfter relay.links (ports_from 1 ports) (map initial_acts ports)) }
+            AreStatesAfter relay.links (ports_from 1 ports) (map initial_acts ports)) }
         ensures learnings { let configured = map routed_of config.now.routes in
             IfOk result (λ relay. IsStateAfter relay.routes (direct_of config.now) configured []) }
     {
@@ -223,8 +223,8 @@ impl Relay {
         ensures ok { OnOk result (self.new ≡ after change self.old) }
         // What stood after some acts stands after the acts with this one.
         ensures stands { OnOk result ((ports : List Port) (acts : List Acts) →
-            StandAfter self.old.links ports acts →
-            StandAfter self.new.links ports (acts_after change acts)) }
+            AreStatesAfter self.old.links ports acts →
+            AreStatesAfter self.new.links ports (acts_after change acts)) }
         // So do the routes, by the networks that were granted to be learned.
         ensures learnings { OnOk result ((direct : List ℕ) (configured : Routed) (h : Learned) →
             IsStateAfter self.old.routes direct configured h →
@@ -243,8 +243,8 @@ impl Relay {
         requires { self.old.ticks < 2 ^ 63 }
         ensures later { self.new ≡ later self.old }
         ensures stands { (ports : List Port) (acts : List Acts) →
-            StandAfter self.old.links ports acts →
-            StandAfter self.new.links ports (map acts_later acts) }
+            AreStatesAfter self.old.links ports acts →
+            AreStatesAfter self.new.links ports (map acts_later acts) }
     {
         tick_each(&mut self.links);
         self.ticks += 1;

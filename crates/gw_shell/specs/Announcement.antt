@@ -39,6 +39,6 @@ announcement c log =
     codes "bacgw: serving " ++ numbered port_text 1 c.ports ++ device_text c.device ++ objects_text c ++ rules_text c ++ log_text log ++ 10 ∷ []
 
 -- what is told at the start: the line where that is asked for, and else nothing
-abbrev pub told_text : Bool → Configuration → Option (List ℕ) → List ℕ
-told_text true c log = announcement c log
-told_text false c log = []
+abbrev pub startup_line : Bool → Configuration → Option (List ℕ) → List ℕ
+startup_line true c log = announcement c log
+startup_line false c log = []

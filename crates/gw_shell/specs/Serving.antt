@@ -12,7 +12,7 @@ use Rattle.gw_core.specs.declared.serving.ServeFault.TheVariants as serving
 use Rattle.gw_core.specs.declared.serving.ServeStop.{ServeStop}
 use Rattle.gw_policy_text.specs.Configuration.{Configuration}
 use Rattle.gw_policy_text.specs.declared.port.Port.{Port}
-use Rattle.gw_shell.specs.Announcement.{told_text}
+use Rattle.gw_shell.specs.Announcement.{startup_line}
 use Rattle.gw_shell.specs.Ending.{FaultNote, fault_of_serving}
 use Rattle.gw_shell.specs.Host.{LogOpening}
 use Rattle.gw_shell.specs.Opening.{IsNote, fault_of_opening}
@@ -141,6 +141,6 @@ abbrev pub LeavesRun : {Log Sockets : Type 0} → Machine Log Sockets → Result
     → Result Configuration Fault → (told : List ℕ) → Result (Unit {0}) Fault → Type 0
 LeavesRun machine text held holds options (Ok c) told outcome =
     let name = option_map string_bytes options.log in
-    LeavesServed machine name held holds c options.turns options.verbose (told_text options.verbose c name) told outcome
+    LeavesServed machine name held holds c options.turns options.verbose (startup_line options.verbose c name) told outcome
 LeavesRun machine text held holds options (Err f) told outcome =
     (outcome ≡ Err f) × (holds ≡ held) × FaultNote options.verbose text f told

@@ -2,7 +2,7 @@
 
 ghost use Rattle.std.specs.Prelude.{◌≡◌, ◌++◌, ◌≤◌, length, map, option_map, string_bytes, IfOk, OnOk};
 ghost use Rattle.gw_addr.specs.declared.TheConstants.{MAX_PORTS};
-ghost use Rattle.gw_shell.specs.Announcement.{announcement, device_text, log_text, objects_text, port_text, rules_text, shown, told_text};
+ghost use Rattle.gw_shell.specs.Announcement.{announcement, device_text, log_text, objects_text, port_text, rules_text, shown, startup_line};
 ghost use Rattle.gw_shell.specs.Numbered.{numbered};
 
 use gw_addr::put_decimal;
@@ -29,14 +29,14 @@ fn announcement(alloc: Global, config: &Config, log: &Option<String>) -> Result<
 }
 
 /// What is told at the start: what is served, where that is asked for, and else nothing.
-pub fn told_text(
+pub fn startup_line(
     alloc: Global,
     config: &Config,
     log: &Option<String>,
     is_asked: bool,
 ) -> Result<Vec<u8>, AllocError>
     ensures { let log = option_map string_bytes log.now in
-        IfOk result (λ told. told.items ≡ told_text is_asked config.now log) }
+        IfOk result (λ told. told.items ≡ startup_line is_asked config.now log) }
 {
     if is_asked {
         announcement(alloc, config, log)

@@ -9,12 +9,12 @@ ghost use Rattle.std.specs.Io.KnownBytes.{Appends, Keeps};
 ghost use Rattle.gw_core.specs.History.{state_after};
 ghost use Rattle.gw_core.specs.Replay.{no_counts};
 ghost use Rattle.gw_core.specs.Serve.{scene};
-ghost use Rattle.gw_shell.specs.Announcement.{told_text};
+ghost use Rattle.gw_shell.specs.Announcement.{startup_line};
 ghost use Rattle.gw_shell.specs.Host.{OpensAtLine};
 ghost use Rattle.gw_shell.specs.Serving.{AreOpen, ArentOpen, IsFlushedFor, LeavesServed, LogIsOpen, LogIsShut, LogStays, Serves, ServesFrom, ends, log_held, machine};
 ghost use Rattle.gw_shell.specs.declared.fault.Fault.TheVariants as fault;
 
-use crate::announcement::told_text;
+use crate::announcement::startup_line;
 use crate::ending::tell;
 use crate::fault::Fault;
 use crate::host::Host;
@@ -156,7 +156,7 @@ fn open<H: Host, W: Write + Drop>(
     output: &mut BufWriter<W>,
 ) -> Result<Opening<H::Log, H::Sockets>, OpenFailure>
     ensures line { let name = option_map string_bytes options.now.log in
-        IfOk result (λ opening. opening.line.items ≡ told_text options.now.verbose config.now name) }
+        IfOk result (λ opening. opening.line.items ≡ startup_line options.now.verbose config.now name) }
     ensures open { let name = option_map string_bytes options.now.log in
         let held = writer_contents W.contents output.old in
         let holds = writer_contents W.contents output.new in
@@ -170,7 +170,7 @@ fn open<H: Host, W: Write + Drop>(
     ensures buffer { OnOk result (IsFlushedFor (option_map string_bytes options.now.log)
         (writer_buffer output.old) (writer_buffer output.new)) }
 {
-    let line = told_text(alloc, config, &options.log, options.verbose)?;
+    let line = startup_line(alloc, config, &options.log, options.verbose)?;
     let log = match open_log(&options.log, host, output) {
         Ok(log) => log,
         Err(fault) => return Err(OpenFailure::Log(fault)),
@@ -224,7 +224,7 @@ pub fn serve_ports<H: Host, W: Write + Drop, E: OctetSink>(
         × LeavesServed (machine (OpensAtLine (H.LogOpens host.old) (H.LogIsCut host.old) H.Log.held)
         (H.SocketsOpen host.old) (H.Closes host.new) H.Log.held H.Sockets.calls)
         name (writer_contents W.contents output.old) (writer_contents W.contents output.new) config
-        options.now.turns options.now.verbose (told_text options.now.verbose config name) told result
+        options.now.turns options.now.verbose (startup_line options.now.verbose config name) told result
         × (E.NeverFails errors.old → Appends (E.held errors.old) (E.held errors.new) told) }
     ensures lasting { E.NeverFails errors.old → E.NeverFails errors.new }
     ensures flush { OnOk result (IsFlushedFor (option_map string_bytes options.now.log)
