@@ -93,8 +93,8 @@ impl BipAddr {
         BipAddr::parse_octets(text.as_bytes())
     }
 
-    /// Reads an address from the octets of the text that it is written as. The rest is as with
-    /// [`BipAddr::parse`].
+    /// Reads an address from the octets of the text that it is written as, as [`BipAddr::parse`]
+    /// does. `Text` where they are anything else.
     pub fn parse_octets(text: &[u8]) -> Result<BipAddr, TextFault>
         ensures found { IfOk result (λ a. text.now ≡ text_of a) }
         ensures only { (a : BipAddr) → IsAddress a → text.now ≡ text_of a → result ≡ Ok a }

@@ -117,7 +117,8 @@ fn push_decimal(text: &mut ArrayVec<u8, MAX_FOUR>, number: u8)
     text.push(b'0' + number % 10);
 }
 
-/// Appends four numbers with points between them.
+/// Appends four numbers in decimal, with points between them. An `Err` only where the buffer had no
+/// room for them; then a front of them may stand there.
 pub fn put_four(out: &mut Vec<u8>, octets: [u8; 4]) -> Result<(), AllocError>
     ensures { IsAppended (four_text octets) out.old out.new result }
 {

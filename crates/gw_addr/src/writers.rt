@@ -9,7 +9,7 @@ ghost use Rattle.gw_addr.specs.Appending.{IsAppended, IsAppendedWhole};
 use itoa::{Buffer, Integer};
 use std::alloc::AllocError;
 
-/// Appends an octet.
+/// Appends an octet. An `Err` only where the buffer had no room for it.
 pub fn put_octet(out: &mut Vec<u8>, octet: u8) -> Result<(), AllocError>
     ensures { IsAppended (octet ∷ []) out.old out.new result }
 {
@@ -17,36 +17,40 @@ pub fn put_octet(out: &mut Vec<u8>, octet: u8) -> Result<(), AllocError>
     Ok(())
 }
 
-/// Appends a number as two octets, the first octet its highest.
+/// Appends a number as two octets, the first octet its highest. An `Err` only where the buffer had
+/// no room for them; then a front of them may stand there.
 pub fn put_number(out: &mut Vec<u8>, number: u16) -> Result<(), AllocError>
     ensures { IsAppended (to_be_bytes w16 number) out.old out.new result }
 {
     out.extend_from_slice(&number.to_be_bytes())
 }
 
-/// Appends a number as four octets, the first octet its highest.
+/// Appends a number as four octets, the first octet its highest. An `Err` only where the buffer had
+/// no room for them; then a front of them may stand there.
 pub fn put_long_number(out: &mut Vec<u8>, number: u32) -> Result<(), AllocError>
     ensures { IsAppended (to_be_bytes w32 number) out.old out.new result }
 {
     out.extend_from_slice(&number.to_be_bytes())
 }
 
-/// Appends octets.
+/// Appends octets. An `Err` only where the buffer had no room for them; then a front of them may
+/// stand there.
 pub fn put_slice(out: &mut Vec<u8>, octets: &[u8]) -> Result<(), AllocError>
     ensures { IsAppended octets.now out.old out.new result }
 {
     out.extend_from_slice(octets)
 }
 
-/// Appends the decimal digits of a number.
+/// Appends the decimal digits of a number. An `Err` only where the buffer had no room for them;
+/// then a front of them may stand there.
 pub fn put_decimal<N: Integer>(out: &mut Vec<u8>, number: N) -> Result<(), AllocError>
     ensures { IsAppended (N.text number) out.old out.new result }
 {
     out.extend_from_slice(Buffer::new().format(number).as_bytes())
 }
 
-/// Where the appending behind the first `len` octets failed, nothing stands behind them any more.
-/// The answer is that of the appending.
+/// Makes an appending whole: where it failed, the buffer is cut to its first `len` octets, those
+/// before it. The answer is that of the appending, its `Err` too.
 pub fn keep_whole(
     out: &mut Vec<u8>,
     len: usize,
