@@ -67,7 +67,7 @@ impl Drop for Device {
 }
 
 impl Device {
-    /// The device that the table says.
+    /// The device that the table says, or the first fault of the table with its place.
     #[tactic(auto, unfolding(crate::specs::Configuration::device_of))]
     pub(crate) fn read<'a>(alloc: Global, table: &'a Table) -> Result<Self, Located<'a>>
         ensures device { Finds (λ d. d) result (device_of (table_view table.now)) }

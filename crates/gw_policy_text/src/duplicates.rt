@@ -14,7 +14,8 @@ use gw_rules::Rule;
 use std::alloc::{AllocError, Global};
 use std::collections::BTreeSet;
 
-/// Where something stands for the second time that may stand only once.
+/// Where something stands for the second time that may stand only once. `AllocError` where memory
+/// was refused.
 #[tactic(auto, unfolding(crate::specs::Duplicates::repetition))]
 pub(crate) fn repetition<'a>(
     alloc: Global,

@@ -30,7 +30,8 @@ impl Model for Explanation {
 }
 
 impl Explanation {
-    /// The line of some words, with a `?` in the place of each control character.
+    /// The line of some words, with a `?` in the place of each control character. `AllocError`
+    /// where memory was refused.
     #[tactic(auto, using(crate::proofs::Explanations::all_shown))]
     pub(crate) fn of_words(alloc: Global, words: &[u8]) -> Result<Self, AllocError>
         ensures { IfOk result (λ line. line ≡ map shown words.now) }

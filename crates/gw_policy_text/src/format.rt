@@ -17,7 +17,7 @@ pub enum Format {
     Two,
 }
 
-/// The format at a key, by its number.
+/// The format at a key, by its number. `Missing`, `Kind` or `Range`.
 pub(crate) fn format_at(key: &str, table: &Table) -> Result<Format, ConfigFault>
     ensures { Gives (λ f. f) result (format_at key.now (table_view table.now)) }
 {

@@ -26,7 +26,7 @@ use gw_addr::Sequence;
 use std::alloc::Global;
 use toml::{Table, Value};
 
-/// The objects that some values say, in order.
+/// The objects that some values say, in order, or the first fault with its place.
 pub(crate) fn objects<'a>(
     alloc: Global,
     values: &'a [Value],

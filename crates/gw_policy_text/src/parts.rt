@@ -115,7 +115,7 @@ impl Parts {
         rules
     }
 
-    /// The parts that the tables say, in their order.
+    /// The parts that the tables say, in their order, or the first fault with its place.
     pub(crate) fn read<'a>(alloc: Global, top: &'a Table) -> Result<Self, Located<'a>>
         ensures { Finds (λ c. c) result (parts_of (table_view top.now)) }
     {

@@ -107,7 +107,7 @@ impl Port {
     }
 }
 
-/// The ports that some values say, in order.
+/// The ports that some values say, in order, or the first fault with its place.
 pub(crate) fn ports<'a>(alloc: Global, values: &'a [Value]) -> Result<Sequence<Port>, Located<'a>>
     ensures count { IfOk result (λ ps. length ps ≡ length values.now) }
     ensures ports { Finds (λ ps. ps) result (each_at port_in 0 (map view values.now)) }

@@ -41,6 +41,8 @@ fn ordered(low: u64, high: u64) -> Result<Range, ConfigFault>
     }
 }
 
+/// The range from one value to another. `Kind`, or `Range`, also where the low end is above the
+/// high one.
 pub(crate) fn between(of: Scalar, low: &Value, high: &Value) -> Result<Range, ConfigFault>
     ensures { Gives (λ r. r) result (between of (view low.now) (view high.now)) }
 {
@@ -78,7 +80,7 @@ fn range_of_list(of: Scalar, ends: &[Value]) -> Result<Range, ConfigFault>
     }
 }
 
-/// The range that an item names.
+/// The range that an item names. `Kind` or `Range`.
 pub(crate) fn range(of: Scalar, item: &Value) -> Result<Range, ConfigFault>
     ensures { Gives (λ r. r) result (range_in of (view item.now)) }
 {

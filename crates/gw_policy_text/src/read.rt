@@ -42,7 +42,7 @@ pub fn read_config(alloc: Global, text: &[u8]) -> Result<Config, ConfigFault>
     }
 }
 
-/// The TOML document that a text is.
+/// The TOML document that a text is. `NotToml` where it is none, or `Memory`.
 pub(crate) fn document(alloc: Global, text: &[u8]) -> Result<Table, ConfigFault>
     ensures { Gives (λ t. table_view t) result (document text.now) }
 {

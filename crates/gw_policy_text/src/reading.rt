@@ -22,7 +22,7 @@ pub(crate) fn at<'a>(key: &str, table: &'a Table) -> Result<&'a Value, ConfigFau
     }
 }
 
-/// The number at a key, from `low` to `high`.
+/// The number at a key, from `low` to `high`. `Missing`, `Kind` or `Range`.
 pub(crate) fn number_at(low: u64, high: u64, key: &str, table: &Table) -> Result<u64, ConfigFault>
     ensures number { plain.Gives (λ n. n) result (number_at low high key.now (table_view table.now)) }
     ensures low { IfOk result (λ n. low ≤ n) }
@@ -31,28 +31,28 @@ pub(crate) fn number_at(low: u64, high: u64, key: &str, table: &Table) -> Result
     value::number(low, high, at(key, table)?)
 }
 
-/// The number of 16 bits at a key.
+/// The number of 16 bits at a key. `Missing`, `Kind` or `Range`.
 pub(crate) fn short_at(key: &str, table: &Table) -> Result<u16, ConfigFault>
     ensures { plain.Gives (λ n. n) result (number_at 0 65535 key.now (table_view table.now)) }
 {
     Ok(number_at(0, 65535, key, table)? as u16)
 }
 
-/// The number of 8 bits at a key.
+/// The number of 8 bits at a key. `Missing`, `Kind` or `Range`.
 pub(crate) fn octet_at(key: &str, table: &Table) -> Result<u8, ConfigFault>
     ensures { plain.Gives (λ n. n) result (number_at 0 255 key.now (table_view table.now)) }
 {
     Ok(number_at(0, 255, key, table)? as u8)
 }
 
-/// The number of 32 bits at a key.
+/// The number of 32 bits at a key. `Missing`, `Kind` or `Range`.
 pub(crate) fn long_at(key: &str, table: &Table) -> Result<u32, ConfigFault>
     ensures { plain.Gives (λ n. n) result (number_at 0 4294967295 key.now (table_view table.now)) }
 {
     Ok(number_at(0, 4_294_967_295, key, table)? as u32)
 }
 
-/// The instance at a key.
+/// The instance at a key. `Missing`, `Kind` or `Range`.
 pub(crate) fn instance_at(key: &str, table: &Table) -> Result<Instance, ConfigFault>
     ensures { plain.Gives (λ n. n) result (number_at 0 4194302 key.now (table_view table.now)) }
 {
@@ -60,7 +60,7 @@ pub(crate) fn instance_at(key: &str, table: &Table) -> Result<Instance, ConfigFa
     Instance::new(number).ok_or(ConfigFault::Range)
 }
 
-/// The network at a key.
+/// The network at a key. `Missing`, `Kind` or `Range`.
 pub(crate) fn network_at(key: &str, table: &Table) -> Result<NetNum, ConfigFault>
     ensures { plain.Gives (λ n. n) result (number_at 1 65534 key.now (table_view table.now)) }
 {
@@ -68,21 +68,22 @@ pub(crate) fn network_at(key: &str, table: &Table) -> Result<NetNum, ConfigFault
     NetNum::new(number).ok_or(ConfigFault::Range)
 }
 
-/// The address at a key.
+/// The address at a key. `Missing`, `Kind` or `Range`.
 pub(crate) fn address_at(key: &str, table: &Table) -> Result<BipAddr, ConfigFault>
     ensures { plain.Gives (λ a. a) result (address_at key.now (table_view table.now)) }
 {
     value::address(at(key, table)?)
 }
 
-/// The mask at a key.
+/// The mask at a key. `Missing`, `Kind` or `Range`.
 pub(crate) fn mask_at(key: &str, table: &Table) -> Result<Mask, ConfigFault>
     ensures { plain.Gives (λ m. m) result (mask_at key.now (table_view table.now)) }
 {
     value::mask(at(key, table)?)
 }
 
-/// The text at a key, of at least so many octets and at most 255.
+/// The text at a key, of at least so many octets and at most 255. `Missing`, `Kind`, `Range` or
+/// `Memory`.
 pub(crate) fn text_at(
     alloc: Global,
     least: usize,
@@ -96,7 +97,7 @@ pub(crate) fn text_at(
     Ok(Text::copy(alloc, text)?)
 }
 
-/// The text at a key that may be missing.
+/// The text at a key that may be missing. `Kind`, `Range` or `Memory`.
 pub(crate) fn optional_text(
     alloc: Global,
     default: &str,
@@ -115,7 +116,8 @@ pub(crate) fn optional_text(
     }
 }
 
-/// The values of the list at a key that may be missing, however many.
+/// The values of the list at a key that may be missing, however many. `Kind` where there is no
+/// list.
 pub(crate) fn any_list<'a>(key: &str, table: &'a Table) -> Result<&'a [Value], ConfigFault>
     ensures { plain.Gives (λ vs. map view vs.now) result (list_or (get_member key.now (table_view table.now))) }
 {
@@ -125,7 +127,8 @@ pub(crate) fn any_list<'a>(key: &str, table: &'a Table) -> Result<&'a [Value], C
     }
 }
 
-/// The values of the list at a key that may be missing, `least` to `most` of them.
+/// The values of the list at a key that may be missing, `least` to `most` of them. `Kind`, `Range`
+/// or `TooMany`.
 #[tactic(auto, using(crate::proofs::Values::length_view))]
 pub(crate) fn list_at<'a>(
     least: usize,

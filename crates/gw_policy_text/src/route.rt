@@ -60,7 +60,8 @@ impl Route {
     }
 }
 
-/// The routes that some values say, in order, each by one of so many ports.
+/// The routes that some values say, in order, each by one of so many ports, or the first fault with
+/// its place.
 pub(crate) fn routes<'a>(
     alloc: Global,
     ports: u8,

@@ -20,7 +20,7 @@ use gw_rules::{Fields, MAX_RANGES, Ranges, Rule};
 use std::alloc::Global;
 use toml::{Table, Value};
 
-/// The rules that some values say, in order.
+/// The rules that some values say, in order, or the first fault with its place.
 pub(crate) fn rules<'a>(alloc: Global, values: &'a [Value]) -> Result<Vec<Rule>, Located<'a>>
     ensures { Finds (λ rs. rs.items) result (each_at rule_in 0 (map view values.now)) }
 {

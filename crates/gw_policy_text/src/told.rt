@@ -27,7 +27,8 @@ pub(crate) fn value_at<'a>(located: &Located<'_>, top: &'a Table) -> Option<&'a 
     }
 }
 
-/// Puts that the key is unknown or missing, or else the value that stands there.
+/// Puts that the key is unknown or missing, or else the value that stands there. `AllocError` where
+/// memory was refused.
 pub(crate) fn put_told(
     line: &mut Vec<u8>,
     fault: ConfigFault,
@@ -44,8 +45,8 @@ pub(crate) fn put_told(
     }
 }
 
-/// Puts a value as it stands in the text: a number, a text that isn't long, true or false, or a list of
-/// two of these; of others what it is.
+/// Puts a value as it stands in the text: a number, a text that isn't long, true or false, or a
+/// list of two of these; of others what it is. `AllocError` where memory was refused.
 pub(crate) fn put_value(line: &mut Vec<u8>, value: &Value) -> Result<(), AllocError>
     ensures { OnOk result (line.new.items ≡ line.old.items ++ value_words (view value.now)) }
 {

@@ -28,7 +28,7 @@ pub(crate) fn member<'a>(table: &'a Table, key: &str) -> Option<&'a Value>
     table.get(key)
 }
 
-/// A number from `low` to `high`.
+/// A number from `low` to `high`. `Kind` where it is no number, `Range` where it is another.
 pub(crate) fn number(low: u64, high: u64, value: &Value) -> Result<u64, ConfigFault>
     ensures number { Gives (λ n. n) result (number_in low high (view value.now)) }
     ensures low { IfOk result (λ n. low ≤ n) }
@@ -43,7 +43,7 @@ pub(crate) fn number(low: u64, high: u64, value: &Value) -> Result<u64, ConfigFa
     }
 }
 
-/// A number of 32 bits with its sign.
+/// A number of 32 bits with its sign. `Kind` where it is no number, `Range` where it has more.
 pub(crate) fn signed(value: &Value) -> Result<i32, ConfigFault>
     ensures { Gives (λ n. n) result (signed_in (view value.now)) }
 {
@@ -70,7 +70,8 @@ fn kind_of_number(number: u64) -> Option<ObjectKind>
     }
 }
 
-/// The type of an object by its number.
+/// The type of an object by its number. `Kind` where it is no number, `Range` where it is none of a
+/// type.
 pub(crate) fn kind(value: &Value) -> Result<ObjectKind, ConfigFault>
     ensures { Gives (λ k. k) result (kind_in (view value.now)) }
 {
@@ -90,7 +91,8 @@ pub(crate) fn string(value: &Value) -> Option<&str>
     value.as_str()
 }
 
-/// A text of at least so many octets, and at most 255.
+/// A text of at least so many octets, and at most 255. `Kind` where it is no text, `Range` for its
+/// length.
 pub(crate) fn text(least: usize, value: &Value) -> Result<&str, ConfigFault>
     ensures text { Gives (λ t. t.now) result (text_in least (view value.now)) }
     ensures short { IfOk result (λ t. length t.now ≤ 255) }
@@ -104,14 +106,14 @@ pub(crate) fn text(least: usize, value: &Value) -> Result<&str, ConfigFault>
     Ok(text)
 }
 
-/// True or false.
+/// True or false. `Kind` where it is neither.
 pub(crate) fn boolean(value: &Value) -> Result<bool, ConfigFault>
     ensures { Gives (λ b. b) result (boolean_in (view value.now)) }
 {
     value.as_bool().ok_or(ConfigFault::Kind)
 }
 
-/// A table.
+/// A table. `Kind` where it is none.
 pub(crate) fn table(value: &Value) -> Result<&Table, ConfigFault>
     ensures { Gives (λ t. table_view t.now) result (table_in (view value.now)) }
 {
@@ -121,7 +123,7 @@ pub(crate) fn table(value: &Value) -> Result<&Table, ConfigFault>
     }
 }
 
-/// The values of a list.
+/// The values of a list. `Kind` where it is none.
 pub(crate) fn list(value: &Value) -> Result<&[Value], ConfigFault>
     ensures { Gives (λ vs. map view vs.now) result (list_in (view value.now)) }
 {
@@ -131,7 +133,7 @@ pub(crate) fn list(value: &Value) -> Result<&[Value], ConfigFault>
     }
 }
 
-/// The name of a rule.
+/// The name of a rule. `Kind` where it is no text, `Range` where it is another.
 pub(crate) fn rule_name(value: &Value) -> Result<&str, ConfigFault>
     ensures { Gives (λ t. t.now) result (rule_name_in (view value.now)) }
 {
@@ -165,7 +167,7 @@ fn is_name_character(octet: u8) -> bool
     matches!(octet, b'a'..=b'z' | b'0'..=b'9' | b'-')
 }
 
-/// An operation, by its name.
+/// An operation, by its name. `Kind` where it is no text, `Range` where it names none.
 pub(crate) fn operation(value: &Value) -> Result<Operation, ConfigFault>
     ensures { Gives (λ o. o) result (operation_in (view value.now)) }
 {
@@ -181,7 +183,7 @@ fn operation_of(text: &str) -> Option<Operation>
     Operation::from_name(text)
 }
 
-/// An address, `a.b.c.d:port`.
+/// An address, `a.b.c.d:port`. `Kind` where it is no text, `Range` where it is another.
 pub(crate) fn address(value: &Value) -> Result<BipAddr, ConfigFault>
     ensures { Gives (λ a. a) result (address_in (view value.now)) }
 {
@@ -208,7 +210,7 @@ fn whole_address(address: BipAddr) -> BipAddr
     address
 }
 
-/// A mask, `a.b.c.d`.
+/// A mask, `a.b.c.d`. `Kind` where it is no text, `Range` where it is another.
 pub(crate) fn mask(value: &Value) -> Result<Mask, ConfigFault>
     ensures { Gives (λ m. m) result (mask_in (view value.now)) }
 {

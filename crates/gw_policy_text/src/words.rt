@@ -10,7 +10,7 @@ use gw_addr::put_decimal;
 use std::alloc::AllocError;
 use toml::Table;
 
-/// Puts the table, by its name too, the key and the item.
+/// Puts the table, by its name too, the key and the item. `AllocError` where memory was refused.
 pub(crate) fn put_place(
     line: &mut Vec<u8>,
     located: &Located<'_>,

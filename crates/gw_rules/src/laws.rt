@@ -1,6 +1,5 @@
-//! What the words of a policy mean, proved of every rule, every list of rules and every ask, for a
-//! reader of the definitions that contracts here and in the crates above cite. The functions do
-//! nothing.
+//! Laws of a policy, of every rule, list of rules and ask. The functions do nothing: their
+//! contracts are the laws.
 ghost use Rattle.std.specs.Prelude.{◌≡◌, ◌↔◌, ◌<◌, ◌-◌, ◌++◌, ℕ, List, [], ◌∷◌, IsTrue, IfSome, All, Option, filter, map, not, slice_get};
 ghost use Rattle.gw_rules.specs.declared.decision.Decision.{Decision};
 ghost use Rattle.gw_rules.specs.declared.field.FieldName.{FieldName};
