@@ -1,4 +1,4 @@
-//! The broadcast distribution table.
+//! The broadcast distribution table (Annex J.4).
 ghost use Rattle.std.specs.Prelude.{◌≡◌, ◌↔◌, ◌<◌, ◌+◌, ◌&&◌, ◌||◌, [], length, not};
 ghost use Rattle.std.specs.Prelude.{position, find, take, drop, option_copied};
 ghost use Rattle.std.specs.Prelude.{IsTrue, IsFalse, IfOk, IfSome, IsOk, IsErrOf};

@@ -1,4 +1,4 @@
-//! The foreign device table.
+//! The foreign device table (Annex J.5).
 ghost use Rattle.std.specs.Prelude.{◌≡◌, ◌<◌, ◌≤◌, ◌↔◌, ◌∷◌, ◌^◌, [], length, map};
 ghost use Rattle.std.specs.Prelude.{IsTrue, IsFalse, IfOk, IsOk, OnOk, OnErr, IsErrOf};
 ghost use Rattle.std.specs.List.{IsDistinct};

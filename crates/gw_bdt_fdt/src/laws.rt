@@ -1,5 +1,5 @@
-//! What the words of registrations mean, proved of every history, for a reader of the definitions
-//! that contracts here and in the crates above cite. The functions do nothing.
+//! Laws of registrations (Annex J.5), of every history. The functions do nothing: their contracts
+//! are the laws.
 ghost use Rattle.std.specs.Prelude.{◌≡◌};
 ghost use Rattle.gw_bdt_fdt.specs.Laws.{EachStandsOnce, LastGrantIsFound, OrderIsOfBeginnings};
 ghost use Rattle.gw_bdt_fdt.specs.Laws.{RegisteredStand, SameIsEqual, TableHoldsRegistrations};

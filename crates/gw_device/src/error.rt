@@ -67,7 +67,8 @@ const NO_SPACE: ServiceError = ServiceError {
     code: 20,
 };
 
-/// What is answered where a property isn't read. Want of memory isn't answered.
+/// The class and the code that are answered where a property isn't read. `AllocError` for `Memory`
+/// alone, which isn't answered.
 pub(crate) fn read_error(fault: ReadFault) -> Result<ServiceError, AllocError>
     ensures error { IfOk result (λ why. why ≡ read_error fault) }
     ensures due { IfOk result (λ why. fault ≢ ReadFault.Memory) }
@@ -82,7 +83,8 @@ pub(crate) fn read_error(fault: ReadFault) -> Result<ServiceError, AllocError>
     }
 }
 
-/// What is answered where a property isn't written. Want of memory isn't answered.
+/// The class and the code that are answered where a property isn't written. `AllocError` for
+/// `Memory` alone, which isn't answered.
 pub(crate) fn write_error(fault: WriteFault) -> Result<ServiceError, AllocError>
     ensures error { IfOk result (λ why. why ≡ write_error fault) }
     ensures due { IfOk result (λ why. fault ≢ WriteFault.Memory) }
@@ -101,7 +103,8 @@ pub(crate) fn write_error(fault: WriteFault) -> Result<ServiceError, AllocError>
     }
 }
 
-/// Why a request whose body can't be read is rejected. Want of memory is no such reason.
+/// Why a request whose body can't be read is rejected. `AllocError` for `Memory` alone, which is no
+/// such reason.
 pub(crate) fn reject_reason(fault: BodyFault) -> Result<RejectReason, AllocError>
     ensures reason { IfOk result (λ reason. reason.0 ≡ reject_reason fault) }
     ensures due { IfOk result (λ reason. fault ≢ BodyFault.Memory) }

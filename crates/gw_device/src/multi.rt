@@ -281,7 +281,8 @@ fn put_references<J: Judge>(
     put_references(objects, authorizer, context, others, out)
 }
 
-/// What the device gives to a ReadPropertyMultiple.
+/// What the device gives to a ReadPropertyMultiple (clause 15.7). `AllocError` where memory was
+/// refused.
 pub(crate) fn read_multiple<J: Judge>(
     alloc: Global,
     objects: &ObjectDb,

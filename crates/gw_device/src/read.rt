@@ -99,7 +99,7 @@ fn read_apdu<J: Judge>(
     }
 }
 
-/// What the device gives to a ReadProperty.
+/// What the device gives to a ReadProperty (clause 15.5). `AllocError` where memory was refused.
 pub(crate) fn read<J: Judge>(
     alloc: Global,
     objects: &ObjectDb,

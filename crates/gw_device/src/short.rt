@@ -16,7 +16,7 @@ const MOST_OCTETS: usize = 9;
 /// How many octets an answer with values has room for at first, so that the allocator serves it quickly; it grows where it has more.
 const FIRST_ROOM: usize = 480;
 
-/// An Error.
+/// The octets of an Error. `AllocError` where memory was refused.
 pub(crate) fn error(
     alloc: Global,
     invoke: u8,
@@ -30,7 +30,7 @@ pub(crate) fn error(
     Ok(apdu)
 }
 
-/// A Reject.
+/// The octets of a Reject. `AllocError` where memory was refused.
 pub(crate) fn reject(alloc: Global, invoke: u8, reason: RejectReason) -> Result<Vec<u8>, AllocError>
     ensures { IfOk result (λ apdu. apdu.items ≡ reject invoke reason.0) }
 {
@@ -39,7 +39,7 @@ pub(crate) fn reject(alloc: Global, invoke: u8, reason: RejectReason) -> Result<
     Ok(apdu)
 }
 
-/// An Abort.
+/// The octets of an Abort. `AllocError` where memory was refused.
 pub(crate) fn abort(alloc: Global, invoke: u8, reason: AbortReason) -> Result<Vec<u8>, AllocError>
     ensures { IfOk result (λ apdu. apdu.items ≡ abort invoke reason.0) }
 {
@@ -48,7 +48,7 @@ pub(crate) fn abort(alloc: Global, invoke: u8, reason: AbortReason) -> Result<Ve
     Ok(apdu)
 }
 
-/// A SimpleACK.
+/// The octets of a SimpleACK. `AllocError` where memory was refused.
 pub(crate) fn simple_ack(alloc: Global, invoke: u8, service: u8) -> Result<Vec<u8>, AllocError>
     ensures { IfOk result (λ apdu. apdu.items ≡ simple_ack invoke service) }
 {
@@ -69,7 +69,8 @@ fn fits(request: &ConfirmedRequest, context: &Context, len: usize) -> bool
     len <= request.max_apdu_len() && len <= context.room
 }
 
-/// Puts an Abort in the place of a ComplexACK that is too long.
+/// Puts an Abort in the place of a ComplexACK that is too long. `AllocError` where memory was
+/// refused.
 pub(crate) fn fit(
     apdu: &mut Vec<u8>,
     request: &ConfirmedRequest,

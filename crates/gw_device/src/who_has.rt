@@ -123,7 +123,7 @@ fn about<J: Judge>(
     })
 }
 
-/// What the device gives to a Who-Has.
+/// What the device gives to a Who-Has (clause 16.9). `AllocError` where memory was refused.
 pub(crate) fn who_has<J: Judge>(
     alloc: Global,
     objects: &ObjectDb,

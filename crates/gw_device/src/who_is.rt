@@ -34,7 +34,7 @@ pub(crate) fn is_within(limits: &Option<Limits>, configured: &Configured) -> boo
     }
 }
 
-/// Appends the header of an unconfirmed request.
+/// Appends the header of an unconfirmed request. `AllocError` where memory was refused.
 pub(crate) fn put_unconfirmed(out: &mut Vec<u8>, service: u8) -> Result<(), AllocError>
     ensures { OnOk result (out.new.items ≡ out.old.items ++ unconfirmed service) }
 {
@@ -70,7 +70,7 @@ fn i_am_apdu(alloc: Global, configured: &Configured) -> Result<Vec<u8>, AllocErr
     Ok(apdu)
 }
 
-/// What the device gives to a Who-Is.
+/// What the device gives to a Who-Is (clause 16.10). `AllocError` where memory was refused.
 pub(crate) fn who_is<J: Judge>(
     alloc: Global,
     objects: &ObjectDb,

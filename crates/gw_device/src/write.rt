@@ -99,7 +99,7 @@ fn write_apdu(alloc: Global, invoke: u8, decision: &Decision) -> Result<Vec<u8>,
     }
 }
 
-/// What the device gives to a WriteProperty.
+/// What the device gives to a WriteProperty (clause 15.9). `AllocError` where memory was refused.
 pub(crate) fn write<J: Judge>(
     alloc: Global,
     objects: &ObjectDb,

@@ -175,7 +175,8 @@ fn put_addresses(out: &mut Vec<u8>, npdu: &Npdu<'_>) -> Result<(), AllocError>
     put_source(out, &npdu.source)
 }
 
-/// Everything in front of the payload's own octets.
+/// Appends everything in front of the payload's own octets. An `Err` only where the buffer had no
+/// room for it; then a front of it may stand there.
 pub(crate) fn put_header(out: &mut Vec<u8>, npdu: &Npdu<'_>) -> Result<(), AllocError>
     ensures { IsAppended (header (view npdu.now)) out.old out.new result }
 {

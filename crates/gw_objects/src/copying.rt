@@ -30,7 +30,7 @@ fn texts(alloc: Global, texts: &[Text]) -> Result<Sequence<Text>, AllocError>
     Ok(copies)
 }
 
-/// What the Device object says.
+/// A copy of what the Device object says. `AllocError` where memory was refused.
 pub(crate) fn device(alloc: Global, device: &Device) -> Result<Device, AllocError>
     ensures { IfOk result (λ copy. copy ≡ device.now) }
 {
@@ -85,7 +85,7 @@ fn object(alloc: Global, object: &Object) -> Result<ConfiguredObject, AllocError
     })
 }
 
-/// What stays of the value objects, in their order.
+/// What stays of the value objects, in their order. `AllocError` where memory was refused.
 pub(crate) fn objects(
     alloc: Global,
     objects: &[Object],
@@ -116,7 +116,8 @@ fn default(alloc: Global, value: &ObjectValue) -> Result<PropertyValue, AllocErr
     }
 }
 
-/// Empty slots with the default, for each value object in their order.
+/// Empty slots with the default, for each value object in their order. `AllocError` where memory
+/// was refused.
 pub(crate) fn states(
     alloc: Global,
     objects: &[Object],

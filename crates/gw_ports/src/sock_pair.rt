@@ -56,7 +56,8 @@ impl<S: Sock> SockPair<S> {
             .wake(waiter.has_come(socket_number(place, false)));
     }
 
-    /// Sends a datagram by the own socket.
+    /// Sends the octets by the own socket, as one datagram to an address. `Failed` where the call
+    /// failed.
     pub(crate) fn send(&mut self, to: BipAddr, octets: &[u8]) -> Result<(), SockFault>
         ensures { OnOk result (S.Sent self.new.own.socket to octets.now) }
     {
@@ -108,7 +109,8 @@ impl<S: Sock> SockPair<S> {
         answer
     }
 
-    /// Asks the socket whose turn it is, and where nothing waits there the other one.
+    /// Asks the socket whose turn it is, and where nothing waits there the other one: how many
+    /// octets came, and whom from, or none. `Failed` where the call failed of the one that answers.
     pub(crate) fn ask(
         &mut self,
         buf: &mut [u8; RECEIVE_ROOM],

@@ -31,7 +31,7 @@ pub trait Sock {
     ghost Sent: { Self → BipAddr → List ℕ → Type 0 };
 
     /// Receives a datagram to the buffer's front: how many octets it has, and whom it came from; or
-    /// none where nothing waits.
+    /// none where nothing waits. `Failed` where the call failed.
     fn receive(
         &mut self,
         buf: &mut [u8; RECEIVE_ROOM],
@@ -41,7 +41,7 @@ pub trait Sock {
         ensures answered { Answered self.new result buf.new }
         ensures fits { FitsBuffer result };
 
-    /// Sends a datagram.
+    /// Sends the octets as one datagram to an address. `Failed` where the call failed.
     fn send_to(&mut self, to: BipAddr, octets: &[u8]) -> Result<(), SockFault>
         ensures sent { OnOk result (Sent self.new to octets.now) }
         ensures looks { look_count self.new ≡ look_count self.old }

@@ -11,7 +11,7 @@ pub trait Timepiece {
     /// What it may have told when it was last asked, in nanoseconds since a start of its own.
     ghost Told: { Self → ℕ → Type 0 };
 
-    /// How long it is since a start of its own.
+    /// How long it is since a start of its own. An `Err` where the time can't be told.
     fn elapsed(&mut self) -> io::Result<Duration>
         ensures { IfOk result (λ elapsed. Told self.new (as_nanos elapsed)) };
 }

@@ -67,9 +67,10 @@ impl<S: Sock> Ports<S> {
         self.pairs[usize::from(port) - 1].own_first
     }
 
-    /// What comes next: a tick where one is due, else what the first port in turn answers, or nothing.
-    /// The ports behind the one that answered last come first, and itself at the end. Of each port the
-    /// two sockets take turns as well.
+    /// What comes next: a tick where one is due, else what the first port in turn answers, or
+    /// nothing. The ports behind the one that answered last come first, and itself at the end. Of
+    /// each port the two sockets take turns as well. `Failed` where that port's socket answers a
+    /// fault, which is counted.
     pub fn next(&mut self, buf: &mut [u8; RECEIVE_ROOM]) -> Result<Got, WireFault>
         requires { self.old.failures < 2 ^ 128 - 1 }
         ensures next { IsNext S.look_count S.is_empty S.Answered self.old self.new buf.new result }

@@ -26,7 +26,7 @@ pub trait Waiter {
     ghost Quiet: { Self → ℕ → Type 0 } = { λ _ _. ⊤ };
 
     /// Waits until a datagram comes or so much time has passed. It may also end sooner, as at a
-    /// signal.
+    /// signal. An `Err` where it can't wait.
     fn wait(&mut self, most: Duration) -> io::Result<()>
         ensures { OnOk result (Waited self.new (as_nanos most)) };
 

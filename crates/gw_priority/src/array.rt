@@ -1,4 +1,4 @@
-//! The sixteen slots of a commandable property, and its default.
+//! The sixteen slots of a commandable property, and its default (clause 19.2).
 ghost use Rattle.std.specs.Prelude.{◌≡◌, ◌↔◌, IsErr, IsErrOf, IfErr, OnOk, OnErr, List, [], ◌∷◌, length, option_map};
 ghost use Rattle.gw_priority.specs.Commandable.{IsPriority, IsPresent, ChangesSlot, slot, present, no_command, with_slot, with_default};
 ghost use Rattle.gw_priority.specs.History.{Act, Command, Relinquish, SetDefault, IsStateAfter};

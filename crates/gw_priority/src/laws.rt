@@ -1,5 +1,5 @@
-//! What the words of the priority rule mean, proved of all slots and of every history, for a reader
-//! of the definitions that contracts here and in the crates above cite. The functions do nothing.
+//! Laws of the priority rule (clause 19.2), of all slots and every history. The functions do
+//! nothing: their contracts are the laws.
 ghost use Rattle.std.specs.Prelude.{◌≡◌, ◌↔◌, ◌⊎◌, ℕ, List, length};
 ghost use Rattle.gw_priority.specs.Commandable.{Commandable, IsPriority, IsPresent, present, slot};
 ghost use Rattle.gw_priority.specs.History.{Act, Command, Relinquish, IsLastAt, HasNoneAt, slot_after, state_after};

@@ -1,5 +1,5 @@
-//! What the words of a routing table mean, proved of every history and every table, for a reader of
-//! the definitions that contracts here and in the crates above cite. The functions do nothing.
+//! Laws of the table of routes (clause 6), of every table and every history. The functions do
+//! nothing: their contracts are the laws.
 ghost use Rattle.std.specs.Prelude.{◌≡◌};
 ghost use Rattle.gw_routes.specs.Laws.{EachIsLearnedOnce, NamedAreLearned, PlacesAreKept};
 ghost use Rattle.gw_routes.specs.Laws.{FixedWaysStay, LastLearningHolds};

@@ -1,4 +1,4 @@
-//! The table of routes.
+//! The table of routes, and which way a network lies by it (clause 6).
 ghost use Rattle.std.specs.Prelude.{◌≡◌, ◌+◌, ◌≤◌, ◌<◌, ◌↔◌, ◌∷◌, ◌++◌, if◌then◌else◌};
 ghost use Rattle.std.specs.Prelude.{[], ℕ, List, length, count_by, position};
 ghost use Rattle.std.specs.Prelude.{true, false, is_some, nat_eq};

@@ -18,7 +18,8 @@ pub trait OctetSink {
     /// No write to it fails, now or later.
     ghost NeverFails: { Self → Type 0 };
 
-    /// Writes some octets of the text's front, and answers how many: one at least, where the text has any.
+    /// Writes some octets of the text's front, and answers how many: one at least, where the text
+    /// has any. `WriteFailed` where the write failed, or took nothing of a text that has some.
     fn write_octets(&mut self, text: &[u8]) -> Result<usize, WriteFailed>
         ensures bound { IfOk result (λ n. n ≤ length text.now) }
         ensures some { IfOk result (λ n. 0 < length text.now → 0 < n) }

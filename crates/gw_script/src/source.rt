@@ -18,7 +18,8 @@ pub trait OctetSource {
     /// No read of it fails, now or later.
     ghost NeverFails: { Self → Type 0 };
 
-    /// Reads some octets to the buffer's front, and answers how many. None: it has none left, or the buffer has no room.
+    /// Reads some octets to the buffer's front, and answers how many. None: it has none left, or
+    /// the buffer has no room. `ReadFailed` where the read failed.
     fn read_octets(&mut self, buffer: &mut [u8]) -> Result<usize, ReadFailed>
         ensures bound { IfOk result (λ n. n ≤ length buffer.new) }
         ensures octets { ReadConsumes (left self.old) (left self.new) result buffer.new }

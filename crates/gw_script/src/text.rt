@@ -10,7 +10,8 @@ use crate::event::SpelledAddr;
 use gw_addr::{BipAddr, keep_whole, put_decimal, put_octet, put_slice};
 use std::alloc::AllocError;
 
-/// Appends the line of a datagram that is sent. Refused only where the buffer had no room for it; the buffer then holds what it held.
+/// Appends the line of a datagram that is sent. An `Err` only where the buffer had no room for it;
+/// the buffer then holds what it held.
 pub fn append_send(
     out: &mut Vec<u8>,
     port: u8,
@@ -22,8 +23,8 @@ pub fn append_send(
     append_send_to(out, port, to, &None, octets)
 }
 
-/// Appends the line of a datagram that is sent, as [`append_send`] does. Where it goes to an address whose text is at hand, the text
-/// is not made again.
+/// Appends the line of a datagram that is sent, as [`append_send`] does, with its `Err`. Where it
+/// goes to an address whose text is at hand, the text is not made again.
 pub fn append_send_to(
     out: &mut Vec<u8>,
     port: u8,
@@ -38,7 +39,8 @@ pub fn append_send_to(
     keep_whole(out, len, put)
 }
 
-/// Appends the line behind the last of an event. Refused only where the buffer had no room for it.
+/// Appends the line behind the last of an event. An `Err` only where the buffer had no room for it;
+/// the buffer then holds what it held.
 pub fn append_end(out: &mut Vec<u8>) -> Result<(), AllocError>
     ensures { IsAppendedWhole end_line out.old out.new result }
 {

@@ -73,6 +73,7 @@ fn first(octets: &[u8]) -> Result<(Reference, &[u8]), BodyFault>
 }
 
 /// A reference: of the object whose list is open, or where none is, the first of a new list.
+/// `InvalidTag`, `Missing` or `OutOfRange`, as of any parameter.
 pub(crate) fn reference(
     current: Option<ObjectId>,
     octets: &[u8],

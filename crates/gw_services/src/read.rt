@@ -48,7 +48,8 @@ pub fn decode_read(octets: &[u8]) -> Result<ReadReq, BodyFault>
     read(octets)
 }
 
-/// A number that may be there.
+/// Appends a number that may be there. An `Err` only where the buffer had no room for it; the
+/// buffer then holds what it held.
 pub(crate) fn put_number(out: &mut Vec<u8>, tag: u8, number: Option<u32>) -> Result<(), AllocError>
     requires { tag < 255 }
     ensures { IsAppendedWhole (number_part tag number) out.old out.new result }

@@ -14,7 +14,8 @@ use gw_addr::keep_whole;
 use gw_tags::write_context_unsigned;
 use std::alloc::AllocError;
 
-/// The limits, where the first of them is there.
+/// The limits, where the first of them is there. `InvalidTag`, `Missing` or `OutOfRange`, as of any
+/// parameter.
 pub(crate) fn limits(octets: &[u8]) -> Result<(Option<Limits>, &[u8]), BodyFault>
     ensures { Gives (λ x. (option_map limits_view x.0, x.1.now)) result (limits_at octets.now) }
 {

@@ -3,6 +3,9 @@
 //!
 //! A section begins with a line `== KIND NAME`. Most kinds have a case a line; a script, and a text to be checked, is one case. A
 //! configuration holds for the sections behind it.
+//!
+//! An answer of `io::Result` is an `Err` where its case isn't written as its kind wants, or where
+//! memory was refused.
 #![tactic(auto)]
 
 mod addresses;
