@@ -1,7 +1,8 @@
 #!/usr/bin/env bash
-# Runs the built `bacgw check --explain` on each wrong text of the table in docs/spec/configuration.md, and compares the fault and the
-# line that explains it. A row has what stands in the text that the page shows, what is written in its place, the fault and the line;
-# `\n` is a line feed. It wants the program built, as `./bacgw prove` leaves it, and python3. The last line says how many agreed.
+# Runs the built `bacgw check --explain` on each wrong text of docs/spec/configuration.md and of wrong_texts.tsv, and compares the fault
+# and the line that explains it. A row has what stands in the text (base.toml with wrong_texts.toml behind it), what is written in its
+# place, the fault and the line; `\n` is a line feed. It wants the program built, as `./bacgw prove` leaves it, and python3. The last
+# line says how many agreed.
 set -euo pipefail
 exec python3 - "$(cd "$(dirname "$0")/.." && pwd)" "${BACGW:-}" <<'END'
 import os, re, subprocess, sys, tempfile
@@ -12,12 +13,13 @@ if not os.access(program, os.X_OK):
     sys.exit("build bacgw first: ./bacgw prove")
 page = open(os.path.join(top, "docs/spec/configuration.md")).read()
 section = page.split("## Wrong texts, and what is told of them")[1].split("\n## ")[0]
-text = open(os.path.join(top, "examples/base.toml")).read() + re.search(r"```toml\n(.*?)```", section, re.S).group(1)
+rows = re.findall(r"^\| `(.*?)` \| `(.*?)` \| `(\w+)` \| `(.*)` \|$", section, re.M)
+rows += [line.split("\t") for line in open(os.path.join(top, "examples/wrong_texts.tsv")).read().splitlines()]
+text = "".join(open(os.path.join(top, "examples", part)).read() for part in ("base.toml", "wrong_texts.toml"))
 passed = failed = 0
 with tempfile.TemporaryDirectory() as work:
     name = os.path.join(work, "text.toml")
-    for row in re.findall(r"^\| `(.*?)` \| `(.*?)` \| `(\w+)` \| `(.*)` \|$", section, re.M):
-        old, new, fault, line = row
+    for old, new, fault, line in rows:
         old, new = old.replace("\\n", "\n"), new.replace("\\n", "\n")
         assert old in text, old
         with open(name, "w") as file:
