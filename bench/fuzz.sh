@@ -7,11 +7,12 @@
 #     FORMAT=2 bench/fuzz.sh                  # under the second format of the policy
 #
 # A datagram is cut, lengthened, spliced with another, or gets other bits, octets or repeated parts; two in three get the length of
-# their BVLL put right, and every fourth comes as it is worked. They come in scripts of a thousand, and of 250 for the trial, of which
-# 1 MiB of output is shown at most; with ticks between, from stations that are peers, registered, of the port's network or of none.
-# Last comes what was answered, by kind, and how often: of each kind that the gateway makes itself there must be a hundred.
+# their BVLL put right, and every fourth comes as it is worked. They come in scripts of a thousand, or of so many that the output is
+# no more than a trial shows, with ticks between, from stations that are peers, registered, of the port's network or of none. Last
+# comes what was answered, by kind, and how often: of each kind that the gateway makes itself there must be a hundred.
 #
-# It wants python3 and the built program: ./bacgw prove.
+# It wants python3 and the built program: ./bacgw prove. A million take a quarter of an hour of one processor, nearly all of it the
+# trial's, which is built once.
 set -euo pipefail
 
 top=$(cd "$(dirname "$0")/.." && pwd)
@@ -31,7 +32,8 @@ from pathlib import Path
 top, program, wanted, seed, yardstick = Path(sys.argv[1]), sys.argv[2], int(sys.argv[3]), int(sys.argv[4]), sys.argv[5]
 format = sys.argv[6]
 chance = random.Random(seed)
-EACH = 1000 if yardstick else 250  # datagrams of a script; of a trial 1 MiB is shown at most
+EACH = 1000  # events of a script at most
+SHOWN = 2**20 - 1  # octets of output that a trial shows at most
 LEAST = 100  # of each kind that the gateway makes itself
 OWN_KINDS = [
     "nothing", "sent broadcast table", "sent device table", "sent broadcast unconfirmed request", "sent forwarded unconfirmed request",
@@ -213,24 +215,36 @@ def sent_kind(octets):
     return f"{name} {pdus.get(pdu, 'other')}"
 
 
-def ends(blocks):
-    return [block.splitlines() for block in blocks.split("end\n")[:-1]]
+def shown(output):
+    """The front of an output that is shown, event by event."""
+    blocks, room = [], SHOWN
+    for block in output.split("end\n")[:-1]:
+        room -= len(block) + len("end\n")
+        if room < 0:
+            break
+        blocks.append(block + "end\n")
+    return blocks
 
 
-def compare(folder, names):
-    """The names of the scripts whose answers differ."""
-    if yardstick:
-        differ = []
-        for name in names:
-            with open(folder / name) as script:
-                ran = subprocess.run([yardstick, "replay", "--config", config], stdin=script, capture_output=True, text=True)
-            if ran.returncode or ran.stdout != (folder / f"{name}.stdout").read_text():
-                differ.append(name)
-        return differ
+def by_yardstick(folder, names):
+    """The names of the scripts to which the other gateway answers otherwise."""
+    for name in names:
+        with open(folder / name) as script:
+            ran = subprocess.run([yardstick, "replay", "--config", config], stdin=script, capture_output=True, text=True)
+        if ran.returncode or ran.stdout != (folder / f"{name}.stdout").read_text():
+            yield name
+
+
+def by_trial(folder, names):
+    """The names of the scripts to which the trial answers otherwise, or what it told where it didn't try them all."""
     ran = subprocess.run(["rt", "try", "--seconds", "600", "--data", f"config.toml={config}", "--cases", str(folder), "--",
                           "replay", "--config", "config.toml"], cwd=top / "crates/bacgw", capture_output=True, text=True)
-    print(ran.stdout[-2000:], ran.stderr[-2000:], file=sys.stderr)
-    return [] if ran.returncode == 0 else ["one of the trial's, see above"]
+    told = (ran.stdout + ran.stderr).splitlines()
+    done = [match[1] for line in told if (match := re.match(r"case=(\S+) run=ended status=0 ", line)) and "differs" not in line]
+    yield from sorted(set(names) - set(done))
+    whole = f"cases={len(names)} ended={len(names)} fault=0 differs=0 no-answer=0"
+    if ran.returncode or not any(line.startswith(whole) for line in told):
+        yield "\n".join(["the trial:", *told[-20:]])
 
 
 counts, failures, number = collections.Counter(), [], 0
@@ -241,19 +255,18 @@ with tempfile.TemporaryDirectory() as place:
     names = []
     while number < wanted:
         name = f"{len(names):06}"
-        lines = [event() for _ in range(EACH)]
-        number += EACH
-        (folder / name).write_text("".join(line + "\n" for line in lines))
-        with open(folder / name) as script:
-            ran = subprocess.run([program, "replay", "--config", config], stdin=script, capture_output=True, text=True)
-        blocks = ends(ran.stdout)
-        if ran.returncode or len(blocks) != EACH:
-            failures.append(f"{name}: the program ended with status {ran.returncode} after {len(blocks)} events")
+        lines = [event() + "\n" for _ in range(EACH)]
+        ran = subprocess.run([program, "replay", "--config", config], input="".join(lines), capture_output=True, text=True)
+        if ran.returncode or ran.stdout.count("end\n") != EACH:
+            failures.append(f"{name}: the program ended with status {ran.returncode}")
+        blocks = shown(ran.stdout)
+        number += len(blocks)
         for block in blocks:
-            counts.update(set(kinds_of(block)))
-        (folder / f"{name}.stdout").write_text(ran.stdout)
+            counts.update(set(kinds_of(block.splitlines()[:-1])))
+        (folder / name).write_text("".join(lines[:len(blocks)]))
+        (folder / f"{name}.stdout").write_text("".join(blocks))
         names.append(name)
-    failures += [f"{name}: the answers differ" for name in compare(folder, names)]
+    failures += [f"the answers differ: {name}" for name in (by_yardstick if yardstick else by_trial)(folder, names)]
 
 for kind, count in sorted(counts.items(), key=lambda it: -it[1]):
     print(f"{count:9} {kind}")

@@ -2,6 +2,9 @@
 # Refuses each growth of the built programs in turn: the first of a run, then in a new run the second, until none is refused.
 #
 #     bench/growths.sh [--only KIND] [FOLDER]      # of scripts, as in examples/, which is taken unless told otherwise
+#     JOBS=2 bench/growths.sh                      # so many cases side by side; else as many as there are processors
+#
+# A library that is loaded before the program, bench/fail_alloc.c, makes the runs of a case, each a child from before `main`.
 #
 # It goes over the cases of gw_vectors, each in a run of its own, and over `bacgw replay` on each script of the folder; with --only
 # over the cases of one kind alone, as `again` or `edits`. A script is played twice: by `replay`, and as a case of `again`, where each
@@ -12,8 +15,9 @@
 # whole blocks, each up to its line `end`, from the front of the right output. NAME.out has the right output; NAME.toml, where it is
 # there, is the configuration. A script of another folder whose right output the program doesn't print yet is left out.
 #
-# It wants gcc and python3, and both built: (cd crates/gw_vectors && rt run < stdin) and ./bacgw --help. Where all agree with
-# examples/ it writes the date to docs/GATE.md. The last line says how many refused growths were met well.
+# It wants gcc and python3, and both built: (cd crates/gw_vectors && rt run < stdin) and ./bacgw prove. Where all agree with examples/
+# it writes the date and the commit to docs/GATE.md. It prints how many growths of each kind were refused, and the last line says how
+# many were met well.
 set -euo pipefail
 
 top=$(cd "$(dirname "$0")/.." && pwd)
@@ -26,15 +30,19 @@ work=$(mktemp -d)
 trap 'rm -rf "$work"' EXIT
 
 [ -x "$vectors" ] || { echo "build the cases first: (cd crates/gw_vectors && rt run < stdin)" >&2; exit 1; }
-[ -x "$program" ] || { echo "build bacgw first: ./bacgw --help" >&2; exit 1; }
-gcc -std=c11 -O2 -fPIC -shared -o "$work/fail_alloc.so" "$top/bench/fail_alloc.c"
+[ -x "$program" ] || { echo "build bacgw first: ./bacgw prove" >&2; exit 1; }
+gcc -std=c11 -Wall -Wextra -Werror -O2 -fPIC -shared -o "$work/fail_alloc.so" "$top/bench/fail_alloc.c"
 
 python3 - "$work/fail_alloc.so" "$vectors" "$program" "$folder" "$top" "$only" <<'PYTHON'
+import collections
 import datetime
 import os
 import re
+import signal
+import struct
 import subprocess
 import sys
+import tempfile
 from concurrent.futures import ThreadPoolExecutor
 from pathlib import Path
 
@@ -48,21 +56,26 @@ WHOLE = {"script", "again", "list", "check", "texts", "run", "fronts", "faults"}
 REPEATED = {"fronts"}
 
 
-def run(words, given, growth=0):
-    """The status, output and errors of a run, and whether its growth of this number was refused."""
-    told, tell = os.pipe()
-    refusing = {"LD_PRELOAD": shim, "FAIL_ALLOC": str(growth), "FAIL_TOLD": str(tell)}
-    how = {"input": given, "capture_output": True, "timeout": 120, "pass_fds": [tell]}
-    try:
-        ran = subprocess.run(words, env={**os.environ, **refusing}, **how)
-        answer = ran.returncode, ran.stdout, ran.stderr
-    except subprocess.TimeoutExpired:
-        answer = None, b"", b"no end after 120 seconds"
-    finally:
-        os.close(tell)
-    is_refused = os.read(told, 1) != b""
-    os.close(told)
-    return answer, is_refused
+# What fail_alloc.c writes before the output and the errors of a run: whether a growth was refused, the status, and their lengths.
+FRAME = struct.Struct("=IiII")
+
+
+def runs(words, given):
+    """Of each run whether a growth was refused, and its status, output and errors: with none refused, the first, the second and on."""
+    how = {"env": {**os.environ, "LD_PRELOAD": shim, "FAIL_ALLOC": "each"}, "stdout": subprocess.PIPE}
+    with tempfile.TemporaryFile() as file:
+        file.write(given)
+        file.flush()
+        with subprocess.Popen(words, stdin=file, **how) as process:
+            while head := process.stdout.read(FRAME.size):
+                is_refused, status, output, errors = FRAME.unpack(head)
+                yield is_refused == 1, (status, process.stdout.read(output), process.stdout.read(errors))
+    if process.returncode != 0:
+        raise ChildProcessError(f"the runs ended with status {process.returncode}")
+
+
+def kind_of(name):
+    return "replay" if name.endswith(".script") else name.split(" ")[0].rstrip(":")
 
 
 def tells_it(line, right):
@@ -96,27 +109,38 @@ def is_well_played(answer, right):
     return status == 1 and errors == b"bacgw: out of memory\n" and is_whole and right[1].startswith(output)
 
 
+def told_of(status, errors):
+    why = "no end after 120 seconds" if status == -signal.SIGALRM else errors[-300:].decode(errors="replace")
+    return f"status {status}: {why}"
+
+
 def refuse_each(name, words, given, is_well):
     """How many refused growths were met well, and what was said of the others."""
-    right, _ = run(words, given)
-    passed, faults, growth = 0, [], 0
-    while True:
-        growth += 1
-        answer, is_refused = run(words, given, growth)
-        if not is_refused:
-            return passed, faults
-        if is_well(answer, right):
+    answers = runs(words, given)
+    _, right = next(answers)
+    judged, growth, is_last, passed, faults = {}, 0, False, 0, []
+    for growth, (is_refused, answer) in enumerate(answers, 1):
+        is_last = not is_refused
+        if answer not in judged:
+            judged[answer] = is_well(answer, right)
+        if is_last and answer != right:
+            faults.append(f"{name}: another answer with ample memory: {told_of(answer[0], answer[2])}")
+        elif not judged[answer]:
+            faults.append(f"{name}, growth {growth}: {told_of(answer[0], answer[2])}")
+        elif is_refused:
             passed += 1
-        else:
-            faults.append(f"{name}, growth {growth}: status {answer[0]}: {answer[2][-300:].decode(errors='replace')}")
+    if not is_last:
+        faults.append(f"{name}: the runs end at growth {growth}, which was refused")
+    return name, passed, faults
 
 
 def prints_right(words, script):
-    (_, output, errors), _ = run(words, script.read_bytes())
+    with open(script) as given:
+        ran = subprocess.run(words, stdin=given, capture_output=True, timeout=120)
     right = script.with_suffix(".out").read_bytes()
     at_fault = script.with_suffix(".err")
     right += at_fault.read_bytes() if at_fault.exists() else b""
-    return output + errors == right
+    return ran.stdout + ran.stderr == right
 
 
 def cases_of(text):
@@ -156,11 +180,12 @@ for script in sorted(folder.glob("*.script") if not only else []):
     else:
         left_out.append(script.name)
 
-passed, faults = 0, [f"{name}: not what stands in its .out" for name in left_out if is_examples]
-with ThreadPoolExecutor(os.cpu_count()) as pool:
-    for well, ill in pool.map(lambda case: refuse_each(*case), cases):
-        passed += well
+counts, faults = collections.Counter(), [f"{name}: not what stands in its .out" for name in left_out if is_examples]
+with ThreadPoolExecutor(int(os.environ.get("JOBS", os.cpu_count()))) as pool:
+    for name, well, ill in pool.map(lambda case: refuse_each(*case), cases):
+        counts[kind_of(name)] += well
         faults += ill
+passed = counts.total()
 
 for fault in faults:
     print(fault)
@@ -170,7 +195,9 @@ done = f"{count_of_cases} cases and {len(cases) - count_of_cases} scripts, {pass
 if not faults and is_examples and not only:
     page = top / "docs" / "GATE.md"
     line = re.compile(r"(?m)^It (last ran|has not run) green .*$")
-    page.write_text(line.sub(f"It last ran green on {datetime.date.today()}: {done}.", page.read_text()))
+    commit = subprocess.run(["git", "-C", top, "rev-parse", "--short", "HEAD"], capture_output=True, text=True, check=True).stdout.strip()
+    page.write_text(line.sub(f"It last ran green on {datetime.date.today()}, at {commit}: {done}.", page.read_text()))
+print(", ".join(f"{kind} {count:,}" for kind, count in counts.most_common()))
 print(done)
 print(f"{passed} passed, {len(faults)} failed")
 sys.exit(1 if faults or not passed else 0)

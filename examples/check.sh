@@ -212,10 +212,14 @@ idle without a datagram
 127.4.0.10 810A001801080064010130090C0C0140000119553E91013F
 127.4.0.10 810A0018010800640101300A0C0C0140000119553E91013F
 127.3.0.10 810A0018010800640101300B0C0C0140000119553E91013F
+127.3.0.10 810A0011010800640101500C0C9102911B
 status -15'
-same 'the log has the denial behind a line that was cut' "$(sed 's/^1 [0-9]* /1 . /' "$work/log")" \
+# The second denial is six seconds behind the first, which comes in the first seconds of the run.
+same 'the log has the denials with their ticks behind a line that was cut' \
+    "$(sed -E 's/^1 [0-9] /1 . /; s/^2 ([5-9]|1[0-9]) /2 . /' "$work/log")" \
     'a line that was cut
-1 . 1 1:7F030005BAC0 read dst=100 svc=12 obj=5,2 prop=85 prio=- rule=hide'
+1 . 1 1:7F030005BAC0 read dst=100 svc=12 obj=5,2 prop=85 prio=- rule=hide
+2 . 1 1:7F030005BAC0 read dst=100 svc=12 obj=5,2 prop=85 prio=- rule=hide'
 
 # A log that is copied and cut while it is served goes on at its front.
 : > "$work/log"
@@ -224,6 +228,18 @@ same 'the copy of a log' "$(sed 's/^1 [0-9]* /1 . /' "$work/log.1")" \
     '1 . 1 1:7F030005BAC0 read dst=100 svc=12 obj=5,2 prop=85 prio=- rule=hide'
 same 'a log that was cut to nothing' "$(sed 's/^2 [0-9]* /2 . /' "$work/log")" \
     '2 . 1 1:7F030005BAC0 read dst=100 svc=12 obj=5,2 prop=85 prio=- rule=hide'
+
+# A send of fewer octets than it was given is a failure. The system makes none of a datagram, so a library that is loaded before the
+# program does, and the counts tell of it.
+if command -v cc > /dev/null && "$program" run --help | grep -q -e --stats; then
+    cc -std=c11 -O2 -fPIC -shared -o "$work/short_send.so" "$here/../bench/short_send.c"
+    for number in 0 1; do
+        SHORT_SEND=$number python3 "$here/loopback.py" short "$program" "$work/served.toml" "$work/short_send.so" > "$work/out" 2>&1
+        same "the failed sends where $number are short" "$(cat "$work/out")" \
+            "127.3.0.10 810A0018010800640101300D0C0C0140000119553E91013F
+$number failed sends"
+    done
+fi
 
 # taken ADDRESS PORT SOCKET: while another socket stands at this address, `run` says which port and which socket can't be opened
 taken() {

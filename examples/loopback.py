@@ -4,11 +4,14 @@
     loopback.py taken PROGRAM FILE ADDRESS   runs it while a socket stands at this address
     loopback.py rotate PROGRAM FILE LOG      copies the log to LOG.1 and cuts it between two denied reads
     loopback.py ports PROGRAM FILE COUNT     reads a point by each socket of so many ports, while nothing else comes and in a flood
+    loopback.py short PROGRAM FILE LIBRARY   runs it for four turns under this library, reads a point, and prints what of its counts
+                                             says how many sends failed
 
 It prints the answers in hexadecimal and the exit status; what the gateway tells goes to standard error.
 """
 
 import os
+import re
 import shutil
 import signal
 import socket
@@ -49,7 +52,7 @@ def processor_time(process):
 
 
 def serve(program, file, log):
-    """Reads the fan and the door of a gateway that serves, and the fan again by each socket behind a pause, and ends it."""
+    """Reads the fan and the door of a gateway that serves, the fan again by each socket behind a pause, and the door, and ends it."""
     words = [program, "run", "--config", file, "--log", log, "--verbose"]
     gateway = subprocess.Popen(words, stdin=subprocess.DEVNULL, stderr=subprocess.PIPE)
     try:
@@ -63,6 +66,7 @@ def serve(program, file, log):
         for number, to in enumerate((BROADCAST_2, PORT_2, BROADCAST_1), 9):
             read(line, number, 1, to)
             time.sleep(1.2)
+        read(line, 12, 2, PORT_1)
     finally:
         gateway.send_signal(signal.SIGTERM)
         print("status", gateway.wait(timeout=10))
@@ -89,6 +93,18 @@ def rotate(program, file, log):
     finally:
         gateway.terminate()
         gateway.wait(timeout=10)
+
+
+def short(program, file, library):
+    """Reads the fan of a gateway whose sends go through a library, and prints how many of them it counts as failed."""
+    words = [program, "run", "--config", file, "--turns", "4", "--stats", "60", "--verbose"]
+    loaded = {**os.environ, "LD_PRELOAD": library}
+    gateway = subprocess.Popen(words, stdin=subprocess.DEVNULL, stderr=subprocess.PIPE, env=loaded)
+    line = open_line(CLIENT)
+    gateway.stderr.readline()
+    read(line, 13, 1, PORT_1)
+    _, told = gateway.communicate(timeout=20)
+    print(*re.findall(r"\d+ failed sends", told.decode())[-1:])
 
 
 def flood(to, is_over):
@@ -139,4 +155,4 @@ def ports(program, file, count):
         gateway.wait(timeout=10)
 
 
-{"serve": serve, "taken": taken, "rotate": rotate, "ports": ports}[sys.argv[1]](*sys.argv[2:])
+{"serve": serve, "taken": taken, "rotate": rotate, "ports": ports, "short": short}[sys.argv[1]](*sys.argv[2:])
