@@ -56,6 +56,9 @@ WHOLE = {"script", "again", "list", "check", "texts", "run", "fronts", "faults"}
 REPEATED = {"fronts"}
 
 
+# The line of the program that tells it.
+OUT_OF_MEMORY = b"bacgw: out of memory"
+
 # What fail_alloc.c writes before the output and the errors of a run: whether a growth was refused, the status, and their lengths.
 FRAME = struct.Struct("=IiII")
 
@@ -84,7 +87,8 @@ def tells_it(line, right):
     return line == right or b"memory" in line.lower() or dropped is not None
 
 
-def is_well_answered(answer, right):
+def is_well_answered(answer, right, told=b"err " + OUT_OF_MEMORY):
+    """Whether a case came to what is right, or told that there was no memory. Of a `run` that is the line `told`."""
     status, output, errors = answer
     if answer == right:
         return True
@@ -93,12 +97,21 @@ def is_well_answered(answer, right):
     lines, wanted = output.splitlines(), right[1].splitlines()
     if status != 0 or not lines:
         return False
-    if b"err bacgw: out of memory" in lines:
-        told = [line for line in lines if line.startswith(b"out ")]
-        return b"status 1" in lines and told == [line for line in wanted if line.startswith(b"out ")][:len(told)]
+    if told in lines and b"status 1" in lines:
+        printed = [line for line in lines if line.startswith(b"out ")]
+        return printed == [line for line in wanted if line.startswith(b"out ")][:len(printed)]
     if lines[-1] in (b"out of memory", b"write failed"):  # the second where what is written to had to grow
         return lines[:-1] == wanted[:len(lines) - 1] and (len(lines) < 4 or lines[-2] == b"end")
     return len(lines) == len(wanted) and all(map(tells_it, lines, wanted))
+
+
+def judge_of(section):
+    """The judge of a case. Where standard error takes so many octets alone, the line that tells it is as long."""
+    narrow = re.search(r"(?m)^errors (\d+)$", section.split("\ninput\n")[0])
+    if narrow is None:
+        return is_well_answered
+    told = b"err " + OUT_OF_MEMORY[:int(narrow[1])]
+    return lambda answer, right: is_well_answered(answer, right, told)
 
 
 def is_well_played(answer, right):
@@ -106,7 +119,7 @@ def is_well_played(answer, right):
     if answer == right:
         return True
     is_whole = output == b"" or output.endswith(b"\nend\n") or output == b"end\n"
-    return status == 1 and errors == b"bacgw: out of memory\n" and is_whole and right[1].startswith(output)
+    return status == 1 and errors == OUT_OF_MEMORY + b"\n" and is_whole and right[1].startswith(output)
 
 
 def told_of(status, errors):
@@ -166,7 +179,7 @@ def cases_of(text):
 cases, left_out = [], []
 for name, given in cases_of((top / "crates" / "gw_vectors" / "stdin").read_text()):
     if only in ("", name.split(" ")[0]):
-        cases.append((name, [vectors], given.encode(), is_well_answered))
+        cases.append((name, [vectors], given.encode(), judge_of(given)))
 count_of_cases = len(cases)
 for script in sorted(folder.glob("*.script") if not only else []):
     config = script.with_suffix(".toml")
