@@ -13,7 +13,7 @@ use gw_rules::RuleList;
 use std::alloc::{AllocError, Global};
 
 /// What `check` prints of a configuration: its summary, and behind it what the policy hides where
-/// that is asked for.
+/// that is asked for. An `Err` only where a growth of memory was refused.
 pub fn checked_text(alloc: Global, explains: bool, config: &Config) -> Result<Vec<u8>, AllocError>
     ensures { IfOk result (λ text. text.items ≡ checked_text explains config.now) }
 {
