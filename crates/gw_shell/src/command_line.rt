@@ -14,9 +14,9 @@ use std::alloc::{AllocError, Global};
 /// How many turns are served at most, and where no number of them is given.
 const MAX_TURNS: u64 = i64::MAX as u64;
 
-/// What `--version` prints behind the program's name: the version, and the kit that the program is
-/// proved with, as `rt version` names it.
-const VERSION: &str = "0.1.0, proved with rattle-kit-13f logic dac8208d650f15bf";
+/// What `--version` prints behind the program's name: the version, and the logic that the program is
+/// proved in, as `rt version` names it.
+const VERSION: &str = "0.1.0, proved by Rattle, logic dac8208d650f15bf";
 
 /// What stands below the help on `run`.
 const RUN_EXAMPLE: &str = "Example:
