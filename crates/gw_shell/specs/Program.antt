@@ -54,13 +54,14 @@ LeavesPlayed input held holds (Err f) outcome = (outcome ≡ Err f) × (holds �
 -- help its text, of which a failed write may leave a front. Words that choose nothing leave it as it was, and their fault is the outcome.
 abbrev pub LeavesOutput : {Log Sockets : Type 0} → (Reads : List ℕ → Result (List ℕ) Fault → Type 0) → Machine Log Sockets
     → Option (List ℕ) → Option (List ℕ) → Option (List ℕ) → List ℕ → Result Choice Fault → Result (Unit {0}) Fault → Type 0
-LeavesOutput Reads machine input held holds told (Ok (choice.Check file explains)) outcome =
+LeavesOutput Reads machine input held holds told (Ok (choice.Check file explains lints)) outcome =
     (text : Result (List ℕ) Fault) × Reads (string_bytes file) text × LeavesOfText explains text held holds outcome
-LeavesOutput Reads machine input held holds told (Ok (choice.Replay file)) outcome =
+LeavesOutput Reads machine input held holds told (Ok (choice.Replay file explains)) outcome =
     (c : Result Configuration Fault) × IsConfigured Reads (option_map string_bytes file) c × LeavesPlayed input held holds c outcome
 LeavesOutput Reads machine input held holds told (Ok (choice.Run options)) outcome =
     (text : Result (List ℕ) Fault) × Reads (string_bytes options.config) text
     × (c : Result Configuration Fault) × IsConfigurationOf text c × LeavesRun machine text held holds options c told outcome
+LeavesOutput Reads machine input held holds told (Ok (choice.Why file)) outcome = (outcome ≡ Err fault.CommandLine) × (holds ≡ held)
 LeavesOutput Reads machine input held holds told (Ok (choice.Help text)) (Ok done) = Appends held holds (string_bytes text)
 LeavesOutput Reads machine input held holds told (Ok (choice.Help text)) (Err f) =
     (f ≡ fault.Write) × AppendsFront held holds (string_bytes text)

@@ -219,11 +219,11 @@ fn follow<F: ConfigFiles, H: Host, R: OctetSource, W: Write + Drop, E: OctetSink
         (IsFlushed choice.now (writer_buffer output.old) (writer_buffer output.new)) }
 {
     match choice {
-        Ok(Choice::Check { file, explains }) => {
+        Ok(Choice::Check { file, explains, .. }) => {
             let text = files.read(alloc, file);
             check(alloc, *explains, &text, output)
         }
-        Ok(Choice::Replay(file)) => {
+        Ok(Choice::Replay { file, .. }) => {
             let config = configuration(alloc, files, file);
             play(alloc, config, input, output)
         }
@@ -231,6 +231,7 @@ fn follow<F: ConfigFiles, H: Host, R: OctetSource, W: Write + Drop, E: OctetSink
             let text = files.read(alloc, &options.config);
             serve(alloc, &text, options, host, output, errors)
         }
+        Ok(Choice::Why(_)) => Err(Fault::CommandLine),
         Ok(Choice::Help(text)) => print(text.as_bytes(), output),
         Ok(Choice::Usage(_)) => Err(Fault::CommandLine),
         Err(fault) => Err(*fault),
