@@ -219,11 +219,22 @@ fn follow<F: ConfigFiles, H: Host, R: OctetSource, W: Write + Drop, E: OctetSink
         (IsFlushed choice.now (writer_buffer output.old) (writer_buffer output.new)) }
 {
     match choice {
-        Ok(Choice::Check { file, explains, .. }) => {
+        Ok(
+            Choice::Check {
+                file,
+                explains,
+                lints: _lints,
+            },
+        ) => {
             let text = files.read(alloc, file);
             check(alloc, *explains, &text, output)
         }
-        Ok(Choice::Replay { file, .. }) => {
+        Ok(
+            Choice::Replay {
+                file,
+                explains: _explains,
+            },
+        ) => {
             let config = configuration(alloc, files, file);
             play(alloc, config, input, output)
         }
