@@ -1,5 +1,6 @@
 pub mod Covering
 pub mod DeviceAsks
+pub mod Lines
 pub mod Listing
 pub mod Lying
 pub mod Narrowing
