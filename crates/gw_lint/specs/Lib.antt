@@ -6,3 +6,4 @@ pub mod Pieces
 pub mod Search
 pub mod Shape
 pub mod Shapes
+pub mod Why

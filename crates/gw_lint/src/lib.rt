@@ -1,7 +1,8 @@
 //! What is odd about a policy: rules that can never decide, since no ask that the gateway raises
-//! comes to them.
+//! comes to them; and which rule would decide the asks of a log.
 #![tactic(auto)]
 
+mod asking;
 mod cover;
 mod finding;
 pub mod laws;
@@ -10,6 +11,7 @@ mod search;
 mod shapes;
 mod side;
 
+pub use asking::{WhyFault, why};
 pub use cover::{matches_nothing, takes_all};
 pub use finding::{Finding, MAX_STEPS, finding_of};
 pub use search::{Outcome, search_for};
