@@ -8,3 +8,4 @@ pub mod Shape
 pub mod Shapes
 pub mod Subnet
 pub mod Warnings
+pub mod Why

@@ -1,7 +1,9 @@
 //! What is odd about a policy: rules that can never decide, since no ask that the gateway raises
-//! comes to them. And what of a configuration is accepted and can't be meant.
+//! comes to them; and which rule would decide the asks of a log. And what of a configuration is accepted
+//! and can't be meant.
 #![tactic(auto)]
 
+mod asking;
 mod cover;
 mod finding;
 pub mod laws;
@@ -17,6 +19,7 @@ mod spot;
 mod subnet;
 mod warnings;
 
+pub use asking::{WhyFault, why};
 pub use cover::{matches_nothing, takes_all};
 pub use finding::{Finding, MAX_STEPS, finding_of};
 pub use search::{Outcome, search_for};
