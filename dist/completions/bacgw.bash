@@ -3,17 +3,18 @@ _bacgw() {
     local word=${COMP_WORDS[COMP_CWORD]} before=${COMP_WORDS[COMP_CWORD - 1]} options
     COMPREPLY=()
     if [ "$COMP_CWORD" = 1 ]; then
-        options='check replay run help --help --version'
+        options='check replay run why help --help --version'
     else
         case $before in
             --config | --log) compopt -o default; return ;;
             --turns) return ;;
         esac
         case ${COMP_WORDS[1]} in
-            check) options='--config --explain --help' ;;
-            replay) options='--config --help' ;;
+            check) options='--config --explain --lint --help' ;;
+            replay) options='--config --explain --help' ;;
             run) options='--config --log --turns --verbose --help' ;;
-            help) options='check replay run' ;;
+            why) options='--config --help' ;;
+            help) options='check replay run why' ;;
             *) return ;;
         esac
     fi

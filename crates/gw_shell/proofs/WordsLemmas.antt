@@ -11,7 +11,7 @@ use Rattle.clap.specs.declared.error.kind.ErrorKind.TheVariants as parse
 use Rattle.clap.proofs.OnLiterals.{clap_on_literals}
 use Rattle.clap.proofs.ValueTestLemmas.{accepts-Accepts}
 use Rattle.clap.specs.declared.builder.value_parser.ValueParser.TheVariants.{Unsigned}
-use Rattle.gw_shell.specs.CommandLine.{Asks, AsksNothing, Call, call_by, called, commands, most_turns, CallsCheck, CallsExplain, CallsReplay, CallsRun, CallsRunWhole, IsAnswer, IsCheck, IsChosen, IsRefusal, IsReplay, IsServing, IsShown, IsTurns}
+use Rattle.gw_shell.specs.CommandLine.{Asks, AsksNothing, Call, call_by, called, commands, most_turns, CallsCheck, CallsExplain, CallsLint, CallsReplay, CallsReplayExplained, CallsRun, CallsRunWhole, CallsWhy, IsAnswer, IsCheck, IsChosen, IsRefusal, IsReplay, IsServing, IsShown, IsTurns, IsWhy}
 use Rattle.gw_shell.specs.declared.command_line.Choice.{Choice}
 use Rattle.gw_shell.specs.declared.command_line.Choice.TheVariants as choice
 use Rattle.gw_shell.specs.declared.fault.Fault.{Fault}
@@ -38,9 +38,10 @@ mistake_among kinds k (inr among) other = among
 
 -- what is made of a failed parse answers the kinds of fault that it may have
 pub refusal_answers : (words : List Text) (k : ErrorKind) (r : Result Choice Fault) → (k ≡ parse.OutOfMemory) ⊎ IsAmong k (fault_of commands words) → IsRefusal k r → IsAnswer words r
-refusal_answers words k (Ok (choice.Check file explains)) among is = absurd is
-refusal_answers words k (Ok (choice.Replay file)) among is = absurd is
+refusal_answers words k (Ok (choice.Check file explains lints)) among is = absurd is
+refusal_answers words k (Ok (choice.Replay file explains)) among is = absurd is
 refusal_answers words k (Ok (choice.Run options)) among is = absurd is
+refusal_answers words k (Ok (choice.Why file)) among is = absurd is
 refusal_answers words k (Ok (choice.Help text)) among is =
     (k, mistake_among (fault_of commands words) k among (λ memory. memory_shows_nothing k memory is), is)
 refusal_answers words k (Ok (choice.Usage text)) among is = (k, mistake_among (fault_of commands words) k among is.2, is)
@@ -62,9 +63,10 @@ in_nothing (Some c) holds = absurd holds
 
 -- what is chosen of words that the parser takes answers them
 pub taken_answers : (words : List Text) (r : Result Choice Fault) → fault_of commands words ≡ [] → IsChosen (called words) r → IsAnswer words r
-taken_answers words (Ok (choice.Check file explains)) none is = (none, is)
-taken_answers words (Ok (choice.Replay file)) none is = (none, is)
+taken_answers words (Ok (choice.Check file explains lints)) none is = (none, is)
+taken_answers words (Ok (choice.Replay file explains)) none is = (none, is)
 taken_answers words (Ok (choice.Run options)) none is = (none, is)
+taken_answers words (Ok (choice.Why file)) none is = (none, is)
 taken_answers words (Ok (choice.Help text)) none is = in_nothing (called words) is
 taken_answers words (Ok (choice.Usage text)) none is = in_nothing (called words) is
 taken_answers words (Err fault.CommandLine) none is = inr (none, is)
@@ -84,7 +86,7 @@ some_same x y e = cc
 -- the call of a command rests on the values of its options alone
 pub same_call : (name : Text) (one other : Text → Option Text) → ((id : Text) → one id ≡ other id) → call_by name one ≡ call_by name other
 same_call name one other same =
-    rw (same (codes "config"), same (codes "log"), same (codes "turns"), same (codes "explain"), same (codes "verbose")) refl
+    rw (same (codes "config"), same (codes "log"), same (codes "turns"), same (codes "explain"), same (codes "lint"), same (codes "verbose")) refl
 
 -- the call that a parse entered, by its name and its rows
 pub entered_call : {Z : Type 0} (s : Option (Box SubCommand Z)) (name : Text) (rows : List Row)
@@ -110,6 +112,15 @@ run_replay e = search rules
 run_check : codes "run" ≡ codes "check" → ⊥
 run_check e = search rules
 
+why_replay : codes "why" ≡ codes "replay" → ⊥
+why_replay e = search rules
+
+why_check : codes "why" ≡ codes "check" → ⊥
+why_check e = search rules
+
+why_run : codes "why" ≡ codes "run" → ⊥
+why_run e = search rules
+
 -- what is said of the call that words make is said of the call that it is known to be
 asked : (words : List Text) (c : Call) (choice : Choice) → called words ≡ Some c → IsSomeAnd (called words) (Asks choice) → Asks choice c
 asked words c choice calls asks = subst (λ (o : Option Call). IsSomeAnd o (Asks choice)) calls asks
@@ -126,9 +137,10 @@ IsOfCall c (Err fault.Memory) = ⊤
 IsOfCall c (Err _) = ⊥
 
 of_call : (words : List Text) (c : Call) (r : Result Choice Fault) → fault_of commands words ≡ [] → called words ≡ Some c → IsAnswer words r → IsOfCall c r
-of_call words c (Ok (choice.Check file explains)) none calls is = asked words c (choice.Check file explains) calls is.1
-of_call words c (Ok (choice.Replay file)) none calls is = asked words c (choice.Replay file) calls is.1
+of_call words c (Ok (choice.Check file explains lints)) none calls is = asked words c (choice.Check file explains lints) calls is.1
+of_call words c (Ok (choice.Replay file explains)) none calls is = asked words c (choice.Replay file explains) calls is.1
 of_call words c (Ok (choice.Run options)) none calls is = asked words c (choice.Run options) calls is.1
+of_call words c (Ok (choice.Why file)) none calls is = asked words c (choice.Why file) calls is.1
 of_call words c (Ok (choice.Help text)) none calls is = absurd (no_kind (fault_of commands words) is.0 none is.1)
 of_call words c (Ok (choice.Usage text)) none calls is = absurd (no_kind (fault_of commands words) is.0 none is.1)
 of_call words c (Err fault.CommandLine) none calls (inl is) = absurd (no_kind (fault_of commands words) is.0 none is.1)
@@ -145,31 +157,44 @@ of_call words c (Err fault.CountEnd) none calls is = absurd is
 
 -- ---- a call that plays a script
 
-abbrev replay_call : Call
-replay_call = record {
+abbrev replay_call : Bool → Call
+replay_call explains = record {
   name = codes "replay";
   config = None;
   log = None;
   turns = None;
-  explains = false;
+  explains = explains;
+  lints = false;
   verbose = false;
 }
 
 abbrev replay_words : Text → List Text
 replay_words program = program ∷ codes "replay" ∷ []
 
+abbrev replay_explained_words : Text → List Text
+replay_explained_words program = program ∷ codes "replay" ∷ codes "--explain" ∷ []
+
 replay_no_fault : (program : Text) → fault_of commands (replay_words program) ≡ []
 unfolding clap_on_literals
 replay_no_fault program = refl
 
-calls_replay : (program : Text) → called (replay_words program) ≡ Some replay_call
+calls_replay : (program : Text) → called (replay_words program) ≡ Some (replay_call false)
 unfolding clap_on_literals
 calls_replay program = refl
 
-replay_or_memory : (c : Call) (r : Result Choice Fault) → c.name ≡ codes "replay" → IsOfCall c r → IsReplay c.config r
-replay_or_memory c (Ok (choice.Check file explains)) named is = absurd (check_replay (sym is.0 ∙ named))
-replay_or_memory c (Ok (choice.Replay file)) named is = is.1
+replay_explained_no_fault : (program : Text) → fault_of commands (replay_explained_words program) ≡ []
+unfolding clap_on_literals
+replay_explained_no_fault program = refl
+
+calls_replay_explained : (program : Text) → called (replay_explained_words program) ≡ Some (replay_call true)
+unfolding clap_on_literals
+calls_replay_explained program = refl
+
+replay_or_memory : (c : Call) (r : Result Choice Fault) → c.name ≡ codes "replay" → IsOfCall c r → IsReplay c.config c.explains r
+replay_or_memory c (Ok (choice.Check file explains lints)) named is = absurd (check_replay (sym is.0 ∙ named))
+replay_or_memory c (Ok (choice.Replay file explains)) named is = (is.1, is.2)
 replay_or_memory c (Ok (choice.Run options)) named is = absurd (run_replay (sym is.0 ∙ named))
+replay_or_memory c (Ok (choice.Why file)) named is = absurd (why_replay (sym is.0 ∙ named))
 replay_or_memory c (Ok (choice.Help text)) named is = absurd is
 replay_or_memory c (Ok (choice.Usage text)) named is = absurd is
 replay_or_memory c (Err fault.CommandLine) named is = absurd (is.replay named)
@@ -183,21 +208,28 @@ replay_or_memory c (Err fault.Log) named is = absurd is
 replay_or_memory c (Err (fault.Socket port)) named is = absurd is
 replay_or_memory c (Err fault.CountEnd) named is = absurd is
 
-pub replay_is_taken : (words : List Text) (r : Result Choice Fault) → IsAnswer words r → CallsReplay words → IsReplay None r
+pub replay_is_taken : (words : List Text) (r : Result Choice Fault) → IsAnswer words r → CallsReplay words → IsReplay None false r
 replay_is_taken words r is call =
-    replay_or_memory replay_call r refl
-    (of_call words replay_call r (ap (λ (w : List Text). fault_of commands w) call.1 ∙ replay_no_fault call.0)
+    replay_or_memory (replay_call false) r refl
+    (of_call words (replay_call false) r (ap (λ (w : List Text). fault_of commands w) call.1 ∙ replay_no_fault call.0)
     (ap called call.1 ∙ calls_replay call.0) is)
+
+pub replay_explained_is_taken : (words : List Text) (r : Result Choice Fault) → IsAnswer words r → CallsReplayExplained words → IsReplay None true r
+replay_explained_is_taken words r is call =
+    replay_or_memory (replay_call true) r refl
+    (of_call words (replay_call true) r (ap (λ (w : List Text). fault_of commands w) call.1 ∙ replay_explained_no_fault call.0)
+    (ap called call.1 ∙ calls_replay_explained call.0) is)
 
 -- ---- a call that checks a file
 
-abbrev check_call : Bool → Call
-check_call explains = record {
+abbrev check_call : Bool → Bool → Call
+check_call explains lints = record {
   name = codes "check";
   config = Some (codes "site.toml");
   log = None;
   turns = None;
   explains = explains;
+  lints = lints;
   verbose = false;
 }
 
@@ -207,11 +239,14 @@ check_words program = program ∷ codes "check" ∷ codes "--config" ∷ codes "
 abbrev explain_words : Text → List Text
 explain_words program = program ∷ codes "check" ∷ codes "--config" ∷ codes "site.toml" ∷ codes "--explain" ∷ []
 
+abbrev lint_words : Text → List Text
+lint_words program = program ∷ codes "check" ∷ codes "--config" ∷ codes "site.toml" ∷ codes "--lint" ∷ []
+
 check_no_fault : (program : Text) → fault_of commands (check_words program) ≡ []
 unfolding clap_on_literals
 check_no_fault program = refl
 
-calls_check : (program : Text) → called (check_words program) ≡ Some (check_call false)
+calls_check : (program : Text) → called (check_words program) ≡ Some (check_call false false)
 unfolding clap_on_literals
 calls_check program = refl
 
@@ -219,14 +254,23 @@ explain_no_fault : (program : Text) → fault_of commands (explain_words program
 unfolding clap_on_literals
 explain_no_fault program = refl
 
-calls_explain : (program : Text) → called (explain_words program) ≡ Some (check_call true)
+calls_explain : (program : Text) → called (explain_words program) ≡ Some (check_call true false)
 unfolding clap_on_literals
 calls_explain program = refl
 
-check_or_memory : (c : Call) (file : Text) (r : Result Choice Fault) → c.name ≡ codes "check" → c.config ≡ Some file → IsOfCall c r → IsCheck file c.explains r
-check_or_memory c file (Ok (choice.Check name explains)) named has is = (some_same _ _ (sym is.1 ∙ has), is.2)
-check_or_memory c file (Ok (choice.Replay name)) named has is = absurd (check_replay (sym named ∙ is.0))
+lint_no_fault : (program : Text) → fault_of commands (lint_words program) ≡ []
+unfolding clap_on_literals
+lint_no_fault program = refl
+
+calls_lint : (program : Text) → called (lint_words program) ≡ Some (check_call false true)
+unfolding clap_on_literals
+calls_lint program = refl
+
+check_or_memory : (c : Call) (file : Text) (r : Result Choice Fault) → c.name ≡ codes "check" → c.config ≡ Some file → IsOfCall c r → IsCheck file c.explains c.lints r
+check_or_memory c file (Ok (choice.Check name explains lints)) named has is = (some_same _ _ (sym is.1 ∙ has), is.2, is.3)
+check_or_memory c file (Ok (choice.Replay name explains)) named has is = absurd (check_replay (sym named ∙ is.0))
 check_or_memory c file (Ok (choice.Run options)) named has is = absurd (run_check (sym is.0 ∙ named))
+check_or_memory c file (Ok (choice.Why name)) named has is = absurd (why_check (sym is.0 ∙ named))
 check_or_memory c file (Ok (choice.Help text)) named has is = absurd is
 check_or_memory c file (Ok (choice.Usage text)) named has is = absurd is
 check_or_memory c file (Err fault.CommandLine) named has is = absurd (is.check file named has)
@@ -240,17 +284,23 @@ check_or_memory c file (Err fault.Log) named has is = absurd is
 check_or_memory c file (Err (fault.Socket port)) named has is = absurd is
 check_or_memory c file (Err fault.CountEnd) named has is = absurd is
 
-pub check_is_taken : (words : List Text) (r : Result Choice Fault) → IsAnswer words r → CallsCheck words → IsCheck (codes "site.toml") false r
+pub check_is_taken : (words : List Text) (r : Result Choice Fault) → IsAnswer words r → CallsCheck words → IsCheck (codes "site.toml") false false r
 check_is_taken words r is call =
-    check_or_memory (check_call false) (codes "site.toml") r refl refl
-    (of_call words (check_call false) r (ap (λ (w : List Text). fault_of commands w) call.1 ∙ check_no_fault call.0)
+    check_or_memory (check_call false false) (codes "site.toml") r refl refl
+    (of_call words (check_call false false) r (ap (λ (w : List Text). fault_of commands w) call.1 ∙ check_no_fault call.0)
     (ap called call.1 ∙ calls_check call.0) is)
 
-pub explain_is_taken : (words : List Text) (r : Result Choice Fault) → IsAnswer words r → CallsExplain words → IsCheck (codes "site.toml") true r
+pub explain_is_taken : (words : List Text) (r : Result Choice Fault) → IsAnswer words r → CallsExplain words → IsCheck (codes "site.toml") true false r
 explain_is_taken words r is call =
-    check_or_memory (check_call true) (codes "site.toml") r refl refl
-    (of_call words (check_call true) r (ap (λ (w : List Text). fault_of commands w) call.1 ∙ explain_no_fault call.0)
+    check_or_memory (check_call true false) (codes "site.toml") r refl refl
+    (of_call words (check_call true false) r (ap (λ (w : List Text). fault_of commands w) call.1 ∙ explain_no_fault call.0)
     (ap called call.1 ∙ calls_explain call.0) is)
+
+pub lint_is_taken : (words : List Text) (r : Result Choice Fault) → IsAnswer words r → CallsLint words → IsCheck (codes "site.toml") false true r
+lint_is_taken words r is call =
+    check_or_memory (check_call false true) (codes "site.toml") r refl refl
+    (of_call words (check_call false true) r (ap (λ (w : List Text). fault_of commands w) call.1 ∙ lint_no_fault call.0)
+    (ap called call.1 ∙ calls_lint call.0) is)
 
 -- ---- a call that serves the ports of a file
 
@@ -261,6 +311,7 @@ run_call log turns verbose = record {
   log = log;
   turns = turns;
   explains = false;
+  lints = false;
   verbose = verbose;
 }
 
@@ -297,10 +348,11 @@ a_hundred : IsTurns (Some (codes "100")) 100
 a_hundred = (accepts-Accepts false (Unsigned 1 most_turns) (codes "100") refl, refl)
 
 run_or_memory : (c : Call) (file : Text) (n : ℕ) (r : Result Choice Fault) → c.name ≡ codes "run" → c.config ≡ Some file → IsTurns c.turns n → IsOfCall c r → IsServing file c.log n c.verbose r
-run_or_memory c file n (Ok (choice.Check name explains)) named has turns is = absurd (run_check (sym named ∙ is.0))
-run_or_memory c file n (Ok (choice.Replay name)) named has turns is = absurd (run_replay (sym named ∙ is.0))
+run_or_memory c file n (Ok (choice.Check name explains lints)) named has turns is = absurd (run_check (sym named ∙ is.0))
+run_or_memory c file n (Ok (choice.Replay name explains)) named has turns is = absurd (run_replay (sym named ∙ is.0))
 run_or_memory c file n (Ok (choice.Run options)) named has turns is =
     (some_same _ _ (sym is.1 ∙ has), is.2, turns_same c.turns options.turns n is.3 turns, is.4)
+run_or_memory c file n (Ok (choice.Why name)) named has turns is = absurd (why_run (sym is.0 ∙ named))
 run_or_memory c file n (Ok (choice.Help text)) named has turns is = absurd is
 run_or_memory c file n (Ok (choice.Usage text)) named has turns is = absurd is
 run_or_memory c file n (Err fault.CommandLine) named has turns is = absurd (is.run file n named has turns)
@@ -326,3 +378,51 @@ run_whole_is_taken words r is call =
     (of_call words (run_call (Some (codes "denials.log")) (Some (codes "100")) true) r
     (ap (λ (w : List Text). fault_of commands w) call.1 ∙ run_whole_no_fault call.0)
     (ap called call.1 ∙ calls_run_whole call.0) is)
+
+-- ---- a call that asks the rules of a file
+
+abbrev why_call : Call
+why_call = record {
+  name = codes "why";
+  config = Some (codes "site.toml");
+  log = None;
+  turns = None;
+  explains = false;
+  lints = false;
+  verbose = false;
+}
+
+abbrev why_words : Text → List Text
+why_words program = program ∷ codes "why" ∷ codes "--config" ∷ codes "site.toml" ∷ []
+
+why_no_fault : (program : Text) → fault_of commands (why_words program) ≡ []
+unfolding clap_on_literals
+why_no_fault program = refl
+
+calls_why : (program : Text) → called (why_words program) ≡ Some why_call
+unfolding clap_on_literals
+calls_why program = refl
+
+why_or_memory : (c : Call) (file : Text) (r : Result Choice Fault) → c.name ≡ codes "why" → c.config ≡ Some file → IsOfCall c r → IsWhy file r
+why_or_memory c file (Ok (choice.Check name explains lints)) named has is = absurd (why_check (sym named ∙ is.0))
+why_or_memory c file (Ok (choice.Replay name explains)) named has is = absurd (why_replay (sym named ∙ is.0))
+why_or_memory c file (Ok (choice.Run options)) named has is = absurd (why_run (sym named ∙ is.0))
+why_or_memory c file (Ok (choice.Why name)) named has is = some_same _ _ (sym is.1 ∙ has)
+why_or_memory c file (Ok (choice.Help text)) named has is = absurd is
+why_or_memory c file (Ok (choice.Usage text)) named has is = absurd is
+why_or_memory c file (Err fault.CommandLine) named has is = absurd (is.why file named has)
+why_or_memory c file (Err fault.Memory) named has is = tt
+why_or_memory c file (Err fault.Unreadable) named has is = absurd is
+why_or_memory c file (Err (fault.Configuration f)) named has is = absurd is
+why_or_memory c file (Err (fault.Line n)) named has is = absurd is
+why_or_memory c file (Err fault.Read) named has is = absurd is
+why_or_memory c file (Err fault.Write) named has is = absurd is
+why_or_memory c file (Err fault.Log) named has is = absurd is
+why_or_memory c file (Err (fault.Socket port)) named has is = absurd is
+why_or_memory c file (Err fault.CountEnd) named has is = absurd is
+
+pub why_is_taken : (words : List Text) (r : Result Choice Fault) → IsAnswer words r → CallsWhy words → IsWhy (codes "site.toml") r
+why_is_taken words r is call =
+    why_or_memory why_call (codes "site.toml") r refl refl
+    (of_call words why_call r (ap (λ (w : List Text). fault_of commands w) call.1 ∙ why_no_fault call.0)
+    (ap called call.1 ∙ calls_why call.0) is)

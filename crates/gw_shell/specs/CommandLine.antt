@@ -26,13 +26,17 @@ explain = record (new_rule (codes "explain")) { long = Some (codes "explain"); a
 abbrev pub check_of_file : App
 check_of_file = with_rule (new_app (codes "check")) (record config { required = true })
 
--- and may have to explain
-abbrev pub check : App
-check = with_rule check_of_file explain
+-- `--lint`, which has no value
+abbrev pub lint : Rule
+lint = record (new_rule (codes "lint")) { long = Some (codes "lint"); action = Some SetTrue }
 
--- `replay`, which may have a file
+-- and may have to explain, and to say which rules never decide
+abbrev pub check : App
+check = with_rule (with_rule check_of_file explain) lint
+
+-- `replay`, which may have a file, and may have to explain
 abbrev pub replay : App
-replay = with_rule (new_app (codes "replay")) config
+replay = with_rule (with_rule (new_app (codes "replay")) config) explain
 
 -- `--config FILE` where it has to be given, `--log FILE`, `--turns N`, and `--verbose`, which has no value
 abbrev pub needed_config : Rule
@@ -55,15 +59,21 @@ run_of_files = with_rule (with_rule (new_app (codes "run")) needed_config) log
 abbrev pub run : App
 run = with_rule (with_rule run_of_files turns) verbose
 
+-- `why`, which needs a file
+abbrev pub why : App
+why = with_rule (new_app (codes "why")) needed_config
+
 -- the commands of the program, of which the call has to name one
 abbrev pub commands : App
 commands =
     with_subcommand
     (with_subcommand
     (with_subcommand
+    (with_subcommand
     (on_top (λ top. record top { subcommand_required = true; has_version = true }) (new_app (codes "bacgw"))) check.top)
     replay.top)
-    run.top
+    run.top)
+    why.top
 
 -- a call: the command's name, the values of its options, and whether those without a value are given
 pub record Call : Type 0 where
@@ -72,6 +82,7 @@ pub record Call : Type 0 where
   pub log : Option Text
   pub turns : Option Text
   pub explains : Bool
+  pub lints : Bool
   pub verbose : Bool
 
 -- an option without a value has the text `true` where it is given
@@ -87,6 +98,7 @@ call_by name value = record {
   log = value (codes "log");
   turns = value (codes "turns");
   explains = is_given (value (codes "explain"));
+  lints = is_given (value (codes "lint"));
   verbose = is_given (value (codes "verbose"));
 }
 
@@ -125,21 +137,24 @@ AreNoOptions value _ = ⊥
 
 -- what a call asks for
 abbrev pub Asks : Choice → Call → Type 0
-Asks (choice.Check file explains) call =
-    (call.name ≡ codes "check") × (call.config ≡ Some (string_bytes file)) × (explains ≡ call.explains)
-Asks (choice.Replay file) call = (call.name ≡ codes "replay") × (option_map string_bytes file ≡ call.config)
+Asks (choice.Check file explains lints) call =
+    (call.name ≡ codes "check") × (call.config ≡ Some (string_bytes file)) × (explains ≡ call.explains) × (lints ≡ call.lints)
+Asks (choice.Replay file explains) call =
+    (call.name ≡ codes "replay") × (option_map string_bytes file ≡ call.config) × (explains ≡ call.explains)
 Asks (choice.Run options) call =
     (call.name ≡ codes "run") × (call.config ≡ Some (string_bytes options.config)) × (option_map string_bytes options.log ≡ call.log)
     × IsTurns call.turns options.turns × (options.verbose ≡ call.verbose)
+Asks (choice.Why file) call = (call.name ≡ codes "why") × (call.config ≡ Some (string_bytes file))
 Asks (choice.Help text) call = ⊥
 Asks (choice.Usage text) call = ⊥
 
--- A call of `replay` asks for something, one of `check` where a file is named, and one of `run` where a file is named and the text of
--- the turns is a number of them; other calls ask for nothing.
+-- A call of `replay` asks for something, one of `check` or `why` where a file is named, and one of `run` where a file is named and the
+-- text of the turns is a number of them; other calls ask for nothing.
 pub record AsksNothing (call : Call) : Type 0 where
   pub replay : call.name ≢ codes "replay"
   pub check : (file : Text) → call.name ≡ codes "check" → call.config ≢ Some file
   pub run : (file : Text) (n : ℕ) → call.name ≡ codes "run" → call.config ≡ Some file → ¬ (IsTurns call.turns n)
+  pub why : (file : Text) → call.name ≡ codes "why" → call.config ≢ Some file
 
 -- a choice is what the call asks for, and a bad command line is a call that asks for nothing; memory may run out at any
 abbrev pub IsChosen : Option Call → Result Choice Fault → Type 0
@@ -180,9 +195,10 @@ IsMistake words = (k : ErrorKind) × IsAmong k (fault_of commands words) × IsWr
 -- what the program makes of words: what they call where the parser takes them, help or the version where that was asked for, a bad command
 -- line where there is another fault; memory may run out at any words, since what parses them is made first
 abbrev pub IsAnswer : List Text → Result Choice Fault → Type 0
-IsAnswer words (Ok (choice.Check file explains)) = IsTaken words (Ok (choice.Check file explains))
-IsAnswer words (Ok (choice.Replay file)) = IsTaken words (Ok (choice.Replay file))
+IsAnswer words (Ok (choice.Check file explains lints)) = IsTaken words (Ok (choice.Check file explains lints))
+IsAnswer words (Ok (choice.Replay file explains)) = IsTaken words (Ok (choice.Replay file explains))
 IsAnswer words (Ok (choice.Run options)) = IsTaken words (Ok (choice.Run options))
+IsAnswer words (Ok (choice.Why file)) = IsTaken words (Ok (choice.Why file))
 IsAnswer words (Ok (choice.Help text)) = AsksToShow words
 IsAnswer words (Ok (choice.Usage text)) = IsMistake words
 IsAnswer words (Err fault.CommandLine) = IsMistake words ⊎ IsTaken words (Err fault.CommandLine)
@@ -193,6 +209,10 @@ IsAnswer words _ = ⊥
 abbrev pub CallsReplay : List Text → Type 0
 CallsReplay words = (program : Text) × (words ≡ program ∷ codes "replay" ∷ [])
 
+-- the words of a call that also tells each ask and its rule
+abbrev pub CallsReplayExplained : List Text → Type 0
+CallsReplayExplained words = (program : Text) × (words ≡ program ∷ codes "replay" ∷ codes "--explain" ∷ [])
+
 -- the words of a call that checks the file `site.toml`
 abbrev pub CallsCheck : List Text → Type 0
 CallsCheck words = (program : Text) × (words ≡ program ∷ codes "check" ∷ codes "--config" ∷ codes "site.toml" ∷ [])
@@ -201,6 +221,14 @@ CallsCheck words = (program : Text) × (words ≡ program ∷ codes "check" ∷ 
 abbrev pub CallsExplain : List Text → Type 0
 CallsExplain words =
     (program : Text) × (words ≡ program ∷ codes "check" ∷ codes "--config" ∷ codes "site.toml" ∷ codes "--explain" ∷ [])
+
+-- the words of a call that says which of its rules never decide
+abbrev pub CallsLint : List Text → Type 0
+CallsLint words = (program : Text) × (words ≡ program ∷ codes "check" ∷ codes "--config" ∷ codes "site.toml" ∷ codes "--lint" ∷ [])
+
+-- the words of a call that says which of its rules decide what
+abbrev pub CallsWhy : List Text → Type 0
+CallsWhy words = (program : Text) × (words ≡ program ∷ codes "why" ∷ codes "--config" ∷ codes "site.toml" ∷ [])
 
 -- the words of a call that serves the ports of the file `site.toml`, and of one with all options
 abbrev pub CallsRun : List Text → Type 0
@@ -211,17 +239,24 @@ CallsRunWhole words = (program : Text)
     × (words ≡ program ∷ codes "run" ∷ codes "--config" ∷ codes "site.toml" ∷ codes "--log" ∷ codes "denials.log" ∷ codes "--turns"
     ∷ codes "100" ∷ codes "--verbose" ∷ [])
 
--- the script is played under the configuration of that file, or memory ran out
-abbrev pub IsReplay : Option Text → Result Choice Fault → Type 0
-IsReplay file (Ok (choice.Replay chosen)) = option_map string_bytes chosen ≡ file
-IsReplay file (Err fault.Memory) = ⊤
-IsReplay file _ = ⊥
+-- the script is played under the configuration of that file, its asks told or not, or memory ran out
+abbrev pub IsReplay : Option Text → Bool → Result Choice Fault → Type 0
+IsReplay file is_explained (Ok (choice.Replay chosen explains)) = (option_map string_bytes chosen ≡ file) × (explains ≡ is_explained)
+IsReplay file is_explained (Err fault.Memory) = ⊤
+IsReplay file is_explained _ = ⊥
 
--- that file is checked, its fault explained or not, or memory ran out
-abbrev pub IsCheck : Text → Bool → Result Choice Fault → Type 0
-IsCheck file is_explained (Ok (choice.Check chosen explains)) = (string_bytes chosen ≡ file) × (explains ≡ is_explained)
-IsCheck file is_explained (Err fault.Memory) = ⊤
-IsCheck file is_explained _ = ⊥
+-- that file is checked, explained or not and its rules searched or not, or memory ran out
+abbrev pub IsCheck : Text → Bool → Bool → Result Choice Fault → Type 0
+IsCheck file is_explained is_linted (Ok (choice.Check chosen explains lints)) =
+    (string_bytes chosen ≡ file) × (explains ≡ is_explained) × (lints ≡ is_linted)
+IsCheck file is_explained is_linted (Err fault.Memory) = ⊤
+IsCheck file is_explained is_linted _ = ⊥
+
+-- the rules of that file are asked, or memory ran out
+abbrev pub IsWhy : Text → Result Choice Fault → Type 0
+IsWhy file (Ok (choice.Why chosen)) = string_bytes chosen ≡ file
+IsWhy file (Err fault.Memory) = ⊤
+IsWhy file _ = ⊥
 
 -- The ports of that file are served with that log for so many turns, and it is told what is served or not; or memory ran out.
 abbrev pub IsServing : Text → Option Text → ℕ → Bool → Result Choice Fault → Type 0

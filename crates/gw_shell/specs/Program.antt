@@ -7,6 +7,7 @@ use Rattle.gw_shell.specs.declared.command_line.Choice.{Choice}
 use Rattle.gw_shell.specs.declared.command_line.Choice.TheVariants as choice
 use Rattle.gw_shell.specs.declared.fault.Fault.{Fault}
 use Rattle.gw_shell.specs.declared.fault.Fault.TheVariants as fault
+use Rattle.gw_shell.specs.Asking.{Answers}
 use Rattle.gw_shell.specs.Configured.{IsConfigurationOf, IsConfigured}
 use Rattle.gw_shell.specs.Ending.{FaultNote, error_text, status_after, usage_of}
 use Rattle.gw_shell.specs.Hidden.{checked_text}
@@ -49,18 +50,26 @@ abbrev pub LeavesPlayed : Option (List ℕ) → Option (List ℕ) → Option (Li
 LeavesPlayed input held holds (Ok c) outcome = OnKnown input held holds (λ script before. Plays c script before outcome)
 LeavesPlayed input held holds (Err f) outcome = (outcome ≡ Err f) × (holds ≡ held)
 
+-- What `why` leaves by the rules of the configuration that was read. Where there is none nothing is answered, and the outcome is why.
+abbrev pub LeavesAnswered : Option (List ℕ) → Option (List ℕ) → Option (List ℕ)
+    → Result Configuration Fault → Result (Unit {0}) Fault → Type 0
+LeavesAnswered input held holds (Ok c) outcome = OnKnown input held holds (λ text before. Answers c.rules text before outcome)
+LeavesAnswered input held holds (Err f) outcome = (outcome ≡ Err f) × (holds ≡ held)
+
 -- What stands on standard output, which held `held` before, where files give what `Reads` says and `run` opens what the machine says: at
--- `check` and `replay` what they leave of some configuration that is the one they name, at `run` also what was told at the start, and at
+-- `check`, `replay` and `why` what they leave of some configuration that is the one they name, at `run` also what was told at the start, and at
 -- help its text, of which a failed write may leave a front. Words that choose nothing leave it as it was, and their fault is the outcome.
 abbrev pub LeavesOutput : {Log Sockets : Type 0} → (Reads : List ℕ → Result (List ℕ) Fault → Type 0) → Machine Log Sockets
     → Option (List ℕ) → Option (List ℕ) → Option (List ℕ) → List ℕ → Result Choice Fault → Result (Unit {0}) Fault → Type 0
-LeavesOutput Reads machine input held holds told (Ok (choice.Check file explains)) outcome =
+LeavesOutput Reads machine input held holds told (Ok (choice.Check file explains lints)) outcome =
     (text : Result (List ℕ) Fault) × Reads (string_bytes file) text × LeavesOfText explains text held holds outcome
-LeavesOutput Reads machine input held holds told (Ok (choice.Replay file)) outcome =
+LeavesOutput Reads machine input held holds told (Ok (choice.Replay file explains)) outcome =
     (c : Result Configuration Fault) × IsConfigured Reads (option_map string_bytes file) c × LeavesPlayed input held holds c outcome
 LeavesOutput Reads machine input held holds told (Ok (choice.Run options)) outcome =
     (text : Result (List ℕ) Fault) × Reads (string_bytes options.config) text
     × (c : Result Configuration Fault) × IsConfigurationOf text c × LeavesRun machine text held holds options c told outcome
+LeavesOutput Reads machine input held holds told (Ok (choice.Why file)) outcome =
+    (c : Result Configuration Fault) × IsConfigured Reads (Some (string_bytes file)) c × LeavesAnswered input held holds c outcome
 LeavesOutput Reads machine input held holds told (Ok (choice.Help text)) (Ok done) = Appends held holds (string_bytes text)
 LeavesOutput Reads machine input held holds told (Ok (choice.Help text)) (Err f) =
     (f ≡ fault.Write) × AppendsFront held holds (string_bytes text)

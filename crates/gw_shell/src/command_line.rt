@@ -3,7 +3,7 @@
 ghost use Rattle.std.specs.Prelude.{◌≡◌, Some, None, true, false, IfOk, MatchResult, map, codes, option_map, string_bytes};
 ghost use Rattle.clap.specs.Words.{app_of, first_value, found_of, kind_of, rule_of, subcommand_rows_of};
 ghost use Rattle.clap.specs.declared.builder.command.Command.TheViews.{out-Command};
-ghost use Rattle.gw_shell.specs.CommandLine.{call_by, call_of, check, check_of_file, commands, config, is_given, replay, run, run_of_files, needed_config, AreOptions, CallsCheck, CallsExplain, CallsReplay, CallsRun, CallsRunWhole, IsAnswer, IsCheck, IsChosen, IsNoTurns, AreNoOptions, IsRefusal, IsReplay, IsServing, IsTurns};
+ghost use Rattle.gw_shell.specs.CommandLine.{call_by, call_of, check, check_of_file, commands, explain, is_given, replay, run, run_of_files, needed_config, why, AreOptions, CallsCheck, CallsExplain, CallsLint, CallsReplay, CallsReplayExplained, CallsRun, CallsRunWhole, CallsWhy, IsAnswer, IsCheck, IsChosen, IsNoTurns, AreNoOptions, IsRefusal, IsReplay, IsServing, IsTurns, IsWhy};
 
 use crate::fault::Fault;
 use crate::options::RunOptions;
@@ -14,24 +14,44 @@ use std::alloc::{AllocError, Global};
 /// How many turns are served at most, and where no number of them is given.
 const MAX_TURNS: u64 = i64::MAX as u64;
 
-/// What `--version` prints behind the program's name: the version, and the kit that the program is
-/// proved with, as `rt version` names it.
-const VERSION: &str = "0.1.0, proved with rattle-kit-13f logic dac8208d650f15bf";
+/// What `--version` prints behind the program's name: the version, and the logic that the program is
+/// proved in, as `rt version` names it.
+const VERSION: &str = "0.1.0, proved by Rattle, logic dac8208d650f15bf";
+
+/// What `--explain` of `check` and of `replay` does.
+const CHECK_EXPLAIN: &str = "Also prints where the fault is, or what the policy hides from whom";
+
+const REPLAY_EXPLAIN: &str = "Also prints each ask, and which rule decides it";
 
 /// What stands below the help on `run`.
 const RUN_EXAMPLE: &str = "Example:
   bacgw run --config site.toml --log /var/log/bacgw.log --verbose";
 
+/// What stands below the help on `why`.
+const WHY_EXAMPLE: &str = "Example:
+  bacgw why --config new.toml < denials.log | sort | uniq -c";
+
 /// What the words ask for.
 #[derive(Debug, Drop)]
 pub enum Choice {
-    /// Judge the configuration in the file of this name, and explain its fault if that is asked for.
-    Check { file: String, explains: bool },
+    /// Judge the configuration in the file of this name; explain it or its fault, and say which of its
+    /// rules never decide, if that is asked for.
+    Check {
+        file: String,
+        explains: bool,
+        lints: bool,
+    },
     /// Play the script on standard input, under the configuration in the file of this name or the
-    /// built-in one.
-    Replay(Option<String>),
+    /// built-in one, and tell each ask with its rule if that is asked for.
+    Replay {
+        file: Option<String>,
+        explains: bool,
+    },
     /// Serve the ports of a configuration over UDP.
     Run(RunOptions),
+    /// Say of each ask on standard input which rule of the configuration in the file of this name
+    /// decides it.
+    Why(String),
     /// Print this text, which is help or the version.
     Help(String),
     /// Tell that the words are no command line, and this text behind it, which says how the program is
@@ -43,11 +63,13 @@ fn make_check<'a>(alloc: Global) -> Result<Command<'a>, AllocError>
     ensures app { IfOk result (λ command. app_of command ≡ check) }
     ensures local { IfOk result (λ command. (out-Command command).has_globals ≡ false) }
 {
-    let explain = Arg::new(alloc, "explain")
-        .long("explain")
-        .help("Also prints where the fault is, or what the policy hides from whom")
+    let lint = Arg::new(alloc, "lint")
+        .long("lint")
+        .help("Also prints which rules never decide")
         .action(ArgAction::SetTrue);
-    make_check_of_file(alloc)?.arg(explain)
+    make_check_of_file(alloc)?
+        .arg(make_explain(alloc, CHECK_EXPLAIN))?
+        .arg(lint)
 }
 
 fn make_check_of_file<'a>(alloc: Global) -> Result<Command<'a>, AllocError>
@@ -57,6 +79,17 @@ fn make_check_of_file<'a>(alloc: Global) -> Result<Command<'a>, AllocError>
     Command::new(alloc, "check")
         .about("Says what a configuration has, or its first fault")
         .arg(make_config(alloc))
+}
+
+/// `--explain`, with this help.
+fn make_explain<'a>(alloc: Global, help: &'a str) -> Arg<'a>
+    ensures rule { rule_of result ≡ explain }
+    ensures local { result.global ≡ false }
+{
+    Arg::new(alloc, "explain")
+        .long("explain")
+        .help(help)
+        .action(ArgAction::SetTrue)
 }
 
 /// `--config FILE`, which has to be given.
@@ -81,7 +114,8 @@ fn make_replay<'a>(alloc: Global) -> Result<Command<'a>, AllocError>
         .help("The configuration, in TOML; without it the built-in one");
     Command::new(alloc, "replay")
         .about("Plays the events of standard input and prints what the gateway gives for each")
-        .arg(config)
+        .arg(config)?
+        .arg(make_explain(alloc, REPLAY_EXPLAIN))
 }
 
 fn make_run<'a>(alloc: Global) -> Result<Command<'a>, AllocError>
@@ -113,6 +147,16 @@ fn make_run_of_files<'a>(alloc: Global) -> Result<Command<'a>, AllocError>
         .arg(log)
 }
 
+fn make_why<'a>(alloc: Global) -> Result<Command<'a>, AllocError>
+    ensures app { IfOk result (λ command. app_of command ≡ why) }
+    ensures local { IfOk result (λ command. (out-Command command).has_globals ≡ false) }
+{
+    Command::new(alloc, "why")
+        .about("Says which rule decides each ask of standard input, in the words of the log")
+        .after_help(WHY_EXAMPLE)
+        .arg(make_config(alloc))
+}
+
 /// The commands of the program.
 fn make_commands<'a>(alloc: Global) -> Result<Command<'a>, AllocError>
     ensures { IfOk result (λ command. app_of command ≡ commands) }
@@ -120,13 +164,15 @@ fn make_commands<'a>(alloc: Global) -> Result<Command<'a>, AllocError>
     let check = make_check(alloc)?;
     let replay = make_replay(alloc)?;
     let run = make_run(alloc)?;
+    let why = make_why(alloc)?;
     Command::new(alloc, "bacgw")
         .about("A gateway of BACnet/IP")
         .version(VERSION)
         .subcommand_required(true)
         .subcommand(check)?
         .subcommand(replay)?
-        .subcommand(run)
+        .subcommand(run)?
+        .subcommand(why)
 }
 
 /// What is made of a parse that gave no matches.
@@ -204,14 +250,24 @@ fn choice_for(alloc: Global, name: &str, matches: &ArgMatches<'_>) -> Result<Cho
 {
     let config = file_of(alloc, matches, "config")?;
     if name == "replay" {
-        return Ok(Choice::Replay(config));
+        let explains = is_given(matches, "explain");
+        return Ok(Choice::Replay {
+            file: config,
+            explains,
+        });
     }
     let Some(file) = config else {
         return Err(Fault::CommandLine);
     };
     if name == "check" {
-        let explains = is_given(matches, "explain");
-        return Ok(Choice::Check { file, explains });
+        return Ok(Choice::Check {
+            file,
+            explains: is_given(matches, "explain"),
+            lints: is_given(matches, "lint"),
+        });
+    }
+    if name == "why" {
+        return Ok(Choice::Why(file));
     }
     if name == "run" {
         return Ok(Choice::Run(run_options(alloc, matches, file)?));
@@ -233,9 +289,12 @@ fn choice_among(alloc: Global, matches: &ArgMatches<'_>) -> Result<Choice, Fault
 /// line of the program, and `Memory`.
 pub fn choice_of(alloc: Global, words: &[String]) -> Result<Choice, Fault>
     ensures answers { IsAnswer (map string_bytes words.now) result }
-    ensures replay { CallsReplay (map string_bytes words.now) → IsReplay None result }
-    ensures check { CallsCheck (map string_bytes words.now) → IsCheck (codes "site.toml") false result }
-    ensures explain { CallsExplain (map string_bytes words.now) → IsCheck (codes "site.toml") true result }
+    ensures replay { CallsReplay (map string_bytes words.now) → IsReplay None false result }
+    ensures replay_explained { CallsReplayExplained (map string_bytes words.now) → IsReplay None true result }
+    ensures check { CallsCheck (map string_bytes words.now) → IsCheck (codes "site.toml") false false result }
+    ensures explain { CallsExplain (map string_bytes words.now) → IsCheck (codes "site.toml") true false result }
+    ensures lint { CallsLint (map string_bytes words.now) → IsCheck (codes "site.toml") false true result }
+    ensures why { CallsWhy (map string_bytes words.now) → IsWhy (codes "site.toml") result }
     ensures run { CallsRun (map string_bytes words.now) →
         IsServing (codes "site.toml") None 9223372036854775807 false result }
     ensures run_whole { CallsRunWhole (map string_bytes words.now) →

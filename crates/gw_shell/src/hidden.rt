@@ -1,4 +1,5 @@
-//! What `check --explain` tells of the policy: from which of the ports' networks it hides each object.
+//! What `check --explain` tells of a configuration: from which of the ports' networks the policy hides each
+//! object, and what can't be meant.
 
 ghost use Rattle.std.specs.Prelude.{◌≡◌, ◌++◌, ◌≤◌, length, IfOk, OnOk};
 ghost use Rattle.gw_policy_text.specs.Duplicates.{type_number};
@@ -8,18 +9,20 @@ ghost use Rattle.gw_shell.specs.Numbered.{numbered};
 
 use crate::announcement::{put_number, put_shown};
 use crate::configured::summary;
+use gw_lint::put_warnings;
 use gw_policy_text::{Config, Object, ObjectValue, Port};
 use gw_rules::RuleList;
 use std::alloc::{AllocError, Global};
 
-/// What `check` prints of a configuration: its summary, and behind it what the policy hides where
-/// that is asked for. An `Err` only where a growth of memory was refused.
+/// What `check` prints of a configuration: its summary, and behind it what the policy hides and what
+/// can't be meant, where that is asked for. An `Err` only where a growth of memory was refused.
 pub fn checked_text(alloc: Global, explains: bool, config: &Config) -> Result<Vec<u8>, AllocError>
     ensures { IfOk result (λ text. text.items ≡ checked_text explains config.now) }
 {
     let mut text = summary(alloc, config)?.into_bytes();
     if explains {
         put_hidden(&mut text, config)?;
+        put_warnings(config, &mut text)?;
     }
     Ok(text)
 }

@@ -10,13 +10,14 @@ ghost use Rattle.gw_shell.specs.Configured.{IsConfigurationOf};
 ghost use Rattle.gw_shell.specs.Ending.{FaultNote, IsExplainedBy};
 ghost use Rattle.gw_shell.specs.Files.{result_map};
 ghost use Rattle.gw_shell.specs.Host.{OpensAtLine};
-ghost use Rattle.gw_shell.specs.Program.{AppendsFront, IsFlushed, IsFollowed, IsRun, LeavesConfigured, LeavesOfText, LeavesOutput, LeavesPlayed};
+ghost use Rattle.gw_shell.specs.Program.{AppendsFront, IsFlushed, IsFollowed, IsRun, LeavesAnswered, LeavesConfigured, LeavesOfText, LeavesOutput, LeavesPlayed};
 ghost use Rattle.gw_shell.specs.Serving.{IsFlushedFor, LeavesRun, machine};
 ghost use Rattle.gw_shell.specs.declared.fault.Fault.{Fault};
 ghost use Rattle.gw_shell.specs.declared.fault.Fault.TheVariants as fault;
 
+use crate::asking::why;
 use crate::command_line::{Choice, choice_of};
-use crate::configured::{configuration, configuration_of};
+use crate::configured::{configuration, configuration_in, configuration_of};
 use crate::ending::{end, tell, usage_of};
 use crate::fault::Fault;
 use crate::files::ConfigFiles;
@@ -166,6 +167,23 @@ fn play<R: OctetSource, W: Write + Drop>(
     }
 }
 
+/// Answers each ask of standard input by the rules of a configuration.
+fn answer<R: OctetSource, W: Write + Drop>(
+    alloc: Global,
+    config: Result<Config, Fault>,
+    input: &mut R,
+    output: &mut BufWriter<W>,
+) -> Result<(), Fault>
+    ensures output { LeavesAnswered (R.left input.old) (writer_contents W.contents output.old)
+        (writer_contents W.contents output.new) config result }
+    ensures flush { OnOk result (writer_buffer output.new ≡ []) }
+{
+    match config {
+        Ok(config) => why(alloc, config.rules(), input, output),
+        Err(fault) => Err(fault),
+    }
+}
+
 /// Serves the ports of the configuration of a text that was read, or tells where its fault is, where
 /// that is asked for.
 fn serve<H: Host, W: Write + Drop, E: OctetSink>(
@@ -219,17 +237,32 @@ fn follow<F: ConfigFiles, H: Host, R: OctetSource, W: Write + Drop, E: OctetSink
         (IsFlushed choice.now (writer_buffer output.old) (writer_buffer output.new)) }
 {
     match choice {
-        Ok(Choice::Check { file, explains }) => {
+        Ok(
+            Choice::Check {
+                file,
+                explains,
+                lints: _lints,
+            },
+        ) => {
             let text = files.read(alloc, file);
             check(alloc, *explains, &text, output)
         }
-        Ok(Choice::Replay(file)) => {
+        Ok(
+            Choice::Replay {
+                file,
+                explains: _explains,
+            },
+        ) => {
             let config = configuration(alloc, files, file);
             play(alloc, config, input, output)
         }
         Ok(Choice::Run(options)) => {
             let text = files.read(alloc, &options.config);
             serve(alloc, &text, options, host, output, errors)
+        }
+        Ok(Choice::Why(file)) => {
+            let config = configuration_in(alloc, files, file);
+            answer(alloc, config, input, output)
         }
         Ok(Choice::Help(text)) => print(text.as_bytes(), output),
         Ok(Choice::Usage(_)) => Err(Fault::CommandLine),
@@ -239,10 +272,10 @@ fn follow<F: ConfigFiles, H: Host, R: OctetSource, W: Write + Drop, E: OctetSink
 
 /// Runs the program on these words, or on the fault for which there are none: the configuration that
 /// they name is read from `files`, what it has is printed to `output`, or the script of `input` is
-/// replayed there, or what `host` opens is served, or help is printed; what is served, or where a fault
-/// is, may be told on `errors`, a fault is one line there, behind words that are no command line stands how
-/// the program is called, and the exit status says of which kind the fault is. The words begin with the
-/// program's name.
+/// replayed there, or its asks are answered, or what `host` opens is served, or help is printed; what
+/// is served, or where a fault is, may be told on `errors`, a fault is one line there, behind words
+/// that are no command line stands how the program is called, and the exit status says of which kind
+/// the fault is. The words begin with the program's name.
 pub fn run<F: ConfigFiles, H: Host, R: OctetSource, W: Write + Drop, E: OctetSink>(
     alloc: Global,
     words: Result<Vec<String>, Fault>,

@@ -31,19 +31,27 @@ pub fn words(alloc: Global, line: &str, out: &mut Vec<u8>) -> io::Result<()> {
 /// What is chosen.
 fn put_choice(choice: &Result<Choice, Fault>, out: &mut Vec<u8>) -> Result<(), AllocError> {
     match choice {
-        Ok(Choice::Check { file, explains }) => {
-            put(
-                out,
-                &[
-                    "check ",
-                    file.as_str(),
-                    if *explains { " explain" } else { "" },
-                ],
-            )
+        Ok(
+            Choice::Check {
+                file,
+                explains,
+                lints,
+            },
+        ) => {
+            put(out, &["check ", file.as_str()])?;
+            put_flag(out, " explain", *explains)?;
+            put_flag(out, " lint", *lints)
         }
-        Ok(Choice::Replay(None)) => put(out, &["replay"]),
-        Ok(Choice::Replay(Some(file))) => put(out, &["replay ", file.as_str()]),
+        Ok(Choice::Replay { file, explains }) => {
+            put(out, &["replay"])?;
+            put_flag(out, " explain", *explains)?;
+            match file {
+                Some(file) => put(out, &[" ", file.as_str()]),
+                None => Ok(()),
+            }
+        }
         Ok(Choice::Run(options)) => put_options(options, out),
+        Ok(Choice::Why(file)) => put(out, &["why ", file.as_str()]),
         Ok(Choice::Help(_)) => put(out, &["help"]),
         Ok(Choice::Usage(_)) | Err(Fault::CommandLine) => put(out, &["refused"]),
         Err(Fault::Memory) => put(out, &["out of memory"]),
@@ -58,7 +66,12 @@ fn put_options(options: &RunOptions, out: &mut Vec<u8>) -> Result<(), AllocError
         put(out, &[" log=", log.as_str()])?;
     }
     put(out, &[" turns=", Buffer::new().format(options.turns)])?;
-    put(out, &[if options.verbose { " verbose" } else { "" }])
+    put_flag(out, " verbose", options.verbose)
+}
+
+/// Appends a word where it is given.
+fn put_flag(out: &mut Vec<u8>, word: &str, is_given: bool) -> Result<(), AllocError> {
+    if is_given { put(out, &[word]) } else { Ok(()) }
 }
 
 /// Appends texts.
