@@ -8,4 +8,4 @@ pub mod laws;
 mod text;
 
 pub use denial::{Denial, Denials};
-pub use text::line;
+pub use text::{line, put_ask};
