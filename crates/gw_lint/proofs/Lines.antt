@@ -1,7 +1,7 @@
 -- Lines that are appended one after the other.
-use Rattle.std.proofs.Common.{◌≡◌, ◌∙◌, ◌+◌, ◌<◌, ◌≤◌, ◌++◌, ◌∷◌, [], ℕ, List, Result, Ok, Err, ap, arith, append_assoc, refl, rules, length, get_or, suc, sym, subst, take, drop, zero}
+use Rattle.std.proofs.Common.{◌≡◌, ◌∙◌, ◌+◌, ◌<◌, ◌≤◌, ◌++◌, ◌∷◌, [], ℕ, List, Result, Ok, Err, ap, arith, append_assoc, refl, length, get_or, suc, sym, subst, take, zero}
 use Rattle.std.proofs.lemmas.List.{append-nil, length-append, take_all, take_at}
-use Rattle.std.specs.Prelude.{IsErr, OnOk, vec_capacity, vec_items, vec_len}
+use Rattle.std.specs.Prelude.{IsErr, OnOk, vec_capacity, vec_items}
 use Rattle.std.specs.Global.{Vec}
 use Rattle.gw_addr.specs.Appending.{IsAppended}
 use Rattle.gw_addr.specs.Reading.{Keeps}
