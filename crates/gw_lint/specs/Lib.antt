@@ -1,8 +1,13 @@
 pub mod Cover
 pub mod Finding
 pub mod Laws
+pub mod Lint
 pub mod Meeting
+pub mod Notes
+pub mod Numbered
+pub mod Passage
 pub mod Pieces
 pub mod Search
 pub mod Shape
 pub mod Shapes
+pub mod Text
