@@ -1,5 +1,6 @@
 mod AnnouncementLemmas
 mod AppendLemmas
+mod AskingLemmas
 mod ChoiceLemmas
 mod HiddenLemmas
 mod NumberedLemmas

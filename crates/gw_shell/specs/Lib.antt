@@ -1,4 +1,5 @@
 pub mod Announcement
+pub mod Asking
 pub mod CommandLine
 pub mod Configured
 pub mod Ending

@@ -1,10 +1,12 @@
 //! Why the program ends without success, and its exit status.
 
 ghost use Rattle.std.specs.Prelude.{◌≡◌, ◌≢◌};
+ghost use Rattle.gw_shell.specs.Asking.{fault_of_asking};
 ghost use Rattle.gw_shell.specs.Ending.{fault_of, fault_of_configuration, fault_of_serving, name_of, status_of};
 ghost use Rattle.gw_shell.specs.declared.fault.Fault.TheVariants.{CommandLine, Memory};
 
 use gw_core::{RunFault, ServeFault};
+use gw_lint::WhyFault;
 use gw_policy_text::ConfigFault;
 use std::alloc::AllocError;
 use std::io::ErrorKind;
@@ -18,7 +20,7 @@ pub enum Fault {
     Unreadable,
     /// What the file of the configuration says is none, and why.
     Configuration(ConfigFault),
-    /// Line `n` of the script, counted from 1, is no event.
+    /// Line `n` of the script, counted from 1, is no event; or line `n` of the asks is none.
     Line(u64),
     /// A read of standard input failed.
     Read,
@@ -112,6 +114,19 @@ impl From<ServeFault> for Fault {
             ServeFault::Log => Fault::Log,
             ServeFault::Memory => Fault::Memory,
             ServeFault::CountEnd => Fault::CountEnd,
+        }
+    }
+}
+
+impl From<WhyFault> for Fault {
+    ghost from_gives = { λ asking fault. fault ≡ fault_of_asking asking };
+
+    fn from(asking: WhyFault) -> Fault {
+        match asking {
+            WhyFault::Read => Fault::Read,
+            WhyFault::Line(number) => Fault::Line(number),
+            WhyFault::Write => Fault::Write,
+            WhyFault::Memory => Fault::Memory,
         }
     }
 }

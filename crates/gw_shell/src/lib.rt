@@ -1,10 +1,11 @@
 //! The program `bacgw` over any words, files, streams and machine, and the sockets of the system.
 //!
 //! [`run`] is the whole program: the words choose a command, the file that they name has the configuration, and `check`, `replay`,
-//! `run` or help is done under it. A fault is one line on standard error, and the exit status says of which kind it is.
+//! `run`, `why` or help is done under it. A fault is one line on standard error, and the exit status says of which kind it is.
 #![tactic(auto)]
 
 mod announcement;
+mod asking;
 mod command_line;
 mod configured;
 mod ending;

@@ -10,13 +10,14 @@ ghost use Rattle.gw_shell.specs.Configured.{IsConfigurationOf};
 ghost use Rattle.gw_shell.specs.Ending.{FaultNote, IsExplainedBy};
 ghost use Rattle.gw_shell.specs.Files.{result_map};
 ghost use Rattle.gw_shell.specs.Host.{OpensAtLine};
-ghost use Rattle.gw_shell.specs.Program.{AppendsFront, IsFlushed, IsFollowed, IsRun, LeavesConfigured, LeavesOfText, LeavesOutput, LeavesPlayed};
+ghost use Rattle.gw_shell.specs.Program.{AppendsFront, IsFlushed, IsFollowed, IsRun, LeavesAnswered, LeavesConfigured, LeavesOfText, LeavesOutput, LeavesPlayed};
 ghost use Rattle.gw_shell.specs.Serving.{IsFlushedFor, LeavesRun, machine};
 ghost use Rattle.gw_shell.specs.declared.fault.Fault.{Fault};
 ghost use Rattle.gw_shell.specs.declared.fault.Fault.TheVariants as fault;
 
+use crate::asking::why;
 use crate::command_line::{Choice, choice_of};
-use crate::configured::{configuration, configuration_of};
+use crate::configured::{configuration, configuration_in, configuration_of};
 use crate::ending::{end, tell, usage_of};
 use crate::fault::Fault;
 use crate::files::ConfigFiles;
@@ -77,19 +78,20 @@ fn choice_from(alloc: Global, words: Result<Vec<String>, Fault>) -> Result<Choic
     }
 }
 
-/// Prints what a configuration has, and what its policy hides where that is asked for.
+/// Prints what a configuration has, and what else is asked for of it.
 fn print_checked<W: Write + Drop>(
     alloc: Global,
     explains: bool,
+    lints: bool,
     config: &Config,
     output: &mut BufWriter<W>,
 ) -> Result<(), Fault>
     ensures output { let held = writer_contents W.contents output.old in
         let holds = writer_contents W.contents output.new in
-        LeavesConfigured explains held holds config.now result }
+        LeavesConfigured explains lints held holds config.now result }
     ensures flush { OnOk result (writer_buffer output.new ≡ []) }
 {
-    let text = checked_text(alloc, explains, config)?;
+    let text = checked_text(alloc, explains, lints, config)?;
     print(&text, output)
 }
 
@@ -131,16 +133,17 @@ fn line_of(alloc: Global, explanation: &Explanation) -> Result<Vec<u8>, AllocErr
 fn check<W: Write + Drop>(
     alloc: Global,
     explains: bool,
+    lints: bool,
     text: &Result<Vec<u8>, Fault>,
     output: &mut BufWriter<W>,
 ) -> Result<(), Fault>
     ensures output { let held = writer_contents W.contents output.old in
         let holds = writer_contents W.contents output.new in
-        LeavesOfText explains (result_map (λ octets. octets.items) text.now) held holds result }
+        LeavesOfText explains lints (result_map (λ octets. octets.items) text.now) held holds result }
     ensures flush { OnOk result (writer_buffer output.new ≡ []) }
 {
     match configuration_of(alloc, text) {
-        Ok(config) => print_checked(alloc, explains, &config, output),
+        Ok(config) => print_checked(alloc, explains, lints, &config, output),
         Err(fault) => {
             // Where this can't be printed the fault is told all the same.
             let _ = print(&fault_note(alloc, explains, text, fault), output);
@@ -149,19 +152,37 @@ fn check<W: Write + Drop>(
     }
 }
 
-/// Plays the script under a configuration.
+/// Plays the script under a configuration, and tells its asks where that is asked for.
 fn play<R: OctetSource, W: Write + Drop>(
+    alloc: Global,
+    explains: bool,
+    config: Result<Config, Fault>,
+    input: &mut R,
+    output: &mut BufWriter<W>,
+) -> Result<(), Fault>
+    ensures output { LeavesPlayed explains (R.left input.old) (writer_contents W.contents output.old)
+        (writer_contents W.contents output.new) config result }
+    ensures flush { OnOk result (writer_buffer output.new ≡ []) }
+{
+    match config {
+        Ok(config) => replay(alloc, explains, config, input, output),
+        Err(fault) => Err(fault),
+    }
+}
+
+/// Answers each ask of standard input by the rules of a configuration.
+fn answer<R: OctetSource, W: Write + Drop>(
     alloc: Global,
     config: Result<Config, Fault>,
     input: &mut R,
     output: &mut BufWriter<W>,
 ) -> Result<(), Fault>
-    ensures output { LeavesPlayed (R.left input.old) (writer_contents W.contents output.old)
+    ensures output { LeavesAnswered (R.left input.old) (writer_contents W.contents output.old)
         (writer_contents W.contents output.new) config result }
     ensures flush { OnOk result (writer_buffer output.new ≡ []) }
 {
     match config {
-        Ok(config) => replay(alloc, config, input, output),
+        Ok(config) => why(alloc, config.rules(), input, output),
         Err(fault) => Err(fault),
     }
 }
@@ -219,19 +240,26 @@ fn follow<F: ConfigFiles, H: Host, R: OctetSource, W: Write + Drop, E: OctetSink
         (IsFlushed choice.now (writer_buffer output.old) (writer_buffer output.new)) }
 {
     match choice {
-        Ok(Choice::Check { file, explains, .. }) => {
+        Ok(Choice::Check {
+            file,
+            explains,
+            lints,
+        }) => {
             let text = files.read(alloc, file);
-            check(alloc, *explains, &text, output)
+            check(alloc, *explains, *lints, &text, output)
         }
-        Ok(Choice::Replay { file, .. }) => {
+        Ok(Choice::Replay { file, explains }) => {
             let config = configuration(alloc, files, file);
-            play(alloc, config, input, output)
+            play(alloc, *explains, config, input, output)
         }
         Ok(Choice::Run(options)) => {
             let text = files.read(alloc, &options.config);
             serve(alloc, &text, options, host, output, errors)
         }
-        Ok(Choice::Why(_)) => Err(Fault::CommandLine),
+        Ok(Choice::Why(file)) => {
+            let config = configuration_in(alloc, files, file);
+            answer(alloc, config, input, output)
+        }
         Ok(Choice::Help(text)) => print(text.as_bytes(), output),
         Ok(Choice::Usage(_)) => Err(Fault::CommandLine),
         Err(fault) => Err(*fault),
@@ -240,10 +268,10 @@ fn follow<F: ConfigFiles, H: Host, R: OctetSource, W: Write + Drop, E: OctetSink
 
 /// Runs the program on these words, or on the fault for which there are none: the configuration that
 /// they name is read from `files`, what it has is printed to `output`, or the script of `input` is
-/// replayed there, or what `host` opens is served, or help is printed; what is served, or where a fault
-/// is, may be told on `errors`, a fault is one line there, behind words that are no command line stands how
-/// the program is called, and the exit status says of which kind the fault is. The words begin with the
-/// program's name.
+/// replayed there, or its asks are answered, or what `host` opens is served, or help is printed; what
+/// is served, or where a fault is, may be told on `errors`, a fault is one line there, behind words
+/// that are no command line stands how the program is called, and the exit status says of which kind
+/// the fault is. The words begin with the program's name.
 pub fn run<F: ConfigFiles, H: Host, R: OctetSource, W: Write + Drop, E: OctetSink>(
     alloc: Global,
     words: Result<Vec<String>, Fault>,

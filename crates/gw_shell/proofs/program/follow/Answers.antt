@@ -1,5 +1,6 @@
-use Rattle.std.proofs.Common.{◌≡◌, Ok, refl, rules, subst, ℕ, List}
+use Rattle.std.proofs.Common.{◌≡◌, Ok, Some, refl, rules, subst, ℕ, List}
 use Rattle.std.specs.Global.{Vec}
+use Rattle.gw_shell.specs.Configured.{IsConfigured}
 use Rattle.gw_shell.specs.Files.{result_map}
 use Rattle.gw_shell.specs.declared.command_line.Choice.TheVariants as choice
 use Rattle.gw_shell.proofs.ChoiceLemmas.{followed}
@@ -19,4 +20,14 @@ returns-in-Ok-Check-clause-followed g c =
     let text = result_map (λ (octets : Vec ℕ). octets.items) c.read-text.result in
     let reads = subst (λ (name : List ℕ). g.F.ConfigFiles.Reads c.args.files.now name text) c.deref.ensures c.read-text.ensures in
     followed _ _ c.args.choice.now (Ok chosen) c.check.result is refl (text, reads, c.check.ensures.output)
+    (λ never. appends_nothing (g.E.OctetSink.held c.args.errors.now))
+
+pub returns-in-Ok-Why-clause-followed : goal.returns-in-Ok-Why-clause-followed
+returns-in-Ok-Why-clause-followed g c =
+    let chosen = choice.Why c.in-Ok-Why.file in
+    let is : c.args.choice.now ≡ Ok chosen = search rules in
+    let config = c.configuration_in-config.result in
+    let configured = subst (λ (name : List ℕ). IsConfigured (g.F.ConfigFiles.Reads c.args.files.now) (Some name) config)
+    c.deref.ensures c.configuration_in-config.ensures in
+    followed _ _ c.args.choice.now (Ok chosen) c.answer.result is refl (config, configured, c.answer.ensures.output)
     (λ never. appends_nothing (g.E.OctetSink.held c.args.errors.now))

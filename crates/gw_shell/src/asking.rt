@@ -1,0 +1,41 @@
+//! Asks of a log, answered by the rules of a configuration.
+
+ghost use Rattle.std.specs.Prelude.{◌≡◌, [], OnOk};
+ghost use Rattle.std.specs.Io.Buffered.{writer_buffer, writer_contents};
+ghost use Rattle.gw_core.specs.Replay.{OnKnown};
+ghost use Rattle.gw_shell.specs.Asking.{Answers, first_asking_fault};
+
+use crate::fault::Fault;
+use gw_lint::WhyFault;
+use gw_rules::RuleList;
+use gw_script::OctetSource;
+use std::alloc::Global;
+use std::io::{BufWriter, Write};
+
+/// The first fault of the answers and of the flush behind them.
+fn first_asking_fault(answers: Result<(), WhyFault>, is_flushed: bool) -> Result<(), Fault>
+    ensures { result ≡ first_asking_fault answers is_flushed }
+{
+    match answers {
+        Ok(()) if is_flushed => Ok(()),
+        Ok(()) => Err(Fault::Write),
+        Err(fault) => Err(Fault::from(fault)),
+    }
+}
+
+/// Answers each ask that `reader` has left by these rules. What was written is flushed at every outcome.
+/// Faults: those of the answers, and `Write` also where the flush alone fails.
+pub fn why<R: OctetSource, W: Write + Drop>(
+    alloc: Global,
+    rules: &RuleList,
+    reader: &mut R,
+    writer: &mut BufWriter<W>,
+) -> Result<(), Fault>
+    ensures answers { OnKnown (R.left reader.old) (writer_contents W.contents writer.old)
+        (writer_contents W.contents writer.new) (λ text before. Answers rules.now text before result) }
+    ensures flushed { OnOk result (writer_buffer writer.new ≡ []) }
+{
+    let answers = gw_lint::why(alloc, rules, reader, writer);
+    let is_flushed = writer.flush().is_ok();
+    first_asking_fault(answers, is_flushed)
+}
