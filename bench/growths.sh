@@ -10,8 +10,8 @@
 # over the cases of one kind alone, as `again` or `edits`. A script is played twice: by `replay`, and as a case of `again`, where each
 # datagram that found no memory is given once more. A case then comes to what it does with ample memory; or it tells that
 # there was none, in its line or behind whole blocks of a script; or the program ends with status 1. Of a case of `serve` the events
-# that found no memory may be dropped. A case of `run` may end as the program does then; one of `fronts` is runs over and over, so it
-# is passed by. A replay does what it does with ample memory, or ends with `bacgw: out of memory` and status 1, and what it wrote is
+# that found no memory may be dropped. A case of `run` may end as the program does then, tell its fault without the note that explains
+# it, or serve on without the datagram; one of `fronts` is runs over and over, so it is passed by. A replay does what it does with ample memory, or ends with `bacgw: out of memory` and status 1, and what it wrote is
 # whole blocks, each up to its line `end`, from the front of the right output. NAME.out has the right output; NAME.toml, where it is
 # there, is the configuration. A script of another folder whose right output the program doesn't print yet is left out.
 #
@@ -56,6 +56,9 @@ WHOLE = {"script", "again", "list", "check", "texts", "run", "fronts", "faults"}
 REPEATED = {"fronts"}
 
 
+# The line of the program that tells it.
+OUT_OF_MEMORY = b"bacgw: out of memory"
+
 # What fail_alloc.c writes before the output and the errors of a run: whether a growth was refused, the status, and their lengths.
 FRAME = struct.Struct("=IiII")
 
@@ -84,7 +87,8 @@ def tells_it(line, right):
     return line == right or b"memory" in line.lower() or dropped is not None
 
 
-def is_well_answered(answer, right):
+def is_well_answered(answer, right, told=b"err " + OUT_OF_MEMORY):
+    """Whether a case came to what is right, or told that there was no memory. Of a `run` that is the line `told`."""
     status, output, errors = answer
     if answer == right:
         return True
@@ -93,12 +97,50 @@ def is_well_answered(answer, right):
     lines, wanted = output.splitlines(), right[1].splitlines()
     if status != 0 or not lines:
         return False
-    if b"err bacgw: out of memory" in lines:
-        told = [line for line in lines if line.startswith(b"out ")]
-        return b"status 1" in lines and told == [line for line in wanted if line.startswith(b"out ")][:len(told)]
+    if told in lines and b"status 1" in lines:
+        printed = [line for line in lines if line.startswith(b"out ")]
+        return printed == [line for line in wanted if line.startswith(b"out ")][:len(printed)]
     if lines[-1] in (b"out of memory", b"write failed"):  # the second where what is written to had to grow
         return lines[:-1] == wanted[:len(lines) - 1] and (len(lines) < 4 or lines[-2] == b"end")
     return len(lines) == len(wanted) and all(map(tells_it, lines, wanted))
+
+
+def is_note(line):
+    """Whether a line of a run is no fault's own: a front of it explains the fault, or how the program is called."""
+    return line.startswith((b"out ", b"err ")) and not line.startswith(b"err bacgw: ")
+
+
+def is_told_without_note(lines, wanted):
+    """Whether a fault is told without its note, or with one that says that there was no memory."""
+    left = [line for line in lines if not (is_note(line) and line.endswith(b"out of memory"))]
+    return b"status 0" not in wanted and left == [line for line in wanted if not is_note(line)]
+
+
+def is_served_without(turns, lines, wanted):
+    """Whether a run was served to its end without its one datagram: that found no memory and was dropped."""
+    kept = [line for line in wanted if line.startswith((b"== ", b"err bacgw: serving")) or line == b"log "]
+    told = [line for line in lines if line not in (b"status 0", b"receives %d sends 0" % turns)]
+    return told == kept and len(lines) == len(kept) + 2
+
+
+def judge_of(section):
+    """The judge of a case. A run may leave out the note on its fault, and drop the datagram that it serves; and where standard
+    error takes so many octets alone, the line that tells of the memory is as long."""
+    head, *others = section.split("== ")[-1].split("\ninput\n")[0].split("\n")
+    if not head.startswith("run "):
+        return is_well_answered
+    words = others[0].split("|")
+    narrow = re.search(r"(?m)^errors (\d+)$", "\n".join(others))
+    told = b"err " + OUT_OF_MEMORY[:int(narrow[1])] if narrow else b"err " + OUT_OF_MEMORY
+    turns = int(words[words.index("--turns") + 1]) if "--turns" in words[:-1] else None
+
+    def is_well_run(answer, right):
+        lines, wanted = answer[1].splitlines(), right[1].splitlines()
+        explains = words[0] == "check" and "--explain" in words or "--verbose" in words or b"err bacgw: bad command line" in wanted
+        return (is_well_answered(answer, right, told) or answer[0] == 0 and explains and is_told_without_note(lines, wanted)
+                or answer[0] == 0 and turns is not None and is_served_without(turns, lines, wanted))
+
+    return is_well_run
 
 
 def is_well_played(answer, right):
@@ -106,7 +148,7 @@ def is_well_played(answer, right):
     if answer == right:
         return True
     is_whole = output == b"" or output.endswith(b"\nend\n") or output == b"end\n"
-    return status == 1 and errors == b"bacgw: out of memory\n" and is_whole and right[1].startswith(output)
+    return status == 1 and errors == OUT_OF_MEMORY + b"\n" and is_whole and right[1].startswith(output)
 
 
 def told_of(status, errors):
@@ -166,7 +208,7 @@ def cases_of(text):
 cases, left_out = [], []
 for name, given in cases_of((top / "crates" / "gw_vectors" / "stdin").read_text()):
     if only in ("", name.split(" ")[0]):
-        cases.append((name, [vectors], given.encode(), is_well_answered))
+        cases.append((name, [vectors], given.encode(), judge_of(given)))
 count_of_cases = len(cases)
 for script in sorted(folder.glob("*.script") if not only else []):
     config = script.with_suffix(".toml")

@@ -78,6 +78,13 @@ struct ScriptRun {
 /// send 1 192.168.1.5:47808 810A001101080064010150080C9102911B
 /// end
 /// ```
+///
+/// # Errors
+///
+/// 1 `Read` where a read failed, or there were 4,294,967,295. 2 `Line` with the number, from 1, of
+/// the first line that writes no event. 3 `Write` where a write failed or took nothing. 4 `Memory`
+/// where a growth was refused. 5 `CountEnd` where an event would pass the end of a count. What some
+/// first events do is then written, whole; of it, at `Write` alone, perhaps only a front.
 pub fn replay<R: OctetSource, W: OctetSink>(
     alloc: Global,
     config: Config,

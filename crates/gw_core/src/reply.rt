@@ -263,7 +263,8 @@ fn reply_sends(
     }
 }
 
-/// The sends of an answer to a message, where there is one.
+/// The sends of an answer to a message, where there is one. An `Err` only where a growth of memory
+/// was refused, and none without an answer.
 pub fn answer_sends(
     alloc: Global,
     network: NetNum,

@@ -34,8 +34,9 @@ pub(crate) fn take_event(
     }
 }
 
-/// Takes the events in order, and answers what each does. After a fault the gateway is in the state in which some first events
-/// left it; after `CountEnd` the next event would pass the end of a count.
+/// Takes the events in order, and answers what each does. Faults: `Memory` where a growth was
+/// refused, and `CountEnd` where the next event would pass the end of a count. The gateway is then
+/// in the state in which some first events left it.
 pub fn run(
     alloc: Global,
     gateway: &mut Gateway,

@@ -81,7 +81,9 @@ fn earlier(rules: &RuleList, number: u16, by: Option<u16>) -> Option<&Rule>
     }
 }
 
-/// Searches these shapes for an ask that the rule of this number decides, in at most so many steps.
+/// Searches these shapes for an ask that the rule of this number, from 1, decides, in at most so
+/// many steps: `Never` where no ask of them has it as its first rule, `Decides` with one that has,
+/// `Unknown` out of steps. An `Err` only where a growth of memory was refused.
 pub fn search_for(
     alloc: Global,
     rules: &RuleList,

@@ -245,7 +245,8 @@ fn push_foreign(
     Ok(())
 }
 
-/// The shapes of the asks that a gateway of this configuration raises.
+/// The shapes of the asks that a gateway of this configuration raises. An `Err` only where a growth
+/// of memory was refused.
 pub fn shapes_of(alloc: Global, config: &Config) -> Result<Vec<Shape>, AllocError>
     ensures { IfOk result (λ list. list.items ≡ shapes config.now) }
 {

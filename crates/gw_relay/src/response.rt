@@ -43,8 +43,9 @@ impl RelayResponse {
     }
 
     /// This, and behind it what a later step answers. What is to be committed is this one's, and
-    /// where there is none, the later one's. Where the later one sends nothing and had nothing
-    /// denied it takes no memory.
+    /// where there is none, the later one's. An `Err` where there is no memory for the lists, or
+    /// where there would be more than 2^64 - 1 datagrams, which no memory holds. Where the later
+    /// one sends nothing and had nothing denied it takes no memory.
     #[inline(always)]
     pub fn append(self, later: RelayResponse) -> Result<Self, AllocError>
         ensures sends { IfOk result (λ given. given.sends ≡ self.sends ++ later.sends) }

@@ -28,7 +28,8 @@ fn announcement(alloc: Global, config: &Config, log: &Option<String>) -> Result<
     Ok(line)
 }
 
-/// What is told at the start: what is served, where that is asked for, and else nothing.
+/// What is told at the start: what is served, where that is asked for, and else nothing. An `Err`
+/// only where a growth of memory was refused.
 pub fn startup_line(
     alloc: Global,
     config: &Config,
@@ -69,7 +70,8 @@ fn put_ports(out: &mut Vec<u8>, ports: &[Port]) -> Result<(), AllocError>
     Ok(())
 }
 
-/// Appends a text and a number behind it in decimal digits.
+/// Appends a text and a number behind it in decimal digits. An `Err` only where a growth of memory
+/// was refused; then a front of them may stand behind what the buffer held.
 pub fn put_number<N: Integer>(out: &mut Vec<u8>, text: &str, number: N) -> Result<(), AllocError>
     ensures { OnOk result (out.new.items ≡ out.old.items ++ text.now ++ N.text number) }
 {
@@ -112,7 +114,8 @@ fn put_log(out: &mut Vec<u8>, log: &Option<String>) -> Result<(), AllocError>
     }
 }
 
-/// Appends a name, with a question mark in the place of each control character.
+/// Appends a name, with a question mark in the place of each control character. An `Err` only where
+/// a growth of memory was refused; then a front of it may stand behind what the buffer held.
 pub fn put_shown(out: &mut Vec<u8>, name: &[u8]) -> Result<(), AllocError>
     ensures { OnOk result (out.new.items ≡ out.old.items ++ map shown name.now) }
 {

@@ -11,7 +11,8 @@ use gw_policy_text::{Config, read_config};
 use itoa::Buffer;
 use std::alloc::{AllocError, Global};
 
-/// The configuration of a text that was read.
+/// The configuration of a text that was read. Faults: the fault of reading; `Configuration` with
+/// the text's first fault; and `Memory`.
 pub fn configuration_of(alloc: Global, text: &Result<Vec<u8>, Fault>) -> Result<Config, Fault>
     ensures { IsConfigurationOf (result_map (λ octets. octets.items) text.now) result }
 {
@@ -54,7 +55,8 @@ pub fn configuration<F: ConfigFiles>(
     }
 }
 
-/// What `check` prints of a configuration.
+/// What `check` prints of a configuration: `ok <n> ports <n> objects <n> rules` and a line feed. An
+/// `Err` only where a growth of memory was refused.
 pub fn summary(alloc: Global, config: &Config) -> Result<String, AllocError>
     ensures { IfOk result (λ text. string_bytes text ≡ summary config.now) }
 {

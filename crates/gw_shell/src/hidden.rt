@@ -15,6 +15,7 @@ use gw_rules::RuleList;
 use std::alloc::{AllocError, Global};
 
 /// What `check` prints of a configuration: its summary, and behind it what else is asked for.
+/// An `Err` only where a growth of memory was refused.
 pub fn checked_text(
     alloc: Global,
     explains: bool,

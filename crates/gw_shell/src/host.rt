@@ -55,7 +55,8 @@ pub trait Host {
         ensures { LogIsCut self.now name.now result };
 
     /// Opens the sockets of these ports, from 1 to 8, in their order, of each port that of its own
-    /// address first.
+    /// address first. Faults: `Failed`, with the port, the step, the address and the reason, where
+    /// the system doesn't open one or can't wait at it; and `Memory`.
     fn open_sockets(&self, alloc: Global, ports: &[Port]) -> Result<Self::Sockets, SocketFailure>
         requires least { 1 ≤ length ports.now }
         requires most { length ports.now ≤ MAX_PORTS }

@@ -23,7 +23,8 @@ pub struct PollWaiter {
 }
 
 impl PollWaiter {
-    /// What waits at the sockets of these ports, from 1 to 8, each of which is told of by its number.
+    /// What waits at the sockets of these ports, from 1 to 8, each of which is told of by its
+    /// number. An `Err` where the system can't wait, or not at one of them, or memory was refused.
     pub fn open(alloc: Global, net: &impl Net, pairs: &mut [SockPair<UdpSock>]) -> io::Result<Self>
         requires { length pairs.old ≤ MAX_PORTS }
     {

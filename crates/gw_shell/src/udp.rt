@@ -26,7 +26,8 @@ pub struct UdpSock {
 }
 
 impl UdpSock {
-    /// Opens a socket at an address.
+    /// Opens a socket at an address. An `Err` where the system doesn't: it has no such address,
+    /// another socket has it, or it isn't permitted.
     pub fn open(net: &impl Net, address: BipAddr) -> io::Result<Self> {
         let socket = UdpSocket::bind(net, socket_address(address))?;
         Ok(UdpSock {
@@ -36,12 +37,13 @@ impl UdpSock {
         })
     }
 
-    /// Lets it send to broadcast addresses.
+    /// Lets it send to broadcast addresses. An `Err` where the system doesn't.
     pub fn allow_broadcasts(&self) -> io::Result<()> {
         self.socket.set_broadcast(true)
     }
 
-    /// Registers the socket for readability, under this number among all sockets.
+    /// Registers the socket for readability, under this number among all sockets. An `Err` where
+    /// the system doesn't take it.
     pub fn register(&mut self, registry: &Registry, number: usize) -> io::Result<()> {
         registry.register(&mut self.socket, Token(number), Interest::READABLE)
     }
@@ -84,7 +86,8 @@ fn open_own(net: &impl Net, address: BipAddr) -> io::Result<UdpSock> {
     Ok(own)
 }
 
-/// Opens the sockets of these ports, at most 8, in their order.
+/// Opens the sockets of these ports, at most 8, in their order. Faults: `Failed`, of the first that
+/// the system doesn't open, with the port, the step, the address and the reason; and `Memory`.
 pub fn open_pairs(
     alloc: Global,
     net: &impl Net,

@@ -59,7 +59,8 @@ impl Read for MemInput<'_> {
     }
 }
 
-/// A stream or a log in memory, which takes so many octets and then fails, and may fail at a flush.
+/// A stream or a log in memory, which takes so many octets and then fails, and may fail at a flush. It
+/// has room for them from the start, so no write of it wants memory.
 #[derive(Drop)]
 pub struct Narrow {
     held: Vec<u8>,
@@ -68,12 +69,12 @@ pub struct Narrow {
 }
 
 impl Narrow {
-    fn with(alloc: Global, left: usize, flushes: bool) -> Self {
-        Narrow {
-            held: Vec::new(alloc),
+    fn with(alloc: Global, left: usize, flushes: bool) -> Result<Self, AllocError> {
+        Ok(Narrow {
+            held: Vec::with_capacity(alloc, left)?,
             left,
             flushes,
-        }
+        })
     }
 }
 
@@ -179,7 +180,7 @@ impl Host for MemHost {
 
     fn open_log(&self, _name: &str) -> Result<Narrow, Fault> {
         match self.log {
-            Some(left) => Ok(Narrow::with(self.alloc, left, true)),
+            Some(left) => Ok(Narrow::with(self.alloc, left, true)?),
             None => Err(Fault::Log),
         }
     }
@@ -247,7 +248,7 @@ fn words_of(
 
 /// The output of a section, which has room for so many octets behind its buffer.
 fn output_of(alloc: Global, lines: &str, room: usize) -> Result<BufWriter<Narrow>, AllocError> {
-    let narrow = Narrow::with(alloc, room, !has_line(lines, "flushes fail"));
+    let narrow = Narrow::with(alloc, room, !has_line(lines, "flushes fail"))?;
     let capacity = number_of(lines, "buffer ").unwrap_or(CAPACITY);
     match BufWriter::with_capacity(alloc, capacity, narrow) {
         Ok(output) => Ok(output),
@@ -272,7 +273,7 @@ fn run_with(alloc: Global, config: &str, section: &str, room: usize) -> Result<L
         fails: has_line(lines, "input fails"),
     };
     let mut output = output_of(alloc, lines, room)?;
-    let mut errors = Narrow::with(alloc, number_of(lines, "errors ").unwrap_or(AMPLE), true);
+    let mut errors = Narrow::with(alloc, number_of(lines, "errors ").unwrap_or(AMPLE), true)?;
     let files = MemFiles { text: config };
     let code = run(
         alloc,

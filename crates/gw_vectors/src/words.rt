@@ -82,6 +82,9 @@ pub fn put(out: &mut Vec<u8>, texts: &[&str]) -> Result<(), AllocError> {
     Ok(())
 }
 
+/// Room for the line of any fault.
+const LINE_ROOM: usize = 256;
+
 /// The exit status of each fault, and its line on standard error.
 pub fn faults(alloc: Global, out: &mut Vec<u8>) -> io::Result<()> {
     let faults = [
@@ -98,7 +101,7 @@ pub fn faults(alloc: Global, out: &mut Vec<u8>) -> io::Result<()> {
         Fault::CountEnd,
     ];
     for fault in faults {
-        let mut errors = Vec::new(alloc);
+        let mut errors = Vec::with_capacity(alloc, LINE_ROOM)?;
         let code = end(Err(fault), &mut errors);
         put(out, &[status_text(code), " "])?;
         out.extend_from_slice(&errors)?;
