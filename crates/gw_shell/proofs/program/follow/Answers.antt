@@ -28,6 +28,6 @@ returns-in-Ok-Why-clause-followed g c =
     let is : c.args.choice.now ≡ Ok chosen = search rules in
     let config = c.configuration_in-config.result in
     let configured = subst (λ (name : List ℕ). IsConfigured (g.F.ConfigFiles.Reads c.args.files.now) (Some name) config)
-    c.deref.ensures c.configuration_in-config.ensures in
+    c.deref-in-Ok-Why.ensures c.configuration_in-config.ensures in
     followed _ _ c.args.choice.now (Ok chosen) c.answer.result is refl (config, configured, c.answer.ensures.output)
     (λ never. appends_nothing (g.E.OctetSink.held c.args.errors.now))
