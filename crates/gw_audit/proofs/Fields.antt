@@ -66,7 +66,7 @@ pub field_lacks : (c : ℕ) → ¬ (IsAsciiDigit c) → 45 ≢ c → (value : Op
 field_lacks c digit other None small = lacks_cons c 45 [] other (lacks_in_none c)
 field_lacks c digit other (Some n) small = not_in_decimal n c small digit
 
-no_dash : (n : ℕ) → n < 2 ^ 64 → decimal n ≡ 45 ∷ [] → ⊥
+pub no_dash : (n : ℕ) → n < 2 ^ 64 → decimal n ≡ 45 ∷ [] → ⊥
 no_dash n small e =
     not_in_decimal n 45 small dash 0 (decimal_nonempty n small) (ap (λ (t : List ℕ). get_or t 0 0) e)
 
@@ -79,7 +79,7 @@ field_same (Some m) (Some n) sa sb e = ap (λ (x : ℕ). Some x) (decimal_inject
 -- ---- an operation
 
 -- a name begins with a letter, and has neither a space nor a line feed
-letter : (o : Operation) → 57 < get_or (operation_name o) 0 0
+pub letter : (o : Operation) → 57 < get_or (operation_name o) 0 0
 letter o = elim o as (λ o. 57 < get_or (operation_name o) 0 0) [ Cast ↦ omega arith | Route ↦ omega arith | Register ↦ omega arith | Delete ↦ omega arith | ReadTable ↦ omega arith | WriteTable ↦ omega arith | Learn ↦ omega arith | Network ↦ omega arith | Read ↦ omega arith | Write ↦ omega arith | Listing ↦ omega arith ]
 
 has_no_space : (o : Operation) → has_none 32 (operation_name o) ≡ true
@@ -91,16 +91,16 @@ unfolding has_none
 has_no_feed o = elim o as (λ o. has_none 10 (operation_name o) ≡ true) [ Cast ↦ refl | Route ↦ refl | Register ↦ refl | Delete ↦ refl | ReadTable ↦ refl | WriteTable ↦ refl | Learn ↦ refl | Network ↦ refl | Read ↦ refl | Write ↦ refl | Listing ↦ refl ]
 
 -- it is no number
-no_number : (o : Operation) (n : ℕ) → n < 2 ^ 64 → operation_name o ≡ decimal n → ⊥
+pub no_number : (o : Operation) (n : ℕ) → n < 2 ^ 64 → operation_name o ≡ decimal n → ⊥
 no_number o n small e =
     let other : ¬ (IsAsciiDigit (get_or (operation_name o) 0 0)) = λ digit. absurd (omega (arith, letter o, digit)) in
     not_in_decimal n (get_or (operation_name o) 0 0) small other 0 (decimal_nonempty n small) (ap (λ (t : List ℕ). get_or t 0 0) (sym e))
 
 -- and no dash
-no_absent : (o : Operation) → operation_name o ≡ 45 ∷ [] → ⊥
+pub no_absent : (o : Operation) → operation_name o ≡ 45 ∷ [] → ⊥
 no_absent o e = absurd (omega (arith, letter o, ap (λ (t : List ℕ). get_or t 0 0) e))
 
-abbrev of_number : Option Operation → ℕ → List ℕ
+abbrev pub of_number : Option Operation → ℕ → List ℕ
 of_number found number = option_map_or operation_name found (decimal number)
 
 of_number_lacks : (c : ℕ) → ¬ (IsAsciiDigit c) → ((o : Operation) → has_none c (operation_name o) ≡ true) → (found : Option Operation) (n : ℕ) → n < 2 ^ 64 → Lacks c (of_number found n)

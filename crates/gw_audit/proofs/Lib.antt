@@ -1,3 +1,7 @@
 pub mod Pieces
 pub mod Fields
-pub mod Shown
+pub mod LineLemmas
+pub mod ReadingLemmas
+pub mod MacLemmas
+pub mod AskLemmas
+pub mod TellingLemmas

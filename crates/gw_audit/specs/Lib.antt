@@ -1,3 +1,4 @@
 pub mod Line
 pub mod Laws
+pub mod Entry
 pub mod internal

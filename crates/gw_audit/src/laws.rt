@@ -2,6 +2,7 @@
 
 ghost use Rattle.std.specs.Prelude.{◌<◌, ◌^◌, IfSome};
 ghost use Rattle.gw_addr.specs.Reading.{AreOctets};
+ghost use Rattle.gw_audit.specs.Entry.{IsShowable};
 ghost use Rattle.gw_audit.specs.Laws.{EndsOnce, IsDenial, NamesOneDenial};
 
 use crate::denial::Denial;
@@ -14,9 +15,10 @@ pub fn lines()
     ensures ended { EndsOnce }
 {}
 
-/// The numbers of each denial fit their types, so those laws hold of every one.
+/// The numbers of each denial fit their types, so those laws hold of every one; and its line is read.
 pub fn fits(denial: &Denial)
-    ensures { IsDenial denial.now }
+    ensures numbers { IsDenial denial.now }
+    ensures shown { IsShowable denial.now }
 {
     let ask = &denial.ask;
     number(denial.number);
@@ -24,6 +26,7 @@ pub fn fits(denial: &Denial)
     port(denial.port);
     let _network = denial.source.net.get();
     octets(denial.source.mac.as_slice());
+    let _name = denial.rule.as_str();
     field(ask.operation);
     field(ask.port);
     field(ask.source_network);

@@ -4,8 +4,12 @@
 #![tactic(auto)]
 
 mod denial;
+mod entry;
 pub mod laws;
+mod reading;
 mod text;
 
 pub use denial::{Denial, Denials};
+pub use entry::{Shown, ShownAsk};
+pub use reading::{read_ask, read_line};
 pub use text::line;

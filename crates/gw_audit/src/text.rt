@@ -109,7 +109,7 @@ fn put_operation(out: &mut Vec<u8>, number: Option<u64>) -> Result<(), AllocErro
 }
 
 /// The operation of a number, or `None` where none has it.
-fn operation_of(number: u64) -> Option<Operation>
+pub(crate) fn operation_of(number: u64) -> Option<Operation>
     ensures { result ≡ operation_of number }
 {
     Operation::from_number(number)

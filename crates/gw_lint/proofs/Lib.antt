@@ -1,5 +1,6 @@
 pub mod Covering
 pub mod DeviceAsks
+pub mod Lines
 pub mod Listing
 pub mod Lying
 pub mod Narrowing
@@ -9,3 +10,5 @@ pub mod RelayAsks
 pub mod ShapeLaw
 pub mod Taking
 pub mod Whence
+pub mod WhyLemmas
+pub mod WhyLaw

@@ -6,3 +6,6 @@ pub mod Pieces
 pub mod Search
 pub mod Shape
 pub mod Shapes
+pub mod Subnet
+pub mod Warnings
+pub mod Why

@@ -14,6 +14,7 @@ mod case;
 mod configurations;
 mod denials;
 mod frames;
+mod logs;
 mod machine;
 mod objects;
 mod replays;
@@ -49,6 +50,7 @@ fn answer_case(
         "apdu" => frames::apdu(alloc, line, out),
         "services" => bodies::body(alloc, line, out),
         "audit" => denials::denial(alloc, line, out),
+        "read" => logs::line(alloc, line, out),
         "objects" => objects::steps(alloc, config, line, out),
         "edits" => configurations::edit(alloc, config, line, out),
         "octets" => configurations::octets(alloc, line, out),
@@ -110,6 +112,7 @@ fn answer_section(alloc: Global, config: &str, section: &str, out: &mut Vec<u8>)
         "check" => configurations::check(alloc, body, out),
         "texts" => texts::texts(out),
         "faults" => words::faults(alloc, out),
+        "why" => logs::answers(alloc, config, body, out),
         "run" => machine::machine(alloc, config, body, out),
         "fronts" => machine::fronts(alloc, config, body, out),
         _ => answer_lines(alloc, config, kind, body, out),

@@ -16,7 +16,7 @@ use std::io::{ErrorKind, Read, Write};
 const MAX_LINE: usize = 4096;
 
 /// The event lines of a script, without comments and empty lines.
-fn event_lines(alloc: Global, body: &str) -> io::Result<Vec<u8>> {
+pub fn event_lines(alloc: Global, body: &str) -> io::Result<Vec<u8>> {
     let mut lines = Vec::new(alloc);
     for line in body.lines() {
         if is_case(line) {

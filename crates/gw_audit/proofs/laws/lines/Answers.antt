@@ -1,4 +1,4 @@
-use Rattle.gw_audit.proofs.Shown.{ends_once, names_one_denial}
+use Rattle.gw_audit.proofs.LineLemmas.{ends_once, names_one_denial}
 use Rattle.gw_audit.proofs.laws.lines.Goals as goal
 
 pub returns-clause-one : goal.returns-clause-one

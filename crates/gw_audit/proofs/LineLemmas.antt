@@ -58,7 +58,7 @@ number_on : Denial → List ℕ
 number_on d = decimal d.number ++ 32 ∷ tick_on d
 
 -- a label and a field behind a front
-step : (front label field rest : List ℕ) → front ++ label ++ field ++ rest ≡ front ++ (label ++ (field ++ rest))
+pub step : (front label field rest : List ℕ) → front ++ label ++ field ++ rest ≡ front ++ (label ++ (field ++ rest))
 step front label field rest =
     append_assoc (front ++ label) field rest ∙ append_assoc front label (field ++ rest)
 

@@ -1,0 +1,222 @@
+-- What is read of a line, piece by piece from its front.
+use Rattle.std.specs.Prelude.{◌≡◌, ℕ, ◌+◌, ◌^◌, ◌==◌, ◌&&◌, Bool, nat_eq, nat_le, nat_lt, is_some, if◌then◌else◌, List, length, take, drop, find, position, codes, Option, Some, None, Result, Ok, Err}
+use Rattle.std.specs.Cmp.Lexicographic.{pointwise}
+use Rattle.std.specs.Fmt.{decimal}
+use Rattle.std.specs.List.{list_any}
+use Rattle.std.specs.Option.{option_and_then, option_map, option_map_or}
+use Rattle.std.specs.Str.{is_utf8}
+use Rattle.std.specs.Str.Parse.{digits_value}
+use Rattle.hex.specs.Hex.{decode_of}
+use Rattle.hex.specs.declared.error.FromHexError.{FromHexError}
+use Rattle.gw_addr.specs.declared.station.Source.{Source}
+use Rattle.gw_addr.specs.Station.{network_of, station_of}
+use Rattle.gw_rules.specs.declared.operation.Operation.{Operation}
+use Rattle.gw_rules.specs.declared.operation.TheConstants.Operation.{ALL}
+use Rattle.gw_rules.specs.Operation.{operation_name, operation_number}
+use Rattle.gw_audit.specs.declared.entry.ShownAsk.{ShownAsk}
+use Rattle.gw_audit.specs.declared.reading.Request.{Request}
+use Rattle.gw_audit.specs.declared.reading.Target.{Target}
+use Rattle.gw_audit.specs.declared.denial.Denial.{Denial}
+use Rattle.gw_audit.specs.Entry.{ask_shown, shown_ask}
+use Rattle.gw_audit.specs.Line.{absent, operation_of}
+
+-- what is read next, where something was read
+infixl 10 ◌>>=◌
+abbrev pub ◌>>=◌ : {A B : Type 0} → Option A → (A → Option B) → Option B
+(Some x) >>= f = f x
+None >>= f = None
+
+-- What a function returned, seen by view, is what the reading gives.
+abbrev pub Gives : {X Y : Type 0} → (X → Y) → Option X → Option Y → Type 0
+Gives view (Some x) reading = reading ≡ Some (view x)
+Gives view None reading = reading ≡ None
+
+-- ---- a word
+
+-- what stands before the first such character, and what stands behind it
+unfoldable pub parted_at : ℕ → List ℕ → Option (List ℕ × List ℕ)
+parted_at c text = option_map (λ place. (take place text, drop (place + 1) text)) (position (λ x. x == c) text)
+
+-- what stands behind a label
+unfoldable pub behind : List ℕ → List ℕ → Option (List ℕ)
+behind label text =
+    if pointwise nat_eq (take (length label) text) label then Some (drop (length label) text) else None
+
+-- the number of 64 bits that a text is in decimal
+unfoldable pub number_in : List ℕ → Option ℕ
+number_in text =
+    let number = digits_value 10 text in
+    if nat_lt number (2 ^ 64) && pointwise nat_eq (decimal number) text then Some number else None
+
+-- a field
+unfoldable pub field_in : List ℕ → Option (Option ℕ)
+field_in text =
+    if pointwise nat_eq text absent then Some None else option_map (λ number. Some number) (number_in text)
+
+-- a number that no operation has
+abbrev pub other_number : ℕ → Option (Option ℕ)
+other_number number = if is_some (operation_of number) then None else Some (Some number)
+
+-- an operation of this name, or else its number
+abbrev pub operation_or : Option Operation → List ℕ → Option (Option ℕ)
+operation_or (Some operation) text = Some (Some (operation_number operation))
+operation_or None text = option_and_then other_number (number_in text)
+
+unfoldable pub operation_in : List ℕ → Option (Option ℕ)
+operation_in text =
+    if pointwise nat_eq text absent then Some None
+    else operation_or (find (λ operation. pointwise nat_eq (operation_name operation) text) ALL) text
+
+-- `a` to `z`
+abbrev pub is_lower : ℕ → Bool
+is_lower c = nat_le 97 c && nat_le c 122
+
+-- the station of these octets, where they could be read
+abbrev pub station_in : Result (List ℕ) FromHexError → Option (List ℕ)
+station_in (Ok octets) = station_of octets
+station_in (Err fault) = None
+
+-- the octets of a station in upper-case digits
+unfoldable pub mac_in : List ℕ → Option (List ℕ)
+mac_in text = if list_any is_lower text then None else station_in (decode_of text)
+
+-- a port and a network
+abbrev pub port_of : ℕ → Option ℕ
+port_of number = if nat_lt number (2 ^ 8) then Some number else None
+
+abbrev pub net_of : ℕ → Option ℕ
+net_of number = if nat_lt number (2 ^ 16) then network_of number else None
+
+-- ---- one behind the other
+
+-- what is read up to a character, and what stands behind it
+abbrev pub up_to : {A : Type 0} → (List ℕ → Option A) → ℕ → List ℕ → Option (A × List ℕ)
+up_to read c text = do
+  word ← parted_at c text
+  value ← read word.0
+  Some (value, word.1)
+
+unfoldable pub number_to : ℕ → List ℕ → Option (ℕ × List ℕ)
+number_to c text = up_to number_in c text
+
+unfoldable pub field_to : ℕ → List ℕ → Option (Option ℕ × List ℕ)
+field_to c text = up_to field_in c text
+
+unfoldable pub operation_to : ℕ → List ℕ → Option (Option ℕ × List ℕ)
+operation_to c text = up_to operation_in c text
+
+unfoldable pub mac_to : ℕ → List ℕ → Option (List ℕ × List ℕ)
+mac_to c text = up_to mac_in c text
+
+-- a field behind its label, up to a character
+unfoldable pub labelled_to : List ℕ → ℕ → List ℕ → Option (Option ℕ × List ℕ)
+labelled_to label c text = behind label text >>= (λ rest. field_to c rest)
+
+-- `<port> `
+unfoldable pub port_at : List ℕ → Option (ℕ × List ℕ)
+port_at text = do
+  number ← number_to 32 text
+  port ← port_of number.0
+  Some (port, number.1)
+
+-- `<net>:<MAC> `
+unfoldable pub source_at : List ℕ → Option (Source × List ℕ)
+source_at text = do
+  number ← number_to 58 text
+  net ← net_of number.0
+  mac ← mac_to 32 number.1
+  Some (record { net = net; mac = mac.0 }, mac.1)
+
+-- `<operation> dst=<n> svc=<n> `
+unfoldable pub request_at : List ℕ → Option (Request × List ℕ)
+request_at text = do
+  operation ← operation_to 32 text
+  destination ← labelled_to (codes "dst=") 32 operation.1
+  service ← labelled_to (codes "svc=") 32 destination.1
+  Some (record { operation = operation.0; destination_network = destination.0; service = service.0 }, service.1)
+
+-- `obj=<type>,<instance> prop=<n> `
+unfoldable pub target_at : List ℕ → Option (Target × List ℕ)
+target_at text = do
+  kind ← labelled_to (codes "obj=") 44 text
+  instance ← field_to 32 kind.1
+  property ← labelled_to (codes "prop=") 32 instance.1
+  Some (record { object_type = kind.0; instance = instance.0; property = property.0 }, property.1)
+
+-- a text up to its first space, or whole where it has none, and what stands from there on
+abbrev pub word_len : List ℕ → ℕ
+word_len text = option_map_or (λ place. place) (position (λ x. x == 32) text) (length text)
+
+unfoldable pub word_at : List ℕ → List ℕ × List ℕ
+word_at text = (take (word_len text) text, drop (word_len text) text)
+
+-- `prio=<n>`
+abbrev pub priority_of : List ℕ × List ℕ → Option (Option ℕ × List ℕ)
+priority_of word = field_in word.0 >>= (λ value. Some (value, word.1))
+
+unfoldable pub priority_at : List ℕ → Option (Option ℕ × List ℕ)
+priority_at text = behind (codes "prio=") text >>= (λ rest. priority_of (word_at rest))
+
+-- an ask of these parts
+abbrev pub ask_of_parts : ℕ → Source → Request → Target → Option ℕ → ShownAsk
+ask_of_parts port source request target priority = record {
+  port = port;
+  source = source;
+  operation = request.operation;
+  destination_network = request.destination_network;
+  service = request.service;
+  object_type = target.object_type;
+  instance = target.instance;
+  property = target.property;
+  priority = priority;
+}
+
+-- the eight words of an ask
+unfoldable pub ask_at : List ℕ → Option (ShownAsk × List ℕ)
+ask_at text = do
+  port ← port_at text
+  source ← source_at port.1
+  request ← request_at source.1
+  target ← target_at request.1
+  priority ← priority_at target.1
+  Some (ask_of_parts port.0 source.0 request.0 target.0 priority.0, priority.1)
+
+-- ---- a whole line
+
+-- these words and nothing more
+abbrev pub all_of : ShownAsk × List ℕ → Option ShownAsk
+all_of asked = if length asked.1 == 0 then Some asked.0 else None
+
+unfoldable pub ask_in : List ℕ → Option ShownAsk
+ask_in text = ask_at text >>= all_of
+
+-- `rule=<name>`, a name of UTF-8
+abbrev pub name_of : List ℕ → Option (List ℕ)
+name_of text = if is_utf8 text then Some text else None
+
+unfoldable pub rule_in : List ℕ → Option (List ℕ)
+rule_in text = behind (codes " rule=") text >>= name_of
+
+abbrev pub denial_of_parts : ℕ → ℕ → ShownAsk → List ℕ → Denial
+denial_of_parts number tick ask rule = record {
+  number = number;
+  tick = tick;
+  port = ask.port;
+  source = ask.source;
+  ask = ask_shown ask;
+  rule = rule;
+}
+
+-- the denial of a line
+unfoldable pub line_in : List ℕ → Option Denial
+line_in text = do
+  number ← number_to 32 text
+  tick ← number_to 32 number.1
+  ask ← ask_at tick.1
+  rule ← rule_in ask.1
+  Some (denial_of_parts number.0 tick.0 ask.0 rule)
+
+-- the ask of a line, or of eight words
+abbrev pub told_by : Option Denial → List ℕ → Option ShownAsk
+told_by (Some d) text = Some (shown_ask d)
+told_by None text = ask_in text

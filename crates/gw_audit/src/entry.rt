@@ -1,0 +1,66 @@
+//! What a line of the log shows.
+
+ghost use Rattle.std.specs.Prelude.{◌≡◌};
+ghost use Rattle.gw_audit.specs.Entry.{ask_shown};
+
+use gw_addr::Source;
+use gw_rules::Ask;
+
+/// What a line shows of a denial. The name of the rule is lent from the line.
+#[derive(Clone, Copy, Debug)]
+pub struct Shown<'a> {
+    /// The number of the denial.
+    pub number: u64,
+    /// How many ticks, of a second each, had come.
+    pub tick: u64,
+    /// What was asked.
+    pub ask: ShownAsk,
+    /// The name of the rule that denied it, or `default`.
+    pub rule: &'a str,
+}
+
+/// What a line shows of an ask: the port, the station that it comes from, and its seven other
+/// fields. The ask's own port, source network and source key aren't shown; in the gateway's asks
+/// they are those of the line.
+#[derive(Clone, Copy, Debug)]
+pub struct ShownAsk {
+    /// The number of the port that the datagram came on.
+    pub port: u8,
+    /// Where the datagram claims to come from (clause 6.2.2).
+    pub source: Source,
+    /// The number of the operation.
+    pub operation: Option<u64>,
+    /// The network that it goes to.
+    pub destination_network: Option<u64>,
+    /// The number of the service.
+    pub service: Option<u64>,
+    /// The number of the object's type.
+    pub object_type: Option<u64>,
+    /// The instance of the object.
+    pub instance: Option<u64>,
+    /// The number of the property.
+    pub property: Option<u64>,
+    /// The priority of a write.
+    pub priority: Option<u64>,
+}
+
+impl ShownAsk {
+    /// The ask that the policy judges: its port, its source network and its source key are those of
+    /// the line.
+    pub fn ask(&self) -> Ask
+        ensures { result ≡ ask_shown self.now }
+    {
+        Ask {
+            operation: self.operation,
+            port: Some(u64::from(self.port)),
+            source_network: Some(u64::from(self.source.net.get())),
+            source_key: self.source.mac.key48(),
+            destination_network: self.destination_network,
+            service: self.service,
+            object_type: self.object_type,
+            instance: self.instance,
+            property: self.property,
+            priority: self.priority,
+        }
+    }
+}

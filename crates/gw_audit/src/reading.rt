@@ -1,0 +1,421 @@
+//! The line of a denial, read back piece by piece from its front.
+
+ghost use Rattle.std.specs.Prelude.{◌≡◌, ◌<◌, ◌==◌, IfSome, Some, find, length, nat_eq, position};
+ghost use Rattle.std.specs.Cmp.Lexicographic.{pointwise};
+ghost use Rattle.std.specs.List.{list_any};
+ghost use Rattle.std.specs.Option.{IsSomeAnd, option_and_then};
+ghost use Rattle.hex.specs.Hex.{decode_of};
+ghost use Rattle.gw_rules.specs.Operation.{operation_name};
+ghost use Rattle.gw_audit.specs.declared.denial.Denial.{Denial};
+ghost use Rattle.gw_audit.specs.Entry.{IsLineOf, IsShowable, TellsAsk, denial_of};
+ghost use Rattle.gw_audit.specs.Laws.{AreShownAlike};
+ghost use Rattle.gw_audit.specs.internal.Reading.{Gives, ask_at, ask_in, behind, field_in, field_to, is_lower, labelled_to, line_in, mac_in, mac_to, name_of, net_of, number_in, number_to, operation_in, operation_to, other_number, parted_at, port_at, port_of, priority_at, request_at, rule_in, source_at, station_in, target_at, told_by, word_at};
+
+use crate::entry::{Shown, ShownAsk};
+use crate::text::operation_of;
+use gw_addr::{Mac, NetNum, Source};
+use gw_rules::Operation;
+use itoa::Buffer;
+
+/// What stands in the place of a field that the ask doesn't have.
+const ABSENT: &[u8] = b"-";
+/// How many octets a station's address has at most (clause 6.2.2).
+const MAX_STATION: usize = 255;
+
+/// What the line of a denial shows, or `None` where no denial has this line. It is taken without
+/// its line feed.
+///
+/// ```text
+/// 1 0 1 1:C0A80105BAC0 read dst=100 svc=12 obj=5,2 prop=85 prio=- rule=hide
+/// ```
+pub fn read_line(line: &[u8]) -> Option<Shown<'_>>
+    ensures found { IfSome result (λ shown. IsLineOf line.now (denial_of shown)) }
+    ensures is { IfSome result (λ shown. IsShowable (denial_of shown)) }
+    ensures only { (d : Denial) → IsShowable d → IsLineOf line.now d
+        → IsSomeAnd result (λ shown. AreShownAlike d (denial_of shown)) }
+{
+    line_in(line)
+}
+
+/// The ask that a line tells, or `None` where it tells none. It is the line of a denial without its
+/// line feed, or the eight words in the middle of one.
+///
+/// ```text
+/// 1 1:C0A80105BAC0 read dst=100 svc=12 obj=5,2 prop=85 prio=-
+/// ```
+pub fn read_ask(line: &[u8]) -> Option<ShownAsk>
+    ensures found { IfSome result (TellsAsk line.now) }
+    ensures only { (ask : ShownAsk) → TellsAsk line.now ask → result ≡ Some ask }
+{
+    ask_told(line)
+}
+
+/// The ask of a whole line, or else of its eight words.
+fn ask_told(line: &[u8]) -> Option<ShownAsk>
+    ensures { result ≡ told_by (line_in line.now) line.now }
+{
+    match line_in(line) {
+        Some(shown) => Some(shown.ask),
+        None => ask_in(line),
+    }
+}
+
+/// What a whole line shows.
+#[tactic(auto, unfolding(crate::specs::internal::Reading::line_in))]
+fn line_in(text: &[u8]) -> Option<Shown<'_>>
+    ensures { Gives denial_of result (line_in text.now) }
+{
+    let (number, rest) = number_to(b' ', text)?;
+    let (tick, rest) = number_to(b' ', rest)?;
+    let Some((ask, rest)) = ask_at(rest) else {
+        return None;
+    };
+    let rule = rule_in(rest)?;
+    Some(Shown {
+        number,
+        tick,
+        ask,
+        rule,
+    })
+}
+
+/// The name of a rule behind its label, to the line's end.
+#[tactic(auto, unfolding(crate::specs::internal::Reading::rule_in))]
+fn rule_in(text: &[u8]) -> Option<&str>
+    ensures { Gives (λ x. x.now) result (rule_in text.now) }
+{
+    let name = behind(b" rule=", text)?;
+    name_of(name)
+}
+
+/// A name of UTF-8.
+fn name_of(text: &[u8]) -> Option<&str>
+    ensures { Gives (λ x. x.now) result (name_of text.now) }
+{
+    match str::from_utf8(text) {
+        Ok(name) => Some(name),
+        Err(_) => None,
+    }
+}
+
+/// The ask of eight words, with nothing behind them.
+#[tactic(auto, unfolding(crate::specs::internal::Reading::ask_in))]
+fn ask_in(text: &[u8]) -> Option<ShownAsk>
+    ensures { result ≡ ask_in text.now }
+{
+    let Some((ask, rest)) = ask_at(text) else {
+        return None;
+    };
+    if rest.is_empty() { Some(ask) } else { None }
+}
+
+/// The ask of eight words, and what stands behind them.
+#[tactic(auto, unfolding(crate::specs::internal::Reading::ask_at))]
+fn ask_at(text: &[u8]) -> Option<(ShownAsk, &[u8])>
+    ensures { Gives (λ x. (x.0, x.1.now)) result (ask_at text.now) }
+{
+    let (port, rest) = port_at(text)?;
+    let Some((source, rest)) = source_at(rest) else {
+        return None;
+    };
+    let (request, rest) = request_at(rest)?;
+    let (target, rest) = target_at(rest)?;
+    let (priority, rest) = priority_at(rest)?;
+    let ask = ShownAsk {
+        port,
+        source,
+        operation: request.operation,
+        destination_network: request.destination_network,
+        service: request.service,
+        object_type: target.object_type,
+        instance: target.instance,
+        property: target.property,
+        priority,
+    };
+    Some((ask, rest))
+}
+
+/// A port, and what stands behind its space.
+#[tactic(auto, unfolding(crate::specs::internal::Reading::port_at))]
+fn port_at(text: &[u8]) -> Option<(u8, &[u8])>
+    ensures { Gives (λ x. (x.0, x.1.now)) result (port_at text.now) }
+{
+    let (number, rest) = number_to(b' ', text)?;
+    let port = port_of(number)?;
+    Some((port, rest))
+}
+
+/// The port of a number of 8 bits.
+fn port_of(number: u64) -> Option<u8>
+    ensures { result ≡ port_of number }
+{
+    u8::try_from(number).ok()
+}
+
+/// A station, and what stands behind its space.
+#[tactic(auto, unfolding(crate::specs::internal::Reading::source_at))]
+fn source_at(text: &[u8]) -> Option<(Source, &[u8])>
+    ensures { Gives (λ x. (x.0, x.1.now)) result (source_at text.now) }
+{
+    let (number, rest) = number_to(b':', text)?;
+    let net = net_of(number)?;
+    let Some((mac, rest)) = mac_to(b' ', rest) else {
+        return None;
+    };
+    Some((Source { net, mac }, rest))
+}
+
+/// The network of a number, 1 to 65534.
+fn net_of(number: u64) -> Option<NetNum>
+    ensures { result ≡ net_of number }
+{
+    let number = u16::try_from(number).ok()?;
+    NetNum::new(number)
+}
+
+/// What is asked for, and to which network.
+#[derive(Clone, Copy)]
+struct Request {
+    operation: Option<u64>,
+    destination_network: Option<u64>,
+    service: Option<u64>,
+}
+
+/// What is asked for, and what stands behind its space.
+#[tactic(auto, unfolding(crate::specs::internal::Reading::request_at))]
+fn request_at(text: &[u8]) -> Option<(Request, &[u8])>
+    ensures { Gives (λ x. (x.0, x.1.now)) result (request_at text.now) }
+{
+    let (operation, rest) = operation_to(b' ', text)?;
+    let (destination_network, rest) = labelled_to(b"dst=", b' ', rest)?;
+    let (service, rest) = labelled_to(b"svc=", b' ', rest)?;
+    let request = Request {
+        operation,
+        destination_network,
+        service,
+    };
+    Some((request, rest))
+}
+
+/// The property of an object that it is asked of.
+#[derive(Clone, Copy)]
+struct Target {
+    object_type: Option<u64>,
+    instance: Option<u64>,
+    property: Option<u64>,
+}
+
+/// What it is asked of, and what stands behind its space.
+#[tactic(auto, unfolding(crate::specs::internal::Reading::target_at))]
+fn target_at(text: &[u8]) -> Option<(Target, &[u8])>
+    ensures { Gives (λ x. (x.0, x.1.now)) result (target_at text.now) }
+{
+    let (object_type, rest) = labelled_to(b"obj=", b',', text)?;
+    let (instance, rest) = field_to(b' ', rest)?;
+    let (property, rest) = labelled_to(b"prop=", b' ', rest)?;
+    let target = Target {
+        object_type,
+        instance,
+        property,
+    };
+    Some((target, rest))
+}
+
+/// The priority, and what stands from the next space on.
+#[tactic(auto, unfolding(crate::specs::internal::Reading::priority_at))]
+fn priority_at(text: &[u8]) -> Option<(Option<u64>, &[u8])>
+    ensures { Gives (λ x. (x.0, x.1.now)) result (priority_at text.now) }
+{
+    let rest = behind(b"prio=", text)?;
+    let (word, rest) = word_at(rest);
+    let value = field_in(word)?;
+    Some((value, rest))
+}
+
+/// A text up to its first space, or whole, and what stands from there on.
+#[tactic(auto, unfolding(crate::specs::internal::Reading::word_at))]
+fn word_at(text: &[u8]) -> (&[u8], &[u8])
+    ensures { (result.0.now, result.1.now) ≡ word_at text.now }
+{
+    match place_of(b' ', text) {
+        Some(place) => (&text[..place], &text[place..]),
+        None => (text, &[]),
+    }
+}
+
+/// A field behind its label, and what stands behind the character at its end.
+#[tactic(auto, unfolding(crate::specs::internal::Reading::labelled_to))]
+fn labelled_to<'a>(label: &[u8], end: u8, text: &'a [u8]) -> Option<(Option<u64>, &'a [u8])>
+    ensures { Gives (λ x. (x.0, x.1.now)) result (labelled_to label.now end text.now) }
+{
+    let rest = behind(label, text)?;
+    field_to(end, rest)
+}
+
+/// A field, and what stands behind the character at its end.
+#[tactic(auto, unfolding(crate::specs::internal::Reading::field_to))]
+fn field_to(end: u8, text: &[u8]) -> Option<(Option<u64>, &[u8])>
+    ensures { Gives (λ x. (x.0, x.1.now)) result (field_to end text.now) }
+{
+    let (word, rest) = parted_at(end, text)?;
+    let value = field_in(word)?;
+    Some((value, rest))
+}
+
+/// A number, and what stands behind the character at its end.
+#[tactic(auto, unfolding(crate::specs::internal::Reading::number_to))]
+fn number_to(end: u8, text: &[u8]) -> Option<(u64, &[u8])>
+    ensures { Gives (λ x. (x.0, x.1.now)) result (number_to end text.now) }
+{
+    let (word, rest) = parted_at(end, text)?;
+    let number = number_in(word)?;
+    Some((number, rest))
+}
+
+/// An operation, and what stands behind the character at its end.
+#[tactic(auto, unfolding(crate::specs::internal::Reading::operation_to))]
+fn operation_to(end: u8, text: &[u8]) -> Option<(Option<u64>, &[u8])>
+    ensures { Gives (λ x. (x.0, x.1.now)) result (operation_to end text.now) }
+{
+    let (word, rest) = parted_at(end, text)?;
+    let operation = operation_in(word)?;
+    Some((operation, rest))
+}
+
+/// A station's octets, and what stands behind the character at their end.
+#[tactic(auto, unfolding(crate::specs::internal::Reading::mac_to))]
+fn mac_to(end: u8, text: &[u8]) -> Option<(Mac, &[u8])>
+    ensures { Gives (λ x. (x.0, x.1.now)) result (mac_to end text.now) }
+{
+    let (word, rest) = parted_at(end, text)?;
+    let mac = mac_in(word)?;
+    Some((mac, rest))
+}
+
+/// What stands before the first such character, and what stands behind it.
+#[tactic(auto, unfolding(crate::specs::internal::Reading::parted_at))]
+fn parted_at(c: u8, text: &[u8]) -> Option<(&[u8], &[u8])>
+    ensures { Gives (λ x. (x.0.now, x.1.now)) result (parted_at c text.now) }
+{
+    match place_of(c, text) {
+        Some(place) => Some((&text[..place], &text[place + 1..])),
+        None => None,
+    }
+}
+
+/// The place of the first such character.
+fn place_of(c: u8, text: &[u8]) -> Option<usize>
+    ensures place { result ≡ position (λ x. x == c) text.now }
+    ensures within { IfSome result (λ place. place < length text.now) }
+{
+    text.iter().position(|x| *x == c)
+}
+
+/// What stands behind a label.
+#[tactic(auto, unfolding(crate::specs::internal::Reading::behind))]
+fn behind<'a>(label: &[u8], text: &'a [u8]) -> Option<&'a [u8]>
+    ensures { Gives (λ x. x.now) result (behind label.now text.now) }
+{
+    text.strip_prefix(label)
+}
+
+/// A number in decimal, or none.
+#[tactic(auto, unfolding(crate::specs::internal::Reading::field_in))]
+fn field_in(text: &[u8]) -> Option<Option<u64>>
+    ensures { result ≡ field_in text.now }
+{
+    if text == ABSENT {
+        return Some(None);
+    }
+    match number_in(text) {
+        Some(number) => Some(Some(number)),
+        None => None,
+    }
+}
+
+/// The name of an operation, a number that no operation has, or none.
+#[tactic(auto, unfolding(crate::specs::internal::Reading::operation_in))]
+fn operation_in(text: &[u8]) -> Option<Option<u64>>
+    ensures { result ≡ operation_in text.now }
+{
+    if text == ABSENT {
+        return Some(None);
+    }
+    match operation_named(text) {
+        Some(operation) => Some(Some(operation.number())),
+        None => other_number(text),
+    }
+}
+
+/// The operation of this name.
+fn operation_named(text: &[u8]) -> Option<Operation>
+    ensures { result ≡ find (λ o. pointwise nat_eq (operation_name o) text.now) Operation.ALL }
+{
+    Operation::ALL
+        .iter()
+        .copied()
+        .find(|operation| operation.name().as_bytes() == text)
+}
+
+/// A number that no operation has.
+fn other_number(text: &[u8]) -> Option<Option<u64>>
+    ensures { result ≡ option_and_then other_number (number_in text.now) }
+{
+    let number = number_in(text)?;
+    match operation_of(number) {
+        Some(_) => None,
+        None => Some(Some(number)),
+    }
+}
+
+/// The number of 64 bits that a text is in decimal, as it is written.
+fn number_in(text: &[u8]) -> Option<u64>
+    ensures { result ≡ number_in text.now }
+{
+    let Ok(digits) = str::from_utf8(text) else {
+        return None;
+    };
+    let Ok(number) = digits.parse::<u64>() else {
+        return None;
+    };
+    let mut buffer = Buffer::new();
+    if buffer.format(number).as_bytes() == text {
+        Some(number)
+    } else {
+        None
+    }
+}
+
+/// The station whose octets a text is in upper-case digits.
+#[tactic(auto, unfolding(crate::specs::internal::Reading::mac_in))]
+fn mac_in(text: &[u8]) -> Option<Mac>
+    ensures { result ≡ mac_in text.now }
+{
+    if has_lower(text) {
+        return None;
+    }
+    station_in(text)
+}
+
+/// Whether a letter is in lower case.
+fn has_lower(text: &[u8]) -> bool
+    ensures { result ≡ list_any is_lower text.now }
+{
+    text.iter().any(|c| matches!(c, b'a'..=b'z'))
+}
+
+/// The station whose octets a text is in digits.
+fn station_in(text: &[u8]) -> Option<Mac>
+    ensures { result ≡ station_in (decode_of text.now) }
+{
+    let len = text.len() / 2;
+    if len > MAX_STATION {
+        return None;
+    }
+    let mut octets = [0; MAX_STATION];
+    let octets = &mut octets[..len];
+    match hex::decode_to_slice(text, octets) {
+        Ok(()) => Mac::new(octets),
+        Err(_) => None,
+    }
+}

@@ -1,0 +1,136 @@
+-- Lines that are appended one after the other.
+use Rattle.std.proofs.Common.{◌≡◌, ◌∙◌, ◌+◌, ◌<◌, ◌≤◌, ◌++◌, ◌∷◌, [], ℕ, List, Result, Ok, Err, ap, arith, append_assoc, refl, rules, length, get_or, suc, sym, subst, take, drop, zero}
+use Rattle.std.proofs.lemmas.List.{append-nil, length-append, take_all, take_at}
+use Rattle.std.specs.Prelude.{IsErr, OnOk, vec_capacity, vec_items, vec_len}
+use Rattle.std.specs.Global.{Vec}
+use Rattle.gw_addr.specs.Appending.{IsAppended}
+use Rattle.gw_addr.specs.Reading.{Keeps}
+use Rattle.gw_addr.proofs.Writing.{Keeps-front}
+use Rattle.gw_lint.specs.Warnings.{in_order}
+
+-- the text stands behind what the buffer held
+pub record IsGrown (text : List ℕ) (old new : Vec ℕ) : Type 0 where
+  pub items : vec_items new ≡ vec_items old ++ text
+  pub capacity : vec_capacity old ≤ vec_capacity new
+
+ok_behind : {T F : Type 0} (r : Result T F) (a b u v w : List ℕ) → v ≡ u ++ a → OnOk r (w ≡ v ++ b) → OnOk r (w ≡ u ++ (a ++ b))
+ok_behind (Ok x) a b u v w first then = then ∙ ap (λ (t : List ℕ). t ++ b) first ∙ append_assoc u a b
+ok_behind (Err e) a b u v w first then = then
+
+-- behind a text that stands there, another one is appended or refused
+behind : {T F : Type 0} (r : Result T F) (a b : List ℕ) (u v w : Vec ℕ) → IsGrown a u v → IsAppended {T = T} {F = F} b v w r
+    → IsAppended {T = T} {F = F} (a ++ b) u w r
+behind r a b u v w grown put = record {
+  ok = ok_behind r a b (vec_items u) (vec_items v) (vec_items w) grown.items put.ok;
+  front = Keeps-front (vec_items u) a (vec_items w) (subst (λ (x : List ℕ). Keeps x (vec_items w)) grown.items put.front);
+  room = λ enough. put.room
+      (omega (arith, enough, grown.capacity, u.ok.0, v.ok.0, ap length grown.items, length-append (vec_items u) a, length-append a b));
+  capacity = omega (arith, grown.capacity, put.capacity);
+}
+
+grown_by : {T F : Type 0} (x : T) (a : List ℕ) (u v : Vec ℕ) → IsAppended {T = T} {F = F} a u v (Ok x) → IsGrown a u v
+grown_by x a u v put = record { items = put.ok; capacity = put.capacity }
+
+appended_by : {T F : Type 0} (x : T) (a : List ℕ) (u v : Vec ℕ) → IsGrown a u v → IsAppended {T = T} {F = F} a u v (Ok x)
+appended_by x a u v grown = record {
+  ok = grown.items;
+  front = ap (take (length (vec_items u))) grown.items ∙ take_at (vec_items u) a (length (vec_items u)) refl;
+  room = λ enough. refl;
+  capacity = grown.capacity;
+}
+
+-- two texts, one behind the other
+pub then_put : {S G T F : Type 0} {x : S} {r : Result T F} {a b : List ℕ} {u v w : Vec ℕ} → IsAppended {T = S} {F = G} a u v (Ok x)
+    → IsAppended {T = T} {F = F} b v w r → IsAppended {T = T} {F = F} (a ++ b) u w r
+then_put first then = behind _ _ _ _ _ _ (grown_by _ _ _ _ first) then
+
+-- where a front was refused, so is the whole, and what is answered is a fault
+pub refused : {T F : Type 0} {e : F} {a : List ℕ} {u w : Vec ℕ} (r : Result T F) (b : List ℕ) → IsErr r → IsAppended {T = T} {F = F} a u w (Err e)
+    → IsAppended {T = T} {F = F} (a ++ b) u w r
+refused (Ok x) b is put = absurd cc
+refused {a = a} {u = u} {w = w} (Err f) b is put = record {
+  ok = put.ok;
+  front = put.front;
+  room = λ enough. put.room (omega (arith, enough, length-append a b));
+  capacity = put.capacity;
+}
+
+-- ---- the lines of items in their order
+
+one_more : {A : Type 0} (lines : ℕ → A → List ℕ) (start : ℕ) (items : List A) (place : ℕ) (d : A) → place < length items →
+    in_order lines start (take (suc place) items) ≡ in_order lines start (take place items) ++ lines (start + place) (get_or items place d)
+unfolding in_order
+one_more lines start [] place d inside = absurd (omega (arith, inside))
+one_more lines start (item ∷ items) zero d inside =
+    let same : start ≡ start + 0 = omega arith in
+    append-nil (lines start item) ∙ ap (λ (n : ℕ). lines n item) same
+one_more lines start (item ∷ items) (suc place) d inside =
+    let same : start + 1 + place ≡ start + suc place = omega arith in
+    ap (λ (t : List ℕ). lines start item ++ t) (one_more lines (start + 1) items place d (omega (arith, inside)))
+    ∙ sym (append_assoc (lines start item) (in_order lines (start + 1) (take place items)) (lines (start + 1 + place) (get_or items place d)))
+    ∙ ap (λ (n : ℕ). (lines start item ++ in_order lines (start + 1) (take place items)) ++ lines n (get_or items place d)) same
+
+-- what a list comes to is what its front comes to, and more
+front_of : {A : Type 0} (lines : ℕ → A → List ℕ) (start place : ℕ) (items : List A) → (rest : List ℕ) × (in_order lines start items ≡ in_order lines start (take place items) ++ rest)
+unfolding in_order
+front_of lines start zero items = (in_order lines start items, refl)
+front_of lines start (suc place) [] = ([], sym (append-nil []))
+front_of lines start (suc place) (item ∷ items) =
+    let later = front_of lines (start + 1) place items in
+    (later.0, ap (λ (t : List ℕ). lines start item ++ t) later.1 ∙ sym (append_assoc (lines start item) (in_order lines (start + 1) (take place items)) later.0))
+
+next_line : {A : Type 0} (lines : ℕ → A → List ℕ) (items : List A) (place : ℕ) (d : A) → place < length items →
+    in_order lines 0 (take (place + 1) items) ≡ in_order lines 0 (take place items) ++ lines place (get_or items place d)
+next_line lines items place d inside =
+    let next : place + 1 ≡ suc place = omega arith in
+    let same : 0 + place ≡ place = omega arith in
+    ap (λ (n : ℕ). in_order lines 0 (take n items)) next ∙ one_more lines 0 items place d inside
+    ∙ ap (λ (n : ℕ). in_order lines 0 (take place items) ++ lines n (get_or items place d)) same
+
+-- no line yet
+pub lines_start : {A : Type 0} (lines : ℕ → A → List ℕ) (v : Vec ℕ) → IsGrown (in_order lines 0 []) v v
+unfolding in_order
+lines_start lines v = record { items = sym (append-nil (vec_items v)); capacity = omega arith }
+
+-- those of one item more
+pub lines_step : {A T F : Type 0} (x : T) (lines : ℕ → A → List ℕ) (items : List A) (place : ℕ) (d : A) (u v w : Vec ℕ) → place < length items
+    → IsGrown (in_order lines 0 (take place items)) u v → IsAppended {T = T} {F = F} (lines place (get_or items place d)) v w (Ok x)
+    → IsGrown (in_order lines 0 (take (place + 1) items)) u w
+lines_step {T = T} {F = F} x lines items place d u v w inside grown put =
+    let a = in_order lines 0 (take place items) in
+    let b = lines place (get_or items place d) in
+    let more : IsGrown (a ++ b) u w = grown_by x (a ++ b) u w (behind {T = T} {F = F} (Ok x) a b u v w grown put) in
+    subst (λ (t : List ℕ). IsGrown t u w) (sym (next_line lines items place d inside)) more
+
+-- those of an item were refused
+pub lines_failed : {A T F : Type 0} (e : F) (r : Result T F) (lines : ℕ → A → List ℕ) (items : List A) (place : ℕ) (d : A) (u v w : Vec ℕ) → IsErr r → place < length items
+    → IsGrown (in_order lines 0 (take place items)) u v → IsAppended {T = T} {F = F} (lines place (get_or items place d)) v w (Err e)
+    → IsAppended {T = T} {F = F} (in_order lines 0 items) u w r
+lines_failed {T = T} {F = F} e r lines items place d u v w is inside grown put =
+    let a = in_order lines 0 (take place items) in
+    let b = lines place (get_or items place d) in
+    let parted = front_of lines 0 (place + 1) items in
+    let whole : (a ++ b) ++ parted.0 ≡ in_order lines 0 items =
+    sym (parted.1 ∙ ap (λ (t : List ℕ). t ++ parted.0) (next_line lines items place d inside)) in
+    subst (λ (t : List ℕ). IsAppended {T = T} {F = F} t u w r) whole
+    (refused {T = T} {F = F} r parted.0 is (behind {T = T} {F = F} (Err e) a b u v w grown put))
+
+-- the same of an item that is there
+pub item_step : {A T F : Type 0} (x : T) (lines : ℕ → A → List ℕ) (items : List A) (place : ℕ) (p : A) (u v w : Vec ℕ) → p ≡ get_or items place p → place < length items
+    → IsGrown (in_order lines 0 (take place items)) u v → IsAppended {T = T} {F = F} (lines place p) v w (Ok x)
+    → IsGrown (in_order lines 0 (take (place + 1) items)) u w
+item_step {T = T} {F = F} x lines items place p u v w is inside grown put =
+    lines_step x lines items place p u v w inside grown (subst (λ (q : _). IsAppended {T = T} {F = F} (lines place q) v w (Ok x)) is put)
+
+pub item_failed : {A T F : Type 0} (e : F) (r : Result T F) (lines : ℕ → A → List ℕ) (items : List A) (place : ℕ) (p : A) (u v w : Vec ℕ) → p ≡ get_or items place p → IsErr r → place < length items
+    → IsGrown (in_order lines 0 (take place items)) u v → IsAppended {T = T} {F = F} (lines place p) v w (Err e)
+    → IsAppended {T = T} {F = F} (in_order lines 0 items) u w r
+item_failed {T = T} {F = F} e r lines items place p u v w there is inside grown put =
+    lines_failed e r lines items place p u v w is inside grown (subst (λ (q : _). IsAppended {T = T} {F = F} (lines place q) v w (Err e)) there put)
+
+-- those of all items
+pub lines_end : {A T F : Type 0} (x : T) (lines : ℕ → A → List ℕ) (items : List A) (place : ℕ) (u v : Vec ℕ) → length items ≤ place
+    → IsGrown (in_order lines 0 (take place items)) u v → IsAppended {T = T} {F = F} (in_order lines 0 items) u v (Ok x)
+lines_end {T = T} {F = F} x lines items place u v ends grown =
+    let all : in_order lines 0 (take place items) ≡ in_order lines 0 items = ap (in_order lines 0) (take_all place items ends) in
+    appended_by {T = T} {F = F} x (in_order lines 0 items) u v (subst (λ (t : List ℕ). IsGrown t u v) all grown)

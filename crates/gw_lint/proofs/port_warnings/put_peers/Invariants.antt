@@ -1,0 +1,7 @@
+use Rattle.std.proofs.Common.{take}
+use Rattle.gw_lint.specs.Warnings.{in_order, peer_lines}
+use Rattle.gw_lint.proofs.Lines.{IsGrown}
+use Rattle.gw_lint.proofs.port_warnings.put_peers.Given as goal
+
+abbrev pub invariant-loop-index : goal.invariant-loop-index
+invariant-loop-index l = IsGrown (in_order (peer_lines l.ports l.place l.port) 0 (take l.index l.peers)) l.fn.out l.out

@@ -1,0 +1,222 @@
+//! Which rule would decide the asks of a log: one answer a line.
+
+ghost use Rattle.std.specs.Prelude.{◌≡◌, ◌+◌, ◌*◌, ◌<◌, ◌⊎◌, ℕ, List, [], length, Ok, Some, IsErrOf, OnOk, true};
+ghost use Rattle.std.specs.Io.KnownBytes.{prepend_known};
+ghost use Rattle.gw_addr.specs.Appending.{IsAppended};
+ghost use Rattle.gw_audit.specs.Entry.{ask_shown};
+ghost use Rattle.gw_core.specs.LineOutcome.{IsShorter};
+ghost use Rattle.gw_core.specs.Replay.{OnKnown};
+ghost use Rattle.gw_rules.specs.RuleList.{IsNumberOf};
+ghost use Rattle.gw_script.specs.Reader.{IsPaid};
+ghost use Rattle.gw_lint.specs.Why.{AnswersFront, AnswersPart, AnswersToLine, AnswersWhole, OnKnownAnswer, answer, answer_by, answer_to, rule_answer, verdict};
+
+use gw_addr::{put_decimal, put_octet, put_slice};
+use gw_audit::{ShownAsk, read_ask};
+use gw_rules::{Ask, Rule, RuleList};
+use gw_script::{LineReader, NextLine, OctetSink, OctetSource, write_whole};
+use std::alloc::{AllocError, Global};
+use thiserror::Error;
+
+/// How many octets of text there is room for at the start.
+const ANSWER_ROOM: usize = 256;
+
+/// Why the answers end before the lines do.
+#[derive(Clone, Copy, Debug, PartialEq, Eq, Error)]
+pub enum WhyFault {
+    /// 1: a read failed, or there were 4,294,967,295 reads.
+    #[error("read failed")]
+    Read,
+    /// 2: the line of this number, from 1, tells no ask.
+    #[error("line {0}")]
+    Line(u64),
+    /// 3: a write failed, or took nothing.
+    #[error("write failed")]
+    Write,
+    /// 4: a growth was refused.
+    #[error("out of memory")]
+    Memory,
+}
+
+/// Answers for each line, in order, which rule of the policy is the first to match the ask that the
+/// line tells, and what it says, before it takes up the next line. The writer isn't flushed.
+///
+/// A line is one of the log, or the eight words in the middle of one, and ends with a line feed,
+/// which the last may lack. It has at most 4096 octets without it.
+///
+/// ```text
+/// 1 0 1 1:C0A80105BAC0 read dst=100 svc=12 obj=5,2 prop=85 prio=- rule=hide
+/// 1 1:C0A80105BAC0 read dst=100 svc=12 obj=5,1 prop=85 prio=-
+/// 2 2:C0A80209BAC0 read dst=100 svc=12 obj=5,1 prop=85 prio=-
+/// ```
+///
+/// An answer names the rule, or says that none matches.
+///
+/// ```text
+/// deny rule 1 hide
+/// allow rule 3 all
+/// deny default
+/// ```
+pub fn why<R: OctetSource, W: OctetSink>(
+    alloc: Global,
+    rules: &RuleList,
+    reader: &mut R,
+    writer: &mut W,
+) -> Result<(), WhyFault>
+    // What is written then, where the octets of the reader and the writer are known: the answers to
+    // the asks of all lines,
+    ensures whole { OnOk result
+        (OnKnown (R.left reader.old) (W.held writer.old) (W.held writer.new) (AnswersWhole rules.now)) }
+    // of the lines before one that tells no ask,
+    ensures line { (n : ℕ) → IsErrOf result (WhyFault.Line n) →
+        OnKnown (R.left reader.old) (W.held writer.old) (W.held writer.new) (AnswersToLine n rules.now) }
+    // or of some first lines, of which a failed write may leave a front.
+    ensures front { IsErrOf result WhyFault.Write →
+        OnKnown (R.left reader.old) (W.held writer.old) (W.held writer.new) (AnswersFront rules.now) }
+    ensures part { (IsErrOf result WhyFault.Read ⊎ IsErrOf result WhyFault.Memory) →
+        OnKnown (R.left reader.old) (W.held writer.old) (W.held writer.new) (AnswersPart rules.now) }
+    // What never fails doesn't end the answers: a reader, of a text of less than 2 GiB, and a writer.
+    ensures sure_reader { R.NeverFails reader.old → (text : List ℕ) →
+        R.left reader.old ≡ Some text → 2 * length text + 1 < 4294967295 →
+        ¬ (IsErrOf result WhyFault.Read) }
+    ensures sure_writer { W.NeverFails writer.old → ¬ (IsErrOf result WhyFault.Write) }
+{
+    let Ok(text) = Vec::with_capacity(alloc, ANSWER_ROOM) else {
+        return Err(WhyFault::Memory);
+    };
+    let mut answering = Answering {
+        lines: LineReader::new(),
+        text,
+    };
+    answering.answer_lines(rules, reader, writer)
+}
+
+/// What is kept from line to line.
+#[derive(Drop)]
+struct Answering {
+    lines: LineReader,
+    text: Vec<u8>,
+}
+
+impl Answering {
+    /// Answers each line, in order.
+    fn answer_lines<R: OctetSource, W: OctetSink>(
+        &mut self,
+        rules: &RuleList,
+        reader: &mut R,
+        writer: &mut W,
+    ) -> Result<(), WhyFault>
+        requires unread { self.old.lines.unread ≡ [] }
+        requires calls { self.old.lines.calls ≡ 0 }
+        ensures whole { OnOk result
+            (OnKnown (R.left reader.old) (W.held writer.old) (W.held writer.new) (AnswersWhole rules.now)) }
+        ensures line { (n : ℕ) → IsErrOf result (WhyFault.Line n) →
+            OnKnown (R.left reader.old) (W.held writer.old) (W.held writer.new) (AnswersToLine n rules.now) }
+        ensures front { IsErrOf result WhyFault.Write →
+            OnKnown (R.left reader.old) (W.held writer.old) (W.held writer.new) (AnswersFront rules.now) }
+        ensures part { (IsErrOf result WhyFault.Read ⊎ IsErrOf result WhyFault.Memory) →
+            OnKnown (R.left reader.old) (W.held writer.old) (W.held writer.new) (AnswersPart rules.now) }
+        ensures sure_reader { R.NeverFails reader.old → (text : List ℕ) →
+            R.left reader.old ≡ Some text → 2 * length text + 1 < 4294967295 →
+            ¬ (IsErrOf result WhyFault.Read) }
+        ensures sure_writer { W.NeverFails writer.old → ¬ (IsErrOf result WhyFault.Write) }
+    {
+        for number in 1..u64::MAX {
+            match self.answer_line(rules, number, reader, writer) {
+                Ok(true) => {}
+                Ok(false) => return Ok(()),
+                Err(fault) => return Err(fault),
+            }
+        }
+        Err(WhyFault::Read)
+    }
+
+    /// Answers the line of this number. It answers whether there was one.
+    fn answer_line<R: OctetSource, W: OctetSink>(
+        &mut self,
+        rules: &RuleList,
+        number: u64,
+        reader: &mut R,
+        writer: &mut W,
+    ) -> Result<bool, WhyFault>
+        ensures outcome { OnKnownAnswer number rules.now
+            (prepend_known self.old.lines.unread (R.left reader.old))
+            (prepend_known self.new.lines.unread (R.left reader.new))
+            (W.held writer.old) (W.held writer.new) result }
+        ensures shorter { (text : List ℕ) →
+            prepend_known self.old.lines.unread (R.left reader.old) ≡ Some text → result ≡ Ok true →
+            IsShorter text (prepend_known self.new.lines.unread (R.left reader.new)) }
+        ensures paid { IsPaid self.old.lines.calls (R.left reader.old)
+            self.new.lines.calls (R.left reader.new) }
+        ensures sure_reader { R.NeverFails reader.old → IsErrOf result WhyFault.Read →
+            self.new.lines.calls ≡ 4294967295 }
+        ensures sure_writer { W.NeverFails writer.old → ¬ (IsErrOf result WhyFault.Write) }
+        ensures lasting_reader { R.NeverFails reader.old → R.NeverFails reader.new }
+        ensures lasting_writer { W.NeverFails writer.old → W.NeverFails writer.new }
+    {
+        let (len, span) = match self.lines.find_line(reader) {
+            Ok(NextLine::Line { len, span }) => (len, span),
+            Ok(NextLine::Long) => return Err(WhyFault::Line(number)),
+            Ok(NextLine::End) => return Ok(false),
+            Err(_) => return Err(WhyFault::Read),
+        };
+        let line = self.lines.front(len);
+        let Some(ask) = read_ask(line) else {
+            return Err(WhyFault::Line(number));
+        };
+        let Ok(()) = make_answer(rules, &ask, &mut self.text) else {
+            return Err(WhyFault::Memory);
+        };
+        let Ok(()) = write_whole(writer, &self.text) else {
+            return Err(WhyFault::Write);
+        };
+        self.lines.consume(span);
+        Ok(true)
+    }
+}
+
+/// Makes the answer to an ask that is shown.
+fn make_answer(rules: &RuleList, shown: &ShownAsk, text: &mut Vec<u8>) -> Result<(), AllocError>
+    ensures { OnOk result (text.new.items ≡ answer_to rules.now shown.now) }
+{
+    text.clear();
+    put_answer(text, rules, &shown.ask())
+}
+
+/// Appends the answer to an ask.
+#[tactic(auto, unfolding(crate::specs::Why::answer))]
+fn put_answer(out: &mut Vec<u8>, rules: &RuleList, ask: &Ask) -> Result<(), AllocError>
+    ensures { IsAppended (answer rules.now ask.now) out.old out.new result }
+{
+    match rules.first(ask) {
+        Some(number) => put_answer_by(out, rules, number),
+        None => put_slice(out, b"deny default\n"),
+    }
+}
+
+/// Appends the answer by the rule of a number.
+fn put_answer_by(out: &mut Vec<u8>, rules: &RuleList, number: u16) -> Result<(), AllocError>
+    requires { IsNumberOf rules.now number }
+    ensures { IsAppended (answer_by rules.now (Some number)) out.old out.new result }
+{
+    put_rule_answer(out, number, &rules.rules()[usize::from(number) - 1])
+}
+
+/// Appends the answer by a rule, whose number is this.
+#[tactic(auto, unfolding(crate::specs::Why::rule_answer))]
+fn put_rule_answer(out: &mut Vec<u8>, number: u16, rule: &Rule) -> Result<(), AllocError>
+    ensures { IsAppended (rule_answer number rule.now) out.old out.new result }
+{
+    put_slice(out, verdict(rule.allow))?;
+    put_slice(out, b" rule ")?;
+    put_decimal(out, number)?;
+    put_octet(out, b' ')?;
+    put_slice(out, rule.name.as_str().as_bytes())?;
+    put_octet(out, b'\n')
+}
+
+/// What a rule says, in a word.
+fn verdict(allow: bool) -> &'static [u8]
+    ensures { result.now ≡ verdict allow }
+{
+    if allow { b"allow" } else { b"deny" }
+}

@@ -1,0 +1,125 @@
+#!/usr/bin/env bash
+# Makes the section CONFIGURATION KEYS of man/bacgw.1 from the tables by which the program reads a configuration
+# (crates/gw_policy_text/src/tables.rt), and compares it with what stands there; with --print it prints it. It wants python3 and no
+# built program. The last line says whether they agree.
+set -euo pipefail
+exec python3 - "$(cd "$(dirname "$0")/.." && pwd)" "${1:-}" <<'END'
+import difflib, glob, os, re, sys
+
+os.chdir(sys.argv[1])
+PAGE, SECTION = "man/bacgw.1", ".SH CONFIGURATION KEYS"
+TABLES = open("crates/gw_policy_text/src/tables.rt").read()
+READING = open("crates/gw_policy_text/specs/Configuration.antt").read()
+LIMITS = {}
+for file in glob.glob("crates/gw_policy_text/src/*.rt") + glob.glob("crates/gw_rules/src/*.rt") + ["crates/gw_addr/src/lib.rt"]:
+    for name, value in re.findall(r"const (MAX_\w+): \w+ = ([\d_]+);", open(file).read()):
+        LIMITS[name] = value
+SHAPES = dict(re.findall(r"const (\w+): (?:Shape|Scalar) = (.*?);", TABLES, re.S))
+# What a text that may be missing is then.
+DEFAULTS = {key: default for default, key in re.findall(r'optional_text (?:\[\]|\(codes "(\w+)"\)) \(codes "(\w+)"\)', READING)}
+TYPES = re.findall(r"(\d+) ([A-Z][\w -]+?)(?:,|\")", re.search(r"const TYPES: &str =(.*?);", open("crates/gw_policy_text/src/reason.rt").read(), re.S)[1])
+# The types in the order of their tables.
+OBJECTS = dict(zip(("binary", "multi_state", "character_string", "integer", "positive_integer"), TYPES, strict=True))
+
+
+def plain(shape):
+    """A shape without spaces, with the names of constants replaced by what they are."""
+    for _ in range(3):
+        shape = re.sub(r"\b([A-Z]+(?:_[A-Z]+)*)\b", lambda found: SHAPES.get(found[1], LIMITS.get(found[1], found[1])), shape)
+    shape = re.sub(r"(\d) as u64", r"\1", shape).replace("_", "")
+    shape = re.sub(r",?\s*([(){}])\s*", r"\1", shape)
+    return re.sub(r"\s*,\s*", ", ", shape)
+
+
+def bounds(low, high):
+    return low if low == high else f"{low} to {high}"
+
+
+def scalar(of, counted):
+    """The words of a single value; `high` is how many of what is counted there are."""
+    number = re.fullmatch(r"Scalar::Number\{low: (\d+), high(?:: (\d+))?\}", of)
+    if number:
+        return bounds(number[1], number[2] or f"the number of {counted}")
+    text = re.fullmatch(r"Scalar::Text\{least: (\d+)\}", of)
+    if text:
+        return "a text of " + bounds(text[1], LIMITS["MAX_TEXT"]) + " octets"
+    return {
+        "Scalar::Signed": r"\-2147483648 to 2147483647",
+        "Scalar::ObjectType": ", ".join(f"{number} ({name})" for number, name in TYPES),
+        "Scalar::RuleName": rf"a text of 1 to {LIMITS['MAX_RULE_NAME']} of a to z, 0 to 9 and \-, and not default".replace("_", ""),
+        "Scalar::Boolean": "true or false",
+        "Scalar::Address": "an address and its UDP port, as 10.0.1.255:47808",
+        "Scalar::Mask": "a mask, as 255.255.255.0",
+        "Scalar::Operation": "names of operations",
+        "Scalar::Table": "a table",
+    }[of]
+
+
+def words(shape, counted):
+    one = re.fullmatch(r"Shape::One\((.*)\)", shape)
+    if one:
+        return scalar(one[1], counted)
+    ranges = re.fullmatch(r"Shape::Ranges\((.*)\)", shape)
+    if ranges:
+        return "items, each " + scalar(ranges[1], counted).replace("names of operations", "the name of an operation")
+    tables = re.fullmatch(r"tables\((\d+), (\d+)\)", shape)
+    if tables:
+        return bounds(*tables.groups()) + " tables"
+    listed = re.fullmatch(r"Shape::List\{of: (.*), least: (\d+), most: (\d+)\}", shape)
+    return "a list of " + bounds(listed[2], listed[3]) + ", each " + scalar(listed[1], counted)
+
+
+def default(key, shape):
+    if "Ranges" in shape:
+        return "any"
+    return (DEFAULTS[key] or "empty") if "Text" in shape else "none"
+
+
+def fields(table):
+    """The keys of a table in their order, each with its words."""
+    body = re.search(rf"fn {table}_fields\(.*?\n\}}\n", TABLES, re.S)[0]
+    counted = {"route": "ports", "multi_state": "states"}.get(table, "")
+    found = re.findall(r'Field::(needs|may)\(\s*"(\w+)",\s*(.*?),?\s*\),?\n(?=\s+Field|\s+\])', body, re.S)
+    assert len(found) == body.count("Field::") and found, table
+    shapes = [(need, key, plain(shape)) for need, key, shape in found]
+    return [(key, words(shape, counted) + ("" if need == "needs" else f"; else {default(key, shape)}")) for need, key, shape in shapes]
+
+
+def entries(title, keys):
+    lines = [f".SS {title}"]
+    for key, said in keys:
+        lines += [".TP", f".B {key}", said[0].upper() + said[1:] + "."]
+    return lines
+
+
+def section():
+    lines = [
+        SECTION,
+        "The configuration is a text in TOML with these tables.",
+        r"A key with \(lqelse\(rq behind what it may be can be missing;",
+        "each other key must be there, and there is no further one.",
+        f"Items are a list of 1 to {LIMITS['MAX_RANGES']}, each one value or a list of two, low and high,",
+        "of operations one name.",
+    ]
+    lines += entries("The text", fields("top"))
+    for table, title in (("device", "[device]"), ("port", "[[port]]"), ("peer", "[[port.peer]]"), ("route", "[[route]]")):
+        lines += entries(title, fields(table))
+    objects = {kind: fields(kind) for kind in OBJECTS}
+    shared = [field for field in objects["binary"] if all(field in keys for keys in objects.values())]
+    lines += entries("[[object]]", shared)
+    for kind, (number, name) in OBJECTS.items():
+        lines += entries(f"[[object]] of type {number}, {name}", [field for field in objects[kind] if field not in shared])
+    return lines + entries("[[rule]]", fields("rule"))
+
+
+wanted = section()
+if sys.argv[2] == "--print":
+    print("\n".join(wanted))
+    sys.exit()
+stands = open(PAGE).read().split("\n")
+start = stands.index(SECTION) if SECTION in stands else len(stands)
+end = next((line for line in range(start + 1, len(stands)) if stands[line].startswith(".SH ")), len(stands))
+differing = list(difflib.unified_diff(stands[start:end], wanted, PAGE, "the tables", lineterm=""))
+print("\n".join(differing) if differing else f"{PAGE}: the keys are those of the tables")
+sys.exit(bool(differing))
+END
