@@ -51,7 +51,7 @@ folder, top, only = Path(sys.argv[4]).resolve(), Path(sys.argv[5]), sys.argv[6]
 is_examples = folder == top / "examples"
 
 # The kinds whose section is one case.
-WHOLE = {"script", "again", "list", "check", "texts", "run", "fronts", "faults"}
+WHOLE = {"script", "explained", "again", "list", "check", "texts", "run", "fronts", "faults"}
 # The kinds that play a case of another kind again and again.
 REPEATED = {"fronts"}
 

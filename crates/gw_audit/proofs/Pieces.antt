@@ -10,7 +10,7 @@ use Rattle.gw_rules.specs.Ask.{Ask}
 use Rattle.gw_rules.specs.Operation.{operation_number}
 use Rattle.gw_rules.proofs.Operations.{number_found}
 use Rattle.gw_audit.specs.declared.denial.Denial.{Denial}
-use Rattle.gw_audit.specs.Line.{field_text, line_text, operation_of, operation_text}
+use Rattle.gw_audit.specs.Line.{ask_text, field_text, line_text, operation_of, operation_text}
 use Rattle.gw_audit.specs.internal.Parts.{counts_text, object_text, request_text, rule_text, source_text}
 
 -- two that are there in the same cases are the same
@@ -87,3 +87,24 @@ line_pieces d =
     ap (with_object d) asked ∙ object_behind (counts_text d ++ source_text d.source ++ request_text d.ask) d.ask in
     line_by_pieces d ∙ ap (with_rule d) whole
     ∙ rule_behind (counts_text d ++ source_text d.source ++ request_text d.ask ++ object_text d.ask) d.rule
+
+-- ---- what was asked
+
+-- what was asked, up to a piece
+asked_request : Ask → List ℕ → List ℕ
+asked_request ask front =
+    front ++ codes " " ++ operation_text ask.operation ++ codes " dst=" ++ field_text ask.destination_network ++ codes " svc=" ++ field_text ask.service
+
+asked_object : Ask → List ℕ → List ℕ
+asked_object ask front =
+    front ++ codes " obj=" ++ field_text ask.object_type ++ codes "," ++ field_text ask.instance ++ codes " prop=" ++ field_text ask.property ++ codes " prio=" ++ field_text ask.priority
+
+ask_by_pieces : (source : Source) (ask : Ask) → ask_text source ask ≡ asked_object ask (asked_request ask (source_text source))
+unfolding ask_text source_text asked_request asked_object
+ask_by_pieces source ask = refl
+
+pub ask_pieces : (source : Source) (ask : Ask) → ask_text source ask ≡ source_text source ++ request_text ask ++ object_text ask
+unfolding asked_request asked_object
+ask_pieces source ask =
+    let asked : asked_request ask (source_text source) ≡ source_text source ++ request_text ask = request_behind (source_text source) ask in
+    ask_by_pieces source ask ∙ ap (asked_object ask) asked ∙ object_behind (source_text source ++ request_text ask) ask

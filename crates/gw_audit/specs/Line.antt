@@ -4,6 +4,8 @@ use Rattle.std.specs.Fmt.{decimal}
 use Rattle.std.specs.List.{find, flat_map}
 use Rattle.std.specs.Option.{option_map_or}
 use Rattle.gw_addr.specs.Station.{two_digits}
+use Rattle.gw_addr.specs.declared.station.Source.{Source}
+use Rattle.gw_rules.specs.Ask.{Ask}
 use Rattle.gw_rules.specs.declared.operation.Operation.{Operation}
 use Rattle.gw_rules.specs.declared.operation.TheConstants.Operation.{ALL}
 use Rattle.gw_rules.specs.Operation.{operation_name, operation_number}
@@ -39,3 +41,15 @@ line_text d =
     ++ codes " prop=" ++ field_text d.ask.property
     ++ codes " prio=" ++ field_text d.ask.priority
     ++ codes " rule=" ++ d.rule ++ 10 ∷ []
+
+-- What was asked and by whom, as a line shows it, allowed or denied:
+-- `<net>:<MAC> <operation> dst=<n> svc=<n> obj=<type>,<instance> prop=<n> prio=<n>`
+unfoldable pub ask_text : Source → Ask → List ℕ
+ask_text source ask =
+    decimal source.net ++ codes ":" ++ flat_map two_digits source.mac
+    ++ codes " " ++ operation_text ask.operation
+    ++ codes " dst=" ++ field_text ask.destination_network
+    ++ codes " svc=" ++ field_text ask.service
+    ++ codes " obj=" ++ field_text ask.object_type ++ codes "," ++ field_text ask.instance
+    ++ codes " prop=" ++ field_text ask.property
+    ++ codes " prio=" ++ field_text ask.priority

@@ -12,4 +12,4 @@ mod text;
 pub use denial::{Denial, Denials};
 pub use entry::{Shown, ShownAsk};
 pub use reading::{read_ask, read_line};
-pub use text::line;
+pub use text::{line, put_ask};

@@ -2,8 +2,8 @@
 
 ghost use Rattle.std.specs.Prelude.{◌≡◌, ◌++◌};
 ghost use Rattle.gw_addr.specs.Appending.{IsAppended, IsAppendedWhole};
-ghost use Rattle.gw_audit.specs.Line.{field_text, line_text, operation_of, operation_text};
-ghost use Rattle.gw_audit.specs.internal.Parts.{counts_text, object_text, pieces_text, request_text, rule_text, source_text};
+ghost use Rattle.gw_audit.specs.Line.{ask_text, field_text, line_text, operation_of, operation_text};
+ghost use Rattle.gw_audit.specs.internal.Parts.{asked_text, counts_text, object_text, pieces_text, request_text, rule_text, source_text};
 
 use crate::denial::Denial;
 use gw_addr::{Source, keep_whole, put_decimal, put_octet, put_slice};
@@ -27,6 +27,29 @@ pub fn line(denial: &Denial, out: &mut Vec<u8>) -> Result<(), AllocError>
     let len = out.len();
     let put = put_line(out, denial);
     keep_whole(out, len, put)
+}
+
+/// Appends what was asked and by whom, as a line shows it: the station that a datagram claims to come
+/// from, and the ask.
+///
+/// ```text
+/// 1:C0A80105BAC0 read dst=100 svc=12 obj=5,2 prop=85 prio=-
+/// ```
+///
+/// 1 Memory, only where the buffer had no room: a front of it may then stand behind what it held.
+pub fn put_ask(out: &mut Vec<u8>, source: &Source, ask: &Ask) -> Result<(), AllocError>
+    ensures { IsAppended (ask_text source.now ask.now) out.old out.new result }
+{
+    put_asked(out, source, ask)
+}
+
+/// Appends what was asked and by whom, piece by piece.
+fn put_asked(out: &mut Vec<u8>, source: &Source, ask: &Ask) -> Result<(), AllocError>
+    ensures { IsAppended (asked_text source.now ask.now) out.old out.new result }
+{
+    put_source(out, source)?;
+    put_request(out, ask)?;
+    put_object(out, ask)
 }
 
 /// Appends the line of a denial. A front of it stands there where a growth was refused.

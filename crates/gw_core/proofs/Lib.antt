@@ -9,6 +9,7 @@ pub mod ShownLemmas
 pub mod LineOutcomeLemmas
 pub mod ServeLemmas
 pub mod ReplayLemmas
+pub mod ExplainedLemmas
 pub mod CallLemmas
 pub mod RespondLemmas
 pub mod TrafficLemmas

@@ -7,6 +7,7 @@ use Rattle.gw_core.specs.declared.replaying.RunFault.TheVariants.{Memory, CountE
 use Rattle.gw_core.specs.State.{State}
 use Rattle.gw_script.specs.Script.{IsLine}
 use Rattle.gw_core.specs.LineOutcome.{LineOutcome, MemoryWant, PassesEnd}
+use Rattle.gw_core.specs.Replay.{Telling}
 use Rattle.std.specs.Io.KnownBytes.{Keeps, Appends, prepend_known}
 
 -- text that is known stays known: what the reader has left stands behind what is held
@@ -45,11 +46,11 @@ pub nothing_held : (held : List ℕ) (known : Option (List ℕ)) (script : List 
 nothing_held held known script none e = ap (λ (h : List ℕ). prepend_known h known) none ∙ ap (prepend_known []) e
 
 -- an event that isn't history_after leaves what was written as it was
-pub not_taken : (n : ℕ) (w moved : State) (text : List ℕ) (left : Option (List ℕ)) (before : List ℕ) (after : Option (List ℕ))
+pub not_taken : (told : Telling) (n : ℕ) (w moved : State) (text : List ℕ) (left : Option (List ℕ)) (before : List ℕ) (after : Option (List ℕ))
     (fault : RunFault) (wants passes : Type 0)
     → ((fault ≡ Memory) × wants) ⊎ ((fault ≡ CountEnd) × passes) → (wants → MemoryWant w text) → (passes → PassesEnd w text)
-    → after ≡ Some before → LineOutcome n w moved text left before after (Err fault)
-not_taken n w moved text left before after fault wants passes (inl h) short past held =
-    subst (λ (f : RunFault). LineOutcome n w moved text left before after (Err f)) (sym h.0) (short h.1, held)
-not_taken n w moved text left before after fault wants passes (inr h) short past held =
-    subst (λ (f : RunFault). LineOutcome n w moved text left before after (Err f)) (sym h.0) (past h.1, held)
+    → after ≡ Some before → LineOutcome told n w moved text left before after (Err fault)
+not_taken told n w moved text left before after fault wants passes (inl h) short past held =
+    subst (λ (f : RunFault). LineOutcome told n w moved text left before after (Err f)) (sym h.0) (short h.1, held)
+not_taken told n w moved text left before after fault wants passes (inr h) short past held =
+    subst (λ (f : RunFault). LineOutcome told n w moved text left before after (Err f)) (sym h.0) (past h.1, held)

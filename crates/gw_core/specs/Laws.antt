@@ -32,10 +32,13 @@ use Rattle.gw_services.specs.Choices.{read_property, write_property}
 use Rattle.gw_device.specs.Write.{write_ask, write_response}
 use Rattle.gw_core.specs.Asks.{asks, cast_asks, manage_asks, route_asks}
 use Rattle.gw_core.specs.Denials.{rule_name}
+use Rattle.gw_core.specs.Replay.{no_counts, run_text}
+use Rattle.gw_core.specs.Shown.{event_text, text_of_run}
 use Rattle.gw_core.specs.FormatOne.{effects_before}
 use Rattle.gw_core.specs.Effects.{NeedsNoMemory, cast_sends, change_at, effects_at, manage_sends, move_at, nothing, route_sends}
 use Rattle.gw_relay.specs.Message.{Message}
-use Rattle.gw_core.specs.Receive.{dropped, message, receive}
+use Rattle.gw_core.specs.Explained.{ask_line, ask_lines}
+use Rattle.gw_core.specs.Receive.{dropped, message, origin, receive}
 use Rattle.gw_core.specs.State.{State}
 
 -- a tick, and no datagram
@@ -187,6 +190,16 @@ PortsStay = (c : Configuration) (k : Counts) (h : List Event) → length (state_
 abbrev pub ConfigurationStays : Type 0
 ConfigurationStays = (c : Configuration) (k : Counts) (h : List Event) →
     (state_after c k h).device.configured ≡ (database_of c).configured
+
+-- What a replay that doesn't explain writes of a run is the text of its effects.
+abbrev pub RunsAreTold : Type 0
+RunsAreTold = (c : Configuration) (l : List Event) → run_text event_text c l ≡ text_of_run (run c no_counts l)
+
+-- The lines of those asks of an event that the policy denies are those of its denials, in order.
+abbrev pub DeniedLinesAreLogged : Type 0
+DeniedLinesAreLogged = (w : State) (e : Event) →
+    ask_lines w.rules (origin (receive w e)) (filter (λ ask. not (allows w.rules ask)) (asks w e))
+    ≡ flat_map (λ d. ask_line w.rules d.source d.ask) (effects_at w e).denials
 
 -- ---- the formats of a policy
 

@@ -13,6 +13,7 @@ pub mod Examples
 pub mod FormatOne
 pub mod Laws
 pub mod Shown
+pub mod Explained
 pub mod Replay
 pub mod LineOutcome
 pub mod Wire

@@ -6,13 +6,13 @@ use Rattle.gw_core.specs.declared.replaying.RunFault.{RunFault}
 use Rattle.gw_core.specs.declared.replaying.RunFault.TheVariants.{Read, Line, Write, Memory}
 use Rattle.gw_core.specs.declared.replaying.RunFault.TheVariants.{CountEnd}
 use Rattle.gw_core.specs.State.{State}
-use Rattle.gw_core.specs.Effects.{effects_at, passes_end, NeedsNoMemory}
+use Rattle.gw_core.specs.Effects.{passes_end, NeedsNoMemory}
 use Rattle.gw_core.specs.History.{next}
 use Rattle.gw_script.specs.Script.{lines_of, IsLine}
-use Rattle.gw_core.specs.Shown.{effects_text}
+use Rattle.gw_core.specs.Replay.{Telling}
 
 -- the first line writes an event, whose text was appended, and the gateway moved on by it
-pub record WholeStep (w moved : State) (text : List ℕ) (left : Option (List ℕ)) (before : List ℕ)
+pub record WholeStep (told : Telling) (w moved : State) (text : List ℕ) (left : Option (List ℕ)) (before : List ℕ)
     (after : Option (List ℕ)) : Type 0 where
   pub line : List ℕ
   pub event : Event
@@ -20,7 +20,7 @@ pub record WholeStep (w moved : State) (text : List ℕ) (left : Option (List �
   pub rest : List ℕ
   pub remains : left ≡ Some rest
   pub lines : lines_of text ≡ line ∷ lines_of rest
-  pub appended : after ≡ Some (before ++ effects_text (effects_at w event))
+  pub appended : after ≡ Some (before ++ told w event)
   pub moves : moved ≡ next w event
 
 -- the first line writes no event
@@ -31,7 +31,7 @@ pub record NoEvent (w : State) (text : List ℕ) : Type 0 where
   pub no_event : (e : Event) → ¬ (IsLine (length w.relay.links) line e)
 
 -- the first line writes an event, of whose text a front was appended
-pub record CutStep (w : State) (text before : List ℕ) (after : Option (List ℕ)) : Type 0 where
+pub record CutStep (told : Telling) (w : State) (text before : List ℕ) (after : Option (List ℕ)) : Type 0 where
   pub line : List ℕ
   pub event : Event
   pub others : List (List ℕ)
@@ -39,7 +39,7 @@ pub record CutStep (w : State) (text before : List ℕ) (after : Option (List �
   pub lines : lines_of text ≡ line ∷ others
   pub front : List ℕ
   pub unwritten : List ℕ
-  pub parts : effects_text (effects_at w event) ≡ front ++ unwritten
+  pub parts : told w event ≡ front ++ unwritten
   pub appended : after ≡ Some (before ++ front)
 
 -- the first line writes an event that would pass the end of a count
@@ -65,26 +65,26 @@ abbrev pub IsShorter : List ℕ → Option (List ℕ) → Type 0
 IsShorter text left = (rest : List ℕ) × (left ≡ Some rest) × (length rest + 1 ≤ length text)
 
 -- what comes of the first line, whose number this is
-abbrev pub LineOutcome : ℕ → State → State → List ℕ → Option (List ℕ) → List ℕ → Option (List ℕ)
+abbrev pub LineOutcome : Telling → ℕ → State → State → List ℕ → Option (List ℕ) → List ℕ → Option (List ℕ)
     → Result Bool RunFault → Type 0
-LineOutcome n w moved text left before after (Ok true) = WholeStep w moved text left before after
-LineOutcome n w moved text left before after (Ok false) =
+LineOutcome told n w moved text left before after (Ok true) = WholeStep told w moved text left before after
+LineOutcome told n w moved text left before after (Ok false) =
     (lines_of text ≡ []) × (after ≡ Some before)
-LineOutcome n w moved text left before after (Err (Line m)) =
+LineOutcome told n w moved text left before after (Err (Line m)) =
     (m ≡ n) × NoEvent w text × (after ≡ Some before)
-LineOutcome n w moved text left before after (Err Write) = CutStep w text before after
-LineOutcome n w moved text left before after (Err Read) = after ≡ Some before
-LineOutcome n w moved text left before after (Err Memory) =
+LineOutcome told n w moved text left before after (Err Write) = CutStep told w text before after
+LineOutcome told n w moved text left before after (Err Read) = after ≡ Some before
+LineOutcome told n w moved text left before after (Err Memory) =
     MemoryWant w text × (after ≡ Some before)
-LineOutcome n w moved text left before after (Err CountEnd) =
+LineOutcome told n w moved text left before after (Err CountEnd) =
     PassesEnd w text × (after ≡ Some before)
 
 -- the same, where the text that is left and what was written are known
-abbrev pub OnKnownLine : ℕ → State → State → Option (List ℕ) → Option (List ℕ) → Option (List ℕ)
+abbrev pub OnKnownLine : Telling → ℕ → State → State → Option (List ℕ) → Option (List ℕ) → Option (List ℕ)
     → Option (List ℕ) → Result Bool RunFault → Type 0
-OnKnownLine n w moved left leaves held holds result =
+OnKnownLine told n w moved left leaves held holds result =
     (text before : List ℕ) → left ≡ Some text → held ≡ Some before
-    → LineOutcome n w moved text leaves before holds result
+    → LineOutcome told n w moved text leaves before holds result
 
 -- an event is not taken for want of memory, which it may want, or since it would pass the end of a
 -- count

@@ -4,30 +4,40 @@ use Rattle.gw_core.specs.declared.event.Counts.{Counts}
 use Rattle.gw_script.specs.Event.{Event}
 use Rattle.gw_policy_text.specs.Configuration.{Configuration}
 use Rattle.gw_core.specs.Effects.{passes_end, NeedsNoMemory}
-use Rattle.gw_core.specs.History.{run, state_after, history_after}
+use Rattle.gw_core.specs.History.{state_after, history_after}
+use Rattle.gw_core.specs.State.{State}
 use Rattle.gw_script.specs.Script.{lines_of, IsLine, AreLines}
-use Rattle.gw_core.specs.Shown.{text_of_run}
 
 -- a gateway that nothing came to
 abbrev pub no_counts : Counts
 no_counts = record { ticks = 0; denials = 0 }
 
+-- How an event is told: the text of it, in the state in which it comes. A replay tells what each event does (`event_text`), and one that
+-- explains also what each asks (`explained_text`).
+abbrev pub Telling : Type 0
+Telling = State → Event → List ℕ
+
+-- the text of events behind a history, each told in the state that those before it left
+unfoldable pub text_after : Telling → Configuration → List Event → List Event → List ℕ
+text_after told c h [] = []
+text_after told c h (e ∷ l) = told (state_after c no_counts h) e ++ text_after told c (e ∷ h) l
+
 -- the text of the run of these events, from a fresh gateway
-abbrev pub run_text : Configuration → List Event → List ℕ
-run_text c events = text_of_run (run c no_counts events)
+abbrev pub run_text : Telling → Configuration → List Event → List ℕ
+run_text told c events = text_after told c [] events
 
 -- these events are the first lines of the script
 abbrev pub FirstLines : Configuration → List ℕ → List Event → Type 0
 FirstLines c script events = AreLines (length c.ports) (take (length events) (lines_of script)) events
 
 -- every line of the script writes an event, and what was written is the text of their run
-pub record RunsWhole (c : Configuration) (script before after : List ℕ) : Type 0 where
+pub record RunsWhole (told : Telling) (c : Configuration) (script before after : List ℕ) : Type 0 where
   pub events : List Event
   pub lines : AreLines (length c.ports) (lines_of script) events
-  pub text : after ≡ before ++ run_text c events
+  pub text : after ≡ before ++ run_text told c events
 
 -- the lines before this one, which is counted from 1, write events, this line writes none, and what was written is the text of their run
-pub record RunsToLine (n : ℕ) (c : Configuration) (script before after : List ℕ) : Type 0 where
+pub record RunsToLine (told : Telling) (n : ℕ) (c : Configuration) (script before after : List ℕ) : Type 0 where
   pub events : List Event
   pub number : n ≡ length events + 1
   pub lines : FirstLines c script events
@@ -35,17 +45,17 @@ pub record RunsToLine (n : ℕ) (c : Configuration) (script before after : List 
   pub rest : List (List ℕ)
   pub stands : drop (length events) (lines_of script) ≡ line ∷ rest
   pub no_event : (e : Event) → ¬ (IsLine (length c.ports) line e)
-  pub text : after ≡ before ++ run_text c events
+  pub text : after ≡ before ++ run_text told c events
 
 -- some first lines write events, and what was written is the text of their run, whole
-pub record RunsPart (c : Configuration) (script before after : List ℕ) : Type 0 where
+pub record RunsPart (told : Telling) (c : Configuration) (script before after : List ℕ) : Type 0 where
   pub events : List Event
   pub lines : FirstLines c script events
-  pub text : after ≡ before ++ run_text c events
+  pub text : after ≡ before ++ run_text told c events
 
 -- some first lines write events, the line behind them writes one that would pass the end of a count, and what was written is the text of
 -- the run of those before
-pub record RunsToEnd (c : Configuration) (script before after : List ℕ) : Type 0 where
+pub record RunsToEnd (told : Telling) (c : Configuration) (script before after : List ℕ) : Type 0 where
   pub events : List Event
   pub lines : FirstLines c script events
   pub line : List ℕ
@@ -54,7 +64,7 @@ pub record RunsToEnd (c : Configuration) (script before after : List ℕ) : Type
   pub event : Event
   pub writes : IsLine (length c.ports) line event
   pub passes : passes_end (state_after c no_counts (history_after [] events)) event ≡ true
-  pub text : after ≡ before ++ run_text c events
+  pub text : after ≡ before ++ run_text told c events
 
 -- The line behind those of these events writes one for which memory may be wanted.
 pub record MemoryLine (c : Configuration) (script : List ℕ) (events : List Event) : Type 0 where
@@ -67,19 +77,19 @@ pub record MemoryLine (c : Configuration) (script : List ℕ) (events : List Eve
 
 -- Some first lines write events, and what was written is the text of their run, whole. Either there are none of them, or the line behind
 -- them writes an event for which memory may be wanted.
-pub record RunsToMemory (c : Configuration) (script before after : List ℕ) : Type 0 where
+pub record RunsToMemory (told : Telling) (c : Configuration) (script before after : List ℕ) : Type 0 where
   pub events : List Event
   pub lines : FirstLines c script events
   pub cause : (events ≡ []) ⊎ MemoryLine c script events
-  pub text : after ≡ before ++ run_text c events
+  pub text : after ≡ before ++ run_text told c events
 
 -- some first lines write events, and what was written is a front of the text of their run
-pub record RunsFront (c : Configuration) (script before after : List ℕ) : Type 0 where
+pub record RunsFront (told : Telling) (c : Configuration) (script before after : List ℕ) : Type 0 where
   pub events : List Event
   pub lines : FirstLines c script events
   pub front : List ℕ
   pub unwritten : List ℕ
-  pub parts : run_text c events ≡ front ++ unwritten
+  pub parts : run_text told c events ≡ front ++ unwritten
   pub text : after ≡ before ++ front
 
 -- Where the octets of the reader and those that the writer holds are known, they are so known after the replay, and this is said of

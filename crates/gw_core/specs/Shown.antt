@@ -5,7 +5,10 @@ use Rattle.gw_audit.specs.declared.denial.Denial.{Denial}
 use Rattle.gw_audit.specs.Line.{line_text}
 use Rattle.gw_script.specs.Text.{end_line, send_line}
 use Rattle.gw_relay.specs.Sends.{Batch, Sending}
+use Rattle.gw_script.specs.Event.{Event}
 use Rattle.gw_core.specs.declared.effects.Effects.{Effects}
+use Rattle.gw_core.specs.Effects.{effects_at}
+use Rattle.gw_core.specs.State.{State}
 
 -- the line of one denial: `deny ` and its line in the log
 abbrev pub denial_line : Denial → List ℕ
@@ -30,6 +33,10 @@ sends_text sends = flat_map sending_line sends
 -- the lines of what one event does
 unfoldable pub effects_text : Effects → List ℕ
 effects_text e = denials_text e.denials ++ sends_text e.sends ++ end_line
+
+-- the lines of what an event does in this state
+abbrev pub event_text : State → Event → List ℕ
+event_text w e = effects_text (effects_at w e)
 
 -- the lines of what each event of a run does
 abbrev pub text_of_run : List Effects → List ℕ

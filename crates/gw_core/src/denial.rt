@@ -15,7 +15,8 @@ use std::alloc::{AllocError, Global};
 /// The name under which an ask is denied where no rule matches it.
 const DEFAULT_NAME: &str = "default";
 
-fn name_at(rules: &RuleList, number: u16) -> &str
+/// The name of the rule of this number, from 1, or `default`.
+pub(crate) fn name_at(rules: &RuleList, number: u16) -> &str
     ensures { result.now ≡ name_at rules.now number }
 {
     if number == 0 {
@@ -48,14 +49,14 @@ fn copy_name(alloc: Global, name: &str) -> Result<RuleName, AllocError>
 
 /// The port that a datagram came on, and who it claims to come from.
 #[derive(Clone, Copy)]
-struct Origin {
+pub(crate) struct Origin {
     port: u8,
-    source: Source,
+    pub(crate) source: Source,
 }
 
 /// Where what is received comes from: a frame that manages a table, from its sender; a message, from
 /// who it claims to come from.
-fn origin_of(received: &Received<'_>) -> Option<Origin>
+pub(crate) fn origin_of(received: &Received<'_>) -> Option<Origin>
     ensures { option_map origin_view result ≡ origin_of received.now }
 {
     match received {

@@ -1,6 +1,6 @@
 //! The gateway: its state, and what it answers to one event.
 
-ghost use Rattle.std.specs.Prelude.{◌≡◌, ◌+◌, ◌≤◌, ◌<◌, ◌^◌, ◌↔◌, ℕ, [], false, true, length, map, None};
+ghost use Rattle.std.specs.Prelude.{◌≡◌, ◌+◌, ◌≤◌, ◌<◌, ◌^◌, ◌↔◌, ◌++◌, ℕ, [], false, true, length, map, None, vec_capacity};
 ghost use Rattle.std.specs.Prelude.{IsOk, IfOk, OnOk, OnErr, IsErrOf, List};
 ghost use Rattle.std.specs.Option.{option_map};
 ghost use Rattle.gw_addr.specs.declared.TheConstants.{MAX_PORTS};
@@ -19,11 +19,13 @@ ghost use Rattle.gw_objects.specs.History.{IsStateAfter as AreSlotsAfter};
 ghost use Rattle.gw_objects.specs.declared.value.PropertyValue.{PropertyValue};
 ghost use Rattle.gw_core.specs.Effects.{changed};
 ghost use Rattle.gw_core.specs.History.{with_granted};
+ghost use Rattle.gw_core.specs.Explained.{asks_text};
 ghost use Rattle.gw_script.specs.Event.{Datagram, Tick};
 
 use crate::denial::denials_of;
 use crate::effects::Effects;
 use crate::event::Counts;
+use crate::explaining::append_asks;
 use crate::fault::StepFault;
 use crate::receive::{Received, receive_on};
 use crate::respond::{Response, network_of, respond};
@@ -293,6 +295,33 @@ impl Gateway {
         } = now.outcome(alloc, &received)?;
         self.move_on(change, write, effects.denials.len() as u64)?;
         Ok(effects)
+    }
+
+    /// Appends a line for each ask that a datagram raises, allowed or denied, with the rule that decides
+    /// it. The datagram isn't taken. A part of the lines may stand there where a growth was refused.
+    pub(crate) fn append_asks(
+        &self,
+        alloc: Global,
+        port: u8,
+        from: BipAddr,
+        octets: &[u8],
+        out: &mut Vec<u8>,
+    ) -> Result<(), AllocError>
+        ensures ok { let due = asks_text self.now (Datagram port from octets.now) in
+            OnOk result (out.new.items ≡ out.old.items ++ due) }
+        ensures silent { NeedsNoMemory self.now (Datagram port from octets.now) → IsOk result }
+        ensures capacity { vec_capacity out.old ≤ vec_capacity out.new }
+    {
+        let network = network_of(&self.device);
+        let received = receive_on(self.relay.links(), network, port, from, octets);
+        append_asks(
+            alloc,
+            &self.policy,
+            &self.relay,
+            &self.device,
+            &received,
+            out,
+        )
     }
 
     /// Takes a tick. `CountEnd` where the count of ticks would pass 2^63; then nothing changed.

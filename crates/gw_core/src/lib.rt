@@ -6,6 +6,7 @@
 mod denial;
 mod effects;
 mod event;
+mod explaining;
 mod fault;
 mod gateway;
 pub mod laws;
@@ -16,6 +17,7 @@ mod respond;
 mod serving;
 mod setting;
 mod shown;
+mod telling;
 mod whole_run;
 mod wire;
 
@@ -27,7 +29,7 @@ pub use gw_audit::{Denial, Denials};
 pub use gw_policy_text::{Config, ConfigFault, read_config};
 pub use gw_relay::{Batch, Sends};
 pub use gw_script::{Event, script_laws};
-pub use replaying::{RunFault, replay};
+pub use replaying::{RunFault, replay, replay_explaining};
 pub use serving::{ServeFault, ServeStop, Served, serve};
 pub use setting::setting_s;
 pub use whole_run::run;

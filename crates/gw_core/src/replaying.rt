@@ -1,26 +1,22 @@
 //! The replay of a script: its events one by one through a fresh gateway, and the text of what
 //! they do.
 
-ghost use Rattle.std.specs.Prelude.{◌≡◌, ◌+◌, ◌*◌, ◌<◌, ◌≤◌, ℕ, List, [], length, ◌⊎◌, Ok, Some, OnOk, IfErr, IsErrOf, true, vec_capacity};
+ghost use Rattle.std.specs.Prelude.{◌≡◌, ◌+◌, ◌*◌, ◌<◌, ◌≤◌, ℕ, List, [], length, ◌⊎◌, Ok, Some, OnOk, IsErrOf, true, vec_capacity};
 ghost use Rattle.std.specs.Io.KnownBytes.{prepend_known};
-ghost use Rattle.gw_script.specs.Event.{event_view};
 ghost use Rattle.gw_script.specs.Reader.{IsPaid};
-ghost use Rattle.gw_core.specs.Effects.{effects_at};
 ghost use Rattle.gw_policy_text.specs.Configuration.{Configuration};
-ghost use Rattle.gw_core.specs.History.{IsStateAfter, next};
-ghost use Rattle.gw_core.specs.Shown.{effects_text};
+ghost use Rattle.gw_core.specs.History.{IsStateAfter};
+ghost use Rattle.gw_core.specs.Explained.{explained_text};
+ghost use Rattle.gw_core.specs.Shown.{event_text};
 ghost use Rattle.gw_core.specs.Replay.{OnKnown, no_counts, RunsWhole, RunsToLine, RunsToEnd, RunsToMemory, RunsPart, RunsFront};
-ghost use Rattle.gw_core.specs.LineOutcome.{IsEventFault, IsShorter, OnKnownLine};
+ghost use Rattle.gw_core.specs.LineOutcome.{IsShorter, OnKnownLine};
 
 use crate::event::Counts;
-use crate::fault::StepFault;
 use crate::gateway::Gateway;
-use crate::shown::append_effects;
-use crate::whole_run::take_event;
+use crate::telling::{Explaining, Plain, Telling};
 use gw_policy_text::Config;
 use gw_script::{
-    Event, LineReader, MAX_DATAGRAM, NextLine, OctetSink, OctetSource, SpelledAddr, parse_spelled,
-    write_whole,
+    LineReader, MAX_DATAGRAM, NextLine, OctetSink, OctetSource, parse_spelled, write_whole,
 };
 use std::alloc::Global;
 use thiserror::Error;
@@ -94,23 +90,107 @@ pub fn replay<R: OctetSource, W: OctetSink>(
     // What is written then, where the octets of the reader and the writer are known: the text of the
     // run of the whole script,
     ensures whole { OnOk result
-        (OnKnown (R.left reader.old) (W.held writer.old) (W.held writer.new) (RunsWhole config)) }
+        (OnKnown (R.left reader.old) (W.held writer.old) (W.held writer.new)
+        (RunsWhole event_text config)) }
     // of the lines before one that writes no event,
     ensures line { (n : ℕ) → IsErrOf result (RunFault.Line n) →
-        OnKnown (R.left reader.old) (W.held writer.old) (W.held writer.new) (RunsToLine n config) }
+        OnKnown (R.left reader.old) (W.held writer.old) (W.held writer.new)
+        (RunsToLine event_text n config) }
     // of the lines before one whose event would pass the end of a count,
     ensures count_end { IsErrOf result RunFault.CountEnd →
-        OnKnown (R.left reader.old) (W.held writer.old) (W.held writer.new) (RunsToEnd config) }
+        OnKnown (R.left reader.old) (W.held writer.old) (W.held writer.new)
+        (RunsToEnd event_text config) }
     // or of some first lines, of which a failed write may leave a front.
     ensures front { IsErrOf result RunFault.Write →
-        OnKnown (R.left reader.old) (W.held writer.old) (W.held writer.new) (RunsFront config) }
+        OnKnown (R.left reader.old) (W.held writer.old) (W.held writer.new)
+        (RunsFront event_text config) }
     ensures part { (IsErrOf result RunFault.Read ⊎ IsErrOf result RunFault.Memory) →
-        OnKnown (R.left reader.old) (W.held writer.old) (W.held writer.new) (RunsPart config) }
+        OnKnown (R.left reader.old) (W.held writer.old) (W.held writer.new)
+        (RunsPart event_text config) }
     // Memory is wanted before the first line, or for an event that brings a message.
     ensures memory { IsErrOf result RunFault.Memory →
-        OnKnown (R.left reader.old) (W.held writer.old) (W.held writer.new) (RunsToMemory config) }
+        OnKnown (R.left reader.old) (W.held writer.old) (W.held writer.new)
+        (RunsToMemory event_text config) }
     // What never fails doesn't end the replay: a reader, of a script of less than 2 GiB, and a
     // writer.
+    ensures sure_reader { R.NeverFails reader.old → (script : List ℕ) →
+        R.left reader.old ≡ Some script → 2 * length script + 1 < 4294967295 →
+        ¬ (IsErrOf result RunFault.Read) }
+    ensures sure_writer { W.NeverFails writer.old → ¬ (IsErrOf result RunFault.Write) }
+{
+    replay_telling(alloc, &Plain, config, reader, writer)
+}
+
+/// As [`replay`], and before the lines of what an event does there is one for each of its asks, allowed or
+/// denied, in the order of the steps: `ask `, what was asked as a line of the log shows it, and what the
+/// policy says, with the number and the name of the first rule that matches, or `deny default` where none
+/// does.
+///
+/// ```text
+/// ask 1:C0A80105BAC0 read dst=100 svc=12 obj=5,2 prop=85 prio=- deny rule 1 hide
+/// deny 1 0 1 1:C0A80105BAC0 read dst=100 svc=12 obj=5,2 prop=85 prio=- rule=hide
+/// send 1 192.168.1.5:47808 810A001101080064010150080C9102911B
+/// end
+/// ```
+pub fn replay_explaining<R: OctetSource, W: OctetSink>(
+    alloc: Global,
+    config: Config,
+    reader: &mut R,
+    writer: &mut W,
+) -> Result<(), RunFault>
+    // What is written then, as of `replay`.
+    ensures whole { OnOk result
+        (OnKnown (R.left reader.old) (W.held writer.old) (W.held writer.new)
+        (RunsWhole explained_text config)) }
+    ensures line { (n : ℕ) → IsErrOf result (RunFault.Line n) →
+        OnKnown (R.left reader.old) (W.held writer.old) (W.held writer.new)
+        (RunsToLine explained_text n config) }
+    ensures count_end { IsErrOf result RunFault.CountEnd →
+        OnKnown (R.left reader.old) (W.held writer.old) (W.held writer.new)
+        (RunsToEnd explained_text config) }
+    ensures front { IsErrOf result RunFault.Write →
+        OnKnown (R.left reader.old) (W.held writer.old) (W.held writer.new)
+        (RunsFront explained_text config) }
+    ensures part { (IsErrOf result RunFault.Read ⊎ IsErrOf result RunFault.Memory) →
+        OnKnown (R.left reader.old) (W.held writer.old) (W.held writer.new)
+        (RunsPart explained_text config) }
+    ensures memory { IsErrOf result RunFault.Memory →
+        OnKnown (R.left reader.old) (W.held writer.old) (W.held writer.new)
+        (RunsToMemory explained_text config) }
+    ensures sure_reader { R.NeverFails reader.old → (script : List ℕ) →
+        R.left reader.old ≡ Some script → 2 * length script + 1 < 4294967295 →
+        ¬ (IsErrOf result RunFault.Read) }
+    ensures sure_writer { W.NeverFails writer.old → ¬ (IsErrOf result RunFault.Write) }
+{
+    replay_telling(alloc, &Explaining, config, reader, writer)
+}
+
+/// Runs the events of a script through a fresh gateway, and tells each so.
+fn replay_telling<T: Telling, R: OctetSource, W: OctetSink>(
+    alloc: Global,
+    telling: &T,
+    config: Config,
+    reader: &mut R,
+    writer: &mut W,
+) -> Result<(), RunFault>
+    ensures whole { OnOk result
+        (OnKnown (R.left reader.old) (W.held writer.old) (W.held writer.new)
+        (RunsWhole T.told config)) }
+    ensures line { (n : ℕ) → IsErrOf result (RunFault.Line n) →
+        OnKnown (R.left reader.old) (W.held writer.old) (W.held writer.new)
+        (RunsToLine T.told n config) }
+    ensures count_end { IsErrOf result RunFault.CountEnd →
+        OnKnown (R.left reader.old) (W.held writer.old) (W.held writer.new)
+        (RunsToEnd T.told config) }
+    ensures front { IsErrOf result RunFault.Write →
+        OnKnown (R.left reader.old) (W.held writer.old) (W.held writer.new)
+        (RunsFront T.told config) }
+    ensures part { (IsErrOf result RunFault.Read ⊎ IsErrOf result RunFault.Memory) →
+        OnKnown (R.left reader.old) (W.held writer.old) (W.held writer.new)
+        (RunsPart T.told config) }
+    ensures memory { IsErrOf result RunFault.Memory →
+        OnKnown (R.left reader.old) (W.held writer.old) (W.held writer.new)
+        (RunsToMemory T.told config) }
     ensures sure_reader { R.NeverFails reader.old → (script : List ℕ) →
         R.left reader.old ≡ Some script → 2 * length script + 1 < 4294967295 →
         ¬ (IsErrOf result RunFault.Read) }
@@ -132,39 +212,46 @@ pub fn replay<R: OctetSource, W: OctetSink>(
         datagram: [0; MAX_DATAGRAM],
         text,
     };
-    run.replay_script(alloc, reader, writer)
+    run.replay_script(alloc, telling, reader, writer)
 }
 
 impl ScriptRun {
     /// Replays each line, in order.
-    fn replay_script<R: OctetSource, W: OctetSink>(
+    fn replay_script<T: Telling, R: OctetSource, W: OctetSink>(
         &mut self,
         alloc: Global,
+        telling: &T,
         reader: &mut R,
         writer: &mut W,
     ) -> Result<(), RunFault>
         requires unread { self.old.lines.unread ≡ [] }
         requires calls { self.old.lines.calls ≡ 0 }
         ensures whole { (c : Configuration) → IsStateAfter self.old.gateway c no_counts [] → OnOk result
-            (OnKnown (R.left reader.old) (W.held writer.old) (W.held writer.new) (RunsWhole c)) }
+            (OnKnown (R.left reader.old) (W.held writer.old) (W.held writer.new)
+            (RunsWhole T.told c)) }
         ensures line { (c : Configuration) (n : ℕ) → IsStateAfter self.old.gateway c no_counts [] → IsErrOf result (RunFault.Line n) →
-            OnKnown (R.left reader.old) (W.held writer.old) (W.held writer.new) (RunsToLine n c) }
+            OnKnown (R.left reader.old) (W.held writer.old) (W.held writer.new)
+            (RunsToLine T.told n c) }
         ensures count_end { (c : Configuration) → IsStateAfter self.old.gateway c no_counts [] → IsErrOf result RunFault.CountEnd →
-            OnKnown (R.left reader.old) (W.held writer.old) (W.held writer.new) (RunsToEnd c) }
+            OnKnown (R.left reader.old) (W.held writer.old) (W.held writer.new)
+            (RunsToEnd T.told c) }
         ensures front { (c : Configuration) → IsStateAfter self.old.gateway c no_counts [] → IsErrOf result RunFault.Write →
-            OnKnown (R.left reader.old) (W.held writer.old) (W.held writer.new) (RunsFront c) }
+            OnKnown (R.left reader.old) (W.held writer.old) (W.held writer.new)
+            (RunsFront T.told c) }
         ensures part { (c : Configuration) → IsStateAfter self.old.gateway c no_counts [] →
             (IsErrOf result RunFault.Read ⊎ IsErrOf result RunFault.Memory) →
-            OnKnown (R.left reader.old) (W.held writer.old) (W.held writer.new) (RunsPart c) }
+            OnKnown (R.left reader.old) (W.held writer.old) (W.held writer.new)
+            (RunsPart T.told c) }
         ensures memory { (c : Configuration) → IsStateAfter self.old.gateway c no_counts [] → IsErrOf result RunFault.Memory →
-            OnKnown (R.left reader.old) (W.held writer.old) (W.held writer.new) (RunsToMemory c) }
+            OnKnown (R.left reader.old) (W.held writer.old) (W.held writer.new)
+            (RunsToMemory T.told c) }
         ensures sure_reader { R.NeverFails reader.old → (script : List ℕ) →
             R.left reader.old ≡ Some script → 2 * length script + 1 < 4294967295 →
             ¬ (IsErrOf result RunFault.Read) }
         ensures sure_writer { W.NeverFails writer.old → ¬ (IsErrOf result RunFault.Write) }
     {
         for number in 1..u64::MAX {
-            match self.replay_line(alloc, number, reader, writer) {
+            match self.replay_line(alloc, telling, number, reader, writer) {
                 Ok(true) => {}
                 Ok(false) => return Ok(()),
                 Err(fault) => return Err(fault),
@@ -174,14 +261,15 @@ impl ScriptRun {
     }
 
     /// Replays the line of this number. It answers whether there was one.
-    fn replay_line<R: OctetSource, W: OctetSink>(
+    fn replay_line<T: Telling, R: OctetSource, W: OctetSink>(
         &mut self,
         alloc: Global,
+        telling: &T,
         number: u64,
         reader: &mut R,
         writer: &mut W,
     ) -> Result<bool, RunFault>
-        ensures outcome { OnKnownLine number self.old.gateway self.new.gateway
+        ensures outcome { OnKnownLine T.told number self.old.gateway self.new.gateway
             (prepend_known self.old.lines.unread (R.left reader.old))
             (prepend_known self.new.lines.unread (R.left reader.new))
             (W.held writer.old) (W.held writer.new) result }
@@ -207,7 +295,7 @@ impl ScriptRun {
         let Some((event, sender)) = parse_spelled(ports, line, &mut self.datagram) else {
             return Err(RunFault::Line(number));
         };
-        match make_text(alloc, &mut self.gateway, &event, &sender, &mut self.text) {
+        match telling.make_text(alloc, &mut self.gateway, &event, &sender, &mut self.text) {
             Ok(()) => {}
             Err(fault) => return Err(fault),
         }
@@ -217,32 +305,4 @@ impl ScriptRun {
         self.lines.consume(span);
         Ok(true)
     }
-}
-
-/// Has the gateway take an event, and makes the text of what it does.
-fn make_text(
-    alloc: Global,
-    gateway: &mut Gateway,
-    event: &Event<'_>,
-    sender: &Option<SpelledAddr<'_>>,
-    text: &mut Vec<u8>,
-) -> Result<(), RunFault>
-    requires room { 4 ≤ vec_capacity text.old }
-    ensures text { OnOk result
-        (text.new.items ≡ effects_text (effects_at gateway.old (event_view event.now))) }
-    ensures moved { OnOk result (gateway.new ≡ next gateway.old (event_view event.now)) }
-    ensures fault { IfErr result (IsEventFault gateway.old (event_view event.now)) }
-    ensures capacity { vec_capacity text.old ≤ vec_capacity text.new }
-{
-    let effects = match take_event(alloc, gateway, event) {
-        Ok(effects) => effects,
-        Err(StepFault::Memory) => return Err(RunFault::Memory),
-        Err(StepFault::CountEnd) => return Err(RunFault::CountEnd),
-    };
-    text.clear();
-    match append_effects(text, &effects, sender) {
-        Ok(()) => {}
-        Err(_) => return Err(RunFault::Memory),
-    }
-    Ok(())
 }

@@ -3,3 +3,4 @@ pub mod PropertyLemmas
 pub mod Unread
 pub mod RequestLemmas
 pub mod Writes
+pub mod AskLemmas

@@ -1,6 +1,6 @@
 //! The device, and what it answers.
 
-ghost use Rattle.std.specs.Prelude.{◌≡◌, ◌<◌, ◌∷◌, [], List, None, length, IfOk, IsOk};
+ghost use Rattle.std.specs.Prelude.{◌≡◌, ◌<◌, ◌++◌, ◌∷◌, [], List, None, length, IfOk, IsOk, OnOk};
 ghost use Rattle.std.specs.Option.{option_map};
 ghost use Rattle.gw_objects.specs.declared.value.PropertyValue.{PropertyValue};
 ghost use Rattle.gw_objects.specs.History.{IsStateAfter, with_write};
@@ -19,7 +19,7 @@ ghost use Rattle.gw_device.specs.WhoHas.{who_has_response};
 ghost use Rattle.gw_device.specs.WhoIs.{who_is_response};
 ghost use Rattle.gw_device.specs.Write.{write_response};
 
-use crate::{Change, Context, Reply, dispatch, read, who_has, who_is, write};
+use crate::{Asks, Change, Context, Reply, asking, dispatch, read, who_has, who_is, write};
 use gw_apdu::ConfirmedRequest;
 use gw_objects::{Configured, ObjectDb};
 use gw_policy_text::Config;
@@ -90,6 +90,31 @@ impl Device {
             device_answer rules self.now context.now apdu.now ≡ None → IsOk result }
     {
         dispatch::answer(alloc, &self.objects, judge, context, apdu)
+    }
+
+    /// Adds what an APDU asks of the policy, allowed or denied, in order, behind what stands in `asks`. Nothing
+    /// is changed.
+    ///
+    /// # Errors
+    ///
+    /// 1 Memory. A part of the asks may then stand there.
+    pub fn put_asks<J: Judge>(
+        &self,
+        alloc: Global,
+        judge: &J,
+        context: &Context,
+        apdu: &[u8],
+        asks: &mut Asks,
+    ) -> Result<(), AllocError>
+        ensures asks { (rules : List Rule) → J.StandsFor judge.now rules →
+            let due = device_asks rules self.now context.now apdu.now in
+            OnOk result (asks.new ≡ asks.old ++ due) }
+        // What is neither asked about nor answered needs no memory.
+        ensures silent { (rules : List Rule) →
+            device_asks rules self.now context.now apdu.now ≡ [] →
+            device_answer rules self.now context.now apdu.now ≡ None → IsOk result }
+    {
+        asking::put_asks(alloc, &self.objects, judge, context, apdu, asks)
     }
 
     /// What the device gives to a ReadProperty (clause 15.5), whose header says which client it is

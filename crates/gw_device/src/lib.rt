@@ -3,6 +3,7 @@
 #![tactic(auto)]
 
 mod ask;
+mod asking;
 mod context;
 mod device;
 mod dispatch;
@@ -17,6 +18,7 @@ mod who_has;
 mod who_is;
 mod write;
 
+pub use asking::{Asks, NoRules, put_refused};
 pub use context::Context;
 pub use device::Device;
 pub use reply::{Answer, Change, Reply};

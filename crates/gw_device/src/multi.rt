@@ -29,7 +29,12 @@ use gw_tags::ObjectId;
 use std::alloc::{AllocError, Global};
 
 /// The ask for a property.
-fn multi_ask(objects: &ObjectDb, context: &Context, object: ObjectId, property: u32) -> Ask
+pub(crate) fn multi_ask(
+    objects: &ObjectDb,
+    context: &Context,
+    object: ObjectId,
+    property: u32,
+) -> Ask
     ensures { result ≡ multi_ask objects.now context.now (object_view object) property }
 {
     property_ask(

@@ -107,6 +107,7 @@ fn answer_section(alloc: Global, config: &str, section: &str, out: &mut Vec<u8>)
     writeln!(out, "== {head}")?;
     match kind {
         "script" => replays::script(alloc, config, body, out),
+        "explained" => replays::explained(alloc, config, body, out),
         "again" => replays::again(alloc, config, body, out),
         "list" => replays::list(alloc, config, body, out),
         "check" => configurations::check(alloc, body, out),

@@ -6,7 +6,7 @@ ghost use Rattle.gw_script.specs.Event.{IsOnPort, event_view};
 use crate::case::{is_case, put_octets, wanted};
 use crate::configurations::read;
 use gw_addr::BipAddr;
-use gw_core::{Counts, Denial, Effects, Event, Gateway, RunFault, Sends, StepFault, replay, run};
+use gw_core::{Counts, Denial, Effects, Event, Gateway, RunFault, Sends, StepFault, replay, replay_explaining, run};
 use gw_script::{MAX_DATAGRAM, append_end, append_send, parse_line};
 use std::alloc::Global;
 use std::io;
@@ -51,6 +51,15 @@ pub fn script(alloc: Global, config: &str, body: &str, out: &mut Vec<u8>) -> io:
     let mut reader = lines.as_slice();
     let end = end_of(alloc, config, &mut reader, out)?;
     put_end(end, out)?;
+    writeln!(out)
+}
+
+/// What the replay of a script writes that explains, and how it ends.
+pub fn explained(alloc: Global, config: &str, body: &str, out: &mut Vec<u8>) -> io::Result<()> {
+    let lines = event_lines(alloc, body)?;
+    let mut reader = lines.as_slice();
+    let config = read(alloc, config)?;
+    put_end(replay_explaining(alloc, config, &mut reader, out), out)?;
     writeln!(out)
 }
 

@@ -37,3 +37,7 @@ rule_text name = codes " rule=" ++ name ++ 10 ∷ []
 -- the pieces of a line, one behind the other
 abbrev pub pieces_text : Denial → List ℕ
 pieces_text d = counts_text d ++ source_text d.source ++ request_text d.ask ++ object_text d.ask ++ rule_text d.rule
+
+-- the pieces of what was asked and by whom
+abbrev pub asked_text : Source → Ask → List ℕ
+asked_text source ask = source_text source ++ request_text ask ++ object_text ask

@@ -41,7 +41,7 @@ returns-in-Err-make_text-clause-outcome g c = λ text before known written.
     let lines : lines_of (front ++ left.rest) ≡ take len front ∷ lines_of (drop span front ++ left.rest) = subst
     (λ (p : NextLine). IsNextLine front left.rest p) c.in-Ok-Line.field-0-is piece in
     let event = event_view c.in-Some.event in
-    not_taken c.args.number c.args.self.now.gateway c.make_text.new.gateway text
+    not_taken g.T.Telling.told c.args.number c.args.self.now.gateway c.make_text.new.gateway text
     (prepend_known front (g.R.OctetSource.left c.find_line.new.source)) before
     (g.W.OctetSink.held c.args.writer.now) c.in-Err-make_text.fault _ _ c.in-Err-make_text.ensures.fault
     (λ wants. record {

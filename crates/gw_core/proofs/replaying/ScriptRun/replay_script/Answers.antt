@@ -10,7 +10,7 @@ use Rattle.gw_core.proofs.replaying.ScriptRun.replay_script.Goals as goal
 pub loop-number-init : goal.loop-number-init
 loop-number-init g c = record {
   progress = λ configuration stands script before known written.
-      begins _ _ _ _ _ _ (nothing_held _ _ script c.requires.unread known) written stands;
+      begins g.T.Telling.told _ _ _ _ _ _ (nothing_held _ _ script c.requires.unread known) written stands;
   calls = λ script known. bound_at_first script _ _ _ c.requires.calls known (nothing_held _ _ script c.requires.unread known);
   lasting_reader = λ never. never;
   lasting_writer = λ never. never;
@@ -26,9 +26,9 @@ loop-number-preserved g c =
     let so_far = g.W.OctetSink.held c.loop-number.writer in
     let after = g.W.OctetSink.held c.replay_line.new.writer in record {
       progress = λ configuration stands script before known written.
-          goes_on configuration script before n w moved text left so_far after
+          goes_on g.T.Telling.told configuration script before n w moved text left so_far after
           (c.loop-number.invariant.progress configuration stands script before known written)
-          (subst (λ (b : Bool). Turns n w moved text left so_far after (Ok b)) c.in-Ok-true.field-0-test c.in-Ok-true.ensures.outcome);
+          (subst (λ (b : Bool). Turns g.T.Telling.told n w moved text left so_far after (Ok b)) c.in-Ok-true.field-0-test c.in-Ok-true.ensures.outcome);
       calls = λ script known.
           let bound = c.loop-number.invariant.calls script known in
           bound_goes_on script n _ _ _ _ _ _ bound
@@ -47,8 +47,8 @@ returns-in-Ok-false-clause-whole g c = λ configuration stands script before kno
     let left = prepend_known c.replay_line.new.self.lines.unread (g.R.OctetSource.left c.replay_line.new.reader) in
     let so_far = g.W.OctetSink.held c.loop-number.writer in
     let after = g.W.OctetSink.held c.replay_line.new.writer in
-    ends_whole configuration script before n w moved text left so_far after progress
-    (subst (λ (b : Bool). Turns n w moved text left so_far after (Ok b)) c.in-Ok-false.field-0-test c.in-Ok-false.ensures.outcome)
+    ends_whole g.T.Telling.told configuration script before n w moved text left so_far after progress
+    (subst (λ (b : Bool). Turns g.T.Telling.told n w moved text left so_far after (Ok b)) c.in-Ok-false.field-0-test c.in-Ok-false.ensures.outcome)
 
 pub returns-in-Err-clause-line : goal.returns-in-Err-clause-line
 returns-in-Err-clause-line g c = λ configuration m stands e script before known written.
@@ -60,8 +60,8 @@ returns-in-Err-clause-line g c = λ configuration m stands e script before known
     let left = prepend_known c.replay_line.new.self.lines.unread (g.R.OctetSource.left c.replay_line.new.reader) in
     let so_far = g.W.OctetSink.held c.loop-number.writer in
     let after = g.W.OctetSink.held c.replay_line.new.writer in
-    ends_at_line configuration script before n w moved text left so_far after m progress
-    (subst (λ (f : RunFault). Turns n w moved text left so_far after (Err f))
+    ends_at_line g.T.Telling.told configuration script before n w moved text left so_far after m progress
+    (subst (λ (f : RunFault). Turns g.T.Telling.told n w moved text left so_far after (Err f))
     (fault_is {T = Unit {0}} c.in-Err.fault (Line m) e) c.in-Err.ensures.outcome)
 
 pub returns-in-Err-clause-front : goal.returns-in-Err-clause-front
@@ -74,8 +74,8 @@ returns-in-Err-clause-front g c = λ configuration stands e script before known 
     let left = prepend_known c.replay_line.new.self.lines.unread (g.R.OctetSource.left c.replay_line.new.reader) in
     let so_far = g.W.OctetSink.held c.loop-number.writer in
     let after = g.W.OctetSink.held c.replay_line.new.writer in
-    ends_at_write configuration script before n w moved text left so_far after progress
-    (subst (λ (f : RunFault). Turns n w moved text left so_far after (Err f))
+    ends_at_write g.T.Telling.told configuration script before n w moved text left so_far after progress
+    (subst (λ (f : RunFault). Turns g.T.Telling.told n w moved text left so_far after (Err f))
     (fault_is {T = Unit {0}} c.in-Err.fault Write e) c.in-Err.ensures.outcome)
 
 pub returns-in-Err-clause-count_end : goal.returns-in-Err-clause-count_end
@@ -88,8 +88,8 @@ returns-in-Err-clause-count_end g c = λ configuration stands e script before kn
     let left = prepend_known c.replay_line.new.self.lines.unread (g.R.OctetSource.left c.replay_line.new.reader) in
     let so_far = g.W.OctetSink.held c.loop-number.writer in
     let after = g.W.OctetSink.held c.replay_line.new.writer in
-    ends_at_end configuration script before n w moved text left so_far after progress
-    (subst (λ (f : RunFault). Turns n w moved text left so_far after (Err f))
+    ends_at_end g.T.Telling.told configuration script before n w moved text left so_far after progress
+    (subst (λ (f : RunFault). Turns g.T.Telling.told n w moved text left so_far after (Err f))
     (fault_is {T = Unit {0}} c.in-Err.fault CountEnd e) c.in-Err.ensures.outcome)
 
 pub returns-in-Err-clause-part : goal.returns-in-Err-clause-part
@@ -102,7 +102,7 @@ returns-in-Err-clause-part g c = λ configuration stands which script before kno
     let left = prepend_known c.replay_line.new.self.lines.unread (g.R.OctetSource.left c.replay_line.new.reader) in
     let so_far = g.W.OctetSink.held c.loop-number.writer in
     let after = g.W.OctetSink.held c.replay_line.new.writer in
-    stops_part configuration script before n w moved text left so_far after c.in-Err.fault
+    stops_part g.T.Telling.told configuration script before n w moved text left so_far after c.in-Err.fault
     (stops {T = Unit {0}} c.in-Err.fault which) progress c.in-Err.ensures.outcome
 
 pub returns-clause-part : goal.returns-clause-part
@@ -110,7 +110,7 @@ returns-clause-part g c = λ configuration stands which script before known writ
     let n = c.loop-number.number in
     let w = c.loop-number.self.gateway in
     let text = prepend_known c.loop-number.self.lines.unread (g.R.OctetSource.left c.loop-number.reader) in
-    ends_part configuration script before n w text (g.W.OctetSink.held c.loop-number.writer)
+    ends_part g.T.Telling.told configuration script before n w text (g.W.OctetSink.held c.loop-number.writer)
     (c.loop-number.invariant.progress configuration stands script before known written)
 
 pub returns-in-Err-clause-memory : goal.returns-in-Err-clause-memory
@@ -123,8 +123,8 @@ returns-in-Err-clause-memory g c = λ configuration stands e script before known
     let left = prepend_known c.replay_line.new.self.lines.unread (g.R.OctetSource.left c.replay_line.new.reader) in
     let so_far = g.W.OctetSink.held c.loop-number.writer in
     let after = g.W.OctetSink.held c.replay_line.new.writer in
-    ends_at_memory configuration script before n w moved text left so_far after progress
-    (subst (λ (f : RunFault). Turns n w moved text left so_far after (Err f))
+    ends_at_memory g.T.Telling.told configuration script before n w moved text left so_far after progress
+    (subst (λ (f : RunFault). Turns g.T.Telling.told n w moved text left so_far after (Err f))
     (fault_is {T = Unit {0}} c.in-Err.fault Memory e) c.in-Err.ensures.outcome)
 
 pub returns-in-Err-clause-sure_reader : goal.returns-in-Err-clause-sure_reader

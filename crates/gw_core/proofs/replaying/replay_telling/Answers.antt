@@ -1,17 +1,17 @@
 use Rattle.gw_core.proofs.ReplayLemmas.{ends_before, part_before}
-use Rattle.gw_core.proofs.replaying.replay.Goals as goal
+use Rattle.gw_core.proofs.replaying.replay_telling.Goals as goal
 
 pub returns-in_default-with_capacity-clause-part : goal.returns-in_default-with_capacity-clause-part
-returns-in_default-with_capacity-clause-part g c = λ which script before known written. part_before c.args.config script before _ written
+returns-in_default-with_capacity-clause-part g c = λ which script before known written. part_before g.T.Telling.told c.args.config script before _ written
 
 pub returns-in_default-with_capacity-clause-memory : goal.returns-in_default-with_capacity-clause-memory
-returns-in_default-with_capacity-clause-memory g c = λ which script before known written. ends_before c.args.config script before _ written
+returns-in_default-with_capacity-clause-memory g c = λ which script before known written. ends_before g.T.Telling.told c.args.config script before _ written
 
 pub returns-in_default-clause-part : goal.returns-in_default-clause-part
-returns-in_default-clause-part g c = λ _ script before known written. part_before c.args.config script before _ written
+returns-in_default-clause-part g c = λ _ script before known written. part_before g.T.Telling.told c.args.config script before _ written
 
 pub returns-in_default-clause-memory : goal.returns-in_default-clause-memory
-returns-in_default-clause-memory g c = λ _ script before known written. ends_before c.args.config script before _ written
+returns-in_default-clause-memory g c = λ _ script before known written. ends_before g.T.Telling.told c.args.config script before _ written
 
 pub returns-clause-whole : goal.returns-clause-whole
 returns-clause-whole g c = c.replay_script.ensures.whole c.args.config c.in-Ok.ensures.state

@@ -1,0 +1,146 @@
+-- The lines of what is asked.
+use Rattle.std.proofs.Common.{◌≡◌, ◌∙◌, sym, ap, refl, ℕ, ◌+◌, Bool, true, false, List, [], ◌∷◌, ◌++◌, append_assoc, filter, map, not, Option, Some, None}
+use Rattle.std.specs.List.{flat_map}
+use Rattle.std.proofs.lemmas.List.{append-nil}
+use Rattle.gw_rules.specs.Ask.{Ask}
+use Rattle.gw_rules.specs.Authorizer.{denied_of}
+use Rattle.gw_rules.specs.RuleList.{allows}
+use Rattle.gw_rules.specs.declared.refusal.Refusal.{Refusal}
+use Rattle.gw_rules.specs.declared.rule.Rule.{Rule}
+use Rattle.gw_rules.proofs.Denials.{refused_asks}
+use Rattle.gw_objects.specs.Objects.{Database}
+use Rattle.gw_device.proofs.AskLemmas.{all_refused}
+use Rattle.gw_relay.specs.Cast.{accepts, is_unregistered}
+use Rattle.gw_relay.specs.Message.{Message, message_view}
+use Rattle.gw_relay.specs.State.{Relay}
+use Rattle.gw_script.specs.Event.{Event, Tick}
+use Rattle.gw_core.specs.Asks.{asks, asks_for}
+use Rattle.gw_core.specs.Denials.{denials_from, denials_of}
+use Rattle.gw_core.specs.Effects.{NeedsNoMemory, effects_at}
+use Rattle.gw_core.specs.Explained.{ask_line, ask_lines, asks_text}
+use Rattle.gw_core.specs.Laws.{DeniedLinesAreLogged}
+use Rattle.gw_core.specs.Receive.{Origin, Received, dropped, unregistered, message, message_origin, origin, receive}
+use Rattle.gw_core.specs.State.{State}
+use Rattle.gw_core.specs.View.{judged, origin_of, received_view}
+use Rattle.gw_core.specs.declared.receive.Received.{Received as LentReceived}
+use Rattle.gw_core.specs.declared.receive.Received.TheVariants as lent
+
+-- what asks nothing has no line
+pub lines_none : (rules : List Rule) (from : Option Origin) (asked : List Ask) → asked ≡ [] → ask_lines rules from asked ≡ []
+lines_none rules None asked none = refl
+lines_none rules (Some from) asked none = ap (flat_map (ask_line rules from.source)) none
+
+pub no_asks_text : (w : State) (e : Event) → NeedsNoMemory w e → asks_text w e ≡ []
+unfolding asks_text
+no_asks_text w e none = lines_none w.rules (origin (receive w e)) (asks w e) none.0
+
+-- a tick asks nothing
+pub asks_text-tick : (w : State) → asks_text w Tick ≡ []
+unfolding asks_text receive
+asks_text-tick w = refl
+
+-- the lines of what the code takes unjudged are those of what it is received as
+judged_lines : (rules : List Rule) (relay : Relay) (d : Database) (m : Message) (asked : List Ask) (heard strange : Bool)
+    → heard ≡ accepts m.here m.from m.frame → strange ≡ is_unregistered m.here m.from m.frame
+    → asked ≡ asks_for rules relay d (judged m)
+    → ask_lines rules (Some (message_origin m)) asked ≡ ask_lines rules (origin (judged m)) asked
+judged_lines rules relay d m asked false strange h s are =
+    let out : judged m ≡ dropped = rw (← h) refl in
+    let none : asked ≡ [] = are ∙ ap (asks_for rules relay d) out in
+    lines_none rules (Some (message_origin m)) asked none ∙ sym (lines_none rules (origin (judged m)) asked none)
+judged_lines rules relay d m asked true true h s are =
+    let out : judged m ≡ unregistered m = rw (← h, ← s) refl in
+    let none : asked ≡ [] = are ∙ ap (asks_for rules relay d) out in
+    lines_none rules (Some (message_origin m)) asked none ∙ sym (lines_none rules (origin (judged m)) asked none)
+judged_lines rules relay d m asked true false h s are =
+    let out : judged m ≡ message m = rw (← h, ← s) refl in
+    ap (λ (r : Received). ask_lines rules (origin r) asked) (sym out)
+
+lent_lines : (rules : List Rule) (relay : Relay) (d : Database) (received : LentReceived) (asked : List Ask)
+    → asked ≡ asks_for rules relay d (received_view received)
+    → ask_lines rules (origin_of received) asked ≡ ask_lines rules (origin (received_view received)) asked
+lent_lines rules relay d lent.Dropped asked are = refl
+lent_lines rules relay d (lent.Managed on from frame) asked are = refl
+lent_lines rules relay d (lent.Message m) asked are =
+    let view = message_view m in
+    judged_lines rules relay d view asked (accepts view.here view.from view.frame) (is_unregistered view.here view.from view.frame) refl refl are
+
+-- the lines of what the code finds asked are those of what is asked
+pub asked_lines : (rules : List Rule) (relay : Relay) (d : Database) (received : LentReceived) (asked : List Ask)
+    → asked ≡ asks_for rules relay d (received_view received)
+    → ask_lines rules (origin_of received) asked
+    ≡ ask_lines rules (origin (received_view received)) (asks_for rules relay d (received_view received))
+asked_lines rules relay d received asked are =
+    lent_lines rules relay d received asked are ∙ ap (ask_lines rules (origin (received_view received))) are
+
+-- what is asked about what is received is what the event asks
+pub text_received : (w : State) (e : Event) (received : Received) → received ≡ receive w e
+    → ask_lines w.rules (origin received) (asks_for w.rules w.relay w.device received) ≡ asks_text w e
+unfolding asks_text asks
+text_received w e received is = ap (λ (r : Received). ask_lines w.rules (origin r) (asks_for w.rules w.relay w.device r)) is
+
+-- ---- the lines of the asks that are denied
+
+lines_from : (rules : List Rule) (number tick : ℕ) (from : Origin) (refusals : List Refusal)
+    → flat_map (λ d. ask_line rules d.source d.ask) (denials_from rules number tick from refusals)
+    ≡ flat_map (ask_line rules from.source) (map (λ r. r.ask) refusals)
+lines_from rules number tick from [] = refl
+lines_from rules number tick from (r ∷ refusals) =
+    ap (λ (t : List ℕ). ask_line rules from.source r.ask ++ t) (lines_from rules (number + 1) tick from refusals)
+
+lines_of : (rules : List Rule) (number tick : ℕ) (from : Option Origin) (asked : List Ask)
+    → ask_lines rules from (filter (λ ask. not (allows rules ask)) asked)
+    ≡ flat_map (λ d. ask_line rules d.source d.ask) (denials_of rules number tick from (denied_of rules asked))
+lines_of rules number tick None asked = refl
+lines_of rules number tick (Some from) asked =
+    sym (lines_from rules number tick from (denied_of rules asked) ∙ ap (flat_map (ask_line rules from.source)) (refused_asks rules asked))
+
+pub denied_lines_are_logged : DeniedLinesAreLogged
+unfolding effects_at asks
+denied_lines_are_logged w e =
+    lines_of w.rules (w.denials + 1) w.ticks (origin (receive w e)) (asks_for w.rules w.relay w.device (receive w e))
+
+-- ---- asks that are refused where there are no rules
+
+-- the refusals of a part are what it asks
+pub refused_part : (asked before after : List Ask) (lent refusals : List Refusal) → lent ≡ refusals → refusals ≡ denied_of [] asked
+    → after ≡ before ++ map (λ r. r.ask) lent → after ≡ before ++ asked
+refused_part asked before after lent refusals same are is =
+    is ∙ ap (λ (l : List Refusal). before ++ map (λ r. r.ask) l) (same ∙ are) ∙ ap (λ (l : List Ask). before ++ l) (all_refused asked)
+
+pub refused_none : (asked : List Ask) (lent refusals : List Refusal) → lent ≡ refusals → refusals ≡ denied_of [] asked → asked ≡ []
+    → lent ≡ []
+refused_none asked lent refusals same are none = same ∙ are ∙ ap (denied_of []) none
+
+-- three parts behind one another
+pub three_parts : (before cast route manage one two three : List Ask) → one ≡ before ++ cast → two ≡ one ++ route → three ≡ two ++ manage
+    → three ≡ before ++ (cast ++ (route ++ manage))
+three_parts before cast route manage one two three first_is second_is third_is =
+    third_is ∙ ap (λ (l : List Ask). l ++ manage) (second_is ∙ ap (λ (l : List Ask). l ++ route) first_is)
+    ∙ append_assoc (before ++ cast) route manage ∙ append_assoc before cast (route ++ manage)
+
+-- nothing is asked behind what a managed table asks
+pub four_none : (asked : List Ask) → asked ++ [] ++ [] ++ [] ++ [] ≡ asked
+four_none asked =
+    append-nil (asked ++ [] ++ [] ++ []) ∙ append-nil (asked ++ [] ++ []) ∙ append-nil (asked ++ []) ∙ append-nil asked
+
+-- ---- the lines of what the code found asked
+
+pub told_lines : (policy lent_rules : List Rule) (relay : Relay) (d : Database) (received : LentReceived) (from : Origin)
+    (lent asked begun : List Ask) → Some from ≡ origin_of received → lent_rules ≡ policy → lent ≡ asked → begun ≡ []
+    → asked ≡ begun ++ asks_for policy relay d (received_view received)
+    → flat_map (ask_line lent_rules from.source) lent
+    ≡ ask_lines policy (origin (received_view received)) (asks_for policy relay d (received_view received))
+told_lines policy lent_rules relay d received from lent asked begun is same lends none are =
+    ap (λ (r : List Rule). flat_map (ask_line r from.source) lent) same ∙ ap (flat_map (ask_line policy from.source)) lends
+    ∙ ap (λ (o : Option Origin). ask_lines policy o asked) is
+    ∙ asked_lines policy relay d received asked
+    (are ∙ ap (λ (l : List Ask). l ++ asks_for policy relay d (received_view received)) none)
+
+pub told_none : (policy : List Rule) (relay : Relay) (d : Database) (received : LentReceived) (asked begun : List Ask)
+    → None ≡ origin_of received → begun ≡ [] → asked ≡ begun ++ asks_for policy relay d (received_view received)
+    → [] ≡ ask_lines policy (origin (received_view received)) (asks_for policy relay d (received_view received))
+told_none policy relay d received asked begun is none are =
+    ap (λ (o : Option Origin). ask_lines policy o asked) is
+    ∙ asked_lines policy relay d received asked
+    (are ∙ ap (λ (l : List Ask). l ++ asks_for policy relay d (received_view received)) none)

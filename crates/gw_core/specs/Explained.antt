@@ -1,0 +1,42 @@
+-- The text of an event with its asks: a line for each ask, allowed or denied, with the rule that decides it; and behind them the lines of
+-- what the event does.
+use Rattle.std.specs.Prelude.{ℕ, List, [], ◌∷◌, ◌++◌, Option, Some, None, codes, if◌then◌else◌}
+use Rattle.std.specs.Fmt.{decimal}
+use Rattle.std.specs.List.{flat_map}
+use Rattle.gw_addr.specs.declared.station.Source.{Source}
+use Rattle.gw_rules.specs.Ask.{Ask}
+use Rattle.gw_rules.specs.RuleList.{allows, first}
+use Rattle.gw_rules.specs.declared.rule.Rule.{Rule}
+use Rattle.gw_audit.specs.Line.{ask_text}
+use Rattle.gw_script.specs.Event.{Event}
+use Rattle.gw_core.specs.Asks.{asks}
+use Rattle.gw_core.specs.Denials.{name_at}
+use Rattle.gw_core.specs.Receive.{Origin, origin, receive}
+use Rattle.gw_core.specs.Shown.{event_text}
+use Rattle.gw_core.specs.State.{State}
+
+-- the rule by which the policy decides, its number from 1 and its name; or that none matches
+abbrev pub by_text : List Rule → Option ℕ → List ℕ
+by_text rules None = codes " default"
+by_text rules (Some number) = codes " rule " ++ decimal number ++ codes " " ++ name_at rules number
+
+-- what the policy says of an ask, and by which rule: `allow rule <number> <name>`, `deny rule <number> <name>` or `deny default`
+unfoldable pub verdict_text : List Rule → Ask → List ℕ
+verdict_text rules ask = (if allows rules ask then codes "allow" else codes "deny") ++ by_text rules (first rules ask)
+
+-- the line of one ask: `ask `, what was asked as a line of the log shows it, and the verdict
+unfoldable pub ask_line : List Rule → Source → Ask → List ℕ
+ask_line rules source ask = codes "ask " ++ ask_text source ask ++ codes " " ++ verdict_text rules ask ++ 10 ∷ []
+
+-- a line for each ask of a datagram that claims to come from there
+abbrev pub ask_lines : List Rule → Option Origin → List Ask → List ℕ
+ask_lines rules None asks = []
+ask_lines rules (Some from) asks = flat_map (ask_line rules from.source) asks
+
+-- a line for each ask of an event, in their order
+unfoldable pub asks_text : State → Event → List ℕ
+asks_text w e = ask_lines w.rules (origin (receive w e)) (asks w e)
+
+-- the lines of an event that is explained: those of its asks, and behind them those of what it does
+abbrev pub explained_text : State → Event → List ℕ
+explained_text w e = asks_text w e ++ event_text w e

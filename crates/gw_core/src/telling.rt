@@ -1,0 +1,134 @@
+//! How a replay tells an event: by what it does, or before that also by what it asks.
+
+ghost use Rattle.std.specs.Prelude.{◌≡◌, ◌+◌, ◌≤◌, ◌++◌, IsOk, OnOk, IfErr, vec_capacity, vec_len};
+ghost use Rattle.gw_script.specs.Event.{event_view};
+ghost use Rattle.gw_core.specs.Effects.{NeedsNoMemory};
+ghost use Rattle.gw_core.specs.Explained.{asks_text};
+ghost use Rattle.gw_core.specs.History.{next};
+ghost use Rattle.gw_core.specs.LineOutcome.{IsEventFault};
+ghost use Rattle.gw_core.specs.Shown.{event_text};
+
+use crate::fault::StepFault;
+use crate::gateway::Gateway;
+use crate::replaying::RunFault;
+use crate::shown::append_effects;
+use crate::whole_run::take_event;
+use gw_script::{Event, SpelledAddr};
+use std::alloc::{AllocError, Global};
+
+/// How a replay tells an event.
+pub(crate) trait Telling {
+    ghost use Rattle.gw_core.specs.Replay.{Telling};
+
+    /// The text of an event in the state in which it comes.
+    ghost told: { Telling };
+
+    /// Has the gateway take an event, and makes the text that tells it.
+    fn make_text(
+        &self,
+        alloc: Global,
+        gateway: &mut Gateway,
+        event: &Event<'_>,
+        sender: &Option<SpelledAddr<'_>>,
+        text: &mut Vec<u8>,
+    ) -> Result<(), RunFault>
+        requires room { 4 ≤ vec_capacity text.old }
+        ensures text { OnOk result
+            (text.new.items ≡ told gateway.old (event_view event.now)) }
+        ensures moved { OnOk result (gateway.new ≡ next gateway.old (event_view event.now)) }
+        ensures fault { IfErr result (IsEventFault gateway.old (event_view event.now)) }
+        ensures capacity { vec_capacity text.old ≤ vec_capacity text.new };
+}
+
+/// By what it does.
+pub(crate) struct Plain;
+
+/// By what it asks, and then by what it does.
+pub(crate) struct Explaining;
+
+/// Appends a line for each ask that an event raises.
+fn append_asked(
+    alloc: Global,
+    gateway: &Gateway,
+    event: &Event<'_>,
+    text: &mut Vec<u8>,
+) -> Result<(), AllocError>
+    ensures ok { let due = asks_text gateway.now (event_view event.now) in
+        OnOk result (text.new.items ≡ text.old.items ++ due) }
+    ensures silent { NeedsNoMemory gateway.now (event_view event.now) → IsOk result }
+    ensures capacity { vec_capacity text.old ≤ vec_capacity text.new }
+{
+    match event {
+        Event::Datagram { port, from, octets } => {
+            gateway.append_asks(alloc, *port, *from, octets, text)
+        }
+        Event::Tick => Ok(()),
+    }
+}
+
+/// Has the gateway take an event, and appends the lines of what it does.
+fn append_taken(
+    alloc: Global,
+    gateway: &mut Gateway,
+    event: &Event<'_>,
+    sender: &Option<SpelledAddr<'_>>,
+    text: &mut Vec<u8>,
+) -> Result<(), RunFault>
+    requires room { NeedsNoMemory gateway.old (event_view event.now) →
+        vec_len text.old + 4 ≤ vec_capacity text.old }
+    ensures text { let due = event_text gateway.old (event_view event.now) in
+        OnOk result (text.new.items ≡ text.old.items ++ due) }
+    ensures moved { OnOk result (gateway.new ≡ next gateway.old (event_view event.now)) }
+    ensures fault { IfErr result (IsEventFault gateway.old (event_view event.now)) }
+    ensures capacity { vec_capacity text.old ≤ vec_capacity text.new }
+{
+    let effects = match take_event(alloc, gateway, event) {
+        Ok(effects) => effects,
+        Err(StepFault::Memory) => return Err(RunFault::Memory),
+        Err(StepFault::CountEnd) => return Err(RunFault::CountEnd),
+    };
+    match append_effects(text, &effects, sender) {
+        Ok(()) => {}
+        Err(_) => return Err(RunFault::Memory),
+    }
+    Ok(())
+}
+
+impl Telling for Plain {
+    ghost use Rattle.gw_core.specs.Shown.{event_text};
+
+    ghost told = { event_text };
+
+    fn make_text(
+        &self,
+        alloc: Global,
+        gateway: &mut Gateway,
+        event: &Event<'_>,
+        sender: &Option<SpelledAddr<'_>>,
+        text: &mut Vec<u8>,
+    ) -> Result<(), RunFault> {
+        text.clear();
+        append_taken(alloc, gateway, event, sender, text)
+    }
+}
+
+impl Telling for Explaining {
+    ghost use Rattle.gw_core.specs.Explained.{explained_text};
+
+    ghost told = { explained_text };
+
+    fn make_text(
+        &self,
+        alloc: Global,
+        gateway: &mut Gateway,
+        event: &Event<'_>,
+        sender: &Option<SpelledAddr<'_>>,
+        text: &mut Vec<u8>,
+    ) -> Result<(), RunFault> {
+        text.clear();
+        let Ok(()) = append_asked(alloc, gateway, event, text) else {
+            return Err(RunFault::Memory);
+        };
+        append_taken(alloc, gateway, event, sender, text)
+    }
+}
