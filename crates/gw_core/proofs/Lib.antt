@@ -8,6 +8,7 @@ pub mod LogLemmas
 pub mod ShownLemmas
 pub mod LineOutcomeLemmas
 pub mod ServeLemmas
+pub mod ReportLemmas
 pub mod ReplayLemmas
 pub mod ExplainedLemmas
 pub mod CallLemmas

@@ -59,7 +59,7 @@ log_along r s = ap lines_of (flat_map-append (λ x. x.denials) r s) ∙ flat_map
 
 -- ---- turns, one list behind the other
 
-single : {A : Type 0} (f : Turn → List A) (turn : Turn) → flat_map f (turn ∷ []) ≡ f turn
+pub single : {A : Type 0} (f : Turn → List A) (turn : Turn) → flat_map f (turn ∷ []) ≡ f turn
 single f turn = flat_map-cons f turn [] ∙ append-nil (f turn)
 
 are_along : (w : State) (turns more : List Turn) → AreTurns w turns → AreTurns (state_from w (events_of turns)) more
@@ -286,21 +286,6 @@ ends_by CountEnd a b event x s does ended last = absurd ended
 pub serves_none : (a : Scene) → ServesAll 0 a zero_counts a
 unfolding counts_after
 serves_none a = record { turns = []; all = refl; went = lead_nowhere a; counts = refl }
-
-abbrev counts_of_six : ℕ → ℕ → ℕ → ℕ → ℕ → ℕ → Served
-counts_of_six a b c d e f = record { turns = a; taken = b; memory_drops = c; recv_failures = d; sends = e; send_failures = f }
-
--- counts that are all 0
-pub all_none : (s : Served) →
-    (s.turns ≡ 0) × ((s.taken ≡ 0) × ((s.memory_drops ≡ 0) × ((s.recv_failures ≡ 0) × ((s.sends ≡ 0) × (s.send_failures ≡ 0)))))
-    → s ≡ zero_counts
-all_none s none =
-    ap (λ (n : ℕ). counts_of_six n s.taken s.memory_drops s.recv_failures s.sends s.send_failures) none.0
-    ∙ ap (λ (n : ℕ). counts_of_six 0 n s.memory_drops s.recv_failures s.sends s.send_failures) none.1.0
-    ∙ ap (λ (n : ℕ). counts_of_six 0 0 n s.recv_failures s.sends s.send_failures) none.1.1.0
-    ∙ ap (λ (n : ℕ). counts_of_six 0 0 0 n s.sends s.send_failures) none.1.1.1.0
-    ∙ ap (λ (n : ℕ). counts_of_six 0 0 0 0 n s.send_failures) none.1.1.1.1.0
-    ∙ ap (λ (n : ℕ). counts_of_six 0 0 0 0 0 n) none.1.1.1.1.1
 
 -- one more was done
 pub serves_more : (n : ℕ) (a m b : Scene) (s t : Served) → ServesAll n a s m → TurnEnd m s b t (Ok tt) → ServesAll (n + 1) a t b

@@ -19,4 +19,6 @@ pub mod LineOutcome
 pub mod Wire
 pub mod Serve
 pub mod ServeTurn
+pub mod Reports
+pub mod ReportTurn
 pub mod NoLeak

@@ -162,6 +162,22 @@ impl Gateway {
         self.ports
     }
 
+    /// How many ticks it has counted, and the number of the last denial.
+    pub(crate) fn counts(&self) -> Counts
+        ensures ticks { result.ticks ≡ self.now.ticks }
+        ensures denials { result.denials ≡ self.now.denials }
+    {
+        self.counts
+    }
+
+    /// The ports with their tables, and the routes.
+    pub(crate) fn relay(&self) -> &Relay
+        ensures parts { result.now ≡ self.now.relay }
+        ensures few { length self.now.relay.links ≤ MAX_PORTS }
+    {
+        &self.relay
+    }
+
     /// How many denials more may be numbered.
     fn left(&self) -> u64
         ensures { result + self.now.denials ≡ 2 ^ 63 }

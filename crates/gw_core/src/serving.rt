@@ -3,7 +3,7 @@
 
 ghost use Rattle.std.specs.Prelude.{◌≡◌, ◌+◌, ◌-◌, ◌<◌, ◌≤◌, ◌^◌, ◌∷◌, ◌++◌, [], length, IfOk, IfErr, IsErrOf, OnOk};
 ghost use Rattle.gw_core.specs.ServeTurn.{AreTried, HasRoom, LogEnd, TurnEnd, event_answer, wire_counts};
-ghost use Rattle.gw_core.specs.Serve.{ServesAll, Stops, counts_of_answer, lines_of, scene};
+ghost use Rattle.gw_core.specs.Serve.{ServesAll, Stops, counts_of_answer, lines_of, scene, zero_counts};
 ghost use Rattle.gw_core.specs.Wire.{Tells, failures_of, receive_call};
 ghost use Rattle.gw_relay.specs.Sends.{sendings_of};
 
@@ -91,11 +91,7 @@ pub fn serve<W: Wire, L: OctetSink>(
     // A log that never fails doesn't end it.
     ensures sure_log { L.NeverFails log.old → IfErr result (λ stop. ¬ (stop.fault ≡ ServeFault.Log)) }
 {
-    let mut state = ServeState {
-        datagram: [0; RECEIVE_ROOM],
-        lines: Vec::new(alloc),
-        served: Served::default(),
-    };
+    let mut state = ServeState::new(alloc);
     for _ in 0..turns {
         match state.take_turn(alloc, gateway, wire, log) {
             Ok(()) => {}
@@ -112,15 +108,27 @@ pub fn serve<W: Wire, L: OctetSink>(
 
 /// What is kept from turn to turn.
 #[derive(Drop)]
-struct ServeState {
+pub(crate) struct ServeState {
     datagram: [u8; RECEIVE_ROOM],
     lines: Vec<u8>,
-    served: Served,
+    /// What was done so far.
+    pub(crate) served: Served,
 }
 
 impl ServeState {
+    /// Before the first turn.
+    pub(crate) fn new(alloc: Global) -> Self
+        ensures { result.served ≡ zero_counts }
+    {
+        ServeState {
+            datagram: [0; RECEIVE_ROOM],
+            lines: Vec::new(alloc),
+            served: Served::default(),
+        }
+    }
+
     /// One turn: receives, has the gateway take what came, logs its denials and then sends.
-    fn take_turn<W: Wire, L: OctetSink>(
+    pub(crate) fn take_turn<W: Wire, L: OctetSink>(
         &mut self,
         alloc: Global,
         gateway: &mut Gateway,

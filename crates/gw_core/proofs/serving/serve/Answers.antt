@@ -2,13 +2,13 @@ use Rattle.std.proofs.Common.{◌≡◌, ap, sym, subst, ◌∙◌, arith, refl}
 use Rattle.gw_core.specs.declared.serving.Served.{Served}
 use Rattle.gw_core.specs.Serve.{ServesAll, zero_counts, scene}
 use Rattle.gw_core.specs.ServeTurn.{wire_counts}
-use Rattle.gw_core.proofs.ServeLemmas.{all_none, room_left, serves_more, serves_none}
+use Rattle.gw_core.proofs.ServeLemmas.{room_left, serves_more, serves_none}
 use Rattle.gw_core.proofs.serving.serve.Goals as goal
 
 pub loop-init : goal.loop-init
 loop-init g c =
     let start = scene c.args.gateway.now (g.L.OctetSink.held c.args.log.now) (g.W.Wire.calls c.args.wire.now) in
-    let none : c.default.result ≡ zero_counts = all_none c.default.result c.default.ensures in
+    let none : c.new-state.result.served ≡ zero_counts = c.new-state.ensures in
     record {
       served = subst (λ (s : Served). ServesAll 0 start s start) (sym none) (serves_none start);
       failures = omega (arith, ap (λ (s : Served). s.recv_failures) none, ap (λ (s : Served). s.send_failures) none);
