@@ -259,7 +259,7 @@ if command -v cc > /dev/null && "$program" run --help | grep -q -e --stats; then
         SHORT_SEND=$number python3 "$here/loopback.py" short "$program" "$work/served.toml" "$work/short_send.so" > "$work/out" 2>&1
         same "the failed sends where $number are short" "$(cat "$work/out")" \
             "127.3.0.10 810A0018010800640101300D0C0C0140000119553E91013F
-$number failed sends"
+send_failures=$number"
     done
 fi
 

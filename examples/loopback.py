@@ -104,7 +104,7 @@ def short(program, file, library):
     gateway.stderr.readline()
     read(line, 13, 1, PORT_1)
     _, told = gateway.communicate(timeout=20)
-    print(*re.findall(r"\d+ failed sends", told.decode())[-1:])
+    print(*re.findall(r"\bsend_failures=\d+", told.decode())[-1:])
 
 
 def flood(to, is_over):

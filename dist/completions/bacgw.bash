@@ -7,12 +7,12 @@ _bacgw() {
     else
         case $before in
             --config | --log) compopt -o default; return ;;
-            --turns) return ;;
+            --turns | --stats) return ;;
         esac
         case ${COMP_WORDS[1]} in
             check) options='--config --explain --lint --help' ;;
             replay) options='--config --explain --help' ;;
-            run) options='--config --log --turns --verbose --help' ;;
+            run) options='--config --log --turns --stats --verbose --help' ;;
             why) options='--config --help' ;;
             help) options='check replay run why' ;;
             *) return ;;

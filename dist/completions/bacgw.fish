@@ -15,5 +15,6 @@ complete -c bacgw -n '__fish_seen_subcommand_from check' -l lint -d 'Also prints
 complete -c bacgw -n '__fish_seen_subcommand_from replay' -l explain -d 'Also prints each ask and its rule'
 complete -c bacgw -n '__fish_seen_subcommand_from run' -l log -r -F -d 'What the log is appended to'
 complete -c bacgw -n '__fish_seen_subcommand_from run' -l turns -x -d 'How many turns are served'
+complete -c bacgw -n '__fish_seen_subcommand_from run' -l stats -x -d 'Tells what was done each so many seconds'
 complete -c bacgw -n '__fish_seen_subcommand_from run' -l verbose -d 'Tells what is served, or where a fault is'
 complete -c bacgw -n '__fish_seen_subcommand_from help' -a 'check replay run why'

@@ -1,9 +1,10 @@
 -- What serving leaves, from what is opened and what serving a wire leads to.
-use Rattle.std.proofs.Common.{◌≡◌, ◌∙◌, sym, ◌++◌, ap, append_assoc, ℕ, List, [], Option, Some, None, Result, Ok, Err, IsOk, OnOk, inl, refl, rules, subst}
+use Rattle.std.proofs.Common.{◌≡◌, ◌∙◌, sym, ◌++◌, ap, append_assoc, ℕ, List, [], Option, Some, None, Result, Ok, Err, IsOk, IfOk, IfErr, OnOk, inl, inr, refl, rules, subst}
 use Rattle.std.specs.Io.KnownBytes.{Appends, append_known}
 use Rattle.gw_core.specs.History.{state_after}
 use Rattle.gw_core.specs.Replay.{no_counts}
-use Rattle.gw_core.specs.Serve.{ServesAll, Stops, scene}
+use Rattle.gw_core.specs.Reports.{IsRunWith, told_of}
+use Rattle.gw_core.specs.Serve.{Scene, ServesAll, Stops, counts_of_answer, scene}
 use Rattle.gw_core.specs.State.{State}
 use Rattle.gw_core.specs.Wire.{Call}
 use Rattle.gw_core.specs.declared.serving.Served.{Served}
@@ -13,62 +14,104 @@ use Rattle.gw_core.specs.declared.serving.ServeStop.{ServeStop}
 use Rattle.gw_policy_text.specs.Configuration.{Configuration}
 use Rattle.gw_shell.specs.Ending.{fault_of_serving}
 use Rattle.gw_shell.specs.declared.fault.Fault.{Fault}
-use Rattle.gw_shell.specs.Serving.{Serves, ServesFrom, ServesWhole, ends, log_held}
+use Rattle.gw_shell.specs.declared.fault.Fault.TheVariants as fault
+use Rattle.gw_shell.specs.Serving.{Ends, Serves, ServesFrom, ServesWhole, Service, ends, log_held, outcome_of, reports_of, service}
 
 -- all turns that are served by a fresh gateway are served from the first state
-served_whole : (c : Configuration) (turns : ℕ) (first last : State) (log log_then : Option (List ℕ)) (calls calls_then : Option (List Call))
-    (served : Served) → first ≡ state_after c no_counts [] → ServesAll turns (scene first log calls) served (scene last log_then calls_then)
-    → ServesWhole c turns (ends log calls) (ends log_then calls_then)
-served_whole c turns first last log log_then calls calls_then served is_first serves = record {
-  gateway = last;
-  served = served;
-  serves = subst (λ (w : State). ServesAll turns (scene w log calls) served (scene last log_then calls_then)) is_first serves;
-}
+served_whole : (c : Configuration) (how : Service) (first last : State) (log log_then : Option (List ℕ)) (calls calls_then : Option (List Call))
+    (text : List ℕ) (served : Served) → first ≡ state_after c no_counts []
+    → ((run : ServesAll how.turns (scene first log calls) served (scene last log_then calls_then))
+    × (text ≡ reports_of how.stats first run.turns last served))
+    → ServesWhole c how (ends log calls) (ends log_then calls_then) text
+served_whole c how first last log log_then calls calls_then text served is_first serves =
+    let from_first = subst (λ (w : State). (run : ServesAll how.turns (scene w log calls) served (scene last log_then calls_then))
+    × (text ≡ reports_of how.stats w run.turns last served)) is_first serves in
+    record { gateway = last; served = served; serves = from_first.0; reports = from_first.1 }
 
 -- a stop is one by its fault
-by_fault : (c : Configuration) (turns : ℕ) (last : State) (log log_then : Option (List ℕ)) (calls calls_then : Option (List Call))
-    (by : ServeFault) (served : Served)
-    → Stops turns (scene (state_after c no_counts []) log calls) (record { fault = by; served = served }) (scene last log_then calls_then)
-    → Serves c turns (ends log calls) (ends log_then calls_then) (Err (fault_of_serving by))
-by_fault c turns last log log_then calls calls_then serving.Log served stops = record { gateway = last; served = served; stops = stops }
-by_fault c turns last log log_then calls calls_then serving.Memory served stops = inl (record { gateway = last; served = served; stops = stops })
-by_fault c turns last log log_then calls calls_then serving.CountEnd served stops = record { gateway = last; served = served; stops = stops }
+by_fault : (c : Configuration) (how : Service) (last : State) (log log_then : Option (List ℕ)) (calls calls_then : Option (List Call))
+    (text : List ℕ) (by : ServeFault) (served : Served)
+    → ((run : Stops how.turns (scene (state_after c no_counts []) log calls) (record { fault = by; served = served }) (scene last log_then calls_then))
+    × (text ≡ reports_of how.stats (state_after c no_counts []) run.turns last served))
+    → Serves c how (ends log calls) (ends log_then calls_then) text (Err (fault_of_serving by))
+by_fault c how last log log_then calls calls_then text serving.Log served stops =
+    record { gateway = last; served = served; stops = stops.0; reports = stops.1 }
+by_fault c how last log log_then calls calls_then text serving.Memory served stops =
+    inl (record { gateway = last; served = served; stops = stops.0; reports = stops.1 })
+by_fault c how last log log_then calls calls_then text serving.CountEnd served stops =
+    record { gateway = last; served = served; stops = stops.0; reports = stops.1 }
 
-served_until : (c : Configuration) (turns : ℕ) (first last : State) (log log_then : Option (List ℕ)) (calls calls_then : Option (List Call))
-    (stop : ServeStop) → first ≡ state_after c no_counts [] → Stops turns (scene first log calls) stop (scene last log_then calls_then)
-    → Serves c turns (ends log calls) (ends log_then calls_then) (Err (fault_of_serving stop.fault))
-served_until c turns first last log log_then calls calls_then stop is_first stops =
-    by_fault c turns last log log_then calls calls_then stop.fault stop.served
-    (subst (λ (w : State). Stops turns (scene w log calls) stop (scene last log_then calls_then)) is_first stops)
+served_until : (c : Configuration) (how : Service) (first last : State) (log log_then : Option (List ℕ)) (calls calls_then : Option (List Call))
+    (text : List ℕ) (stop : ServeStop) → first ≡ state_after c no_counts []
+    → ((run : Stops how.turns (scene first log calls) stop (scene last log_then calls_then))
+    × (text ≡ reports_of how.stats first run.turns last stop.served))
+    → Serves c how (ends log calls) (ends log_then calls_then) text (Err (fault_of_serving stop.fault))
+served_until c how first last log log_then calls calls_then text stop is_first stops =
+    by_fault c how last log log_then calls calls_then text stop.fault stop.served
+    (subst (λ (w : State). (run : Stops how.turns (scene w log calls) stop (scene last log_then calls_then))
+    × (text ≡ reports_of how.stats w run.turns last stop.served)) is_first stops)
+
+fresh_answer : (c : Configuration) (how : Service) (first last : State) (log log_then : Option (List ℕ)) (calls calls_then : Option (List Call))
+    (text : List ℕ) (answer : Result Served ServeStop) → first ≡ state_after c no_counts []
+    → IsRunWith how.turns (scene first log calls) answer (scene last log_then calls_then)
+    (λ run. text ≡ reports_of how.stats first run last (counts_of_answer answer))
+    → Serves c how (ends log calls) (ends log_then calls_then) text (outcome_of answer)
+fresh_answer c how first last log log_then calls calls_then text (Ok served) is_first run =
+    served_whole c how first last log log_then calls calls_then text served is_first run
+fresh_answer c how first last log log_then calls calls_then text (Err stop) is_first run =
+    served_until c how first last log log_then calls calls_then text stop is_first run
 
 -- serving from a fresh gateway is serving from the first state
-pub from_fresh : (c : Configuration) (turns : ℕ) (first last : State) (log log_then : Option (List ℕ)) (calls calls_then : Option (List Call))
-    (outcome : Result (Unit {0}) Fault) → first ≡ state_after c no_counts []
-    → ServesFrom turns (scene first log calls) (scene last log_then calls_then) outcome
-    → Serves c turns (ends log calls) (ends log_then calls_then) outcome
-from_fresh c turns first last log log_then calls calls_then (Ok done) is_first from =
-    served_whole c turns first last log log_then calls calls_then from.0 is_first from.1
-from_fresh c turns first last log log_then calls calls_then (Err f) is_first from =
-    subst (λ (g : Fault). Serves c turns (ends log calls) (ends log_then calls_then) (Err g)) (sym from.2)
-    (served_until c turns first last log log_then calls calls_then from.0 is_first from.1)
+pub from_fresh : (c : Configuration) (how : Service) (first last : State) (log log_then : Option (List ℕ)) (calls calls_then : Option (List Call))
+    (text : List ℕ) (outcome : Result (Unit {0}) Fault) → first ≡ state_after c no_counts []
+    → ServesFrom how (scene first log calls) (scene last log_then calls_then) text outcome
+    → Serves c how (ends log calls) (ends log_then calls_then) text outcome
+from_fresh c how first last log log_then calls calls_then text outcome is_first from =
+    subst (λ (o : Result (Unit {0}) Fault). Serves c how (ends log calls) (ends log_then calls_then) text o) (sym from.1)
+    (fresh_answer c how first last log log_then calls calls_then text from.0 is_first from.2)
+
+-- serving of which nothing is told
+pub from_silent : (turns : ℕ) (before after : Scene) (answer : Result Served ServeStop)
+    → IfOk answer (λ served. ServesAll turns before served after) → IfErr answer (λ stop. Stops turns before stop after)
+    → IsRunWith turns before answer after (λ run. [] ≡ reports_of None before.gateway run after.gateway (counts_of_answer answer))
+from_silent turns before after (Ok served) all stop = (all, refl)
+from_silent turns before after (Err by) all stop = (stop, refl)
+
+-- serving of which reports are told, where they never fail
+pub from_told : (turns seconds : ℕ) (before after : Scene) (answer : Result Served ServeStop) (Never : Type 0) (held holds : Option (List ℕ))
+    → IsRunWith turns before answer after
+    (λ run. Never → Appends held holds (told_of seconds before.gateway run after.gateway (counts_of_answer answer)))
+    → (text : List ℕ) × IsRunWith turns before answer after
+    (λ run. text ≡ reports_of (Some seconds) before.gateway run after.gateway (counts_of_answer answer)) × (Never → Appends held holds text)
+from_told turns seconds before after (Ok served) Never held holds run = (
+  told_of seconds before.gateway run.0.turns after.gateway served,
+  (run.0, refl),
+  run.1,
+)
+from_told turns seconds before after (Err stop) Never held holds run = (
+  told_of seconds before.gateway run.0.turns after.gateway stop.served,
+  (run.0, refl),
+  run.1,
+)
 
 append_empty : (held : Option (List ℕ)) → append_known held [] ≡ held
 append_empty None = refl
 append_empty (Some held) = ap Some (search rules)
 
 -- a log on standard output, of which nothing waits in the buffer
-pub serves_on_output : {Log : Type 0} (held : Log → Option (List ℕ)) (c : Configuration) (turns : ℕ) (log : Option Log)
-    (lent inner inner_then : Option (List ℕ)) (buffer : List ℕ) (calls calls_then : Option (List Call)) (outcome : Result (Unit {0}) Fault)
-    → log ≡ None → buffer ≡ [] → lent ≡ inner → Serves c turns (ends lent calls) (ends inner_then calls_then) outcome
-    → Serves c turns (ends (log_held held log (append_known inner buffer)) calls) (ends (log_held held log (append_known inner_then buffer)) calls_then)
-    outcome
-serves_on_output held c turns log lent inner inner_then buffer calls calls_then outcome no_log is_empty is_lent serves =
+pub serves_on_output : {Log : Type 0} (held : Log → Option (List ℕ)) (c : Configuration) (how : Service) (log : Option Log)
+    (lent inner inner_then : Option (List ℕ)) (buffer : List ℕ) (calls calls_then : Option (List Call)) (text : List ℕ)
+    (outcome : Result (Unit {0}) Fault) → log ≡ None → buffer ≡ [] → lent ≡ inner
+    → Serves c how (ends lent calls) (ends inner_then calls_then) text outcome
+    → Serves c how (ends (log_held held log (append_known inner buffer)) calls) (ends (log_held held log (append_known inner_then buffer)) calls_then)
+    text outcome
+serves_on_output held c how log lent inner inner_then buffer calls calls_then text outcome no_log is_empty is_lent serves =
     let first : log_held held log (append_known inner buffer) ≡ lent =
     ap (λ l. log_held held l (append_known inner buffer)) no_log ∙ ap (append_known inner) is_empty ∙ append_empty inner ∙ sym is_lent in
     let last : log_held held log (append_known inner_then buffer) ≡ inner_then =
     ap (λ l. log_held held l (append_known inner_then buffer)) no_log ∙ ap (append_known inner_then) is_empty ∙ append_empty inner_then in
-    subst (λ (o : Option (List ℕ)). Serves c turns (ends o calls) (ends (log_held held log (append_known inner_then buffer)) calls_then) outcome) (sym first)
-    (subst (λ (o : Option (List ℕ)). Serves c turns (ends lent calls) (ends o calls_then) outcome) (sym last) serves)
+    subst (λ (o : Option (List ℕ)). Serves c how (ends o calls) (ends (log_held held log (append_known inner_then buffer)) calls_then) text outcome)
+    (sym first) (subst (λ (o : Option (List ℕ)). Serves c how (ends lent calls) (ends o calls_then) text outcome) (sym last) serves)
 
 -- nothing is appended where nothing is told
 pub appends_nothing : (held : Option (List ℕ)) → Appends held held []
@@ -87,3 +130,35 @@ pub appends_written : {A E : Type 0} (r : Result A E) (held holds : Option (List
     → OnOk r (Appends held holds text) → Appends held holds line
 appends_written (Ok x) held holds text line is_line is appends = subst (λ (t : List ℕ). Appends held holds t) is_line appends
 appends_written (Err e) held holds text line is_line is appends = absurd (search rules)
+
+-- serving by the answer of serving with reports
+pub by_reports : (turns seconds : ℕ) (stats : Option ℕ) (before after : Scene) (answer : Result Served ServeStop)
+    (outcome : Result (Unit {0}) Fault) (Never : Type 0) (held holds : Option (List ℕ)) → stats ≡ Some seconds → outcome ≡ outcome_of answer
+    → IsRunWith turns before answer after
+    (λ run. Never → Appends held holds (told_of seconds before.gateway run after.gateway (counts_of_answer answer)))
+    → (text : List ℕ) × ServesFrom (service turns stats) before after text outcome × (Never → Appends held holds text)
+by_reports turns seconds stats before after answer outcome Never held holds is_stats is_outcome run =
+    let told = from_told turns seconds before after answer Never held holds run in
+    let same = subst (λ (s : Option ℕ). IsRunWith turns before answer after
+    (λ run. told.0 ≡ reports_of s before.gateway run after.gateway (counts_of_answer answer))) (sym is_stats) told.1 in
+    (told.0, (answer, is_outcome, same), told.2)
+
+-- serving by the answer of serving without reports
+pub by_silence : (turns : ℕ) (stats : Option ℕ) (before after : Scene) (answer : Result Served ServeStop) (outcome : Result (Unit {0}) Fault)
+    (Never : Type 0) (held : Option (List ℕ)) → stats ≡ None → outcome ≡ outcome_of answer
+    → IfOk answer (λ served. ServesAll turns before served after) → IfErr answer (λ stop. Stops turns before stop after)
+    → (text : List ℕ) × ServesFrom (service turns stats) before after text outcome × (Never → Appends held held text)
+by_silence turns stats before after answer outcome Never held is_stats is_outcome all stop =
+    let same = subst (λ (s : Option ℕ). IsRunWith turns before answer after
+    (λ run. [] ≡ reports_of s before.gateway run after.gateway (counts_of_answer answer))) (sym is_stats)
+    (from_silent turns before after answer all stop) in
+    ([], (answer, is_outcome, same), λ never. appends_nothing held)
+
+-- nothing is served where there is no memory for a gateway
+pub serves_nothing : (c : Configuration) (how : Service) (before : Ends) (f : Fault) (Never : Type 0) (held : Option (List ℕ)) → f ≡ fault.Memory
+    → (text : List ℕ) × Serves c how before before text (Err f) × (Never → Appends held held text)
+serves_nothing c how before f Never held is = (
+  [],
+  subst (λ (g : Fault). Serves c how before before [] (Err g)) (sym is) (inr (refl, refl)),
+  λ never. appends_nothing held,
+)

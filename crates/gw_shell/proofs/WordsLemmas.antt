@@ -11,7 +11,7 @@ use Rattle.clap.specs.declared.error.kind.ErrorKind.TheVariants as parse
 use Rattle.clap.proofs.OnLiterals.{clap_on_literals}
 use Rattle.clap.proofs.ValueTestLemmas.{accepts-Accepts}
 use Rattle.clap.specs.declared.builder.value_parser.ValueParser.TheVariants.{Unsigned}
-use Rattle.gw_shell.specs.CommandLine.{Asks, AsksNothing, Call, call_by, called, commands, most_turns, CallsCheck, CallsExplain, CallsLint, CallsReplay, CallsReplayExplained, CallsRun, CallsRunWhole, CallsWhy, IsAnswer, IsCheck, IsChosen, IsRefusal, IsReplay, IsServing, IsShown, IsTurns, IsWhy}
+use Rattle.gw_shell.specs.CommandLine.{Asks, AsksNothing, Call, call_by, called, commands, most_seconds, most_turns, CallsCheck, CallsExplain, CallsLint, CallsReplay, CallsReplayExplained, CallsRun, CallsRunWhole, CallsWhy, IsAnswer, IsCheck, IsChosen, IsRefusal, IsReplay, IsPeriod, IsServing, IsShown, IsTurns, IsWhy}
 use Rattle.gw_shell.specs.declared.command_line.Choice.{Choice}
 use Rattle.gw_shell.specs.declared.command_line.Choice.TheVariants as choice
 use Rattle.gw_shell.specs.declared.fault.Fault.{Fault}
@@ -86,7 +86,7 @@ some_same x y e = cc
 -- the call of a command rests on the values of its options alone
 pub same_call : (name : Text) (one other : Text → Option Text) → ((id : Text) → one id ≡ other id) → call_by name one ≡ call_by name other
 same_call name one other same =
-    rw (same (codes "config"), same (codes "log"), same (codes "turns"), same (codes "explain"), same (codes "lint"), same (codes "verbose")) refl
+    rw (same (codes "config"), same (codes "log"), same (codes "turns"), same (codes "stats"), same (codes "explain"), same (codes "lint"), same (codes "verbose")) refl
 
 -- the call that a parse entered, by its name and its rows
 pub entered_call : {Z : Type 0} (s : Option (Box SubCommand Z)) (name : Text) (rows : List Row)
@@ -163,6 +163,7 @@ replay_call explains = record {
   config = None;
   log = None;
   turns = None;
+  stats = None;
   explains = explains;
   lints = false;
   verbose = false;
@@ -228,6 +229,7 @@ check_call explains lints = record {
   config = Some (codes "site.toml");
   log = None;
   turns = None;
+  stats = None;
   explains = explains;
   lints = lints;
   verbose = false;
@@ -304,12 +306,13 @@ lint_is_taken words r is call =
 
 -- ---- a call that serves the ports of a file
 
-abbrev run_call : Option Text → Option Text → Bool → Call
-run_call log turns verbose = record {
+abbrev run_call : Option Text → Option Text → Bool → Option Text → Call
+run_call log turns verbose stats = record {
   name = codes "run";
   config = Some (codes "site.toml");
   log = log;
   turns = turns;
+  stats = stats;
   explains = false;
   lints = false;
   verbose = verbose;
@@ -321,13 +324,13 @@ run_words program = program ∷ codes "run" ∷ codes "--config" ∷ codes "site
 abbrev run_whole_words : Text → List Text
 run_whole_words program =
     program ∷ codes "run" ∷ codes "--config" ∷ codes "site.toml" ∷ codes "--log" ∷ codes "denials.log" ∷ codes "--turns" ∷ codes "100"
-    ∷ codes "--verbose" ∷ []
+    ∷ codes "--verbose" ∷ codes "--stats" ∷ codes "60" ∷ []
 
 run_no_fault : (program : Text) → fault_of commands (run_words program) ≡ []
 unfolding clap_on_literals
 run_no_fault program = refl
 
-calls_run : (program : Text) → called (run_words program) ≡ Some (run_call None None false)
+calls_run : (program : Text) → called (run_words program) ≡ Some (run_call None None false None)
 unfolding clap_on_literals
 calls_run program = refl
 
@@ -335,7 +338,7 @@ run_whole_no_fault : (program : Text) → fault_of commands (run_whole_words pro
 unfolding clap_on_literals
 run_whole_no_fault program = refl
 
-calls_run_whole : (program : Text) → called (run_whole_words program) ≡ Some (run_call (Some (codes "denials.log")) (Some (codes "100")) true)
+calls_run_whole : (program : Text) → called (run_whole_words program) ≡ Some (run_call (Some (codes "denials.log")) (Some (codes "100")) true (Some (codes "60")))
 unfolding clap_on_literals
 calls_run_whole program = refl
 
@@ -347,35 +350,44 @@ turns_same (Some text) n m one other = one.1 ∙ sym other.1
 a_hundred : IsTurns (Some (codes "100")) 100
 a_hundred = (accepts-Accepts false (Unsigned 1 most_turns) (codes "100") refl, refl)
 
-run_or_memory : (c : Call) (file : Text) (n : ℕ) (r : Result Choice Fault) → c.name ≡ codes "run" → c.config ≡ Some file → IsTurns c.turns n → IsOfCall c r → IsServing file c.log n c.verbose r
-run_or_memory c file n (Ok (choice.Check name explains lints)) named has turns is = absurd (run_check (sym named ∙ is.0))
-run_or_memory c file n (Ok (choice.Replay name explains)) named has turns is = absurd (run_replay (sym named ∙ is.0))
-run_or_memory c file n (Ok (choice.Run options)) named has turns is =
-    (some_same _ _ (sym is.1 ∙ has), is.2, turns_same c.turns options.turns n is.3 turns, is.4)
-run_or_memory c file n (Ok (choice.Why name)) named has turns is = absurd (why_run (sym is.0 ∙ named))
-run_or_memory c file n (Ok (choice.Help text)) named has turns is = absurd is
-run_or_memory c file n (Ok (choice.Usage text)) named has turns is = absurd is
-run_or_memory c file n (Err fault.CommandLine) named has turns is = absurd (is.run file n named has turns)
-run_or_memory c file n (Err fault.Memory) named has turns is = tt
-run_or_memory c file n (Err fault.Unreadable) named has turns is = absurd is
-run_or_memory c file n (Err (fault.Configuration f)) named has turns is = absurd is
-run_or_memory c file n (Err (fault.Line m)) named has turns is = absurd is
-run_or_memory c file n (Err fault.Read) named has turns is = absurd is
-run_or_memory c file n (Err fault.Write) named has turns is = absurd is
-run_or_memory c file n (Err fault.Log) named has turns is = absurd is
-run_or_memory c file n (Err (fault.Socket port)) named has turns is = absurd is
-run_or_memory c file n (Err fault.CountEnd) named has turns is = absurd is
+-- the number of seconds that a text says is one
+period_same : (given : Option Text) (n m : Option ℕ) → IsPeriod given n → IsPeriod given m → n ≡ m
+period_same None n m one other = one ∙ sym other
+period_same (Some text) n m one other = one.1 ∙ sym other.1
 
-pub run_is_taken : (words : List Text) (r : Result Choice Fault) → IsAnswer words r → CallsRun words → IsServing (codes "site.toml") None most_turns false r
+a_minute : IsPeriod (Some (codes "60")) (Some 60)
+a_minute = (accepts-Accepts false (Unsigned 1 most_seconds) (codes "60") refl, refl)
+
+run_or_memory : (c : Call) (file : Text) (n : ℕ) (period : Option ℕ) (r : Result Choice Fault) → c.name ≡ codes "run" → c.config ≡ Some file
+    → IsTurns c.turns n → IsPeriod c.stats period → IsOfCall c r → IsServing file c.log n c.verbose period r
+run_or_memory c file n period (Ok (choice.Check name explains lints)) named has turns seconds is = absurd (run_check (sym named ∙ is.0))
+run_or_memory c file n period (Ok (choice.Replay name explains)) named has turns seconds is = absurd (run_replay (sym named ∙ is.0))
+run_or_memory c file n period (Ok (choice.Run options)) named has turns seconds is =
+    (some_same _ _ (sym is.1 ∙ has), is.2, turns_same c.turns options.turns n is.3 turns, is.4, period_same c.stats options.stats period is.5 seconds)
+run_or_memory c file n period (Ok (choice.Why name)) named has turns seconds is = absurd (why_run (sym is.0 ∙ named))
+run_or_memory c file n period (Ok (choice.Help text)) named has turns seconds is = absurd is
+run_or_memory c file n period (Ok (choice.Usage text)) named has turns seconds is = absurd is
+run_or_memory c file n period (Err fault.CommandLine) named has turns seconds is = absurd (is.run file n period named has turns seconds)
+run_or_memory c file n period (Err fault.Memory) named has turns seconds is = tt
+run_or_memory c file n period (Err fault.Unreadable) named has turns seconds is = absurd is
+run_or_memory c file n period (Err (fault.Configuration f)) named has turns seconds is = absurd is
+run_or_memory c file n period (Err (fault.Line m)) named has turns seconds is = absurd is
+run_or_memory c file n period (Err fault.Read) named has turns seconds is = absurd is
+run_or_memory c file n period (Err fault.Write) named has turns seconds is = absurd is
+run_or_memory c file n period (Err fault.Log) named has turns seconds is = absurd is
+run_or_memory c file n period (Err (fault.Socket port)) named has turns seconds is = absurd is
+run_or_memory c file n period (Err fault.CountEnd) named has turns seconds is = absurd is
+
+pub run_is_taken : (words : List Text) (r : Result Choice Fault) → IsAnswer words r → CallsRun words → IsServing (codes "site.toml") None most_turns false None r
 run_is_taken words r is call =
-    run_or_memory (run_call None None false) (codes "site.toml") most_turns r refl refl refl
-    (of_call words (run_call None None false) r (ap (λ (w : List Text). fault_of commands w) call.1 ∙ run_no_fault call.0)
+    run_or_memory (run_call None None false None) (codes "site.toml") most_turns None r refl refl refl refl
+    (of_call words (run_call None None false None) r (ap (λ (w : List Text). fault_of commands w) call.1 ∙ run_no_fault call.0)
     (ap called call.1 ∙ calls_run call.0) is)
 
-pub run_whole_is_taken : (words : List Text) (r : Result Choice Fault) → IsAnswer words r → CallsRunWhole words → IsServing (codes "site.toml") (Some (codes "denials.log")) 100 true r
+pub run_whole_is_taken : (words : List Text) (r : Result Choice Fault) → IsAnswer words r → CallsRunWhole words → IsServing (codes "site.toml") (Some (codes "denials.log")) 100 true (Some 60) r
 run_whole_is_taken words r is call =
-    run_or_memory (run_call (Some (codes "denials.log")) (Some (codes "100")) true) (codes "site.toml") 100 r refl refl a_hundred
-    (of_call words (run_call (Some (codes "denials.log")) (Some (codes "100")) true) r
+    run_or_memory (run_call (Some (codes "denials.log")) (Some (codes "100")) true (Some (codes "60"))) (codes "site.toml") 100 (Some 60) r refl refl a_hundred a_minute
+    (of_call words (run_call (Some (codes "denials.log")) (Some (codes "100")) true (Some (codes "60"))) r
     (ap (λ (w : List Text). fault_of commands w) call.1 ∙ run_whole_no_fault call.0)
     (ap called call.1 ∙ calls_run_whole call.0) is)
 
@@ -387,6 +399,7 @@ why_call = record {
   config = Some (codes "site.toml");
   log = None;
   turns = None;
+  stats = None;
   explains = false;
   lints = false;
   verbose = false;

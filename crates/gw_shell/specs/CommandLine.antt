@@ -51,13 +51,17 @@ turns = record (new_rule (codes "turns")) { long = Some (codes "turns"); value_n
 abbrev pub verbose : Rule
 verbose = record (new_rule (codes "verbose")) { long = Some (codes "verbose"); action = Some SetTrue }
 
+-- `--stats SECONDS`
+abbrev pub stats : Rule
+stats = record (new_rule (codes "stats")) { long = Some (codes "stats"); value_names = 1 }
+
 -- `run`, which needs a file and may have another for the log,
 abbrev pub run_of_files : App
 run_of_files = with_rule (with_rule (new_app (codes "run")) needed_config) log
 
--- and may have a number of turns, and may have to tell what is served
+-- and may have a number of turns, may have to tell what is served, and may have a number of seconds between two reports
 abbrev pub run : App
-run = with_rule (with_rule run_of_files turns) verbose
+run = with_rule (with_rule (with_rule run_of_files turns) verbose) stats
 
 -- `why`, which needs a file
 abbrev pub why : App
@@ -81,6 +85,7 @@ pub record Call : Type 0 where
   pub config : Option Text
   pub log : Option Text
   pub turns : Option Text
+  pub stats : Option Text
   pub explains : Bool
   pub lints : Bool
   pub verbose : Bool
@@ -97,6 +102,7 @@ call_by name value = record {
   config = value (codes "config");
   log = value (codes "log");
   turns = value (codes "turns");
+  stats = value (codes "stats");
   explains = is_given (value (codes "explain"));
   lints = is_given (value (codes "lint"));
   verbose = is_given (value (codes "verbose"));
@@ -122,16 +128,31 @@ IsTurns (Some text) n = IsUnsignedIn 1 most_turns text × (n ≡ digits_value 10
 abbrev pub IsNoTurns : Option Text → Fault → Type 0
 IsNoTurns given f = (f ≡ fault.CommandLine) × ((n : ℕ) → ¬ (IsTurns given n))
 
+-- the most seconds between two reports
+abbrev pub most_seconds : ℕ
+most_seconds = 4294967295
+
+-- how many seconds lie between two reports: a decimal from 1 to the most, and none where none is given
+abbrev pub IsPeriod : Option Text → Option ℕ → Type 0
+IsPeriod None period = period ≡ None
+IsPeriod (Some text) period = IsUnsignedIn 1 most_seconds text × (period ≡ Some (digits_value 10 (without_leading_plus text)))
+
+-- The text is no number of seconds, which makes a bad command line.
+abbrev pub IsNoPeriod : Option Text → Fault → Type 0
+IsNoPeriod given f = (f ≡ fault.CommandLine) × ((period : Option ℕ) → ¬ (IsPeriod given period))
+
 -- what `run` is asked for by the values of its options
 pub record AreOptions (file : Text) (value : Text → Option Text) (options : RunOptions) : Type 0 where
   pub config : string_bytes options.config ≡ file
   pub log : option_map string_bytes options.log ≡ value (codes "log")
   pub turns : IsTurns (value (codes "turns")) options.turns
   pub verbose : options.verbose ≡ is_given (value (codes "verbose"))
+  pub stats : IsPeriod (value (codes "stats")) options.stats
 
 -- Its options ask for nothing, or memory ran out.
 abbrev pub AreNoOptions : (Text → Option Text) → Fault → Type 0
-AreNoOptions value fault.CommandLine = (n : ℕ) → ¬ (IsTurns (value (codes "turns")) n)
+AreNoOptions value fault.CommandLine =
+    (n : ℕ) (period : Option ℕ) → IsTurns (value (codes "turns")) n → ¬ (IsPeriod (value (codes "stats")) period)
 AreNoOptions value fault.Memory = ⊤
 AreNoOptions value _ = ⊥
 
@@ -143,17 +164,18 @@ Asks (choice.Replay file explains) call =
     (call.name ≡ codes "replay") × (option_map string_bytes file ≡ call.config) × (explains ≡ call.explains)
 Asks (choice.Run options) call =
     (call.name ≡ codes "run") × (call.config ≡ Some (string_bytes options.config)) × (option_map string_bytes options.log ≡ call.log)
-    × IsTurns call.turns options.turns × (options.verbose ≡ call.verbose)
+    × IsTurns call.turns options.turns × (options.verbose ≡ call.verbose) × IsPeriod call.stats options.stats
 Asks (choice.Why file) call = (call.name ≡ codes "why") × (call.config ≡ Some (string_bytes file))
 Asks (choice.Help text) call = ⊥
 Asks (choice.Usage text) call = ⊥
 
 -- A call of `replay` asks for something, one of `check` or `why` where a file is named, and one of `run` where a file is named and the
--- text of the turns is a number of them; other calls ask for nothing.
+-- texts of the turns and of the seconds between two reports are such numbers; other calls ask for nothing.
 pub record AsksNothing (call : Call) : Type 0 where
   pub replay : call.name ≢ codes "replay"
   pub check : (file : Text) → call.name ≡ codes "check" → call.config ≢ Some file
-  pub run : (file : Text) (n : ℕ) → call.name ≡ codes "run" → call.config ≡ Some file → ¬ (IsTurns call.turns n)
+  pub run : (file : Text) (n : ℕ) (period : Option ℕ) → call.name ≡ codes "run" → call.config ≡ Some file → IsTurns call.turns n →
+      ¬ (IsPeriod call.stats period)
   pub why : (file : Text) → call.name ≡ codes "why" → call.config ≢ Some file
 
 -- a choice is what the call asks for, and a bad command line is a call that asks for nothing; memory may run out at any
@@ -237,7 +259,7 @@ CallsRun words = (program : Text) × (words ≡ program ∷ codes "run" ∷ code
 abbrev pub CallsRunWhole : List Text → Type 0
 CallsRunWhole words = (program : Text)
     × (words ≡ program ∷ codes "run" ∷ codes "--config" ∷ codes "site.toml" ∷ codes "--log" ∷ codes "denials.log" ∷ codes "--turns"
-    ∷ codes "100" ∷ codes "--verbose" ∷ [])
+    ∷ codes "100" ∷ codes "--verbose" ∷ codes "--stats" ∷ codes "60" ∷ [])
 
 -- the script is played under the configuration of that file, its asks told or not, or memory ran out
 abbrev pub IsReplay : Option Text → Bool → Result Choice Fault → Type 0
@@ -258,10 +280,11 @@ IsWhy file (Ok (choice.Why chosen)) = string_bytes chosen ≡ file
 IsWhy file (Err fault.Memory) = ⊤
 IsWhy file _ = ⊥
 
--- The ports of that file are served with that log for so many turns, and it is told what is served or not; or memory ran out.
-abbrev pub IsServing : Text → Option Text → ℕ → Bool → Result Choice Fault → Type 0
-IsServing file denials count tells (Ok (choice.Run options)) =
+-- The ports of that file are served with that log for so many turns, it is told what is served or not, and reports are told with so many
+-- seconds between two, where they are; or memory ran out.
+abbrev pub IsServing : Text → Option Text → ℕ → Bool → Option ℕ → Result Choice Fault → Type 0
+IsServing file denials count tells period (Ok (choice.Run options)) =
     (string_bytes options.config ≡ file) × (option_map string_bytes options.log ≡ denials) × (options.turns ≡ count)
-    × (options.verbose ≡ tells)
-IsServing file denials count tells (Err fault.Memory) = ⊤
-IsServing file denials count tells _ = ⊥
+    × (options.verbose ≡ tells) × (options.stats ≡ period)
+IsServing file denials count tells period (Err fault.Memory) = ⊤
+IsServing file denials count tells period _ = ⊥

@@ -1,9 +1,10 @@
 -- What `run` leaves: what was opened, and what came of serving it from the gateway's first state, over the definitions of `gw_core`.
-use Rattle.std.specs.Prelude.{◌≡◌, ◌⊎◌, ⊤, ℕ, Bool, List, [], Option, Some, None, Result, Ok, Err, option_map, string_bytes}
+use Rattle.std.specs.Prelude.{◌≡◌, ◌⊎◌, ⊤, ℕ, Bool, List, [], ◌++◌, Option, Some, None, Result, Ok, Err, option_map, string_bytes}
 use Rattle.std.specs.Io.KnownBytes.{Keeps}
 use Rattle.gw_core.specs.History.{state_after}
 use Rattle.gw_core.specs.Replay.{no_counts}
-use Rattle.gw_core.specs.Serve.{Scene, ServesAll, Stops, scene}
+use Rattle.gw_core.specs.Reports.{IsRunWith, told_of}
+use Rattle.gw_core.specs.Serve.{Scene, ServesAll, Stops, Turn, counts_of_answer, scene}
 use Rattle.gw_core.specs.State.{State}
 use Rattle.gw_core.specs.Wire.{Call}
 use Rattle.gw_core.specs.declared.serving.Served.{Served}
@@ -35,31 +36,53 @@ ends log calls = record { log = log; calls = calls }
 abbrev pub first_scene : Configuration → Ends → Scene
 first_scene c ends = scene (state_after c no_counts []) ends.log ends.calls
 
--- so many turns were served, and the gateway stands as they left it
-pub record ServesWhole (c : Configuration) (turns : ℕ) (before after : Ends) : Type 0 where
+-- how it is served: for how many turns, and how many seconds lie between two reports, where some are told
+pub record Service : Type 0 where
+  pub turns : ℕ
+  pub stats : Option ℕ
+
+abbrev pub service : ℕ → Option ℕ → Service
+service turns stats = record { turns = turns; stats = stats }
+
+-- what is told of a run from one state to another by these turns, in which so much was done
+abbrev pub reports_of : Option ℕ → State → List Turn → State → Served → List ℕ
+reports_of None before turns after served = []
+reports_of (Some seconds) before turns after served = told_of seconds before turns after served
+
+-- All turns were served, the gateway stands as they left it, and these are their reports.
+pub record ServesWhole (c : Configuration) (how : Service) (before after : Ends) (text : List ℕ) : Type 0 where
   pub gateway : State
   pub served : Served
-  pub serves : ServesAll turns (first_scene c before) served (scene gateway after.log after.calls)
+  pub serves : ServesAll how.turns (first_scene c before) served (scene gateway after.log after.calls)
+  pub reports : text ≡ reports_of how.stats (state_after c no_counts []) serves.turns gateway served
 
--- serving stopped by this fault, before so many turns were done
-pub record StopsBy (by : ServeFault) (c : Configuration) (turns : ℕ) (before after : Ends) : Type 0 where
+-- Serving stopped by this fault, before all turns were done, and these are their reports.
+pub record StopsBy (by : ServeFault) (c : Configuration) (how : Service) (before after : Ends) (text : List ℕ) : Type 0 where
   pub gateway : State
   pub served : Served
-  pub stops : Stops turns (first_scene c before) (record { fault = by; served = served }) (scene gateway after.log after.calls)
+  pub stops : Stops how.turns (first_scene c before) (record { fault = by; served = served }) (scene gateway after.log after.calls)
+  pub reports : text ≡ reports_of how.stats (state_after c no_counts []) stops.turns gateway served
 
--- What serving from the gateway's first state leaves at each outcome. Memory may run out before the first turn too, and then nothing was
--- received.
-abbrev pub Serves : Configuration → ℕ → Ends → Ends → Result (Unit {0}) Fault → Type 0
-Serves c turns before after (Ok done) = ServesWhole c turns before after
-Serves c turns before after (Err fault.Log) = StopsBy serving.Log c turns before after
-Serves c turns before after (Err fault.Memory) = StopsBy serving.Memory c turns before after ⊎ (after ≡ before)
-Serves c turns before after (Err fault.CountEnd) = StopsBy serving.CountEnd c turns before after
-Serves c turns before after (Err _) = ⊥
+-- What serving from the gateway's first state leaves at each outcome, and what is told of it. Memory may run out before the first turn
+-- too, and then nothing was received or told.
+abbrev pub Serves : Configuration → Service → Ends → Ends → List ℕ → Result (Unit {0}) Fault → Type 0
+Serves c how before after text (Ok done) = ServesWhole c how before after text
+Serves c how before after text (Err fault.Log) = StopsBy serving.Log c how before after text
+Serves c how before after text (Err fault.Memory) = StopsBy serving.Memory c how before after text ⊎ ((after ≡ before) × (text ≡ []))
+Serves c how before after text (Err fault.CountEnd) = StopsBy serving.CountEnd c how before after text
+Serves c how before after text (Err _) = ⊥
 
--- What serving from a state leaves at each outcome: all turns, or a stop by the fault.
-abbrev pub ServesFrom : ℕ → Scene → Scene → Result (Unit {0}) Fault → Type 0
-ServesFrom turns before after (Ok done) = (served : Served) × ServesAll turns before served after
-ServesFrom turns before after (Err f) = (stop : ServeStop) × Stops turns before stop after × (f ≡ fault_of_serving stop.fault)
+-- the outcome of the program, by the answer of serving
+abbrev pub outcome_of : Result Served ServeStop → Result (Unit {0}) Fault
+outcome_of (Ok served) = Ok tt
+outcome_of (Err stop) = Err (fault_of_serving stop.fault)
+
+-- what serving from a state leaves at each outcome, all turns or a stop by the fault, and what is told of it
+abbrev pub ServesFrom : Service → Scene → Scene → List ℕ → Result (Unit {0}) Fault → Type 0
+ServesFrom how before after text outcome =
+    (answer : Result Served ServeStop) × (outcome ≡ outcome_of answer)
+    × IsRunWith how.turns before answer after
+    (λ run. text ≡ reports_of how.stats before.gateway run after.gateway (counts_of_answer answer))
 
 -- What opening and closing may give: of a machine, the log of a name, the sockets of some ports, and both when they are closed, the log
 -- where one was opened; and what a log holds and sockets tell.
@@ -122,18 +145,18 @@ ArentOpen LogOpens SocketsOpen name held holds (opening.Sockets failure) =
     (log : Option _) × LogIsOpen LogOpens name held holds log × SocketsOpen (Err failure)
 
 -- What `run` leaves under a configuration: not all can be opened, and it may be told why; or all was opened, this line was told, and
--- then it was served and closed.
+-- then it was served, with its reports, and closed.
 pub data LeavesServed {Log Sockets : Type 0} (machine : Machine Log Sockets) (name : Option (List ℕ)) (held holds : Option (List ℕ))
-    (c : Configuration) (turns : ℕ) (is_verbose : Bool) (line told : List ℕ) (outcome : Result (Unit {0}) Fault) : Type 0 where
+    (c : Configuration) (how : Service) (is_verbose : Bool) (line told : List ℕ) (outcome : Result (Unit {0}) Fault) : Type 0 where
   shut : (failure : OpenFailure) → ArentOpen machine.LogOpens (machine.SocketsOpen c.ports) name held holds failure →
       outcome ≡ Err (fault_of_opening failure) → IsNote is_verbose failure told →
-      LeavesServed machine name held holds c turns is_verbose line told outcome
-  served : (log log_then : Option Log) (sockets sockets_then : Sockets) (output : Option (List ℕ)) →
+      LeavesServed machine name held holds c how is_verbose line told outcome
+  served : (log log_then : Option Log) (sockets sockets_then : Sockets) (output : Option (List ℕ)) (reports : List ℕ) →
       AreOpen machine.LogOpens (machine.SocketsOpen c.ports) name held output log sockets →
       machine.Closes sockets_then log_then → LogStays log log_then output holds →
-      Serves c turns (ends (log_held machine.held log output) (machine.calls sockets))
-      (ends (log_held machine.held log_then holds) (machine.calls sockets_then)) outcome →
-      told ≡ line → LeavesServed machine name held holds c turns is_verbose line told outcome
+      Serves c how (ends (log_held machine.held log output) (machine.calls sockets))
+      (ends (log_held machine.held log_then holds) (machine.calls sockets_then)) reports outcome →
+      told ≡ line ++ reports → LeavesServed machine name held holds c how is_verbose line told outcome
 
 -- What `run` leaves under the configuration that was read from a text. Where there is none nothing is opened, the outcome is why, and it may be told
 -- where its fault is.
@@ -141,6 +164,7 @@ abbrev pub LeavesRun : {Log Sockets : Type 0} → Machine Log Sockets → Result
     → Result Configuration Fault → (told : List ℕ) → Result (Unit {0}) Fault → Type 0
 LeavesRun machine text held holds options (Ok c) told outcome =
     let name = option_map string_bytes options.log in
-    LeavesServed machine name held holds c options.turns options.verbose (startup_line options.verbose c name) told outcome
+    LeavesServed machine name held holds c (service options.turns options.stats) options.verbose (startup_line options.verbose c name)
+    told outcome
 LeavesRun machine text held holds options (Err f) told outcome =
     (outcome ≡ Err f) × (holds ≡ held) × FaultNote options.verbose text f told

@@ -1,9 +1,9 @@
 //! The command line: which command the words choose, read with `clap`.
 
-ghost use Rattle.std.specs.Prelude.{◌≡◌, Some, None, true, false, IfOk, MatchResult, map, codes, option_map, string_bytes};
+ghost use Rattle.std.specs.Prelude.{◌≡◌, ◌<◌, Some, None, true, false, IfOk, IfSome, MatchResult, map, codes, option_map, string_bytes};
 ghost use Rattle.clap.specs.Words.{app_of, first_value, found_of, kind_of, rule_of, subcommand_rows_of};
 ghost use Rattle.clap.specs.declared.builder.command.Command.TheViews.{out-Command};
-ghost use Rattle.gw_shell.specs.CommandLine.{call_by, call_of, check, check_of_file, commands, explain, is_given, replay, run, run_of_files, needed_config, why, AreOptions, CallsCheck, CallsExplain, CallsLint, CallsReplay, CallsReplayExplained, CallsRun, CallsRunWhole, CallsWhy, IsAnswer, IsCheck, IsChosen, IsNoTurns, AreNoOptions, IsRefusal, IsReplay, IsServing, IsTurns, IsWhy};
+ghost use Rattle.gw_shell.specs.CommandLine.{call_by, call_of, check, check_of_file, commands, explain, is_given, replay, run, run_of_files, needed_config, why, AreOptions, CallsCheck, CallsExplain, CallsLint, CallsReplay, CallsReplayExplained, CallsRun, CallsRunWhole, CallsWhy, IsAnswer, IsCheck, IsChosen, IsNoPeriod, IsNoTurns, AreNoOptions, IsPeriod, IsRefusal, IsReplay, IsServing, IsTurns, IsWhy};
 
 use crate::fault::Fault;
 use crate::options::RunOptions;
@@ -13,6 +13,9 @@ use std::alloc::{AllocError, Global};
 
 /// How many turns are served at most, and where no number of them is given.
 const MAX_TURNS: u64 = i64::MAX as u64;
+
+/// How many seconds lie between two reports at most.
+const MAX_SECONDS: u64 = u32::MAX as u64;
 
 /// What `--version` prints behind the program's name: the version, and the logic that the program is
 /// proved in, as `rt version` names it.
@@ -129,7 +132,14 @@ fn make_run<'a>(alloc: Global) -> Result<Command<'a>, AllocError>
         .long("verbose")
         .help("Tells at the start what is served, or where a fault is")
         .action(ArgAction::SetTrue);
-    make_run_of_files(alloc)?.arg(turns)?.arg(verbose)
+    let stats = Arg::new(alloc, "stats")
+        .long("stats")
+        .value_name("SECONDS")
+        .help("Tells what was done, each so many seconds, from 1 to 4294967295, and at the end");
+    make_run_of_files(alloc)?
+        .arg(turns)?
+        .arg(verbose)?
+        .arg(stats)
 }
 
 fn make_run_of_files<'a>(alloc: Global) -> Result<Command<'a>, AllocError>
@@ -230,17 +240,34 @@ fn turns_of(text: Option<&str>) -> Result<u64, Fault>
     }
 }
 
+/// How many seconds lie between two reports by this text, or none where there is none.
+fn period_of(text: Option<&str>) -> Result<Option<u64>, Fault>
+    ensures number { let given = option_map (λ t. t.now) text.entry in
+        MatchResult result (IsPeriod given) (IsNoPeriod given) }
+    ensures some { IfOk result (λ period. IfSome period (λ n. 0 < n)) }
+{
+    let Some(text) = text else {
+        return Ok(None);
+    };
+    match text.parse::<u64>() {
+        Ok(seconds) if 1 <= seconds && seconds <= MAX_SECONDS => Ok(Some(seconds)),
+        Ok(_) | Err(_) => Err(Fault::CommandLine),
+    }
+}
+
 /// What `run` is asked for under the configuration in this file.
 fn run_options(alloc: Global, matches: &ArgMatches<'_>, config: String) -> Result<RunOptions, Fault>
     ensures { let value = first_value (found_of matches.now) in
         MatchResult result (AreOptions (string_bytes config) value) (AreNoOptions value) }
 {
     let turns = turns_of(matches.get_str("turns"))?;
+    let stats = period_of(matches.get_str("stats"))?;
     Ok(RunOptions {
         config,
         log: file_of(alloc, matches, "log")?,
         turns,
         verbose: is_given(matches, "verbose"),
+        stats,
     })
 }
 
@@ -296,9 +323,9 @@ pub fn choice_of(alloc: Global, words: &[String]) -> Result<Choice, Fault>
     ensures lint { CallsLint (map string_bytes words.now) → IsCheck (codes "site.toml") false true result }
     ensures why { CallsWhy (map string_bytes words.now) → IsWhy (codes "site.toml") result }
     ensures run { CallsRun (map string_bytes words.now) →
-        IsServing (codes "site.toml") None 9223372036854775807 false result }
+        IsServing (codes "site.toml") None 9223372036854775807 false None result }
     ensures run_whole { CallsRunWhole (map string_bytes words.now) →
-        IsServing (codes "site.toml") (Some (codes "denials.log")) 100 true result }
+        IsServing (codes "site.toml") (Some (codes "denials.log")) 100 true (Some 60) result }
 {
     let command = make_commands(alloc)?;
     match command.try_get_matches_from(words) {

@@ -1,6 +1,7 @@
 //! What a command is asked for by its options.
 
-ghost use Rattle.std.specs.Prelude.{◌<◌, ◌^◌};
+ghost use Rattle.std.proofs.Props.{props};
+ghost use Rattle.std.specs.Prelude.{◌<◌, ◌^◌, IfSome};
 
 /// What `run` is asked for.
 #[derive(Debug, Drop)]
@@ -13,5 +14,8 @@ pub struct RunOptions {
     pub turns: u64,
     /// Whether it is told at the start what is served.
     pub verbose: bool,
+    /// How many seconds lie between two reports of what was done. Without it none is told.
+    pub stats: Option<u64>,
     pub ghost few: { turns < 2 ^ 63 },
+    pub ghost seconds: { IfSome stats (λ n. 0 < n) } by { Prim.hlevel props },
 }

@@ -3,7 +3,7 @@
 //! What owns a configuration or a gateway has nothing behind it that can fail, and lends it to the
 //! functions that can: each way out of such a function drops a large value.
 
-ghost use Rattle.std.specs.Prelude.{◌≡◌, ◌⊎◌, ◌≤◌, ◌<◌, ◌^◌, [], ℕ, List, Ok, Err, None, Some, MatchResult, length, option_map, string_bytes, IfErr, IfOk, OnErr, OnOk};
+ghost use Rattle.std.specs.Prelude.{◌≡◌, ◌⊎◌, ◌≤◌, ◌<◌, ◌^◌, [], ℕ, List, Ok, Err, None, Some, MatchResult, length, option_map, string_bytes, IfErr, IfOk, IfSome, OnErr, OnOk};
 ghost use Rattle.std.specs.Io.Buffered.{writer_buffer, writer_contents};
 ghost use Rattle.std.specs.Io.KnownBytes.{Appends, Keeps};
 ghost use Rattle.gw_core.specs.History.{state_after};
@@ -11,7 +11,7 @@ ghost use Rattle.gw_core.specs.Replay.{no_counts};
 ghost use Rattle.gw_core.specs.Serve.{scene};
 ghost use Rattle.gw_shell.specs.Announcement.{startup_line};
 ghost use Rattle.gw_shell.specs.Host.{OpensAtLine};
-ghost use Rattle.gw_shell.specs.Serving.{AreOpen, ArentOpen, IsFlushedFor, LeavesServed, LogIsOpen, LogIsShut, LogStays, Serves, ServesFrom, ends, log_held, machine};
+ghost use Rattle.gw_shell.specs.Serving.{AreOpen, ArentOpen, IsFlushedFor, LeavesServed, LogIsOpen, LogIsShut, LogStays, Serves, ServesFrom, ends, log_held, machine, outcome_of, service};
 ghost use Rattle.gw_shell.specs.declared.fault.Fault.TheVariants as fault;
 
 use crate::announcement::startup_line;
@@ -20,7 +20,7 @@ use crate::fault::Fault;
 use crate::host::Host;
 use crate::opening::{OpenFailure, SocketFailure, note_of};
 use crate::options::RunOptions;
-use gw_core::{Counts, Gateway, Wire, serve};
+use gw_core::{Counts, Gateway, ServeStop, Served, Wire, serve, serve_with_reports};
 use gw_policy_text::Config;
 use gw_script::{OctetSink, write_whole};
 use std::alloc::Global;
@@ -41,43 +41,68 @@ fn fresh_gateway(alloc: Global, config: Config) -> Result<Gateway, Fault>
     }
 }
 
-/// Serves sockets for so many turns. Faults: `Log`, `Memory` and `CountEnd`.
-fn serve_by<S: Wire, L: OctetSink>(
-    alloc: Global,
-    gateway: &mut Gateway,
-    sockets: &mut S,
-    log: &mut L,
-    turns: u64,
-) -> Result<(), Fault>
-    requires turns { turns < 2 ^ 63 }
-    requires failures { S.failure_count sockets.old < 2 ^ 127 }
-    ensures { let before = scene gateway.old (L.held log.old) (S.calls sockets.old) in
-        let after = scene gateway.new (L.held log.new) (S.calls sockets.new) in
-        ServesFrom turns before after result }
+/// The outcome of the program, by the answer of serving.
+fn outcome_of(answer: Result<Served, ServeStop>) -> Result<(), Fault>
+    ensures { result ≡ outcome_of answer }
 {
-    match serve(alloc, gateway, sockets, log, turns) {
+    match answer {
         Ok(_) => Ok(()),
         Err(stop) => Err(Fault::from(stop.fault)),
     }
 }
 
-/// Serves sockets for so many turns, by a gateway of this configuration that nothing came to yet.
-/// Faults: `Log`, `Memory` and `CountEnd`.
-pub fn serve_fresh<S: Wire, L: OctetSink>(
+/// Serves sockets for so many turns, and tells what was done each so many seconds, where that is
+/// asked for. Faults: `Log`, `Memory` and `CountEnd`.
+fn serve_by<S: Wire, L: OctetSink, E: OctetSink>(
+    alloc: Global,
+    gateway: &mut Gateway,
+    sockets: &mut S,
+    log: &mut L,
+    errors: &mut E,
+    turns: u64,
+    stats: Option<u64>,
+) -> Result<(), Fault>
+    requires turns { turns < 2 ^ 63 }
+    requires seconds { IfSome stats (λ n. 0 < n) }
+    requires failures { S.failure_count sockets.old < 2 ^ 127 }
+    ensures serves { let before = scene gateway.old (L.held log.old) (S.calls sockets.old) in
+        let after = scene gateway.new (L.held log.new) (S.calls sockets.new) in
+        (reports : List ℕ) × ServesFrom (service turns stats) before after reports result
+        × (E.NeverFails errors.old → Appends (E.held errors.old) (E.held errors.new) reports) }
+    ensures lasting { E.NeverFails errors.old → E.NeverFails errors.new }
+{
+    match stats {
+        Some(seconds) => {
+            let answer = serve_with_reports(alloc, gateway, sockets, log, errors, seconds, turns);
+            outcome_of(answer)
+        }
+        None => outcome_of(serve(alloc, gateway, sockets, log, turns)),
+    }
+}
+
+/// Serves sockets for so many turns, by a gateway of this configuration that nothing came to yet, and
+/// tells what was done each so many seconds, where that is asked for. Faults: `Log`, `Memory` and
+/// `CountEnd`.
+pub fn serve_fresh<S: Wire, L: OctetSink, E: OctetSink>(
     alloc: Global,
     config: Config,
     sockets: &mut S,
     log: &mut L,
+    errors: &mut E,
     turns: u64,
+    stats: Option<u64>,
 ) -> Result<(), Fault>
     requires turns { turns < 2 ^ 63 }
+    requires seconds { IfSome stats (λ n. 0 < n) }
     requires failures { S.failure_count sockets.old < 2 ^ 127 }
-    ensures { let before = ends (L.held log.old) (S.calls sockets.old) in
+    ensures serves { let before = ends (L.held log.old) (S.calls sockets.old) in
         let after = ends (L.held log.new) (S.calls sockets.new) in
-        Serves config turns before after result }
+        (reports : List ℕ) × Serves config (service turns stats) before after reports result
+        × (E.NeverFails errors.old → Appends (E.held errors.old) (E.held errors.new) reports) }
+    ensures lasting { E.NeverFails errors.old → E.NeverFails errors.new }
 {
     match fresh_gateway(alloc, config) {
-        Ok(mut gateway) => serve_by(alloc, &mut gateway, sockets, log, turns),
+        Ok(mut gateway) => serve_by(alloc, &mut gateway, sockets, log, errors, turns, stats),
         Err(fault) => Err(fault),
     }
 }
@@ -181,30 +206,38 @@ fn open<H: Host, W: Write + Drop>(
     }
 }
 
-/// Serves what is open. Each event's lines are written to standard output at once where the log is
-/// there.
-fn serve_open<L: OctetSink, S: Wire, W: Write + Drop>(
+/// Serves what is open as the options ask. Each event's lines are written to standard output at once
+/// where the log is there.
+fn serve_open<L: OctetSink, S: Wire, W: Write + Drop, E: OctetSink>(
     alloc: Global,
     config: Config,
-    turns: u64,
+    options: &RunOptions,
     log: &mut Option<L>,
     sockets: &mut S,
     output: &mut BufWriter<W>,
+    errors: &mut E,
 ) -> Result<(), Fault>
-    requires turns { turns < 2 ^ 63 }
     requires failures { S.failure_count sockets.old < 2 ^ 127 }
     requires unbuffered { log.old ≡ None → writer_buffer output.old ≡ [] }
     ensures serves { let held = writer_contents W.contents output.old in
         let holds = writer_contents W.contents output.new in
-        Serves config turns (ends (log_held L.held log.old held) (S.calls sockets.old))
-        (ends (log_held L.held log.new holds) (S.calls sockets.new)) result }
+        let how = service options.now.turns options.now.stats in
+        (reports : List ℕ)
+        × Serves config how (ends (log_held L.held log.old held) (S.calls sockets.old))
+        (ends (log_held L.held log.new holds) (S.calls sockets.new)) reports result
+        × (E.NeverFails errors.old → Appends (E.held errors.old) (E.held errors.new) reports) }
+    ensures lasting { E.NeverFails errors.old → E.NeverFails errors.new }
     ensures log { LogStays log.old log.new (writer_contents W.contents output.old)
         (writer_contents W.contents output.new) }
     ensures buffer { writer_buffer output.new ≡ writer_buffer output.old }
 {
+    let RunOptions { turns, stats, .. } = options;
     match log {
-        Some(log) => serve_fresh(alloc, config, sockets, log, turns),
-        None => serve_fresh(alloc, config, sockets, output.get_mut(), turns),
+        Some(log) => serve_fresh(alloc, config, sockets, log, errors, *turns, *stats),
+        None => {
+            let log = output.get_mut();
+            serve_fresh(alloc, config, sockets, log, errors, *turns, *stats)
+        }
     }
 }
 
@@ -224,7 +257,7 @@ pub fn serve_ports<H: Host, W: Write + Drop, E: OctetSink>(
         × LeavesServed (machine (OpensAtLine (H.LogOpens host.old) (H.LogIsCut host.old) H.Log.held)
         (H.SocketsOpen host.old) (H.Closes host.new) H.Log.held H.Sockets.calls)
         name (writer_contents W.contents output.old) (writer_contents W.contents output.new) config
-        options.now.turns options.now.verbose (startup_line options.now.verbose config name) told result
+        (service options.now.turns options.now.stats) options.now.verbose (startup_line options.now.verbose config name) told result
         × (E.NeverFails errors.old → Appends (E.held errors.old) (E.held errors.new) told) }
     ensures lasting { E.NeverFails errors.old → E.NeverFails errors.new }
     ensures flush { OnOk result (IsFlushedFor (option_map string_bytes options.now.log)
@@ -239,7 +272,15 @@ pub fn serve_ports<H: Host, W: Write + Drop, E: OctetSink>(
             },
         ) => {
             tell(&line, errors);
-            let outcome = serve_open(alloc, config, options.turns, &mut log, &mut sockets, output);
+            let outcome = serve_open(
+                alloc,
+                config,
+                options,
+                &mut log,
+                &mut sockets,
+                output,
+                errors,
+            );
             host.close(sockets, log);
             outcome
         }

@@ -5,10 +5,19 @@ use crate::case::{number, number_or_none, put_word, unfolded};
 use crate::configurations::read;
 use crate::streams::Narrow;
 use crate::wire::MemWire;
-use gw_core::{Counts, Gateway, ServeStop, Served, Wire, serve};
+use gw_core::{Counts, Gateway, ServeStop, Served, Wire, serve, serve_with_reports};
 use std::alloc::Global;
 use std::io;
 use std::io::{ErrorKind, Write};
+
+/// How many octets a write takes where a case doesn't say it.
+const AMPLE: usize = 4096;
+
+/// What a gateway has counted before reports are told.
+const BEFORE: Counts = Counts {
+    ticks: 7,
+    denials: 40,
+};
 
 /// Appends the turns, the events taken, those dropped for want of memory, the receives that failed, the sends that succeeded and those
 /// that failed.
@@ -39,12 +48,11 @@ fn put_end(end: &Result<Served, ServeStop>, out: &mut Vec<u8>) -> io::Result<()>
     }
 }
 
-/// A gateway whose last denial had this number.
-fn make_gateway(alloc: Global, config: &str, denials: u64) -> io::Result<Gateway> {
-    if denials > 1 << 63 {
+/// A gateway that goes on from these counts.
+fn make_gateway(alloc: Global, config: &str, counts: Counts) -> io::Result<Gateway> {
+    if counts.ticks > 1 << 63 || counts.denials > 1 << 63 {
         return Err(ErrorKind::InvalidData.into());
     }
-    let counts = Counts { ticks: 0, denials };
     Ok(Gateway::new(alloc, read(alloc, config)?, counts)?)
 }
 
@@ -71,7 +79,8 @@ pub fn call(alloc: Global, config: &str, line: &str, out: &mut Vec<u8>) -> io::R
     let failing_call = number_or_none(words.next())?;
     let failing_write = number_or_none(words.next())?;
     let octets = number(words.next())?;
-    let mut gateway = make_gateway(alloc, config, number(words.next())?)?;
+    let denials = number(words.next())?;
+    let mut gateway = make_gateway(alloc, config, Counts { ticks: 0, denials })?;
     let script = unfolded(alloc, words.next().unwrap_or(""))?;
     let mut wire = MemWire::new(alloc, &script, failing_call)?;
     let mut log = Narrow::new(alloc, failing_write, octets)?;
@@ -79,4 +88,49 @@ pub fn call(alloc: Global, config: &str, line: &str, out: &mut Vec<u8>) -> io::R
     put_end(&end, out)?;
     put_word(wire.calls(), out)?;
     put_word(log.held(), out)
+}
+
+/// Serves with reports, each so many seconds.
+fn report_to(
+    alloc: Global,
+    gateway: &mut Gateway,
+    wire: &mut MemWire<'_>,
+    log: &mut Narrow,
+    reports: &mut Narrow,
+    seconds: u64,
+    turns: u64,
+) -> io::Result<Result<Served, ServeStop>> {
+    if seconds == 0 || turns >= 1 << 63 || wire.failures() > 0 {
+        return Err(ErrorKind::InvalidData.into());
+    }
+    Ok(serve_with_reports(
+        alloc, gateway, wire, log, reports, seconds, turns,
+    ))
+}
+
+/// How a call with reports ends, and the reports. A case has how many seconds lie between two, how many turns are asked for, the call
+/// of the wire, the write to the log and the write of a report that fail, from 0, or `-`, and the script.
+pub fn reports(alloc: Global, config: &str, line: &str, out: &mut Vec<u8>) -> io::Result<()> {
+    let mut words = line.splitn(6, ' ');
+    let seconds = number(words.next())?;
+    let turns = number(words.next())?;
+    let failing_call = number_or_none(words.next())?;
+    let failing_write = number_or_none(words.next())?;
+    let failing_report = number_or_none(words.next())?;
+    let script = unfolded(alloc, words.next().unwrap_or(""))?;
+    let mut gateway = make_gateway(alloc, config, BEFORE)?;
+    let mut wire = MemWire::new(alloc, &script, failing_call)?;
+    let mut log = Narrow::new(alloc, failing_write, AMPLE)?;
+    let mut told = Narrow::new(alloc, failing_report, AMPLE)?;
+    let end = report_to(
+        alloc,
+        &mut gateway,
+        &mut wire,
+        &mut log,
+        &mut told,
+        seconds,
+        turns,
+    )?;
+    put_end(&end, out)?;
+    put_word(told.held(), out)
 }

@@ -66,6 +66,9 @@ fn put_options(options: &RunOptions, out: &mut Vec<u8>) -> Result<(), AllocError
         put(out, &[" log=", log.as_str()])?;
     }
     put(out, &[" turns=", Buffer::new().format(options.turns)])?;
+    if let Some(seconds) = options.stats {
+        put(out, &[" stats=", Buffer::new().format(seconds)])?;
+    }
     put_flag(out, " verbose", options.verbose)
 }
 

@@ -1,17 +1,22 @@
-use Rattle.std.proofs.Common.{List, ap, Err, subst, ℕ}
+use Rattle.std.proofs.Common.{List, ◌++◌, ap, Err, subst, ℕ}
 use Rattle.std.specs.Io.Buffered.{writer_contents}
 use Rattle.std.specs.Io.KnownBytes.{Appends}
 use Rattle.gw_shell.specs.Serving.{served, shut}
+use Rattle.gw_shell.proofs.ServingLemmas.{appends_two}
 use Rattle.gw_shell.proofs.serving.serve_ports.Goals as goal
 
 pub returns-in-Ok-clause-served : goal.returns-in-Ok-clause-served
-returns-in-Ok-clause-served g c = (
-  c.in-Ok.field-0.line.items,
-  served c.in-Ok.field-0.log c.serve_open-outcome.new.log c.in-Ok.field-0.sockets c.serve_open-outcome.new.sockets (writer_contents g.W.Write.contents c.open.new.output)
-      c.in-Ok.ensures.open c.close.ensures c.serve_open-outcome.ensures.log c.serve_open-outcome.ensures.serves c.in-Ok.ensures.line,
-  λ never. subst (λ (text : List ℕ). Appends (g.E.OctetSink.held c.args.errors.now) (g.E.OctetSink.held c.tell.new.errors) text) c.deref.ensures.value
-      (c.tell.ensures.told never),
-)
+returns-in-Ok-clause-served g c =
+    let line = c.in-Ok.field-0.line.items in
+    let done = c.serve_open-outcome.ensures.serves in
+    let held = g.E.OctetSink.held in (
+      line ++ done.0,
+      served c.in-Ok.field-0.log c.serve_open-outcome.new.log c.in-Ok.field-0.sockets c.serve_open-outcome.new.sockets (writer_contents g.W.Write.contents c.open.new.output)
+          done.0 c.in-Ok.ensures.open c.close.ensures c.serve_open-outcome.ensures.log done.1 (ap (λ (l : List ℕ). l ++ done.0) c.in-Ok.ensures.line),
+      λ never. appends_two (held c.args.errors.now) (held c.tell.new.errors) (held c.serve_open-outcome.new.errors) line done.0
+          (subst (λ (text : List ℕ). Appends (held c.args.errors.now) (held c.tell.new.errors) text) c.deref.ensures.value (c.tell.ensures.told never))
+          (done.2 (c.tell.ensures.lasts never)),
+    )
 
 pub returns-in-Err-clause-served : goal.returns-in-Err-clause-served
 returns-in-Err-clause-served g c = (
