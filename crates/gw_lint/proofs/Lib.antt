@@ -1,9 +1,12 @@
+pub mod Appending
 pub mod Covering
 pub mod DeviceAsks
+pub mod Found
 pub mod Lines
 pub mod Listing
 pub mod Lying
 pub mod Narrowing
+pub mod Numbering
 pub mod Parting
 pub mod Raised
 pub mod RelayAsks

@@ -139,7 +139,7 @@ narrowed rules number lower rule shape ask left below there other is lies =
     ]
 
 -- the rule that decides is the one of the number
-deciding_rule : (rules : List Rule) (number : ℕ) (rule : Rule) (ask : Ask) → slice_get rules (number - 1) ≡ Some rule → first rules ask ≡ Some number
+pub deciding_rule : (rules : List Rule) (number : ℕ) (rule : Rule) (ask : Ask) → slice_get rules (number - 1) ≡ Some rule → first rules ask ≡ Some number
     → Matches rule ask
 deciding_rule rules number rule ask there is =
     let deciding = (first_iff rules ask number).0 is in

@@ -1,5 +1,5 @@
 -- What is found of a rule, and when it is true of it.
-use Rattle.std.specs.Prelude.{◌≡◌, ℕ, ◌-◌, ◌<◌, Bool, true, List, Option, Some, None, position, take}
+use Rattle.std.specs.Prelude.{◌≡◌, ℕ, ◌-◌, ◌<◌, Bool, true, List, length, Option, Some, None, position, slice_get, take}
 use Rattle.std.specs.List.{list_all, list_any}
 use Rattle.gw_rules.specs.RuleList.{HasNumber, first}
 use Rattle.gw_rules.specs.declared.rule.Rule.{Rule}
@@ -44,3 +44,9 @@ Tells shapes rules number rule finding.TakenTogether =
 Tells shapes rules number rule (finding.Decides ask) =
     (is_met shapes rule ≡ true) × IsTakenByNone shapes rules number rule × (first rules ask ≡ Some number)
 Tells shapes rules number rule finding.Unknown = (is_met shapes rule ≡ true) × IsTakenByNone shapes rules number rule
+
+-- there is one finding for each rule, in their order, and each says what is true
+pub record AreTrue (shapes : List Shape) (rules : List Rule) (findings : List Finding) : Type 0 where
+  pub count : length findings ≡ length rules
+  pub each : (number : ℕ) (rule : Rule) (found : Finding) → HasNumber rules number rule →
+      slice_get findings (number - 1) ≡ Some found → Tells shapes rules number rule found

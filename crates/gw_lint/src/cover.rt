@@ -49,7 +49,7 @@ fn takes_each(side: &Side, earlier: &[Range], later: &[Range]) -> bool
 }
 
 /// Whether the ranges of an earlier rule admit what those of a later one admit of the side.
-fn takes_side(side: &Side, earlier: &[Range], later: &[Range]) -> bool
+pub(crate) fn takes_side(side: &Side, earlier: &[Range], later: &[Range]) -> bool
     ensures { result ≡ takes_side side.now earlier.now later.now }
 {
     if earlier.is_empty() {

@@ -1,7 +1,7 @@
 //! What is found of each rule of a policy.
 ghost use Rattle.std.specs.Prelude.{◌≡◌, ◌<◌, ◌-◌, IfOk, IfSome, length, take};
 ghost use Rattle.gw_rules.specs.RuleList.{HasNumber};
-ghost use Rattle.gw_lint.specs.Finding.{Tells, taker};
+ghost use Rattle.gw_lint.specs.Finding.{AreTrue, Tells, taker};
 
 use crate::Shape;
 use crate::cover::{matches_nothing, takes_all};
@@ -10,7 +10,7 @@ use gw_rules::{Ask, Rule, RuleList};
 use std::alloc::{AllocError, Global};
 
 /// How many steps a search for an ask that one rule decides has at most.
-pub const MAX_STEPS: u32 = 4096;
+pub const MAX_STEPS: u32 = 1024;
 
 /// What is found of a rule, over the asks of some shapes.
 #[derive(Clone, Copy, Debug, PartialEq, Eq)]
@@ -61,4 +61,21 @@ pub fn finding_of(
         Outcome::Never => Ok(Finding::TakenTogether),
         Outcome::Unknown => Ok(Finding::Unknown),
     }
+}
+
+/// What is found of each rule, in order, over these shapes. An `Err` only where a growth of memory was
+/// refused.
+pub fn findings_of(
+    alloc: Global,
+    shapes: &[Shape],
+    rules: &RuleList,
+) -> Result<Vec<Finding>, AllocError>
+    ensures { IfOk result (λ findings. AreTrue shapes.now rules.now findings.items) }
+{
+    let all = rules.rules();
+    let mut findings = Vec::with_capacity(alloc, all.len())?;
+    for place in 0..all.len() {
+        findings.push(finding_of(alloc, shapes, rules, place as u16 + 1, &all[place])?)?;
+    }
+    Ok(findings)
 }

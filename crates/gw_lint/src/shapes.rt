@@ -14,9 +14,9 @@ use std::alloc::{AllocError, Global};
 
 /// Whence asks come: by which ports, and from which networks.
 #[derive(Clone, Copy)]
-struct Origin {
-    port: Side,
-    network: Side,
+pub(crate) struct Origin {
+    pub port: Side,
+    pub network: Side,
 }
 
 /// Any number.
@@ -43,7 +43,7 @@ const PERHAPS: Side = Side {
     },
 };
 
-fn only(number: u64) -> Side
+pub(crate) fn only(number: u64) -> Side
     ensures { result ≡ only number }
 {
     numbers(number, number)
@@ -68,7 +68,7 @@ fn plain(from: &Origin, operation: Operation, service: Side) -> Shape
 }
 
 /// Asks to a network.
-fn bound(from: &Origin, operation: Operation, service: Side, destination: Side) -> Shape
+pub(crate) fn bound(from: &Origin, operation: Operation, service: Side, destination: Side) -> Shape
     ensures { result ≡ bound from.now operation service destination }
 {
     Fields {

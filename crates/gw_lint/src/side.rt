@@ -25,7 +25,7 @@ pub(crate) fn overlaps(a: &Range, b: &Range) -> bool
     a.low <= b.high && b.low <= a.high
 }
 
-fn has_number(side: &Side) -> bool
+pub(crate) fn has_number(side: &Side) -> bool
     ensures { result ≡ has_number side.now }
 {
     side.range.low <= side.range.high

@@ -1,0 +1,155 @@
+#!/usr/bin/env bash
+# How long `bacgw check --lint` takes over policies of 512 rules, each with four ranges in each of the ten fields, at eight ports and
+# under the second format, where there are most shapes of asks: the row of docs/PERFORMANCE.md. The texts come from a fixed seed:
+#
+#     narrow    random narrow ranges
+#     wide      random wide ranges, which overlap often
+#     pieces    rules whose ranges one earlier rule takes in pieces alone, so that their searches use up all their steps; the rules
+#               between them differ only in the last field but one
+#
+#     bench/lint.sh              # prints a line for each: seconds, the least of three runs, and how many lines of each kind
+#     bench/lint.sh FOLDER       # and keeps the texts there
+#
+# It wants python3 and the program built, as `./bacgw prove` leaves it; LINT names another program, with its words.
+set -euo pipefail
+
+top=$(cd "$(dirname "$0")/.." && pwd)
+exec python3 - "$top" "${LINT:-$top/crates/bacgw/out/bacgw check --lint --config}" "$@" <<'PYTHON'
+import collections
+import random
+import re
+import subprocess
+import sys
+import tempfile
+import time
+from pathlib import Path
+
+top, words = Path(sys.argv[1]), sys.argv[2].split()
+RULES = 512
+RANGES = 4
+RUNS = 3
+OPERATIONS = ["cast", "route", "register", "delete", "read-table", "write-table", "learn", "network", "read", "list"]
+# The keys that have numbers, each with its least and its greatest one.
+LIMITS = {
+    "port": (1, 8),
+    "source_network": (1, 65534),
+    "source": (0, 2**48 - 1),
+    "destination": (1, 65534),
+    "service": (0, 1031),
+    "object_type": (0, 1023),
+    "instance": (0, 4194303),
+    "property": (0, 4194303),
+    "priority": (1, 16),
+}
+
+
+def head():
+    """A configuration of eight ports, whose networks aren't next to one another."""
+    text = (top / "examples" / "base.toml").read_text(encoding="utf-8").split("[[port]]")[0]
+    lines = [re.sub(r"^format = 1$", "format = 2", text, flags=re.MULTILINE)]
+    for port in range(1, 9):
+        lines.append(f'[[port]]\nnetwork = {port * 1000}\naddress = "10.{port}.0.1:47808"\nbroadcast = "10.{port}.255.255:47808"\n')
+    return "\n".join(lines)
+
+
+def value(key, number):
+    if key != "source":
+        return str(number)
+    octets = number.to_bytes(6, "big")
+    return '"' + ".".join(map(str, octets[:4])) + f':{int.from_bytes(octets[4:], "big")}"'
+
+
+def rule(number, allow, operations, ranges):
+    """The text of a rule, of its operations and a list of ranges for each key."""
+    lines = [f'[[rule]]\nname = "rule-{number}"\nallow = {str(allow).lower()}']
+    if operations:
+        lines.append("operation = [" + ", ".join(f'"{it}"' for it in operations) + "]")
+    for key, list_of in ranges.items():
+        lines.append(f"{key} = [" + ", ".join(f"[{value(key, low)}, {value(key, high)}]" for low, high in list_of) + "]")
+    return "\n".join(lines) + "\n"
+
+
+def random_ranges(dice, key, share):
+    """Four ranges, each of at most this share of the field."""
+    low, high = LIMITS[key]
+    out = []
+    for _ in range(RANGES):
+        width = int((high - low) * share * dice.random())
+        start = dice.randint(low, high - width)
+        out.append((start, start + width))
+    return out
+
+
+def random_rules(share):
+    """Rules that name all ten fields, so writes alone can meet them."""
+    dice = random.Random(45)
+    out = []
+    for number in range(1, RULES + 1):
+        ranges = {key: random_ranges(dice, key, share) for key in LIMITS}
+        ranges["service"][0] = (15, 15)
+        out.append(rule(number, dice.random() < 0.5, ["write", *dice.sample(OPERATIONS, RANGES - 1)], ranges))
+    return out
+
+
+def tiles(key, shift):
+    """Four ranges side by side that fill a field, up to their ends, or four across their seams."""
+    low, high = LIMITS[key]
+    step = (high - low + 1) // (RANGES + 1)
+    if step == 0:
+        return [(low, high)] * RANGES
+    if shift:
+        return [(low + step * n + step // 2, low + step * (n + 1) + step // 2 - 1) for n in range(RANGES)]
+    return [(low + step * n, low + step * (n + 1) - 1 if n < RANGES - 1 else high) for n in range(RANGES)]
+
+
+def pieces_rules():
+    """In the first half rules that differ in their properties alone; the last of them takes all rules of the second half in pieces."""
+    out = []
+    half = RULES // 2
+    for n in range(1, RULES + 1):
+        ranges = {key: tiles(key, n > half) for key in LIMITS}
+        ranges["service"] = [(12, 12), (13, 13), (14, 14), (15, 15)]
+        low, high = LIMITS["property"]
+        middle = 1_000_000
+        if n < half:
+            ranges["property"] = [(n * 4 + it, n * 4 + it) for it in range(RANGES)]
+        elif n == half:
+            ranges["property"] = [(middle + it * 100, middle + it * 100 + 99) for it in range(RANGES)]
+        else:
+            # Across the seams of those, and none of these rules lies in another: as one end goes up, another goes down.
+            it = n - half
+            ranges["property"] = [(middle + 50, middle + 149), (middle + 150, middle + 249), (middle + 250, middle + 349), (middle, middle)]
+            ranges["instance"][0] = (ranges["instance"][0][0] + it, ranges["instance"][0][1])
+            ranges["instance"][1] = (ranges["instance"][1][0], ranges["instance"][1][1] + it)
+        out.append(rule(n, n % 2 == 0, ["read", "write", "cast", "list"], ranges))
+    return out
+
+
+def kinds(text):
+    """How many lines of each kind."""
+    found = collections.Counter()
+    for line in text.splitlines():
+        for words_of in ("note:", "matches no ask", "takes all", "together", "can't tell", "decides, for one"):
+            if words_of in line:
+                found[words_of] += 1
+                break
+    return ", ".join(f"{count} {kind}" for kind, count in sorted(found.items()))
+
+
+def seconds(path):
+    least, out = float("inf"), ""
+    for _ in range(RUNS):
+        start = time.perf_counter()
+        done = subprocess.run([*words, str(path)], check=True, stdin=subprocess.DEVNULL, stdout=subprocess.PIPE, text=True)
+        least, out = min(least, time.perf_counter() - start), done.stdout
+    return least, out
+
+
+with tempfile.TemporaryDirectory() as folder:
+    room = Path(sys.argv[3]) if len(sys.argv) > 3 else Path(folder)
+    for name, rules in [("narrow", random_rules(0.01)), ("wide", random_rules(1.0)), ("pieces", pieces_rules())]:
+        path = room / f"{name}.toml"
+        path.write_text(head() + "\n" + "\n".join(rules), encoding="utf-8")
+        taken, said = seconds(path)
+        print(f"{name}: {taken:.2f} s ({kinds(said)})")
+PYTHON

@@ -1,0 +1,86 @@
+-- What findings say of the rules, and of the gateway.
+use Rattle.std.proofs.Common.{◌≡◌, ◌∙◌, inl, inr, ℕ, ◌+◌, ◌-◌, ◌<◌, true, List, [], ◌∷◌, ◌++◌, Some, None, length, sym, ap, subst, arith, slice_get}
+use Rattle.std.proofs.lemmas.Bool.{cases_order}
+use Rattle.std.proofs.lemmas.List.{get_or_append_left, get_or_at, length-append}
+use Rattle.std.proofs.lemmas.Option.{slice_get-get_or, slice_get_past}
+use Rattle.gw_rules.specs.RuleList.{HasNumber}
+use Rattle.gw_rules.specs.declared.rule.Rule.{Rule}
+use Rattle.gw_rules.proofs.First.{first_iff}
+use Rattle.gw_lint.specs.Finding.{Tells}
+use Rattle.gw_lint.specs.Lint.{FoundNeverDecides, says_never}
+use Rattle.gw_lint.specs.Search.{IsNeverFirst}
+use Rattle.gw_lint.specs.Shape.{Shape}
+use Rattle.gw_lint.specs.Shapes.{shapes}
+use Rattle.gw_lint.specs.declared.finding.Finding.{Finding}
+use Rattle.gw_lint.specs.declared.finding.Finding.TheVariants as finding
+use Rattle.gw_lint.proofs.Narrowing.{deciding_rule}
+use Rattle.gw_lint.proofs.ShapeLaw.{never_first_never_decides}
+
+-- ---- a list of findings
+
+-- each of the findings that are there says what is true
+abbrev pub Each : List Shape → List Rule → List Finding → Type 0
+Each boxes rules findings = (number : ℕ) (rule : Rule) (found : Finding) → HasNumber rules number rule
+    → slice_get findings (number - 1) ≡ Some found → Tells boxes rules number rule found
+
+-- what stands at a place in front, at the end, and behind it
+in_front : (xs : List Finding) (y f : Finding) (place : ℕ) → place < length xs → slice_get (xs ++ y ∷ []) place ≡ Some f → slice_get xs place ≡ Some f
+in_front xs y f place within there =
+    let longer : place < length (xs ++ y ∷ []) = omega (arith, within, length-append xs (y ∷ [])) in
+    slice_get-get_or xs place f within ∙ ap Some (sym (get_or_append_left xs (y ∷ []) f place within))
+    ∙ sym (slice_get-get_or (xs ++ y ∷ []) place f longer) ∙ there
+
+at_end : (xs : List Finding) (y f : Finding) (place : ℕ) → length xs ≡ place → slice_get (xs ++ y ∷ []) place ≡ Some f → y ≡ f
+at_end xs y f place ends there =
+    let longer : place < length (xs ++ y ∷ []) = omega (arith, ends, length-append xs (y ∷ [])) in
+    let same : Some y ≡ Some f =
+    ap Some (sym (get_or_at xs y [] f place ends)) ∙ sym (slice_get-get_or (xs ++ y ∷ []) place f longer) ∙ there in
+    cc
+
+past_end : (xs : List Finding) (y f : Finding) (place : ℕ) → length xs < place → slice_get (xs ++ y ∷ []) place ≡ Some f → ⊥
+past_end xs y f place past there =
+    let none : slice_get (xs ++ y ∷ []) place ≡ None = slice_get_past (xs ++ y ∷ []) place (omega (arith, past, length-append xs (y ∷ []))) in
+    let both : None ≡ Some f = sym none ∙ there in
+    absurd cc
+
+one_rule : (rules : List Rule) (number : ℕ) (one other : Rule) → HasNumber rules number one → HasNumber rules number other → one ≡ other
+one_rule rules number one other a b =
+    let both : Some one ≡ Some other = sym a.there ∙ b.there in
+    cc
+
+-- one finding more
+pub each_next : (shapes : List Shape) (rules : List Rule) (findings : List Finding) (place : ℕ) (rule : Rule) (found : Finding)
+    → length findings ≡ place → HasNumber rules (place + 1) rule → Tells shapes rules (place + 1) rule found → Each shapes rules findings
+    → Each shapes rules (findings ++ found ∷ [])
+each_next shapes rules findings place rule found ends has tells each n r f numbered there =
+    let counted = numbered.counted in
+    elim (cases_order (n - 1) (length findings)) [
+      | inl same ↦
+          let next : place + 1 ≡ n = omega (arith, same, ends, counted) in
+          let is : found ≡ f = at_end findings found f (n - 1) (sym same) there in
+          let here : HasNumber rules n rule = subst (λ (m : ℕ). HasNumber rules m rule) next has in
+          let said : Tells shapes rules n rule found = subst (λ (m : ℕ). Tells shapes rules m rule found) next tells in
+          subst (λ (x : Rule). Tells shapes rules n x f) (one_rule rules n rule r here numbered)
+          (subst (λ (x : Finding). Tells shapes rules n rule x) is said)
+      | inr apart ↦ elim apart [
+        | inl below ↦ each n r f numbered (in_front findings found f (n - 1) below there)
+        | inr above ↦ absurd (past_end findings found f (n - 1) above there)
+      ]
+    ]
+
+-- ---- of the gateway
+
+never_first : (boxes : List Shape) (rules : List Rule) (number : ℕ) (rule : Rule) (found : Finding) → HasNumber rules number rule
+    → says_never found ≡ true → Tells boxes rules number rule found → IsNeverFirst boxes rules number
+never_first boxes rules number rule finding.MatchesNothing has never nothing ask lies is =
+    nothing ask lies (deciding_rule rules number rule ask has.there is)
+never_first boxes rules number rule (finding.TakenBy by) has never (met, taken) ask lies is =
+    let deciding = (first_iff rules ask number).0 is in
+    deciding.least by taken.earlier taken.before taken.numbered (taken.takes ask lies (deciding_rule rules number rule ask has.there is))
+never_first boxes rules number rule finding.TakenTogether has never (met, none, unasked) ask lies is = unasked ask lies is
+never_first boxes rules number rule (finding.Decides other) has never tells ask lies is = absurd cc
+never_first boxes rules number rule finding.Unknown has never tells ask lies is = absurd cc
+
+pub found_never_decides : FoundNeverDecides
+found_never_decides c number rule found has never tells =
+    never_first_never_decides c number (never_first (shapes c) c.rules number rule found has never tells)

@@ -1,0 +1,102 @@
+-- Notes on rules that may not mean what they say. Each says when it is made; none is a theorem about the gateway.
+use Rattle.std.specs.Prelude.{ℕ, Bool, not, ◌&&◌, ◌||◌, ◌==◌, nat_lt, if◌then◌else◌, List, [], ◌∷◌, ◌++◌, length, find, codes, decimal}
+use Rattle.std.specs.List.{filter, flat_map, list_any}
+use Rattle.std.specs.Option.{is_some, option_map_or}
+use Rattle.gw_policy_text.specs.Configuration.{Configuration}
+use Rattle.gw_policy_text.specs.declared.port.Port.{Port}
+use Rattle.gw_rules.specs.Rule.{ranges_of}
+use Rattle.gw_rules.specs.declared.field.FieldName.{FieldName}
+use Rattle.gw_rules.specs.declared.field.TheConstants.FieldName.{ALL}
+use Rattle.gw_rules.specs.declared.range.Range.{Range}
+use Rattle.gw_rules.specs.declared.rule.Rule.{Rule}
+use Rattle.gw_lint.specs.Meeting.{overlaps}
+use Rattle.gw_lint.specs.Numbered.{numbered}
+use Rattle.gw_lint.specs.Passage.{answers, is_routed, is_unnamed, opener, opens_beyond, requests}
+use Rattle.gw_lint.specs.Shape.{Shape}
+use Rattle.gw_lint.specs.Text.{key_of, rule_text}
+
+-- `note: rule <number> <name>: look at <words>` and a line feed
+abbrev pub head_text : List Rule → ℕ → List ℕ
+head_text rules number = codes "note: " ++ rule_text rules number ++ codes ": look at "
+
+abbrev pub note_text : List Rule → ℕ → List ℕ → List ℕ
+note_text rules number words = head_text rules number ++ words ++ 10 ∷ []
+
+-- ---- a source network that nobody has
+
+-- a network of the device, of a port or of a route
+abbrev pub is_known : Configuration → ℕ → Bool
+is_known c network =
+    (c.device.network == network) || (list_any (λ port. port.network == network) c.ports
+    || list_any (λ route. route.network == network) c.routes)
+
+-- a range of one number, which is no such network
+abbrev pub is_unknown : Configuration → Range → Bool
+is_unknown c range = (range.low == range.high) && not (is_known c range.low)
+
+abbrev pub network_words : Range → List ℕ
+network_words range = codes "source_network: " ++ decimal range.low ++ codes " is of no port, no route and not the device's"
+
+-- the first range of the rule's source networks that is so
+abbrev pub network_note : Configuration → ℕ → Rule → List ℕ
+network_note c number rule =
+    option_map_or (λ range. note_text c.rules number (network_words range)) (find (is_unknown c) rule.ranges.source_network) []
+
+-- ---- ranges that overlap
+
+-- a range has numbers in common with more of these ranges than itself
+abbrev pub has_overlap : List Range → Bool
+has_overlap ranges = list_any (λ range. nat_lt 1 (length (filter (overlaps range) ranges))) ranges
+
+abbrev pub overlap_words : FieldName → List ℕ
+overlap_words field = key_of field ++ codes ": two of its ranges overlap"
+
+-- for each field in which two ranges of the rule overlap
+abbrev pub overlap_note : List Rule → ℕ → Rule → FieldName → List ℕ
+overlap_note rules number rule field =
+    if has_overlap (ranges_of field rule) then note_text rules number (overlap_words field) else []
+
+abbrev pub overlap_notes : List Rule → ℕ → Rule → List ℕ
+overlap_notes rules number rule = flat_map (overlap_note rules number rule) ALL
+
+-- ---- requests without an object
+
+-- messages are routed, and requests among them that name no object may pass by this rule
+abbrev pub lets_unnamed : List Shape → Configuration → ℕ → Bool
+lets_unnamed shapes c number =
+    list_any (λ shape. is_routed shape && is_some (opener c.rules shape)) shapes
+    && list_any (λ shape. is_unnamed shape && opens_beyond c.rules c.device.network number shape) shapes
+
+abbrev pub object_note : List Shape → Configuration → ℕ → List ℕ
+object_note shapes c number =
+    if lets_unnamed shapes c number
+    then note_text c.rules number (codes "object_type: without one, requests pass that name no object")
+    else []
+
+-- ---- requests without answers
+
+abbrev pub answer_words : ℕ → ℕ → List ℕ
+answer_words one other =
+    codes "the way back: requests from network " ++ decimal one ++ codes " to network " ++ decimal other
+    ++ codes " may pass, their answers (services 1026 to 1031) may not"
+
+-- for two ports, where requests may pass from the network of one to that of the other, and no answer may pass back
+abbrev pub answer_note : List Rule → ℕ → Port → ℕ → Port → List ℕ
+answer_note rules number port other_number other =
+    if (port.network == other.network) || is_some (opener rules (answers other_number other port.network)) then []
+    else option_map_or (λ by. note_text rules by (answer_words port.network other.network))
+    (opener rules (requests number port other.network)) []
+
+abbrev pub answer_notes : Configuration → ℕ → Port → List ℕ
+answer_notes c number port = numbered (answer_note c.rules number port) 1 c.ports
+
+-- ---- all of them
+
+-- those of a rule
+abbrev pub rule_notes : List Shape → Configuration → ℕ → Rule → List ℕ
+rule_notes shapes c number rule =
+    network_note c number rule ++ overlap_notes c.rules number rule ++ object_note shapes c number
+
+-- rule by rule, and then port by port, over the shapes of the configuration
+abbrev pub notes_text : List Shape → Configuration → List ℕ
+notes_text shapes c = numbered (rule_notes shapes c) 1 c.rules ++ numbered (answer_notes c) 1 c.ports

@@ -1,0 +1,143 @@
+//! Whether asks of a shape may pass a policy, as far as the ranges of its rules tell.
+ghost use Rattle.std.specs.Prelude.{◌≡◌, position};
+ghost use Rattle.gw_lint.specs.Passage.{answers, holds_shape, is_routed, is_unnamed, opener, opens, opens_beyond, requests, routed, settler, settles, towards};
+
+use crate::cover::takes_side;
+use crate::piece::numbers;
+use crate::shapes::{Origin, bound, only};
+use crate::side::{has_number, meets};
+use crate::text::allows_at;
+use crate::{Shape, Side};
+use gw_addr::NetNum;
+use gw_policy_text::Port;
+use gw_rules::{FieldName, Operation, Rule, RuleList};
+
+/// Whether in each field that the rule names one of its ranges holds all that the shape has there.
+fn holds_shape(shape: &Shape, rule: &Rule) -> bool
+    ensures { result ≡ holds_shape shape.now rule.now }
+{
+    FieldName::ALL.iter().all(|field| takes_side(
+        shape.get(*field),
+        rule.ranges(*field).as_slice(),
+        &[],
+    ))
+}
+
+/// Whether the rule settles what becomes of the shape's asks: it allows and may match one of them, or
+/// denies and matches each.
+fn settles(shape: &Shape, rule: &Rule) -> bool
+    ensures { result ≡ settles shape.now rule.now }
+{
+    if rule.allow {
+        meets(shape, rule)
+    } else {
+        holds_shape(shape, rule)
+    }
+}
+
+fn settling_place(rules: &[Rule], shape: &Shape) -> Option<usize>
+    ensures { result ≡ position (settles shape.now) rules.now }
+{
+    rules.iter().position(|rule| settles(shape, rule))
+}
+
+/// The number of the first rule that settles it.
+fn settler(rules: &RuleList, shape: &Shape) -> Option<u16>
+    ensures { result ≡ settler rules.now shape.now }
+{
+    match settling_place(rules.rules(), shape) {
+        Some(place) => Some(place as u16 + 1),
+        None => None,
+    }
+}
+
+/// The number of the first rule that settles what becomes of a shape's asks, where it allows: then one
+/// of them may pass by it. `None`: none is allowed.
+pub(crate) fn opener(rules: &RuleList, shape: &Shape) -> Option<u16>
+    ensures { result ≡ opener rules.now shape.now }
+{
+    match settler(rules, shape) {
+        Some(number) if allows_at(rules, number) => Some(number),
+        _ => None,
+    }
+}
+
+/// Messages with these services that are routed from the network of a port, of this number, to another
+/// network.
+fn routed(number: u16, from: &Port, to: u16, first: u64, last: u64) -> Shape
+    ensures { result ≡ routed number from.now to first last }
+{
+    let own = Origin {
+        port: only(u64::from(number)),
+        network: only(u64::from(from.network.get())),
+    };
+    bound(
+        &own,
+        Operation::Route,
+        numbers(first, last),
+        only(u64::from(to)),
+    )
+}
+
+/// Requests that are answered, by their confirmed services (clause 21).
+pub(crate) fn requests(number: u16, from: &Port, to: u16) -> Shape
+    ensures { result ≡ requests number from.now to }
+{
+    routed(number, from, to, 0, 255)
+}
+
+/// APDUs that are no requests, by their types (clause 20.1).
+pub(crate) fn answers(number: u16, from: &Port, to: u16) -> Shape
+    ensures { result ≡ answers number from.now to }
+{
+    routed(number, from, to, 1026, 1031)
+}
+
+/// Whether it is a shape of reads or writes that name no object.
+pub(crate) fn is_unnamed(shape: &Shape) -> bool
+    ensures { result ≡ is_unnamed shape.now }
+{
+    let operation = shape.operation.range.low;
+    (operation == Operation::Read.number() || operation == Operation::Write.number())
+        && !has_number(&shape.object_type)
+}
+
+/// Whether it is a shape of messages that are routed.
+pub(crate) fn is_routed(shape: &Shape) -> bool
+    ensures { result ≡ is_routed shape.now }
+{
+    shape.operation.range.low == Operation::Route.number()
+}
+
+/// Whether asks of a shape may pass by the rule of this number.
+fn opens(rules: &RuleList, number: u16, shape: &Shape) -> bool
+    ensures { result ≡ opens rules.now number shape.now }
+{
+    match opener(rules, shape) {
+        Some(by) => by == number,
+        None => false,
+    }
+}
+
+/// The asks of a shape that go to networks of these numbers.
+fn towards(networks: Side, shape: &Shape) -> Shape
+    ensures { result ≡ towards networks shape.now }
+{
+    Shape {
+        destination_network: networks,
+        ..*shape
+    }
+}
+
+/// Whether those to another network than the device's may pass by the rule of this number.
+pub(crate) fn opens_beyond(rules: &RuleList, device: NetNum, number: u16, shape: &Shape) -> bool
+    ensures { result ≡ opens_beyond rules.now device number shape.now }
+{
+    let device = u64::from(device.get());
+    opens(rules, number, &towards(numbers(0, device - 1), shape))
+        || opens(
+            rules,
+            number,
+            &towards(numbers(device + 1, u64::MAX), shape),
+        )
+}
