@@ -240,11 +240,13 @@ fn follow<F: ConfigFiles, H: Host, R: OctetSource, W: Write + Drop, E: OctetSink
         (IsFlushed choice.now (writer_buffer output.old) (writer_buffer output.new)) }
 {
     match choice {
-        Ok(Choice::Check {
-            file,
-            explains,
-            lints,
-        }) => {
+        Ok(
+            Choice::Check {
+                file,
+                explains,
+                lints,
+            },
+        ) => {
             let text = files.read(alloc, file);
             check(alloc, *explains, *lints, &text, output)
         }
