@@ -68,6 +68,24 @@ if command -v tshark > /dev/null; then
     agrees "$here/capture/site.pcap" 0 "$here/capture/site.script" /dev/null
 fi
 
+# The asks of the refusals, each with its rule; and what the rules say of the lines of their log, of the middle words of these, and of
+# a line that is none.
+"$program" replay --config "$here/refusals.toml" --explain < "$here/refusals.script" > "$work/out" 2> "$work/err"
+status=$?
+agrees 'a replay that explains' 0 "$here/refusals.explained.out" /dev/null
+sed -n 's/^deny //p' "$here/refusals.out" > "$work/denials"
+"$program" why --config "$here/refusals.toml" < "$work/denials" > "$work/out" 2> "$work/err"
+status=$?
+agrees 'the rules of a log' 0 "$here/refusals.why.out" /dev/null
+cut -d' ' -f3-10 "$work/denials" | "$program" why --config "$here/refusals.toml" > "$work/out" 2> "$work/err"
+status=$?
+agrees 'the rules of the middle words of a log' 0 "$here/refusals.why.out" /dev/null
+{ head -2 "$work/denials"; echo 'no line of a log'; } | "$program" why --config "$here/refusals.toml" > "$work/out" 2> "$work/err"
+status=$?
+head -2 "$here/refusals.why.out" > "$work/line"
+echo 'bacgw: line 3' > "$work/told"
+agrees 'a line that is no ask' 2 "$work/line" "$work/told"
+
 echo 'bacgw: bad command line' > "$work/refusal"
 
 # refused WORDS...: the words are refused, and behind the line stands what is wrong with them
@@ -95,6 +113,9 @@ refused check
 refused check site.toml
 refused check --config
 refused check --config a --config a
+refused check --lint
+refused why
+refused why --config a --explain
 refused_alone run --config a --turns 0
 refused_alone run --config a --turns 9223372036854775808
 refused run --config a --explain
@@ -126,6 +147,7 @@ helped help
 helped replay --help
 helped help check
 helped run --help
+helped why --help
 
 checked() {
     "$program" check --config "$1" < /dev/null > "$work/out" 2> "$work/err"
@@ -287,6 +309,29 @@ checked "$work/hiding.toml"
 echo 'ok 2 ports 2 objects 2 rules' > "$work/line"
 agrees 'a check that explains nothing' 0 "$work/line" /dev/null
 
+# What is odd about the rules is told where a lint is asked for, and what can't be meant of the rest with the explanation.
+"$program" check --config "$here/lint.toml" --lint < /dev/null > "$work/out" 2> "$work/err"
+status=$?
+agrees 'a lint' 0 "$here/lint.out" /dev/null
+"$program" check --config "$here/warnings.toml" --explain < /dev/null > "$work/out" 2> "$work/err"
+status=$?
+agrees 'what cannot be meant' 0 "$here/warnings.out" /dev/null
+
+# unsuspected FILE [NOTE]: a lint finds nothing in a configuration, or this
+unsuspected() {
+    { "$program" check --config "$1" && printf '%s' "${2:+$2
+}"; } < /dev/null > "$work/plain" 2> /dev/null
+    "$program" check --config "$1" --lint < /dev/null > "$work/out" 2> "$work/err"
+    status=$?
+    agrees "the lint of $1" 0 "$work/plain" /dev/null
+}
+for file in "$here"/*.toml "$here/site/site.toml" "$here/../dist/site.toml"; do
+    case ${file##*/} in
+        lint.toml | warnings.toml | wrong_texts.toml) ;;
+        *) unsuspected "$file" ;;
+    esac
+done
+
 # explained TEXT NAME LINE: `check --explain` tells the fault as before, and says where it is
 explained() {
     printf '%b' "$1" > "$work/faulty.toml"
@@ -309,6 +354,12 @@ recipe() {
     { sed "s/^format = .*/$format/" "$here/base.toml"; grep -v '^format = ' "$work/rules"; } > "$work/recipe.toml"
     checked "$work/recipe.toml"
     agrees "recipe: $(head -1 "$work/lines")" 0 "$work/out" /dev/null
+    note=
+    # of the one that shows how not to hide the door of another device
+    if [ "$format" = 'format = 2' ] && grep -q '^name = "all"' "$work/rules"; then
+        note='note: rule 2 all: look at object_type: without one, requests pass that name no object'
+    fi
+    unsuspected "$work/recipe.toml" "$note"
     sed -n 's/^> //p' "$work/lines" > "$work/script"
     sed '/^> /d' "$work/lines" > "$work/shown"
     "$program" replay --config "$work/recipe.toml" < "$work/script" > "$work/out" 2> "$work/err"

@@ -13,5 +13,5 @@ pub mod RelayAsks
 pub mod ShapeLaw
 pub mod Taking
 pub mod Whence
-pub mod WhyLaw
 pub mod WhyLemmas
+pub mod WhyLaw

@@ -4,36 +4,27 @@ use Rattle.std.specs.Io.KnownBytes.{Keeps}
 use Rattle.gw_core.specs.declared.replaying.RunFault.{RunFault}
 use Rattle.gw_core.specs.declared.replaying.RunFault.TheVariants as run
 use Rattle.gw_script.specs.Event.{Event}
-use Rattle.gw_core.specs.Replay.{RunsFront, RunsPart, RunsToEnd, RunsToLine, RunsToMemory, RunsWhole, OnKnown, run_text}
+use Rattle.gw_core.specs.Replay.{RunsFront, RunsPart, RunsToEnd, RunsToLine, RunsToMemory, RunsWhole, OnKnown, Telling, run_text}
 use Rattle.gw_script.specs.Script.{AreLines, lines_of}
 use Rattle.gw_policy_text.specs.Configuration.{Configuration}
-use Rattle.gw_shell.specs.Replay.{Plays}
+use Rattle.gw_shell.specs.Replay.{Leaves, Plays}
 use Rattle.gw_shell.specs.Ending.{first_fault}
 
--- what a run of this configuration alone leaves written
-abbrev pub Leaves : Configuration → List ℕ → List ℕ → Result (Unit {0}) RunFault → List ℕ → Type 0
-Leaves c script before (Ok done) after = RunsWhole c script before after
-Leaves c script before (Err (run.Line n)) after = RunsToLine n c script before after
-Leaves c script before (Err run.Read) after = RunsPart c script before after
-Leaves c script before (Err run.Write) after = RunsFront c script before after
-Leaves c script before (Err run.Memory) after = RunsToMemory c script before after
-Leaves c script before (Err run.CountEnd) after = RunsToEnd c script before after
-
 -- the clauses of a run as one
-pub run_leaves : (c : Configuration) (read held holds : Option (List ℕ)) (r : Result (Unit {0}) RunFault)
-    → OnOk r (OnKnown read held holds (RunsWhole c))
-    → ((n : ℕ) → IsErrOf r (run.Line n) → OnKnown read held holds (RunsToLine n c))
-    → (IsErrOf r run.Write → OnKnown read held holds (RunsFront c))
-    → (IsErrOf r run.CountEnd → OnKnown read held holds (RunsToEnd c))
-    → (IsErrOf r run.Memory → OnKnown read held holds (RunsToMemory c))
-    → ((IsErrOf r run.Read ⊎ IsErrOf r run.Memory) → OnKnown read held holds (RunsPart c))
-    → OnKnown read held holds (λ script before. Leaves c script before r)
-run_leaves c read held holds (Ok done) whole line front count_end memory part = whole
-run_leaves c read held holds (Err (run.Line n)) whole line front count_end memory part = line n refl
-run_leaves c read held holds (Err run.Read) whole line front count_end memory part = part (inl refl)
-run_leaves c read held holds (Err run.Write) whole line front count_end memory part = front refl
-run_leaves c read held holds (Err run.Memory) whole line front count_end memory part = memory refl
-run_leaves c read held holds (Err run.CountEnd) whole line front count_end memory part = count_end refl
+pub run_leaves : (told : Telling) (c : Configuration) (read held holds : Option (List ℕ)) (r : Result (Unit {0}) RunFault)
+    → OnOk r (OnKnown read held holds (RunsWhole told c))
+    → ((n : ℕ) → IsErrOf r (run.Line n) → OnKnown read held holds (RunsToLine told n c))
+    → (IsErrOf r run.Write → OnKnown read held holds (RunsFront told c))
+    → (IsErrOf r run.CountEnd → OnKnown read held holds (RunsToEnd told c))
+    → (IsErrOf r run.Memory → OnKnown read held holds (RunsToMemory told c))
+    → ((IsErrOf r run.Read ⊎ IsErrOf r run.Memory) → OnKnown read held holds (RunsPart told c))
+    → OnKnown read held holds (λ script before. Leaves told c script before r)
+run_leaves told c read held holds (Ok done) whole line front count_end memory part = whole
+run_leaves told c read held holds (Err (run.Line n)) whole line front count_end memory part = line n refl
+run_leaves told c read held holds (Err run.Read) whole line front count_end memory part = part (inl refl)
+run_leaves told c read held holds (Err run.Write) whole line front count_end memory part = front refl
+run_leaves told c read held holds (Err run.Memory) whole line front count_end memory part = memory refl
+run_leaves told c read held holds (Err run.CountEnd) whole line front count_end memory part = count_end refl
 
 -- what holds of known bytes holds where they are kept
 pub kept : (P : List ℕ → Type 0) (held now : Option (List ℕ)) → Keeps held now → IsSomeAnd held P → IsSomeAnd now P
@@ -57,22 +48,22 @@ nothing_more : (xs : List ℕ) → xs ++ [] ≡ xs
 nothing_more xs = search rules
 
 -- a whole run that isn't flushed leaves a front of its text
-whole_is_front : (c : Configuration) (script before after : List ℕ) → RunsWhole c script before after → RunsFront c script before after
-whole_is_front c script before after whole = record {
+whole_is_front : (told : Telling) (c : Configuration) (script before after : List ℕ) → RunsWhole told c script before after → RunsFront told c script before after
+whole_is_front told c script before after whole = record {
   events = whole.events;
   lines = all_are_first (length c.ports) (lines_of script) whole.events whole.lines;
-  front = run_text c whole.events;
+  front = run_text told c whole.events;
   unwritten = [];
-  parts = sym (nothing_more (run_text c whole.events));
+  parts = sym (nothing_more (run_text told c whole.events));
   text = whole.text;
 }
 
 -- the flush changes nothing of what is left written, and its failure is told behind a run without a fault
-pub flushed_plays : (c : Configuration) (script before after : List ℕ) (r : Result (Unit {0}) RunFault) (is_flushed : Bool) → Leaves c script before r after → Plays c script before (first_fault r is_flushed) after
-flushed_plays c script before after (Ok done) true leaves = leaves
-flushed_plays c script before after (Ok done) false leaves = whole_is_front c script before after leaves
-flushed_plays c script before after (Err (run.Line n)) flushed leaves = leaves
-flushed_plays c script before after (Err run.Read) flushed leaves = leaves
-flushed_plays c script before after (Err run.Write) flushed leaves = leaves
-flushed_plays c script before after (Err run.Memory) flushed leaves = leaves
-flushed_plays c script before after (Err run.CountEnd) flushed leaves = leaves
+pub flushed_plays : (told : Telling) (c : Configuration) (script before after : List ℕ) (r : Result (Unit {0}) RunFault) (is_flushed : Bool) → Leaves told c script before r after → Plays told c script before (first_fault r is_flushed) after
+flushed_plays told c script before after (Ok done) true leaves = leaves
+flushed_plays told c script before after (Ok done) false leaves = whole_is_front told c script before after leaves
+flushed_plays told c script before after (Err (run.Line n)) flushed leaves = leaves
+flushed_plays told c script before after (Err run.Read) flushed leaves = leaves
+flushed_plays told c script before after (Err run.Write) flushed leaves = leaves
+flushed_plays told c script before after (Err run.Memory) flushed leaves = leaves
+flushed_plays told c script before after (Err run.CountEnd) flushed leaves = leaves

@@ -1,6 +1,8 @@
--- What `check --explain` tells of a configuration: from which of the ports' networks the policy hides each object, and what can't be meant.
-use Rattle.std.specs.Prelude.{ℕ, Bool, true, false, List, [], ◌∷◌, ◌++◌, map, if◌then◌else◌, codes, decimal}
+-- What `check` tells of a configuration. With `--explain` that is also from which of the ports' networks the policy hides each object, and
+-- what can't be meant; with `--lint` also which rules never decide.
+use Rattle.std.specs.Prelude.{◌≡◌, ℕ, Bool, true, false, List, [], ◌∷◌, ◌++◌, map, if◌then◌else◌, codes, decimal}
 use Rattle.std.specs.List.{flat_map}
+use Rattle.gw_lint.specs.Lint.{AppendsLint}
 use Rattle.gw_lint.specs.Warnings.{warnings_text}
 use Rattle.gw_policy_text.specs.Configuration.{Configuration}
 use Rattle.gw_policy_text.specs.Duplicates.{type_number}
@@ -36,7 +38,12 @@ object_lines rules ports number object = flat_map (λ port. network_line rules n
 abbrev pub hidden_lines : Configuration → List ℕ
 hidden_lines c = numbered (object_lines c.rules c.ports) 1 c.objects
 
--- what `check` prints of a configuration: its summary, and what is hidden and what can't be meant where that is asked for
-abbrev pub checked_text : Bool → Configuration → List ℕ
-checked_text true c = summary c ++ hidden_lines c ++ warnings_text c
-checked_text false c = summary c
+-- the summary of a configuration, and what is hidden and what can't be meant where that is asked for
+abbrev pub explained_text : Bool → Configuration → List ℕ
+explained_text true c = summary c ++ hidden_lines c ++ warnings_text c
+explained_text false c = summary c
+
+-- A text is what `check` prints of a configuration: that, and behind it a lint where that is asked for.
+abbrev pub IsChecked : (explains lints : Bool) → Configuration → List ℕ → Type 0
+IsChecked explains true c text = AppendsLint c explains (explained_text explains c) text
+IsChecked explains false c text = text ≡ explained_text explains c

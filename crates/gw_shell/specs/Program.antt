@@ -10,8 +10,8 @@ use Rattle.gw_shell.specs.declared.fault.Fault.TheVariants as fault
 use Rattle.gw_shell.specs.Asking.{Answers}
 use Rattle.gw_shell.specs.Configured.{IsConfigurationOf, IsConfigured}
 use Rattle.gw_shell.specs.Ending.{FaultNote, error_text, status_after, usage_of}
-use Rattle.gw_shell.specs.Hidden.{checked_text}
-use Rattle.gw_shell.specs.Replay.{Plays}
+use Rattle.gw_shell.specs.Hidden.{IsChecked}
+use Rattle.gw_shell.specs.Replay.{Plays, telling}
 use Rattle.gw_shell.specs.Serving.{IsFlushedFor, LeavesRun, Machine}
 
 -- known octets grow by a front of a text
@@ -26,29 +26,31 @@ abbrev pub LeavesFault : Bool → Result (List ℕ) Fault → Fault → Option (
 LeavesFault explains text f held holds = (note : List ℕ) × FaultNote explains text f note × AppendsFront held holds note
 
 -- What `check` leaves of a configuration: what it says of it, of which a failed write may leave a front.
-abbrev pub LeavesConfigured : Bool → Option (List ℕ) → Option (List ℕ) → Configuration → Result (Unit {0}) Fault → Type 0
-LeavesConfigured explains held holds c (Ok done) = Appends held holds (checked_text explains c)
-LeavesConfigured explains held holds c (Err fault.Write) = AppendsFront held holds (checked_text explains c)
-LeavesConfigured explains held holds c (Err fault.Memory) = holds ≡ held
-LeavesConfigured explains held holds c (Err _) = ⊥
+abbrev pub LeavesConfigured : (explains lints : Bool) → Option (List ℕ) → Option (List ℕ) → Configuration → Result (Unit {0}) Fault → Type 0
+LeavesConfigured explains lints held holds c (Ok done) = (text : List ℕ) × IsChecked explains lints c text × Appends held holds text
+LeavesConfigured explains lints held holds c (Err fault.Write) =
+    (text : List ℕ) × IsChecked explains lints c text × AppendsFront held holds text
+LeavesConfigured explains lints held holds c (Err fault.Memory) = holds ≡ held
+LeavesConfigured explains lints held holds c (Err _) = ⊥
 
 -- What it leaves of what was read of a text. Where there is no configuration the outcome is why, whatever became of the explanation.
-abbrev pub LeavesChecked : Bool → Result (List ℕ) Fault → Option (List ℕ) → Option (List ℕ)
+abbrev pub LeavesChecked : (explains lints : Bool) → Result (List ℕ) Fault → Option (List ℕ) → Option (List ℕ)
     → Result Configuration Fault → Result (Unit {0}) Fault → Type 0
-LeavesChecked explains text held holds (Ok c) outcome = LeavesConfigured explains held holds c outcome
-LeavesChecked explains text held holds (Err f) outcome = (outcome ≡ Err f) × LeavesFault explains text f held holds
+LeavesChecked explains lints text held holds (Ok c) outcome = LeavesConfigured explains lints held holds c outcome
+LeavesChecked explains lints text held holds (Err f) outcome = (outcome ≡ Err f) × LeavesFault explains text f held holds
 
 -- what `check` leaves of a text that was read, or of why none was
-abbrev pub LeavesOfText : Bool → Result (List ℕ) Fault → Option (List ℕ) → Option (List ℕ)
+abbrev pub LeavesOfText : (explains lints : Bool) → Result (List ℕ) Fault → Option (List ℕ) → Option (List ℕ)
     → Result (Unit {0}) Fault → Type 0
-LeavesOfText explains text held holds outcome =
-    (c : Result Configuration Fault) × IsConfigurationOf text c × LeavesChecked explains text held holds c outcome
+LeavesOfText explains lints text held holds outcome =
+    (c : Result Configuration Fault) × IsConfigurationOf text c × LeavesChecked explains lints text held holds c outcome
 
 -- What `replay` leaves under the configuration that was read. Where there is none the script isn't played, and the outcome is why.
-abbrev pub LeavesPlayed : Option (List ℕ) → Option (List ℕ) → Option (List ℕ)
+abbrev pub LeavesPlayed : Bool → Option (List ℕ) → Option (List ℕ) → Option (List ℕ)
     → Result Configuration Fault → Result (Unit {0}) Fault → Type 0
-LeavesPlayed input held holds (Ok c) outcome = OnKnown input held holds (λ script before. Plays c script before outcome)
-LeavesPlayed input held holds (Err f) outcome = (outcome ≡ Err f) × (holds ≡ held)
+LeavesPlayed explains input held holds (Ok c) outcome =
+    OnKnown input held holds (λ script before. Plays (telling explains) c script before outcome)
+LeavesPlayed explains input held holds (Err f) outcome = (outcome ≡ Err f) × (holds ≡ held)
 
 -- What `why` leaves by the rules of the configuration that was read. Where there is none nothing is answered, and the outcome is why.
 abbrev pub LeavesAnswered : Option (List ℕ) → Option (List ℕ) → Option (List ℕ)
@@ -62,9 +64,9 @@ LeavesAnswered input held holds (Err f) outcome = (outcome ≡ Err f) × (holds 
 abbrev pub LeavesOutput : {Log Sockets : Type 0} → (Reads : List ℕ → Result (List ℕ) Fault → Type 0) → Machine Log Sockets
     → Option (List ℕ) → Option (List ℕ) → Option (List ℕ) → List ℕ → Result Choice Fault → Result (Unit {0}) Fault → Type 0
 LeavesOutput Reads machine input held holds told (Ok (choice.Check file explains lints)) outcome =
-    (text : Result (List ℕ) Fault) × Reads (string_bytes file) text × LeavesOfText explains text held holds outcome
+    (text : Result (List ℕ) Fault) × Reads (string_bytes file) text × LeavesOfText explains lints text held holds outcome
 LeavesOutput Reads machine input held holds told (Ok (choice.Replay file explains)) outcome =
-    (c : Result Configuration Fault) × IsConfigured Reads (option_map string_bytes file) c × LeavesPlayed input held holds c outcome
+    (c : Result Configuration Fault) × IsConfigured Reads (option_map string_bytes file) c × LeavesPlayed explains input held holds c outcome
 LeavesOutput Reads machine input held holds told (Ok (choice.Run options)) outcome =
     (text : Result (List ℕ) Fault) × Reads (string_bytes options.config) text
     × (c : Result Configuration Fault) × IsConfigurationOf text c × LeavesRun machine text held holds options c told outcome

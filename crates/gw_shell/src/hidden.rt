@@ -1,23 +1,40 @@
-//! What `check --explain` tells of a configuration: from which of the ports' networks the policy hides each
-//! object, and what can't be meant.
+//! What `check` tells of a configuration. With `--explain` that is also from which of the ports' networks
+//! the policy hides each object, and what can't be meant; with `--lint` also which rules never decide.
 
 ghost use Rattle.std.specs.Prelude.{◌≡◌, ◌++◌, ◌≤◌, length, IfOk, OnOk};
 ghost use Rattle.gw_policy_text.specs.Duplicates.{type_number};
 ghost use Rattle.gw_rules.specs.Hides.{hides_from_network};
-ghost use Rattle.gw_shell.specs.Hidden.{checked_text, hidden_line, hidden_lines, network_line, object_lines, object_text};
+ghost use Rattle.gw_shell.specs.Hidden.{IsChecked, explained_text, hidden_line, hidden_lines, network_line, object_lines, object_text};
 ghost use Rattle.gw_shell.specs.Numbered.{numbered};
 
 use crate::announcement::{put_number, put_shown};
 use crate::configured::summary;
-use gw_lint::put_warnings;
+use gw_lint::{put_lint, put_warnings};
 use gw_policy_text::{Config, Object, ObjectValue, Port};
 use gw_rules::RuleList;
 use std::alloc::{AllocError, Global};
 
-/// What `check` prints of a configuration: its summary, and behind it what the policy hides and what
-/// can't be meant, where that is asked for. An `Err` only where a growth of memory was refused.
-pub fn checked_text(alloc: Global, explains: bool, config: &Config) -> Result<Vec<u8>, AllocError>
-    ensures { IfOk result (λ text. text.items ≡ checked_text explains config.now) }
+/// What `check` prints of a configuration: its summary, and behind it what else is asked for.
+/// An `Err` only where a growth of memory was refused.
+pub fn checked_text(
+    alloc: Global,
+    explains: bool,
+    lints: bool,
+    config: &Config,
+) -> Result<Vec<u8>, AllocError>
+    ensures { IfOk result (λ text. IsChecked explains lints config.now text.items) }
+{
+    let mut text = explained_text(alloc, explains, config)?;
+    if lints {
+        put_lint(alloc, config, explains, &mut text)?;
+    }
+    Ok(text)
+}
+
+/// The summary of a configuration, and behind it what the policy hides and what can't be meant, where
+/// that is asked for.
+fn explained_text(alloc: Global, explains: bool, config: &Config) -> Result<Vec<u8>, AllocError>
+    ensures { IfOk result (λ text. text.items ≡ explained_text explains config.now) }
 {
     let mut text = summary(alloc, config)?.into_bytes();
     if explains {

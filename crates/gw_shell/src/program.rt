@@ -78,19 +78,20 @@ fn choice_from(alloc: Global, words: Result<Vec<String>, Fault>) -> Result<Choic
     }
 }
 
-/// Prints what a configuration has, and what its policy hides where that is asked for.
+/// Prints what a configuration has, and what else is asked for of it.
 fn print_checked<W: Write + Drop>(
     alloc: Global,
     explains: bool,
+    lints: bool,
     config: &Config,
     output: &mut BufWriter<W>,
 ) -> Result<(), Fault>
     ensures output { let held = writer_contents W.contents output.old in
         let holds = writer_contents W.contents output.new in
-        LeavesConfigured explains held holds config.now result }
+        LeavesConfigured explains lints held holds config.now result }
     ensures flush { OnOk result (writer_buffer output.new ≡ []) }
 {
-    let text = checked_text(alloc, explains, config)?;
+    let text = checked_text(alloc, explains, lints, config)?;
     print(&text, output)
 }
 
@@ -132,16 +133,17 @@ fn line_of(alloc: Global, explanation: &Explanation) -> Result<Vec<u8>, AllocErr
 fn check<W: Write + Drop>(
     alloc: Global,
     explains: bool,
+    lints: bool,
     text: &Result<Vec<u8>, Fault>,
     output: &mut BufWriter<W>,
 ) -> Result<(), Fault>
     ensures output { let held = writer_contents W.contents output.old in
         let holds = writer_contents W.contents output.new in
-        LeavesOfText explains (result_map (λ octets. octets.items) text.now) held holds result }
+        LeavesOfText explains lints (result_map (λ octets. octets.items) text.now) held holds result }
     ensures flush { OnOk result (writer_buffer output.new ≡ []) }
 {
     match configuration_of(alloc, text) {
-        Ok(config) => print_checked(alloc, explains, &config, output),
+        Ok(config) => print_checked(alloc, explains, lints, &config, output),
         Err(fault) => {
             // Where this can't be printed the fault is told all the same.
             let _ = print(&fault_note(alloc, explains, text, fault), output);
@@ -150,19 +152,20 @@ fn check<W: Write + Drop>(
     }
 }
 
-/// Plays the script under a configuration.
+/// Plays the script under a configuration, and tells its asks where that is asked for.
 fn play<R: OctetSource, W: Write + Drop>(
     alloc: Global,
+    explains: bool,
     config: Result<Config, Fault>,
     input: &mut R,
     output: &mut BufWriter<W>,
 ) -> Result<(), Fault>
-    ensures output { LeavesPlayed (R.left input.old) (writer_contents W.contents output.old)
+    ensures output { LeavesPlayed explains (R.left input.old) (writer_contents W.contents output.old)
         (writer_contents W.contents output.new) config result }
     ensures flush { OnOk result (writer_buffer output.new ≡ []) }
 {
     match config {
-        Ok(config) => replay(alloc, config, input, output),
+        Ok(config) => replay(alloc, explains, config, input, output),
         Err(fault) => Err(fault),
     }
 }
@@ -241,20 +244,15 @@ fn follow<F: ConfigFiles, H: Host, R: OctetSource, W: Write + Drop, E: OctetSink
             Choice::Check {
                 file,
                 explains,
-                lints: _lints,
+                lints,
             },
         ) => {
             let text = files.read(alloc, file);
-            check(alloc, *explains, &text, output)
+            check(alloc, *explains, *lints, &text, output)
         }
-        Ok(
-            Choice::Replay {
-                file,
-                explains: _explains,
-            },
-        ) => {
+        Ok(Choice::Replay { file, explains }) => {
             let config = configuration(alloc, files, file);
-            play(alloc, config, input, output)
+            play(alloc, *explains, config, input, output)
         }
         Ok(Choice::Run(options)) => {
             let text = files.read(alloc, &options.config);

@@ -3,7 +3,7 @@
 ghost use Rattle.std.specs.Prelude.{◌≡◌, [], OnOk};
 ghost use Rattle.std.specs.Io.Buffered.{writer_buffer, writer_contents};
 ghost use Rattle.gw_core.specs.Replay.{OnKnown};
-ghost use Rattle.gw_shell.specs.Replay.{Plays};
+ghost use Rattle.gw_shell.specs.Replay.{Leaves, Plays, telling};
 ghost use Rattle.gw_shell.specs.Ending.{first_fault};
 
 use crate::fault::Fault;
@@ -24,19 +24,42 @@ fn first_fault(run: Result<(), RunFault>, is_flushed: bool) -> Result<(), Fault>
     }
 }
 
-/// Plays the script that `reader` has left under this configuration. What was written is flushed at
-/// every outcome. Faults: those of the run, and `Write` also where the flush alone fails.
+/// Plays the script that `reader` has left, and tells each event, also by its asks where that is asked
+/// for. Faults: those of the run.
+fn play<R: OctetSource, W: Write + Drop>(
+    alloc: Global,
+    explains: bool,
+    config: Config,
+    reader: &mut R,
+    writer: &mut BufWriter<W>,
+) -> Result<(), RunFault>
+    ensures { OnKnown (R.left reader.old) (writer_contents W.contents writer.old)
+        (writer_contents W.contents writer.new)
+        (λ script before. Leaves (telling explains) config script before result) }
+{
+    if explains {
+        gw_core::replay_explaining(alloc, config, reader, writer)
+    } else {
+        gw_core::replay(alloc, config, reader, writer)
+    }
+}
+
+/// Plays the script that `reader` has left under this configuration, and tells each event, also by its
+/// asks where that is asked for. What was written is flushed at every outcome. Faults: those of the run,
+/// and `Write` also where the flush alone fails.
 pub fn replay<R: OctetSource, W: Write + Drop>(
     alloc: Global,
+    explains: bool,
     config: Config,
     reader: &mut R,
     writer: &mut BufWriter<W>,
 ) -> Result<(), Fault>
     ensures plays { OnKnown (R.left reader.old) (writer_contents W.contents writer.old)
-        (writer_contents W.contents writer.new) (λ script before. Plays config script before result) }
+        (writer_contents W.contents writer.new)
+        (λ script before. Plays (telling explains) config script before result) }
     ensures flushed { OnOk result (writer_buffer writer.new ≡ []) }
 {
-    let run = gw_core::replay(alloc, config, reader, writer);
+    let run = play(alloc, explains, config, reader, writer);
     let is_flushed = writer.flush().is_ok();
     first_fault(run, is_flushed)
 }

@@ -6,7 +6,10 @@ ghost use Rattle.gw_script.specs.Event.{IsOnPort, event_view};
 use crate::case::{is_case, put_octets, wanted};
 use crate::configurations::read;
 use gw_addr::BipAddr;
-use gw_core::{Counts, Denial, Effects, Event, Gateway, RunFault, Sends, StepFault, replay, replay_explaining, run};
+use gw_core::{
+    Counts, Denial, Effects, Event, Gateway, RunFault, Sends, StepFault, replay, replay_explaining,
+    run,
+};
 use gw_script::{MAX_DATAGRAM, append_end, append_send, parse_line};
 use std::alloc::Global;
 use std::io;

@@ -103,9 +103,7 @@ fn report_to(
     if seconds == 0 || turns >= 1 << 63 || wire.failures() > 0 {
         return Err(ErrorKind::InvalidData.into());
     }
-    Ok(serve_with_reports(
-        alloc, gateway, wire, log, reports, seconds, turns,
-    ))
+    Ok(serve_with_reports(alloc, gateway, wire, log, reports, seconds, turns))
 }
 
 /// How a call with reports ends, and the reports. A case has how many seconds lie between two, how many turns are asked for, the call

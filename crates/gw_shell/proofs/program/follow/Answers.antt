@@ -9,13 +9,13 @@ use Rattle.gw_shell.proofs.program.follow.Goals as goal
 
 pub returns-in-Ok-Replay-clause-followed : goal.returns-in-Ok-Replay-clause-followed
 returns-in-Ok-Replay-clause-followed g c =
-    let is : c.args.choice.now ≡ Ok (choice.Replay c.in-Ok-Replay.file c.in-Ok-Replay._explains) = search rules in
-    followed _ _ c.args.choice.now (Ok (choice.Replay c.in-Ok-Replay.file c.in-Ok-Replay._explains)) c.play.result is refl
+    let is : c.args.choice.now ≡ Ok (choice.Replay c.in-Ok-Replay.file c.in-Ok-Replay.explains) = search rules in
+    followed _ _ c.args.choice.now (Ok (choice.Replay c.in-Ok-Replay.file c.in-Ok-Replay.explains)) c.play.result is refl
     (c.configuration-config.result, c.configuration-config.ensures, c.play.ensures.output) (λ never. appends_nothing (g.E.OctetSink.held c.args.errors.now))
 
 pub returns-in-Ok-Check-clause-followed : goal.returns-in-Ok-Check-clause-followed
 returns-in-Ok-Check-clause-followed g c =
-    let chosen = choice.Check c.in-Ok-Check.file c.in-Ok-Check.explains c.in-Ok-Check._lints in
+    let chosen = choice.Check c.in-Ok-Check.file c.in-Ok-Check.explains c.in-Ok-Check.lints in
     let is : c.args.choice.now ≡ Ok chosen = search rules in
     let text = result_map (λ (octets : Vec ℕ). octets.items) c.read-text.result in
     let reads = subst (λ (name : List ℕ). g.F.ConfigFiles.Reads c.args.files.now name text) c.deref.ensures c.read-text.ensures in
