@@ -38,6 +38,7 @@ report_of start w s = record {
   receive_failures = s.recv_failures;
   registrations = registrations w.relay.links;
   peers = peer_count w.relay.links;
+  learned_routes = length w.relay.routes.learned;
 }
 
 -- a field of a line: its name, as it stands before the number, and the number in decimal
@@ -58,7 +59,9 @@ calls_text r =
 
 -- what the tables hold then
 unfoldable pub tables_text : Report → List ℕ
-tables_text r = field (codes " registrations=") r.registrations ++ field (codes " peers=") r.peers
+tables_text r =
+    field (codes " registrations=") r.registrations ++ field (codes " peers=") r.peers
+    ++ field (codes " learned_routes=") r.learned_routes
 
 -- the line of a report: its fields in this order, and a line feed
 unfoldable pub report_line : Report → List ℕ

@@ -36,6 +36,8 @@ pub(crate) struct Report {
     pub registrations: u64,
     /// How many peers all ports have.
     pub peers: u64,
+    /// How many networks have a learned route.
+    pub learned_routes: u64,
 }
 
 /// How many foreign devices are registered at the ports.
@@ -90,6 +92,7 @@ pub(crate) fn report_of(start: Counts, gateway: &Gateway, served: &Served) -> Re
         receive_failures: served.recv_failures,
         registrations: registrations(relay.links()),
         peers: peer_count(relay.links()),
+        learned_routes: relay.routes().learned_count() as u64,
     }
 }
 
@@ -157,7 +160,11 @@ fn write_tables<S: OctetSink>(report: &Report, sink: &mut S) -> Result<(), Write
         Ok(()) => {}
         Err(failed) => return Err(failed),
     }
-    write_field(" peers=", report.peers as u128, sink)
+    match write_field(" peers=", report.peers as u128, sink) {
+        Ok(()) => {}
+        Err(failed) => return Err(failed),
+    }
+    write_field(" learned_routes=", report.learned_routes as u128, sink)
 }
 
 /// Writes the line of a report.

@@ -172,7 +172,7 @@ impl Relay {
     }
 
     /// The table of routes.
-    pub(crate) fn routes(&self) -> &Routes
+    pub fn routes(&self) -> &Routes
         ensures { result.now ≡ self.now.routes }
     {
         &self.routes

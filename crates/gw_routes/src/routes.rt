@@ -80,6 +80,13 @@ impl Routes {
         self.fixed.direct.as_slice()
     }
 
+    /// How many networks have a learned route, 0 to 512.
+    pub fn learned_count(&self) -> usize
+        ensures { result ≡ length self.now.learned }
+    {
+        self.learned.len()
+    }
+
     /// Which way the network of this number lies (clauses 6.2.2, 6.5). The number is a DNET: 65535
     /// is everywhere, and 0, which is no network's, is unknown.
     pub fn find(&self, net: u16) -> Way
