@@ -11,7 +11,7 @@ use Rattle.clap.specs.declared.error.kind.ErrorKind.TheVariants as parse
 use Rattle.clap.proofs.OnLiterals.{clap_on_literals}
 use Rattle.clap.proofs.ValueTestLemmas.{accepts-Accepts}
 use Rattle.clap.specs.declared.builder.value_parser.ValueParser.TheVariants.{Unsigned}
-use Rattle.gw_shell.specs.CommandLine.{Asks, AsksNothing, Call, call_by, called, commands, most_seconds, most_turns, CallsCheck, CallsExplain, CallsLint, CallsReplay, CallsReplayExplained, CallsRun, CallsRunWhole, CallsWhy, IsAnswer, IsCheck, IsChosen, IsRefusal, IsReplay, IsPeriod, IsServing, IsShown, IsTurns, IsWhy}
+use Rattle.gw_shell.specs.CommandLine.{AreNoOptions, Asks, AsksNothing, Call, call_by, called, commands, most_seconds, most_turns, CallsCheck, CallsExplain, CallsLint, CallsReplay, CallsReplayExplained, CallsRun, CallsRunWhole, CallsWhy, IsAnswer, IsCheck, IsChosen, IsRefusal, IsReplay, IsPeriod, IsServing, IsShown, IsTurns, IsWhy}
 use Rattle.gw_shell.specs.declared.command_line.Choice.{Choice}
 use Rattle.gw_shell.specs.declared.command_line.Choice.TheVariants as choice
 use Rattle.gw_shell.specs.declared.fault.Fault.{Fault}
@@ -120,6 +120,24 @@ why_check e = search rules
 
 why_run : codes "why" ≡ codes "run" → ⊥
 why_run e = search rules
+
+-- a call of `run` whose options ask for nothing asks for nothing
+pub run_asks_nothing : (name : Text) (value : Text → Option Text) (f : Fault) → name ≡ codes "run" → AreNoOptions value f → IsChosen (Some (call_by name value)) (Err f)
+run_asks_nothing name value fault.CommandLine named nothing = record {
+  replay = λ e. run_replay (sym named ∙ e);
+  check = λ file e has. run_check (sym named ∙ e);
+  run = λ file n period e has turns. nothing n period turns;
+  why = λ file e has. why_run (sym e ∙ named);
+}
+run_asks_nothing name value fault.Memory named nothing = tt
+run_asks_nothing name value fault.Unreadable named nothing = absurd nothing
+run_asks_nothing name value (fault.Configuration f) named nothing = absurd nothing
+run_asks_nothing name value (fault.Line n) named nothing = absurd nothing
+run_asks_nothing name value fault.Read named nothing = absurd nothing
+run_asks_nothing name value fault.Write named nothing = absurd nothing
+run_asks_nothing name value fault.Log named nothing = absurd nothing
+run_asks_nothing name value (fault.Socket port) named nothing = absurd nothing
+run_asks_nothing name value fault.CountEnd named nothing = absurd nothing
 
 -- what is said of the call that words make is said of the call that it is known to be
 asked : (words : List Text) (c : Call) (choice : Choice) → called words ≡ Some c → IsSomeAnd (called words) (Asks choice) → Asks choice c

@@ -59,9 +59,13 @@ stats = record (new_rule (codes "stats")) { long = Some (codes "stats"); value_n
 abbrev pub run_of_files : App
 run_of_files = with_rule (with_rule (new_app (codes "run")) needed_config) log
 
--- and may have a number of turns, may have to tell what is served, and may have a number of seconds between two reports
+-- and may have a number of turns, may have to tell what is served,
+abbrev pub run_of_turns : App
+run_of_turns = with_rule (with_rule run_of_files turns) verbose
+
+-- and may have a number of seconds between two reports
 abbrev pub run : App
-run = with_rule (with_rule (with_rule run_of_files turns) verbose) stats
+run = with_rule run_of_turns stats
 
 -- `why`, which needs a file
 abbrev pub why : App

@@ -3,7 +3,7 @@
 ghost use Rattle.std.specs.Prelude.{◌≡◌, ◌<◌, Some, None, true, false, IfOk, IfSome, MatchResult, map, codes, option_map, string_bytes};
 ghost use Rattle.clap.specs.Words.{app_of, first_value, found_of, kind_of, rule_of, subcommand_rows_of};
 ghost use Rattle.clap.specs.declared.builder.command.Command.TheViews.{out-Command};
-ghost use Rattle.gw_shell.specs.CommandLine.{call_by, call_of, check, check_of_file, commands, explain, is_given, replay, run, run_of_files, needed_config, why, AreOptions, CallsCheck, CallsExplain, CallsLint, CallsReplay, CallsReplayExplained, CallsRun, CallsRunWhole, CallsWhy, IsAnswer, IsCheck, IsChosen, IsNoPeriod, IsNoTurns, AreNoOptions, IsPeriod, IsRefusal, IsReplay, IsServing, IsTurns, IsWhy};
+ghost use Rattle.gw_shell.specs.CommandLine.{call_by, call_of, check, check_of_file, commands, explain, is_given, replay, run, run_of_files, run_of_turns, needed_config, why, AreOptions, CallsCheck, CallsExplain, CallsLint, CallsReplay, CallsReplayExplained, CallsRun, CallsRunWhole, CallsWhy, IsAnswer, IsCheck, IsChosen, IsNoPeriod, IsNoTurns, AreNoOptions, IsPeriod, IsRefusal, IsReplay, IsServing, IsTurns, IsWhy};
 
 use crate::fault::Fault;
 use crate::options::RunOptions;
@@ -125,6 +125,17 @@ fn make_run<'a>(alloc: Global) -> Result<Command<'a>, AllocError>
     ensures app { IfOk result (λ command. app_of command ≡ run) }
     ensures local { IfOk result (λ command. (out-Command command).has_globals ≡ false) }
 {
+    let stats = Arg::new(alloc, "stats")
+        .long("stats")
+        .value_name("SECONDS")
+        .help("Tells what was done, each so many seconds, from 1 to 4294967295, and at the end");
+    make_run_of_turns(alloc)?.arg(stats)
+}
+
+fn make_run_of_turns<'a>(alloc: Global) -> Result<Command<'a>, AllocError>
+    ensures app { IfOk result (λ command. app_of command ≡ run_of_turns) }
+    ensures local { IfOk result (λ command. (out-Command command).has_globals ≡ false) }
+{
     let turns = Arg::new(alloc, "turns").long("turns").value_name("N").help(
         "How many turns are served, from 1 to 9223372036854775807, the default",
     );
@@ -132,14 +143,7 @@ fn make_run<'a>(alloc: Global) -> Result<Command<'a>, AllocError>
         .long("verbose")
         .help("Tells at the start what is served, or where a fault is")
         .action(ArgAction::SetTrue);
-    let stats = Arg::new(alloc, "stats")
-        .long("stats")
-        .value_name("SECONDS")
-        .help("Tells what was done, each so many seconds, from 1 to 4294967295, and at the end");
-    make_run_of_files(alloc)?
-        .arg(turns)?
-        .arg(verbose)?
-        .arg(stats)
+    make_run_of_files(alloc)?.arg(turns)?.arg(verbose)
 }
 
 fn make_run_of_files<'a>(alloc: Global) -> Result<Command<'a>, AllocError>
@@ -297,7 +301,10 @@ fn choice_for(alloc: Global, name: &str, matches: &ArgMatches<'_>) -> Result<Cho
         return Ok(Choice::Why(file));
     }
     if name == "run" {
-        return Ok(Choice::Run(run_options(alloc, matches, file)?));
+        return match run_options(alloc, matches, file) {
+            Ok(options) => Ok(Choice::Run(options)),
+            Err(fault) => Err(fault),
+        };
     }
     Err(Fault::CommandLine)
 }
