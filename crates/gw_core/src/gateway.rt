@@ -92,7 +92,7 @@ pub struct Gateway {
     counts: Counts,
 }
 
-// By hand: a derived one is proved part by part wherever one is dropped (docs/ARCHITECTURE.md).
+// By hand: a derived one is proved part by part wherever one is dropped (docs/GATE.md).
 impl Drop for Gateway {
     fn drop(self) {
         let Gateway {

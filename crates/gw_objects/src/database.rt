@@ -40,7 +40,7 @@ pub struct ObjectDb {
     states: Vec<PriorityArray<PropertyValue>>,
 }
 
-// By hand: a derived one is proved part by part wherever one is dropped (docs/ARCHITECTURE.md).
+// By hand: a derived one is proved part by part wherever one is dropped (docs/GATE.md).
 impl Drop for ObjectDb {
     fn drop(self) {
         let ObjectDb {

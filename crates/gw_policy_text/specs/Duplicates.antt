@@ -1,5 +1,5 @@
 -- What may stand only once in a configuration.
-use Rattle.std.specs.Prelude.{ℕ, ◌+◌, ◌-◌, ◌*◌, ◌/◌, ◌%◌, ◌^◌, ◌++◌, ◌==◌, Bool, false, ◌||◌, nat_eq, nat_lt, List, [], ◌∷◌, length, map, codes, if◌then◌else◌, Option, Some, None, Ok}
+use Rattle.std.specs.Prelude.{◌≡◌, is_some, ℕ, ◌+◌, ◌-◌, ◌*◌, ◌/◌, ◌%◌, ◌^◌, ◌++◌, ◌==◌, Bool, false, ◌||◌, nat_eq, nat_lt, List, [], ◌∷◌, length, map, codes, if◌then◌else◌, Option, Some, None, Ok}
 use Rattle.std.specs.Cmp.Lexicographic.{pointwise}
 use Rattle.std.specs.List.{flat_map, list_any}
 use Rattle.std.specs.Option.{option_map}
@@ -127,6 +127,10 @@ repetition c =
     (or_else (option_map identifier_twice (second nat_eq (identifiers c.objects)))
     (or_else (option_map name_twice (second (pointwise nat_eq) (names c.device c.objects)))
     (option_map rule_twice (second (pointwise nat_eq) (rule_names c.rules)))))))
+
+-- law: such a place is told exactly where something stands twice
+abbrev pub RepetitionsAreTold : Type 0
+RepetitionsAreTold = (c : Configuration) → is_some (repetition c) ≡ has_duplicates c
 
 -- a configuration in which nothing does
 abbrev pub unique : Configuration → Find Configuration

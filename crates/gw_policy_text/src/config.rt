@@ -21,7 +21,7 @@ pub struct Config {
     parts: Parts,
 }
 
-// By hand: a derived one is proved part by part wherever one is dropped (docs/ARCHITECTURE.md).
+// By hand: a derived one is proved part by part wherever one is dropped (docs/GATE.md).
 impl Drop for Config {
     fn drop(self) {
         let Config { parts: _ } = self;

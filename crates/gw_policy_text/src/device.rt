@@ -47,7 +47,7 @@ pub struct Device {
     pub description: Text,
 }
 
-// By hand: a derived one is proved part by part wherever one is dropped (docs/ARCHITECTURE.md).
+// By hand: a derived one is proved part by part wherever one is dropped (docs/GATE.md).
 impl Drop for Device {
     fn drop(self) {
         let Device {

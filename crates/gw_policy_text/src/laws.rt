@@ -1,7 +1,9 @@
-//! Laws of the limits and the numbers that contracts cite. Each function does nothing: its contract is the laws.
+//! Laws of the limits, of the numbers that contracts cite, and of what stands twice. Each function does
+//! nothing: its contract is the laws.
 
 ghost use Rattle.std.specs.Prelude.{◌≡◌};
 ghost use Rattle.gw_policy_text.specs.Configuration.{format_of};
+ghost use Rattle.gw_policy_text.specs.Duplicates.{RepetitionsAreTold};
 ghost use Rattle.gw_policy_text.specs.declared.format.Format.TheVariants.{One, Two};
 
 use crate::instance::MAX_INSTANCE;
@@ -32,4 +34,11 @@ pub fn limits()
 pub fn formats()
     ensures one { format_of 1 ≡ One }
     ensures two { format_of 2 ≡ Two }
+{}
+
+/// A place where something stands for the second time is told exactly where something stands twice that
+/// may stand only once.
+#[tactic(auto, using(crate::proofs::Repeats::repetition_found))]
+pub fn repetitions()
+    ensures { RepetitionsAreTold }
 {}

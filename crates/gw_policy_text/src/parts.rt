@@ -31,7 +31,7 @@ pub(crate) struct Parts {
     rules: RuleList,
 }
 
-// By hand: a derived one is proved part by part wherever one is dropped (docs/ARCHITECTURE.md).
+// By hand: a derived one is proved part by part wherever one is dropped (docs/GATE.md).
 impl Drop for Parts {
     fn drop(self) {
         let Parts {

@@ -11,9 +11,16 @@ use std::marker::Model;
 pub const MAX_TEXT: usize = 255;
 
 /// A text of at most 255 octets of UTF-8. Contracts see the octets.
-#[derive(Debug, Drop)]
+#[derive(Debug)]
 pub struct Text {
     text: String,
+}
+
+// By hand: a derived one is proved part by part wherever one is dropped (docs/GATE.md).
+impl Drop for Text {
+    fn drop(self) {
+        let Text { text: _ } = self;
+    }
 }
 
 impl Model for Text {

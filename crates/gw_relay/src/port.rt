@@ -30,7 +30,7 @@ pub struct PortState {
     pub fdt: Fdt,
 }
 
-// By hand: a derived one is proved part by part wherever one is dropped (docs/ARCHITECTURE.md).
+// By hand: a derived one is proved part by part wherever one is dropped (docs/GATE.md).
 impl Drop for PortState {
     fn drop(self) {
         let PortState {

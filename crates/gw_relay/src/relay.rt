@@ -47,7 +47,7 @@ pub struct Relay {
     ticks: u64,
 }
 
-// By hand: a derived one is proved part by part wherever one is dropped (docs/ARCHITECTURE.md).
+// By hand: a derived one is proved part by part wherever one is dropped (docs/GATE.md).
 impl Drop for Relay {
     fn drop(self) {
         let Relay {

@@ -17,7 +17,7 @@ pub struct Policy {
     index: Option<RuleIndex>,
 }
 
-// By hand: a derived one is proved part by part wherever one is dropped (docs/ARCHITECTURE.md).
+// By hand: a derived one is proved part by part wherever one is dropped (docs/GATE.md).
 impl Drop for Policy {
     fn drop(self) {
         let Policy { rules: _, index: _ } = self;

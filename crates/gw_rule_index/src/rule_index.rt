@@ -29,7 +29,7 @@ pub struct RuleIndex {
     verdicts: Vec<bool>,
 }
 
-// By hand: a derived one is proved part by part wherever one is dropped (docs/ARCHITECTURE.md).
+// By hand: a derived one is proved part by part wherever one is dropped (docs/GATE.md).
 impl Drop for RuleIndex {
     fn drop(self) {
         let RuleIndex {
