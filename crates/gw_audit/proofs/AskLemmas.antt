@@ -62,20 +62,17 @@ up_to_again : {A : Type 0} (read : List ℕ → Option A) (c : ℕ) (word : List
 up_to_again read c word value rest lacks e = rw (parted_again c word rest lacks, e) refl
 
 pub number_to_takes : (c : ℕ) (text : List ℕ) (n : ℕ) (rest : List ℕ) → number_to c text ≡ Some (n, rest) → (text ≡ decimal n ++ c ∷ rest) × (n < 2 ^ 64)
-unfolding number_to
 number_to_takes c text n rest e =
     let took = up_to_takes number_in c text n rest e in
     let number = number_takes took.word n took.reads in
     (took.parts ∙ ap (λ (t : List ℕ). t ++ c ∷ rest) number.spelled, number.small)
 
 pub number_to_again : (c n : ℕ) (rest : List ℕ) → ¬ (IsAsciiDigit c) → n < 2 ^ 64 → number_to c (decimal n ++ c ∷ rest) ≡ Some (n, rest)
-unfolding number_to
 number_to_again c n rest digit small =
     up_to_again number_in c (decimal n) n rest (not_in_decimal n c small digit) (number_again (decimal n) n small refl)
 
 field_to_takes : (c : ℕ) (text : List ℕ) (value : Option ℕ) (rest : List ℕ) → field_to c text ≡ Some (value, rest)
     → (text ≡ field_text value ++ c ∷ rest) × IsSmall value
-unfolding field_to
 field_to_takes c text value rest e =
     let took = up_to_takes field_in c text value rest e in
     let field = field_takes took.word value took.reads in
@@ -87,7 +84,6 @@ record EndsField (c : ℕ) : Type 0 where
   other : 45 ≢ c
 
 field_to_again : (c : ℕ) (value : Option ℕ) (rest : List ℕ) → EndsField c → IsSmall value → field_to c (field_text value ++ c ∷ rest) ≡ Some (value, rest)
-unfolding field_to
 field_to_again c value rest ends small =
     up_to_again field_in c (field_text value) value rest (field_lacks c ends.digit ends.other value small) (field_again value small)
 
@@ -99,21 +95,18 @@ at_comma = record { digit = comma; other = λ e. absurd (omega arith) }
 
 operation_to_takes : (text : List ℕ) (value : Option ℕ) (rest : List ℕ) → operation_to 32 text ≡ Some (value, rest)
     → (text ≡ operation_text value ++ 32 ∷ rest) × IsSmall value
-unfolding operation_to
 operation_to_takes text value rest e =
     let took = up_to_takes operation_in 32 text value rest e in
     let operation = operation_takes took.word value took.reads in
     (took.parts ∙ ap (λ (t : List ℕ). t ++ 32 ∷ rest) operation.0, operation.1)
 
 operation_to_again : (value : Option ℕ) (rest : List ℕ) → IsSmall value → operation_to 32 (operation_text value ++ 32 ∷ rest) ≡ Some (value, rest)
-unfolding operation_to
 operation_to_again value rest small =
     up_to_again operation_in 32 (operation_text value) value rest (operation_spaceless value small) (operation_again value small)
 
 -- ---- a label
 
 pub behind_takes : (label text rest : List ℕ) → behind label text ≡ Some rest → text ≡ label ++ rest
-unfolding behind
 behind_takes label text rest e = by (pointwise nat_eq (take (length label) text) label) refl e
   where
     by : (b : Bool) → pointwise nat_eq (take (length label) text) label ≡ b
@@ -125,13 +118,11 @@ behind_takes label text rest e = by (pointwise nat_eq (take (length label) text)
     by false f h = absurd cc
 
 pub behind_again : (label rest : List ℕ) → behind label (label ++ rest) ≡ Some rest
-unfolding behind
 behind_again label rest =
     rw (take_at label rest (length label) refl, same_as_itself label, drop_at label rest (length label) refl) refl
 
 labelled_takes : (label : List ℕ) (c : ℕ) (text : List ℕ) (value : Option ℕ) (rest : List ℕ) → labelled_to label c text ≡ Some (value, rest)
     → (text ≡ label ++ (field_text value ++ c ∷ rest)) × IsSmall value
-unfolding labelled_to
 labelled_takes label c text value rest e =
     let label_there = step_of (behind label text) (λ rest. field_to c rest) (value, rest) e in
     let field = field_to_takes c label_there.value value rest label_there.goes_on in
@@ -139,7 +130,6 @@ labelled_takes label c text value rest e =
 
 labelled_again : (label : List ℕ) (c : ℕ) (value : Option ℕ) (rest : List ℕ) → EndsField c → IsSmall value
     → labelled_to label c (label ++ (field_text value ++ c ∷ rest)) ≡ Some (value, rest)
-unfolding labelled_to
 labelled_again label c value rest ends small =
     rw (behind_again label (field_text value ++ c ∷ rest)) (field_to_again c value rest ends small)
 
@@ -162,7 +152,6 @@ unfoldable pub priority_on : Option ℕ → List ℕ → List ℕ
 priority_on p rest = codes "prio=" ++ (field_text p ++ rest)
 
 port_takes : (text : List ℕ) (port : ℕ) (rest : List ℕ) → port_at text ≡ Some (port, rest) → (text ≡ decimal port ++ 32 ∷ rest) × (port < 2 ^ 8)
-unfolding port_at
 port_takes text port rest e =
     let number = step_of (number_to 32 text) (λ number. port_of number.0 >>= (λ port. Some (port, number.1))) (port, rest) e in
     let took = number_to_takes 32 text number.value.0 number.value.1 number.gave in
@@ -178,7 +167,6 @@ port_takes text port rest e =
     by n others false f parts h = absurd cc
 
 port_again : (port : ℕ) (rest : List ℕ) → port < 2 ^ 8 → port_at (decimal port ++ 32 ∷ rest) ≡ Some (port, rest)
-unfolding port_at
 port_again port rest small =
     let fits : nat_lt port (2 ^ 8) ≡ true = lt-ltb port (2 ^ 8) small in
     rw (number_to_again 32 port rest space (omega (arith, small)), fits) refl
@@ -212,19 +200,17 @@ station net mac = record { net = net; mac = mac }
 
 mac_to_takes : (text mac rest : List ℕ) → mac_to 32 text ≡ Some (mac, rest)
     → (text ≡ flat_map two_digits mac ++ 32 ∷ rest) × (is_station mac ≡ true) × AreOctets mac
-unfolding mac_to
 mac_to_takes text mac rest e =
     let took = up_to_takes mac_in 32 text mac rest e in
     let is = mac_takes took.word mac took.reads in
     (took.parts ∙ ap (λ (t : List ℕ). t ++ 32 ∷ rest) is.spelled, is.station, is.octets)
 
 mac_to_again : (mac rest : List ℕ) → is_station mac ≡ true → AreOctets mac → mac_to 32 (flat_map two_digits mac ++ 32 ∷ rest) ≡ Some (mac, rest)
-unfolding mac_to
 mac_to_again mac rest is fits =
     up_to_again mac_in 32 (flat_map two_digits mac) mac rest (digits_lack 32 (omega arith) mac) (mac_again mac is fits)
 
 source_takes : (text : List ℕ) (s : Source) (rest : List ℕ) → source_at text ≡ Some (s, rest) → (text ≡ source_on s rest) × IsSource s
-unfolding source_at source_on
+unfolding source_on
 source_takes text s rest e =
     let number = step_of (number_to 58 text) (λ number. net_of number.0 >>= (λ net. mac_to 32 number.1 >>= (λ mac. Some (pair (station net mac.0) mac.1)))) (pair s rest) e in
     let net = step_of (net_of number.value.0) (λ net. mac_to 32 number.value.1 >>= (λ mac. Some (pair (station net mac.0) mac.1))) (pair s rest) number.goes_on in
@@ -241,7 +227,7 @@ source_takes text s rest e =
     (parts ∙ ap₂ source_on source behind, subst IsSource source fits)
 
 source_again : (s : Source) (rest : List ℕ) → IsSource s → source_at (source_on s rest) ≡ Some (s, rest)
-unfolding source_at source_on
+unfolding source_on
 source_again s rest is =
     let small = net_small s.net is.network in
     rw (number_to_again 58 s.net (flat_map two_digits s.mac ++ 32 ∷ rest) colon (omega (arith, small)), net_again s.net is.network, mac_to_again s.mac rest is.station is.octets) refl
@@ -255,7 +241,7 @@ abbrev pub request : Option ℕ → Option ℕ → Option ℕ → Request
 request operation destination service = record { operation = operation; destination_network = destination; service = service }
 
 request_takes : (text : List ℕ) (r : Request) (rest : List ℕ) → request_at text ≡ Some (r, rest) → (text ≡ request_on r rest) × IsRequest r
-unfolding request_at request_on
+unfolding request_on
 request_takes text r rest e =
     let operation = step_of (operation_to 32 text) (λ operation. labelled_to (codes "dst=") 32 operation.1 >>= (λ destination. labelled_to (codes "svc=") 32 destination.1 >>= (λ service. Some (pair (request operation.0 destination.0 service.0) service.1)))) (pair r rest) e in
     let destination = step_of (labelled_to (codes "dst=") 32 operation.value.1) (λ destination. labelled_to (codes "svc=") 32 destination.1 >>= (λ service. Some (pair (request operation.value.0 destination.0 service.0) service.1))) (pair r rest) operation.goes_on in
@@ -274,7 +260,7 @@ request_takes text r rest e =
     (parts ∙ ap₂ request_on same behind, subst IsRequest same fits)
 
 request_again : (r : Request) (rest : List ℕ) → IsRequest r → request_at (request_on r rest) ≡ Some (r, rest)
-unfolding request_at request_on
+unfolding request_on
 request_again r rest is =
     let svc = codes "svc=" ++ (field_text r.service ++ 32 ∷ rest) in
     let dst = codes "dst=" ++ (field_text r.destination_network ++ 32 ∷ svc) in
@@ -294,7 +280,7 @@ abbrev pub target : Option ℕ → Option ℕ → Option ℕ → Target
 target kind instance property = record { object_type = kind; instance = instance; property = property }
 
 target_takes : (text : List ℕ) (t : Target) (rest : List ℕ) → target_at text ≡ Some (t, rest) → (text ≡ target_on t rest) × IsTarget t
-unfolding target_at target_on
+unfolding target_on
 target_takes text t rest e =
     let kind = step_of (labelled_to (codes "obj=") 44 text) (λ kind. field_to 32 kind.1 >>= (λ instance. labelled_to (codes "prop=") 32 instance.1 >>= (λ property. Some (pair (target kind.0 instance.0 property.0) property.1)))) (pair t rest) e in
     let instance = step_of (field_to 32 kind.value.1) (λ instance. labelled_to (codes "prop=") 32 instance.1 >>= (λ property. Some (pair (target kind.value.0 instance.0 property.0) property.1))) (pair t rest) kind.goes_on in
@@ -313,7 +299,7 @@ target_takes text t rest e =
     (parts ∙ ap₂ target_on same behind, subst IsTarget same fits)
 
 target_again : (t : Target) (rest : List ℕ) → IsTarget t → target_at (target_on t rest) ≡ Some (t, rest)
-unfolding target_at target_on
+unfolding target_on
 target_again t rest is =
     let prop = codes "prop=" ++ (field_text t.property ++ 32 ∷ rest) in
     let instance = field_text t.instance ++ 32 ∷ prop in
@@ -350,17 +336,15 @@ word_len_is word rest lacks (inr space) =
     ap (λ (t : List ℕ). word_len (word ++ t)) space.1 ∙ rw (place_first 32 word space.0 lacks) refl
 
 word_again : (word rest : List ℕ) → Lacks 32 word → EndsWord rest → word_at (word ++ rest) ≡ (word, rest)
-unfolding word_at
 word_again word rest lacks ends =
     let len = word_len_is word rest lacks ends in
     rw (len, take_at word rest (length word) refl, drop_at word rest (length word) refl) refl
 
 word_takes : (text : List ℕ) → text ≡ (word_at text).0 ++ (word_at text).1
-unfolding word_at
 word_takes text = sym (take-append-drop (word_len text) text)
 
 priority_takes : (text : List ℕ) (p : Option ℕ) (rest : List ℕ) → priority_at text ≡ Some (p, rest) → (text ≡ priority_on p rest) × IsSmall p
-unfolding priority_at priority_on
+unfolding priority_on
 priority_takes text p rest e =
     let label = step_of (behind (codes "prio=") text) (λ rest. priority_of (word_at rest)) (pair p rest) e in
     let word = word_at label.value in
@@ -374,7 +358,7 @@ priority_takes text p rest e =
     (parts ∙ ap₂ priority_on number (second_is value.value p word.1 rest is), subst IsSmall number field.1)
 
 priority_again : (p : Option ℕ) (rest : List ℕ) → IsSmall p → EndsWord rest → priority_at (priority_on p rest) ≡ Some (p, rest)
-unfolding priority_at priority_on
+unfolding priority_on
 priority_again p rest small ends =
     let label = behind_again (codes "prio=") (field_text p ++ rest) in
     let word = word_again (field_text p) rest (field_lacks 32 space (λ e. absurd (omega arith)) p small) ends in
@@ -409,7 +393,7 @@ abbrev with_port : ℕ × List ℕ → Option (ShownAsk × List ℕ)
 with_port port = source_at port.1 >>= with_source port.0
 
 pub ask_takes : (text : List ℕ) (s : ShownAsk) (rest : List ℕ) → ask_at text ≡ Some (s, rest) → (text ≡ ask_on s rest) × IsShownAsk s
-unfolding ask_at ask_on
+unfolding ask_on
 ask_takes text s rest e =
     let port = step_of (port_at text) with_port (pair s rest) e in
     let source = step_of (source_at port.value.1) (with_source port.value.0) (pair s rest) port.goes_on in
@@ -446,7 +430,7 @@ ask_takes text s rest e =
     (parts ∙ ap₂ ask_on same behind, subst IsShownAsk same fits)
 
 pub ask_again : (s : ShownAsk) (rest : List ℕ) → IsShownAsk s → EndsWord rest → ask_at (ask_on s rest) ≡ Some (s, rest)
-unfolding ask_at ask_on
+unfolding ask_on
 ask_again s rest is ends =
     let prio = priority_on s.priority rest in
     let object = target_on (target_of s) prio in

@@ -135,7 +135,6 @@ station_takes octets mac e = by (is_station octets) refl e
     by false f h = absurd cc
 
 pub mac_takes : (text mac : List ℕ) → mac_in text ≡ Some mac → IsStationIn text mac
-unfolding mac_in
 mac_takes text mac e = by (list_any is_lower text) (decode_of text) refl refl e
   where
     by : (b : Bool) (r : Result (List ℕ) FromHexError) → list_any is_lower text ≡ b → decode_of text ≡ r
@@ -153,7 +152,6 @@ mac_takes text mac e = by (list_any is_lower text) (decode_of text) refl refl e
         }
 
 pub mac_again : (mac : List ℕ) → is_station mac ≡ true → AreOctets mac → mac_in (flat_map two_digits mac) ≡ Some mac
-unfolding mac_in
 mac_again mac station fits =
     let read : decode_of (flat_map two_digits mac) ≡ Ok mac = ap decode_of (written_upper mac fits) ∙ decode_of-encode_upper mac fits in
     rw (none_lower mac fits, read, station) refl

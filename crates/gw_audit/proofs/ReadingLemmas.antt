@@ -79,7 +79,6 @@ pub record IsNumberIn (text : List ℕ) (n : ℕ) : Type 0 where
   pub small : n < 2 ^ 64
 
 pub number_takes : (text : List ℕ) (n : ℕ) → number_in text ≡ Some n → IsNumberIn text n
-unfolding number_in
 number_takes text n e = by (nat_lt v (2 ^ 64)) (pointwise nat_eq (decimal v) text) refl refl e
   where
     v : ℕ
@@ -97,7 +96,6 @@ number_takes text n e = by (nat_lt v (2 ^ 64)) (pointwise nat_eq (decimal v) tex
     by false same f g e = absurd cc
 
 pub number_again : (text : List ℕ) (n : ℕ) → n < 2 ^ 64 → text ≡ decimal n → number_in text ≡ Some n
-unfolding number_in
 number_again text n small is =
     let value : digits_value 10 text ≡ n = ap (digits_value 10) is ∙ digits_value-decimal own n small in
     let fits : nat_lt n (2 ^ 64) ≡ true = lt-ltb n (2 ^ 64) small in
@@ -126,7 +124,6 @@ unparsed text digits r same parses other =
 -- ---- a field
 
 pub field_takes : (text : List ℕ) (value : Option ℕ) → field_in text ≡ Some value → (text ≡ field_text value) × IsSmall value
-unfolding field_in
 field_takes text value e = by (pointwise nat_eq text absent) (number_in text) refl refl e
   where
     by : (b : Bool) (found : Option ℕ) → pointwise nat_eq text absent ≡ b → number_in text ≡ found
@@ -142,7 +139,6 @@ field_takes text value e = by (pointwise nat_eq text absent) (number_in text) re
         subst (λ (v : Option ℕ). (text ≡ field_text v) × IsSmall v) is (number.spelled, number.small)
 
 pub field_again : (value : Option ℕ) → IsSmall value → field_in (field_text value) ≡ Some value
-unfolding field_in
 field_again None small = refl
 field_again (Some n) small =
     let other : pointwise nat_eq (decimal n) absent ≡ false = not_same (decimal n) absent (no_dash n small) in
@@ -182,7 +178,6 @@ number_small : (o : Operation) → operation_number o < 2 ^ 64
 number_small o = elim o as (λ o. operation_number o < 2 ^ 64) [ Cast ↦ omega arith | Route ↦ omega arith | Register ↦ omega arith | Delete ↦ omega arith | ReadTable ↦ omega arith | WriteTable ↦ omega arith | Learn ↦ omega arith | Network ↦ omega arith | Read ↦ omega arith | Write ↦ omega arith | Listing ↦ omega arith ]
 
 pub operation_takes : (text : List ℕ) (value : Option ℕ) → operation_in text ≡ Some value → (text ≡ operation_text value) × IsSmall value
-unfolding operation_in
 operation_takes text value e = by (pointwise nat_eq text absent) (named text) refl refl e
   where
     by : (b : Bool) (found : Option Operation) → pointwise nat_eq text absent ≡ b → named text ≡ found
@@ -201,7 +196,6 @@ operation_takes text value e = by (pointwise nat_eq text absent) (named text) re
 
 operation_again_by : (n : ℕ) → n < 2 ^ 64 → (found : Option Operation) → operation_of n ≡ found
     → operation_in (fields.of_number found n) ≡ Some (Some n)
-unfolding operation_in
 operation_again_by n small None e =
     let other : pointwise nat_eq (decimal n) absent ≡ false = not_same (decimal n) absent (no_dash n small) in
     let unnamed : named (decimal n) ≡ None = not_named n small (named (decimal n)) refl in
@@ -212,7 +206,6 @@ operation_again_by n small (Some o) e =
     rw (other, name_again o, number) refl
 
 pub operation_again : (value : Option ℕ) → IsSmall value → operation_in (operation_text value) ≡ Some value
-unfolding operation_in
 operation_again None small = refl
 operation_again (Some n) small = operation_again_by n small (operation_of n) refl
 
@@ -254,7 +247,6 @@ pub second_is : {A B : Type 0} (x u : A) (y v : B) → pair x y ≡ pair u v →
 second_is x u y v e = ap (λ p. p.1) e
 
 pub parted_takes : (c : ℕ) (text word rest : List ℕ) → parted_at c text ≡ Some (word, rest) → text ≡ word ++ c ∷ rest
-unfolding parted_at
 parted_takes c text word rest e = by (position (λ x. x == c) text) refl e
   where
     by : (place : Option ℕ) → position (λ x. x == c) text ≡ place
@@ -272,6 +264,5 @@ parted_takes c text word rest e = by (position (λ x. x == c) text) refl e
         ∙ ap₂ (λ (x y : List ℕ). x ++ c ∷ y) front behind
 
 pub parted_again : (c : ℕ) (word rest : List ℕ) → Lacks c word → parted_at c (word ++ c ∷ rest) ≡ Some (word, rest)
-unfolding parted_at
 parted_again c word rest lacks =
     rw (place_first c word rest lacks, take_at word (c ∷ rest) (length word) refl, drop_past c word rest) refl

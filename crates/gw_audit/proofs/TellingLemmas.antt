@@ -119,14 +119,12 @@ shown_small d is = record {
 -- ---- a line
 
 rule_takes : (text name : List ℕ) → rule_in text ≡ Some name → (text ≡ codes " rule=" ++ name) × IsUtf8 name
-unfolding rule_in
 rule_takes text name e =
     let label = step_of _ name_of name e in
     let is = name_takes label.value name label.goes_on in
     (behind_takes (codes " rule=") text label.value label.gave ∙ ap (λ (t : List ℕ). codes " rule=" ++ t) is.0, is.1)
 
 rule_again : (name : List ℕ) → IsUtf8 name → rule_in (codes " rule=" ++ name) ≡ Some name
-unfolding rule_in
 rule_again name is = ap (λ x. x >>= name_of) (behind_again (codes " rule=") name) ∙ name_there name is
 
 abbrev with_rule : ℕ → ℕ → ShownAsk → List ℕ → Option Denial
@@ -146,7 +144,7 @@ pub record Taken (text : List ℕ) (d : Denial) : Type 0 where
   pub is : IsShowable d
 
 pub line_takes : (text : List ℕ) (d : Denial) → line_in text ≡ Some d → Taken text d
-unfolding line_in line_on
+unfolding line_on
 line_takes text d e =
     let number = step_of (number_to 32 text) with_number d e in
     let tick = step_of (number_to 32 number.value.1) (with_tick number.value.0) d number.goes_on in
@@ -178,7 +176,7 @@ line_takes text d e =
 
 pub line_again : (text : List ℕ) (d : Denial) → IsShowable d → IsLineOf text d
     → line_in text ≡ Some (denial_of_parts d.number d.tick (shown_ask d) d.rule)
-unfolding line_in line_on
+unfolding line_on
 line_again text d is e =
     let s = shown_ask d in
     let last = codes " rule=" ++ d.rule in
@@ -209,7 +207,6 @@ shown_alike d = record {
 -- ---- eight words
 
 ask_in_takes : (text : List ℕ) (s : ShownAsk) → ask_in text ≡ Some s → IsAskInWords text s
-unfolding ask_in
 ask_in_takes text s e =
     let asked = step_of (ask_at text) all_of s e in
     by asked.value.0 asked.value.1 (length asked.value.1 == 0) refl (ask_takes text asked.value.0 asked.value.1 asked.gave) asked.goes_on
@@ -232,7 +229,6 @@ words_on : (text : List ℕ) (s : ShownAsk) → IsAskInWords text s → text ≡
 words_on text s words = words.spelled ∙ sym (append-nil (ask_text s)) ∙ ask_whole s []
 
 ask_in_again : (text : List ℕ) (s : ShownAsk) → IsAskInWords text s → ask_in text ≡ Some s
-unfolding ask_in
 ask_in_again text s words =
     ap (λ (t : List ℕ). ask_at t >>= all_of) (words_on text s words) ∙ ap (λ x. x >>= all_of) (ask_again s [] words.numbers (inl refl))
 

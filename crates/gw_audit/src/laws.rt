@@ -4,6 +4,7 @@ ghost use Rattle.std.specs.Prelude.{◌<◌, ◌^◌, IfSome};
 ghost use Rattle.gw_addr.specs.Reading.{AreOctets};
 ghost use Rattle.gw_audit.specs.Entry.{IsShowable};
 ghost use Rattle.gw_audit.specs.Laws.{EndsOnce, IsDenial, NamesOneDenial};
+ghost use Rattle.gw_audit.specs.Told.{TellsEach, TellsOnce};
 
 use crate::denial::Denial;
 
@@ -13,6 +14,13 @@ use crate::denial::Denial;
 pub fn lines()
     ensures one { NamesOneDenial }
     ensures ended { EndsOnce }
+{}
+
+/// Nothing is lost, and nothing is made up: a line has one telling; and what a denial's line is told as
+/// are the words of that denial.
+pub fn telling()
+    ensures once { TellsOnce }
+    ensures each { TellsEach }
 {}
 
 /// The numbers of each denial fit their types, so those laws hold of every one; and its line is read.

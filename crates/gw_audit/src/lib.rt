@@ -1,4 +1,4 @@
-//! The log: what the policy denies, and the line that shows it.
+//! The log: what the policy denies, the line that shows it, and its words for people.
 //!
 //! The line is this project's own. `docs/spec/log.md` says it for whoever reads a log.
 #![tactic(auto)]
@@ -6,10 +6,16 @@
 mod denial;
 mod entry;
 pub mod laws;
+mod names;
 mod reading;
+mod telling;
 mod text;
+mod words;
 
 pub use denial::{Denial, Denials};
 pub use entry::{Shown, ShownAsk};
+pub use names::{object_type_name, property_name, service_name};
 pub use reading::{read_ask, read_line};
+pub use telling::{TellFault, tell_log};
 pub use text::{line, put_ask};
+pub use words::tell_line;

@@ -61,7 +61,6 @@ fn ask_told(line: &[u8]) -> Option<ShownAsk>
 }
 
 /// What a whole line shows.
-#[tactic(auto, unfolding(crate::specs::internal::Reading::line_in))]
 fn line_in(text: &[u8]) -> Option<Shown<'_>>
     ensures { Gives denial_of result (line_in text.now) }
 {
@@ -80,7 +79,6 @@ fn line_in(text: &[u8]) -> Option<Shown<'_>>
 }
 
 /// The name of a rule behind its label, to the line's end.
-#[tactic(auto, unfolding(crate::specs::internal::Reading::rule_in))]
 fn rule_in(text: &[u8]) -> Option<&str>
     ensures { Gives (λ x. x.now) result (rule_in text.now) }
 {
@@ -99,7 +97,6 @@ fn name_of(text: &[u8]) -> Option<&str>
 }
 
 /// The ask of eight words, with nothing behind them.
-#[tactic(auto, unfolding(crate::specs::internal::Reading::ask_in))]
 fn ask_in(text: &[u8]) -> Option<ShownAsk>
     ensures { result ≡ ask_in text.now }
 {
@@ -110,7 +107,6 @@ fn ask_in(text: &[u8]) -> Option<ShownAsk>
 }
 
 /// The ask of eight words, and what stands behind them.
-#[tactic(auto, unfolding(crate::specs::internal::Reading::ask_at))]
 fn ask_at(text: &[u8]) -> Option<(ShownAsk, &[u8])>
     ensures { Gives (λ x. (x.0, x.1.now)) result (ask_at text.now) }
 {
@@ -136,7 +132,6 @@ fn ask_at(text: &[u8]) -> Option<(ShownAsk, &[u8])>
 }
 
 /// A port, and what stands behind its space.
-#[tactic(auto, unfolding(crate::specs::internal::Reading::port_at))]
 fn port_at(text: &[u8]) -> Option<(u8, &[u8])>
     ensures { Gives (λ x. (x.0, x.1.now)) result (port_at text.now) }
 {
@@ -153,7 +148,6 @@ fn port_of(number: u64) -> Option<u8>
 }
 
 /// A station, and what stands behind its space.
-#[tactic(auto, unfolding(crate::specs::internal::Reading::source_at))]
 fn source_at(text: &[u8]) -> Option<(Source, &[u8])>
     ensures { Gives (λ x. (x.0, x.1.now)) result (source_at text.now) }
 {
@@ -182,7 +176,6 @@ struct Request {
 }
 
 /// What is asked for, and what stands behind its space.
-#[tactic(auto, unfolding(crate::specs::internal::Reading::request_at))]
 fn request_at(text: &[u8]) -> Option<(Request, &[u8])>
     ensures { Gives (λ x. (x.0, x.1.now)) result (request_at text.now) }
 {
@@ -206,7 +199,6 @@ struct Target {
 }
 
 /// What it is asked of, and what stands behind its space.
-#[tactic(auto, unfolding(crate::specs::internal::Reading::target_at))]
 fn target_at(text: &[u8]) -> Option<(Target, &[u8])>
     ensures { Gives (λ x. (x.0, x.1.now)) result (target_at text.now) }
 {
@@ -222,7 +214,6 @@ fn target_at(text: &[u8]) -> Option<(Target, &[u8])>
 }
 
 /// The priority, and what stands from the next space on.
-#[tactic(auto, unfolding(crate::specs::internal::Reading::priority_at))]
 fn priority_at(text: &[u8]) -> Option<(Option<u64>, &[u8])>
     ensures { Gives (λ x. (x.0, x.1.now)) result (priority_at text.now) }
 {
@@ -233,7 +224,6 @@ fn priority_at(text: &[u8]) -> Option<(Option<u64>, &[u8])>
 }
 
 /// A text up to its first space, or whole, and what stands from there on.
-#[tactic(auto, unfolding(crate::specs::internal::Reading::word_at))]
 fn word_at(text: &[u8]) -> (&[u8], &[u8])
     ensures { (result.0.now, result.1.now) ≡ word_at text.now }
 {
@@ -244,7 +234,6 @@ fn word_at(text: &[u8]) -> (&[u8], &[u8])
 }
 
 /// A field behind its label, and what stands behind the character at its end.
-#[tactic(auto, unfolding(crate::specs::internal::Reading::labelled_to))]
 fn labelled_to<'a>(label: &[u8], end: u8, text: &'a [u8]) -> Option<(Option<u64>, &'a [u8])>
     ensures { Gives (λ x. (x.0, x.1.now)) result (labelled_to label.now end text.now) }
 {
@@ -253,7 +242,6 @@ fn labelled_to<'a>(label: &[u8], end: u8, text: &'a [u8]) -> Option<(Option<u64>
 }
 
 /// A field, and what stands behind the character at its end.
-#[tactic(auto, unfolding(crate::specs::internal::Reading::field_to))]
 fn field_to(end: u8, text: &[u8]) -> Option<(Option<u64>, &[u8])>
     ensures { Gives (λ x. (x.0, x.1.now)) result (field_to end text.now) }
 {
@@ -263,7 +251,6 @@ fn field_to(end: u8, text: &[u8]) -> Option<(Option<u64>, &[u8])>
 }
 
 /// A number, and what stands behind the character at its end.
-#[tactic(auto, unfolding(crate::specs::internal::Reading::number_to))]
 fn number_to(end: u8, text: &[u8]) -> Option<(u64, &[u8])>
     ensures { Gives (λ x. (x.0, x.1.now)) result (number_to end text.now) }
 {
@@ -273,7 +260,6 @@ fn number_to(end: u8, text: &[u8]) -> Option<(u64, &[u8])>
 }
 
 /// An operation, and what stands behind the character at its end.
-#[tactic(auto, unfolding(crate::specs::internal::Reading::operation_to))]
 fn operation_to(end: u8, text: &[u8]) -> Option<(Option<u64>, &[u8])>
     ensures { Gives (λ x. (x.0, x.1.now)) result (operation_to end text.now) }
 {
@@ -283,7 +269,6 @@ fn operation_to(end: u8, text: &[u8]) -> Option<(Option<u64>, &[u8])>
 }
 
 /// A station's octets, and what stands behind the character at their end.
-#[tactic(auto, unfolding(crate::specs::internal::Reading::mac_to))]
 fn mac_to(end: u8, text: &[u8]) -> Option<(Mac, &[u8])>
     ensures { Gives (λ x. (x.0, x.1.now)) result (mac_to end text.now) }
 {
@@ -293,7 +278,6 @@ fn mac_to(end: u8, text: &[u8]) -> Option<(Mac, &[u8])>
 }
 
 /// What stands before the first such character, and what stands behind it.
-#[tactic(auto, unfolding(crate::specs::internal::Reading::parted_at))]
 fn parted_at(c: u8, text: &[u8]) -> Option<(&[u8], &[u8])>
     ensures { Gives (λ x. (x.0.now, x.1.now)) result (parted_at c text.now) }
 {
@@ -312,7 +296,6 @@ fn place_of(c: u8, text: &[u8]) -> Option<usize>
 }
 
 /// What stands behind a label.
-#[tactic(auto, unfolding(crate::specs::internal::Reading::behind))]
 fn behind<'a>(label: &[u8], text: &'a [u8]) -> Option<&'a [u8]>
     ensures { Gives (λ x. x.now) result (behind label.now text.now) }
 {
@@ -320,7 +303,6 @@ fn behind<'a>(label: &[u8], text: &'a [u8]) -> Option<&'a [u8]>
 }
 
 /// A number in decimal, or none.
-#[tactic(auto, unfolding(crate::specs::internal::Reading::field_in))]
 fn field_in(text: &[u8]) -> Option<Option<u64>>
     ensures { result ≡ field_in text.now }
 {
@@ -334,7 +316,6 @@ fn field_in(text: &[u8]) -> Option<Option<u64>>
 }
 
 /// The name of an operation, a number that no operation has, or none.
-#[tactic(auto, unfolding(crate::specs::internal::Reading::operation_in))]
 fn operation_in(text: &[u8]) -> Option<Option<u64>>
     ensures { result ≡ operation_in text.now }
 {
@@ -387,7 +368,6 @@ fn number_in(text: &[u8]) -> Option<u64>
 }
 
 /// The station whose octets a text is in upper-case digits.
-#[tactic(auto, unfolding(crate::specs::internal::Reading::mac_in))]
 fn mac_in(text: &[u8]) -> Option<Mac>
     ensures { result ≡ mac_in text.now }
 {

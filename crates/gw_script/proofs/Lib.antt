@@ -4,3 +4,7 @@ pub mod UnreadLemmas
 pub mod AppendLemmas
 pub mod EventLemmas
 pub mod PairLemmas
+pub mod FlawLemmas
+pub mod Order
+pub mod KnownTexts
+pub mod Calls

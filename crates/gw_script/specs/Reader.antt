@@ -1,5 +1,6 @@
 -- What a line reader keeps of a text, and what it says of the text's first line.
-use Rattle.std.specs.Prelude.{◌≡◌, ℕ, ◌+◌, ◌≤◌, ◌<◌, ◌⊎◌, List, [], ◌∷◌, ◌++◌, length, take, drop, Option, Some, None, ⊤}
+use Rattle.std.specs.Prelude.{◌≡◌, ℕ, ◌+◌, ◌≤◌, ◌<◌, ◌⊎◌, List, [], ◌∷◌, ◌++◌, length, take, drop, Option, Some, None}
+use Rattle.std.specs.Prelude.{⊤}
 use Rattle.gw_addr.specs.Text.{Lacks}
 use Rattle.gw_script.specs.declared.reader.NextLine.{NextLine}
 use Rattle.gw_script.specs.declared.reader.NextLine.TheVariants.{Line, Long, End}
@@ -25,7 +26,8 @@ IsWithin unread End = ⊤
 
 -- what is said of the text that is unread and what comes behind it
 abbrev pub IsNextLine : List ℕ → List ℕ → NextLine → Type 0
-IsNextLine unread rest (Line len span) = lines_of (unread ++ rest) ≡ take len unread ∷ lines_of (drop span unread ++ rest)
+IsNextLine unread rest (Line len span) =
+    lines_of (unread ++ rest) ≡ take len unread ∷ lines_of (drop span unread ++ rest)
 IsNextLine unread rest Long = BeginsLong (unread ++ rest)
 IsNextLine unread rest End = lines_of (unread ++ rest) ≡ []
 

@@ -10,7 +10,7 @@ abbrev pub send_head : ℕ → BipAddr → List ℕ
 send_head port to = codes "send " ++ decimal port ++ 32 ∷ [] ++ text_of to ++ 32 ∷ []
 
 -- the line of a datagram that is sent: `send <port> <address> <HEX>` and a line feed
-unfoldable pub send_line : ℕ → BipAddr → List ℕ → List ℕ
+abbrev pub send_line : ℕ → BipAddr → List ℕ → List ℕ
 send_line port to octets = send_head port to ++ encode_upper octets ++ 10 ∷ []
 
 -- the line behind the last of an event

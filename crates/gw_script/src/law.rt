@@ -18,7 +18,8 @@ pub fn script_limits()
 /// What holds of all scripts: a line writes one event at most, so the events of a script are the only ones; the lines that end at a
 /// line feed are the lines of the text that they make, and a last line may lack its line feed.
 pub fn script_laws()
-    ensures event { (ports : ℕ) (line : List ℕ) (e f : Event) → IsLine ports line e → IsLine ports line f → e ≡ f }
+    ensures event { (ports : ℕ) (line : List ℕ) (e f : Event) → IsLine ports line e →
+        IsLine ports line f → e ≡ f }
     ensures events { (ports : ℕ) (lines : List (List ℕ)) (events others : List Event) →
         AreLines ports lines events → AreLines ports lines others → events ≡ others }
     ensures ended { (lines : List (List ℕ)) → AllByRecursion (Lacks 10) lines →

@@ -4,6 +4,7 @@
 #![tactic(auto)]
 
 mod event;
+mod flaw;
 mod law;
 mod line;
 mod reader;
@@ -12,6 +13,7 @@ mod source;
 mod text;
 
 pub use event::{Event, SpelledAddr};
+pub use flaw::{LineFlaw, flaw_of};
 pub use law::{script_laws, script_limits};
 pub use line::{MAX_DATAGRAM, parse_line, parse_spelled};
 pub use reader::{LineReader, NextLine};

@@ -87,7 +87,7 @@ fn parse_datagram<'a, 'b>(
 }
 
 /// The port that a digit names.
-fn port_of(ports: u8, digit: u8) -> Option<u8>
+pub(crate) fn port_of(ports: u8, digit: u8) -> Option<u8>
     requires { ports ≤ MAX_PORTS }
     ensures found { IfSome result (λ port. (1 ≤ port) × (port ≤ ports) × (digit ≡ 48 + port)) }
     ensures only { IsNone result → (port : ℕ) → 1 ≤ port → port ≤ ports → digit ≢ 48 + port }
@@ -100,7 +100,7 @@ fn port_of(ports: u8, digit: u8) -> Option<u8>
 }
 
 /// What stands before the first space, and what stands behind it.
-fn split_at_space(text: &[u8]) -> Option<(&[u8], &[u8])>
+pub(crate) fn split_at_space(text: &[u8]) -> Option<(&[u8], &[u8])>
     ensures found { IfSome result (λ x. text.now ≡ x.0.now ++ 32 ∷ x.1.now) }
     ensures first { IfSome result (λ x. Lacks 32 x.0.now) }
     ensures only { IsNone result → Lacks 32 text.now }
@@ -110,7 +110,7 @@ fn split_at_space(text: &[u8]) -> Option<(&[u8], &[u8])>
 }
 
 /// The address that the text writes.
-fn address_of(text: &[u8]) -> Option<BipAddr>
+pub(crate) fn address_of(text: &[u8]) -> Option<BipAddr>
     ensures found { IfSome result (λ a. text.now ≡ text_of a) }
     ensures is { IfSome result (λ a. IsAddress a) }
     ensures only { (a : BipAddr) → IsAddress a → text.now ≡ text_of a → result ≡ Some a }

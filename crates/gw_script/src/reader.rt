@@ -102,7 +102,8 @@ impl LineReader {
     /// The first line, where its end, or that it is too long, can be told from what is unread.
     fn whole_line(&self) -> Option<NextLine>
         ensures within { IfSome result (λ next. IsWithin self.now.unread next) }
-        ensures found { IfSome result (λ next. (rest : List ℕ) → IsNextLine self.now.unread rest next) }
+        ensures found { IfSome result
+            (λ next. (rest : List ℕ) → IsNextLine self.now.unread rest next) }
         ensures few { IsNone result → length self.now.unread ≤ 4096 }
         ensures open { IsNone result → Lacks 10 self.now.unread }
     {
@@ -134,11 +135,15 @@ impl LineReader {
     fn read_more<S: OctetSource>(&mut self, source: &mut S) -> Result<usize, ReadFailed>
         requires few { length self.old.unread ≤ 4096 }
         requires calls { self.old.calls < 4294967295 }
-        ensures text { Keeps (prepend_known self.old.unread (S.left source.old)) (prepend_known self.new.unread (S.left source.new)) }
-        ensures end { IfOk result (λ n. n ≡ 0 → (self.new.unread ≡ self.old.unread) × IsAtEnd (S.left source.new)) }
+        ensures text { Keeps (prepend_known self.old.unread (S.left source.old))
+            (prepend_known self.new.unread (S.left source.new)) }
+        ensures end { IfOk result
+            (λ n. n ≡ 0 → (self.new.unread ≡ self.old.unread) × IsAtEnd (S.left source.new)) }
         ensures calls { self.new.calls ≡ self.old.calls + 1 }
-        ensures paid { IsPaid self.old.calls (S.left source.old) self.new.calls (S.left source.new) }
-        ensures given { IfOk result (λ n. 0 < n → IsGiven self.old.calls (S.left source.old) self.new.calls (S.left source.new)) }
+        ensures paid { IsPaid self.old.calls (S.left source.old) self.new.calls
+            (S.left source.new) }
+        ensures given { IfOk result (λ n. 0 < n →
+            IsGiven self.old.calls (S.left source.old) self.new.calls (S.left source.new)) }
         ensures sure { S.NeverFails source.old → IsOk result }
         ensures lasts { S.NeverFails source.old → S.NeverFails source.new }
     {
@@ -148,24 +153,23 @@ impl LineReader {
         self.end = end - start;
         self.calls += 1;
         let end = self.end;
-        match source.read_octets(&mut self.octets[end..]) {
-            Ok(count) => {
-                self.end = end + count;
-                Ok(count)
-            }
-            Err(failed) => Err(failed),
-        }
+        let count = source.read_octets(&mut self.octets[end..])?;
+        self.end = end + count;
+        Ok(count)
     }
 
     /// What stands first in the text that is left. It calls the source only where that can't be told from what is unread.
     /// `ReadFailed` only after a failed read, and where the calls are at their end.
     pub fn find_line<S: OctetSource>(&mut self, source: &mut S) -> Result<NextLine, ReadFailed>
-        ensures text { Keeps (prepend_known self.old.unread (S.left source.old)) (prepend_known self.new.unread (S.left source.new)) }
+        ensures text { Keeps (prepend_known self.old.unread (S.left source.old))
+            (prepend_known self.new.unread (S.left source.new)) }
         ensures within { IfOk result (λ next. IsWithin self.new.unread next) }
-        ensures found { IfOk result (λ next. IfSome (S.left source.new) (λ rest. IsNextLine self.new.unread rest next)) }
+        ensures found { IfOk result
+            (λ next. IfSome (S.left source.new) (λ rest. IsNextLine self.new.unread rest next)) }
         // Calls are counted on and on: the count never goes back, and a call more is an octet less, but for one at the end.
         ensures calls { self.old.calls ≤ self.new.calls }
-        ensures paid { IsPaid self.old.calls (S.left source.old) self.new.calls (S.left source.new) }
+        ensures paid { IsPaid self.old.calls (S.left source.old) self.new.calls
+            (S.left source.new) }
         ensures sure { S.NeverFails source.old → OnErr result (self.new.calls ≡ 4294967295) }
         ensures lasts { S.NeverFails source.old → S.NeverFails source.new }
         // What can be told is told at once: nothing is asked of the source, and nothing changes.

@@ -52,10 +52,8 @@ pub fn write_whole<S: OctetSink>(sink: &mut S, text: &[u8]) -> Result<(), WriteF
 {
     let mut rest = text;
     while !rest.is_empty() {
-        match sink.write_octets(rest) {
-            Ok(count) => rest = &rest[count..],
-            Err(failed) => return Err(failed),
-        }
+        let count = sink.write_octets(rest)?;
+        rest = &rest[count..];
     }
     Ok(())
 }

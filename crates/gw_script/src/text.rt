@@ -48,7 +48,6 @@ pub fn append_end(out: &mut Vec<u8>) -> Result<(), AllocError>
 }
 
 /// Appends the line of a datagram that is sent. A front of it stands there where a growth was refused.
-#[tactic(auto, unfolding(crate::specs::Text::send_line))]
 fn put_send(
     out: &mut Vec<u8>,
     port: u8,

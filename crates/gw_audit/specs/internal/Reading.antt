@@ -34,22 +34,22 @@ Gives view None reading = reading ≡ None
 -- ---- a word
 
 -- what stands before the first such character, and what stands behind it
-unfoldable pub parted_at : ℕ → List ℕ → Option (List ℕ × List ℕ)
+abbrev pub parted_at : ℕ → List ℕ → Option (List ℕ × List ℕ)
 parted_at c text = option_map (λ place. (take place text, drop (place + 1) text)) (position (λ x. x == c) text)
 
 -- what stands behind a label
-unfoldable pub behind : List ℕ → List ℕ → Option (List ℕ)
+abbrev pub behind : List ℕ → List ℕ → Option (List ℕ)
 behind label text =
     if pointwise nat_eq (take (length label) text) label then Some (drop (length label) text) else None
 
 -- the number of 64 bits that a text is in decimal
-unfoldable pub number_in : List ℕ → Option ℕ
+abbrev pub number_in : List ℕ → Option ℕ
 number_in text =
     let number = digits_value 10 text in
     if nat_lt number (2 ^ 64) && pointwise nat_eq (decimal number) text then Some number else None
 
 -- a field
-unfoldable pub field_in : List ℕ → Option (Option ℕ)
+abbrev pub field_in : List ℕ → Option (Option ℕ)
 field_in text =
     if pointwise nat_eq text absent then Some None else option_map (λ number. Some number) (number_in text)
 
@@ -62,7 +62,7 @@ abbrev pub operation_or : Option Operation → List ℕ → Option (Option ℕ)
 operation_or (Some operation) text = Some (Some (operation_number operation))
 operation_or None text = option_and_then other_number (number_in text)
 
-unfoldable pub operation_in : List ℕ → Option (Option ℕ)
+abbrev pub operation_in : List ℕ → Option (Option ℕ)
 operation_in text =
     if pointwise nat_eq text absent then Some None
     else operation_or (find (λ operation. pointwise nat_eq (operation_name operation) text) ALL) text
@@ -77,7 +77,7 @@ station_in (Ok octets) = station_of octets
 station_in (Err fault) = None
 
 -- the octets of a station in upper-case digits
-unfoldable pub mac_in : List ℕ → Option (List ℕ)
+abbrev pub mac_in : List ℕ → Option (List ℕ)
 mac_in text = if list_any is_lower text then None else station_in (decode_of text)
 
 -- a port and a network
@@ -96,31 +96,31 @@ up_to read c text = do
   value ← read word.0
   Some (value, word.1)
 
-unfoldable pub number_to : ℕ → List ℕ → Option (ℕ × List ℕ)
+abbrev pub number_to : ℕ → List ℕ → Option (ℕ × List ℕ)
 number_to c text = up_to number_in c text
 
-unfoldable pub field_to : ℕ → List ℕ → Option (Option ℕ × List ℕ)
+abbrev pub field_to : ℕ → List ℕ → Option (Option ℕ × List ℕ)
 field_to c text = up_to field_in c text
 
-unfoldable pub operation_to : ℕ → List ℕ → Option (Option ℕ × List ℕ)
+abbrev pub operation_to : ℕ → List ℕ → Option (Option ℕ × List ℕ)
 operation_to c text = up_to operation_in c text
 
-unfoldable pub mac_to : ℕ → List ℕ → Option (List ℕ × List ℕ)
+abbrev pub mac_to : ℕ → List ℕ → Option (List ℕ × List ℕ)
 mac_to c text = up_to mac_in c text
 
 -- a field behind its label, up to a character
-unfoldable pub labelled_to : List ℕ → ℕ → List ℕ → Option (Option ℕ × List ℕ)
+abbrev pub labelled_to : List ℕ → ℕ → List ℕ → Option (Option ℕ × List ℕ)
 labelled_to label c text = behind label text >>= (λ rest. field_to c rest)
 
 -- `<port> `
-unfoldable pub port_at : List ℕ → Option (ℕ × List ℕ)
+abbrev pub port_at : List ℕ → Option (ℕ × List ℕ)
 port_at text = do
   number ← number_to 32 text
   port ← port_of number.0
   Some (port, number.1)
 
 -- `<net>:<MAC> `
-unfoldable pub source_at : List ℕ → Option (Source × List ℕ)
+abbrev pub source_at : List ℕ → Option (Source × List ℕ)
 source_at text = do
   number ← number_to 58 text
   net ← net_of number.0
@@ -128,7 +128,7 @@ source_at text = do
   Some (record { net = net; mac = mac.0 }, mac.1)
 
 -- `<operation> dst=<n> svc=<n> `
-unfoldable pub request_at : List ℕ → Option (Request × List ℕ)
+abbrev pub request_at : List ℕ → Option (Request × List ℕ)
 request_at text = do
   operation ← operation_to 32 text
   destination ← labelled_to (codes "dst=") 32 operation.1
@@ -136,7 +136,7 @@ request_at text = do
   Some (record { operation = operation.0; destination_network = destination.0; service = service.0 }, service.1)
 
 -- `obj=<type>,<instance> prop=<n> `
-unfoldable pub target_at : List ℕ → Option (Target × List ℕ)
+abbrev pub target_at : List ℕ → Option (Target × List ℕ)
 target_at text = do
   kind ← labelled_to (codes "obj=") 44 text
   instance ← field_to 32 kind.1
@@ -147,14 +147,14 @@ target_at text = do
 abbrev pub word_len : List ℕ → ℕ
 word_len text = option_map_or (λ place. place) (position (λ x. x == 32) text) (length text)
 
-unfoldable pub word_at : List ℕ → List ℕ × List ℕ
+abbrev pub word_at : List ℕ → List ℕ × List ℕ
 word_at text = (take (word_len text) text, drop (word_len text) text)
 
 -- `prio=<n>`
 abbrev pub priority_of : List ℕ × List ℕ → Option (Option ℕ × List ℕ)
 priority_of word = field_in word.0 >>= (λ value. Some (value, word.1))
 
-unfoldable pub priority_at : List ℕ → Option (Option ℕ × List ℕ)
+abbrev pub priority_at : List ℕ → Option (Option ℕ × List ℕ)
 priority_at text = behind (codes "prio=") text >>= (λ rest. priority_of (word_at rest))
 
 -- an ask of these parts
@@ -172,7 +172,7 @@ ask_of_parts port source request target priority = record {
 }
 
 -- the eight words of an ask
-unfoldable pub ask_at : List ℕ → Option (ShownAsk × List ℕ)
+abbrev pub ask_at : List ℕ → Option (ShownAsk × List ℕ)
 ask_at text = do
   port ← port_at text
   source ← source_at port.1
@@ -187,14 +187,14 @@ ask_at text = do
 abbrev pub all_of : ShownAsk × List ℕ → Option ShownAsk
 all_of asked = if length asked.1 == 0 then Some asked.0 else None
 
-unfoldable pub ask_in : List ℕ → Option ShownAsk
+abbrev pub ask_in : List ℕ → Option ShownAsk
 ask_in text = ask_at text >>= all_of
 
 -- `rule=<name>`, a name of UTF-8
 abbrev pub name_of : List ℕ → Option (List ℕ)
 name_of text = if is_utf8 text then Some text else None
 
-unfoldable pub rule_in : List ℕ → Option (List ℕ)
+abbrev pub rule_in : List ℕ → Option (List ℕ)
 rule_in text = behind (codes " rule=") text >>= name_of
 
 abbrev pub denial_of_parts : ℕ → ℕ → ShownAsk → List ℕ → Denial
@@ -208,7 +208,7 @@ denial_of_parts number tick ask rule = record {
 }
 
 -- the denial of a line
-unfoldable pub line_in : List ℕ → Option Denial
+abbrev pub line_in : List ℕ → Option Denial
 line_in text = do
   number ← number_to 32 text
   tick ← number_to 32 number.1

@@ -1,0 +1,201 @@
+-- The telling goes on line by line.
+use Rattle.std.proofs.Common.{◌≡◌, ◌⊎◌, inl, inr, ℕ, suc, ◌+◌, List, [], ◌∷◌, ◌++◌, length, take, drop, Option, Some, None, Result, Ok, Err, Bool, true, false, refl, sym, ap, subst, ◌∙◌, arith, append_assoc}
+use Rattle.std.specs.Prelude.{IsSomeAnd, IsErrOf}
+use Rattle.std.proofs.lemmas.List.{append-nil, take_at, drop_at, length-append}
+use Rattle.std.proofs.lemmas.List.Concat.{flat_map-cons}
+use Rattle.std.proofs.lemmas.Grind.{flat_map-append}
+use Rattle.gw_script.specs.Script.{lines_of}
+use Rattle.gw_audit.specs.declared.telling.TellFault.{TellFault}
+use Rattle.gw_audit.specs.declared.telling.TellFault.TheVariants.{Read, Line, Write, Memory}
+use Rattle.gw_audit.specs.Told.{AreTold, FirstTold, IsToldAs, IsToldLine, LineOutcome, TellsFront, TellsPart, TellsToLine, TellsWhole, joined}
+
+-- ---- lines, and what becomes of them
+
+pub same_line : (a b : List ℕ) (told : List ℕ) → a ≡ b → IsToldLine b told → IsToldLine a told
+same_line a b told same is = subst (λ (l : List ℕ). IsToldLine l told) (sym same) is
+
+are_more : (lines : List (List ℕ)) (texts : List (List ℕ)) (line told : List ℕ) → AreTold lines texts → IsToldLine line told
+    → AreTold (lines ++ line ∷ []) (texts ++ told ∷ [])
+are_more [] [] line told are is = (is, tt)
+are_more [] (x ∷ texts) line told are is = absurd are
+are_more (l ∷ lines) [] line told are is = absurd are
+are_more (l ∷ lines) (x ∷ texts) line told are is = (are.0, are_more lines texts line told are.1 is)
+
+are_length : (lines : List (List ℕ)) (texts : List (List ℕ)) → AreTold lines texts → length lines ≡ length texts
+are_length [] [] are = refl
+are_length [] (x ∷ texts) are = absurd are
+are_length (l ∷ lines) [] are = absurd are
+are_length (l ∷ lines) (x ∷ texts) are = ap suc (are_length lines texts are.1)
+
+one_more : (texts : List (List ℕ)) (told : List ℕ) → joined (texts ++ told ∷ []) ≡ joined texts ++ told
+one_more texts told =
+    flat_map-append (λ (t : List ℕ). t) texts (told ∷ [])
+    ∙ ap (λ (t : List ℕ). joined texts ++ t) (flat_map-cons (λ (t : List ℕ). t) told [] ∙ append-nil told)
+
+text_after : (before : List ℕ) (texts : List (List ℕ)) (told : List ℕ)
+    → (before ++ joined texts) ++ told ≡ before ++ joined (texts ++ told ∷ [])
+text_after before texts told =
+    append_assoc before (joined texts) told ∙ ap (λ (t : List ℕ). before ++ t) (sym (one_more texts told))
+
+-- ---- how far they have come
+
+-- these lines are done, which became these texts, and this text is left
+pub record Progress (script before : List ℕ) (n : ℕ) (text written : Option (List ℕ)) : Type 0 where
+  pub texts : List (List ℕ)
+  pub done : List (List ℕ)
+  pub left : List ℕ
+  pub are : AreTold done texts
+  pub lines : lines_of script ≡ done ++ lines_of left
+  pub text_is : text ≡ Some left
+  pub written_is : written ≡ Some (before ++ joined texts)
+  pub number : n ≡ length texts + 1
+
+-- what a turn says of what it began with
+abbrev pub Turns : ℕ → Option (List ℕ) → Option (List ℕ) → Option (List ℕ) → Option (List ℕ) → Result Bool TellFault → Type 0
+Turns n text left written after r = (t b : List ℕ) → text ≡ Some t → written ≡ Some b → LineOutcome n t left b after r
+
+first_lines : (script : List ℕ) (done others : List (List ℕ)) (texts : List (List ℕ)) → AreTold done texts → lines_of script ≡ done ++ others
+    → FirstTold script texts
+first_lines script done others texts are lines =
+    let front : take (length texts) (lines_of script) ≡ done =
+    ap (take (length texts)) lines ∙ take_at done others (length texts) (are_length done texts are) in
+    subst (λ (l : List (List ℕ)). AreTold l texts) (sym front) are
+
+other_lines : (script : List ℕ) (done others : List (List ℕ)) (texts : List (List ℕ)) → AreTold done texts → lines_of script ≡ done ++ others
+    → drop (length texts) (lines_of script) ≡ others
+other_lines script done others texts are lines =
+    ap (drop (length texts)) lines ∙ drop_at done others (length texts) (are_length done texts are)
+
+pub begins : (script before : List ℕ) (text written : Option (List ℕ)) → text ≡ Some script → written ≡ Some before
+    → Progress script before 1 text written
+begins script before text written known held = record {
+  texts = [];
+  done = [];
+  left = script;
+  are = tt;
+  lines = refl;
+  text_is = known;
+  written_is = held ∙ ap (λ (t : List ℕ). Some t) (sym (append-nil before));
+  number = refl;
+}
+
+pub goes_on : (script before : List ℕ) (n : ℕ) (text left written after : Option (List ℕ))
+    → Progress script before n text written → Turns n text left written after (Ok true)
+    → Progress script before (n + 1) left after
+goes_on script before n text left written after p turns =
+    let step = turns p.left (before ++ joined p.texts) p.text_is p.written_is in
+    let done_lines : lines_of script ≡ (p.done ++ step.line ∷ []) ++ lines_of step.rest =
+    p.lines ∙ ap (λ (l : List (List ℕ)). p.done ++ l) step.lines ∙ sym (append_assoc p.done (step.line ∷ []) (lines_of step.rest)) in
+    record {
+      texts = p.texts ++ step.text ∷ [];
+      done = p.done ++ step.line ∷ [];
+      left = step.rest;
+      are = are_more p.done p.texts step.line step.text p.are step.told;
+      lines = done_lines;
+      text_is = step.remains;
+      written_is = step.appended ∙ ap (λ (t : List ℕ). Some t) (text_after before p.texts step.text);
+      number = omega (arith, p.number, length-append p.texts (step.text ∷ []));
+    }
+
+-- ---- how they end
+
+known : (P : List ℕ → Type 0) (o : Option (List ℕ)) (t : List ℕ) → o ≡ Some t → P t → IsSomeAnd o P
+known P None t e h = absurd cc
+known P (Some x) t e h =
+    let same : t ≡ x = cc in
+    subst P same h
+
+pub ends_whole : (script before : List ℕ) (n : ℕ) (text left written after : Option (List ℕ))
+    → Progress script before n text written → Turns n text left written after (Ok false)
+    → IsSomeAnd after (TellsWhole script before)
+ends_whole script before n text left written after p turns =
+    let said = turns p.left (before ++ joined p.texts) p.text_is p.written_is in
+    let all : lines_of script ≡ p.done = p.lines ∙ ap (λ (l : List (List ℕ)). p.done ++ l) said.0 ∙ append-nil p.done in
+    known (TellsWhole script before) after (before ++ joined p.texts) said.1
+    (record { texts = p.texts; lines = subst (λ (l : List (List ℕ)). AreTold l p.texts) (sym all) p.are; written = refl })
+
+pub ends_part : (script before : List ℕ) (n : ℕ) (text written : Option (List ℕ)) → Progress script before n text written
+    → IsSomeAnd written (TellsPart script before)
+ends_part script before n text written p =
+    known (TellsPart script before) written (before ++ joined p.texts) p.written_is
+    (record { texts = p.texts; lines = first_lines script p.done (lines_of p.left) p.texts p.are p.lines; written = refl })
+
+-- a fault that leaves what was written as it was
+abbrev pub Stops : TellFault → Type 0
+Stops Read = Unit {0}
+Stops Memory = Unit {0}
+Stops Write = ⊥
+Stops (Line m) = ⊥
+
+same_text : (n : ℕ) (t : List ℕ) (left : Option (List ℕ)) (b : List ℕ) (after : Option (List ℕ)) (fault : TellFault)
+    → Stops fault → LineOutcome n t left b after (Err fault) → after ≡ Some b
+same_text n t left b after Read stops said = said
+same_text n t left b after Memory stops said = said
+same_text n t left b after Write stops said = absurd stops
+same_text n t left b after (Line m) stops said = absurd stops
+
+pub stops_part : (script before : List ℕ) (n : ℕ) (text left written after : Option (List ℕ)) (fault : TellFault)
+    → Stops fault → Progress script before n text written → Turns n text left written after (Err fault)
+    → IsSomeAnd after (TellsPart script before)
+stops_part script before n text left written after fault stops p turns =
+    let said = turns p.left (before ++ joined p.texts) p.text_is p.written_is in
+    known (TellsPart script before) after (before ++ joined p.texts)
+    (same_text n p.left left (before ++ joined p.texts) after fault stops said)
+    (record { texts = p.texts; lines = first_lines script p.done (lines_of p.left) p.texts p.are p.lines; written = refl })
+
+-- where memory is wanted before the first line
+pub part_before : (script before : List ℕ) (written : Option (List ℕ)) → written ≡ Some before
+    → IsSomeAnd written (TellsPart script before)
+part_before script before written is =
+    known (TellsPart script before) written before is (record { texts = []; lines = tt; written = sym (append-nil before) })
+
+pub ends_at_line : (script before : List ℕ) (n : ℕ) (text left written after : Option (List ℕ)) (m : ℕ)
+    → Progress script before n text written → Turns n text left written after (Err (Line m))
+    → IsSomeAnd after (TellsToLine m script before)
+ends_at_line script before n text left written after m p turns =
+    let said = turns p.left (before ++ joined p.texts) p.text_is p.written_is in
+    let none = said.1 in
+    known (TellsToLine m script before) after (before ++ joined p.texts) said.2 (record {
+      texts = p.texts;
+      number = said.0 ∙ p.number;
+      lines = first_lines script p.done (lines_of p.left) p.texts p.are p.lines;
+      line = none.line;
+      rest = none.others;
+      stands = other_lines script p.done (lines_of p.left) p.texts p.are p.lines ∙ none.lines;
+      long = none.over;
+      written = refl;
+    })
+
+pub ends_at_write : (script before : List ℕ) (n : ℕ) (text left written after : Option (List ℕ))
+    → Progress script before n text written → Turns n text left written after (Err Write)
+    → IsSomeAnd after (TellsFront script before)
+ends_at_write script before n text left written after p turns =
+    let cut_step = turns p.left (before ++ joined p.texts) p.text_is p.written_is in
+    let so_far = before ++ joined p.texts in
+    let lines : lines_of script ≡ (p.done ++ cut_step.line ∷ []) ++ cut_step.others =
+    p.lines ∙ ap (λ (l : List (List ℕ)). p.done ++ l) cut_step.lines ∙ sym (append_assoc p.done (cut_step.line ∷ []) cut_step.others) in
+    known (TellsFront script before) after (so_far ++ cut_step.front) cut_step.appended (record {
+      texts = p.texts ++ cut_step.text ∷ [];
+      lines = first_lines script (p.done ++ cut_step.line ∷ []) cut_step.others (p.texts ++ cut_step.text ∷ [])
+          (are_more p.done p.texts cut_step.line cut_step.text p.are cut_step.told) lines;
+      front = joined p.texts ++ cut_step.front;
+      unwritten = cut_step.unwritten;
+      parts = one_more p.texts cut_step.text ∙ ap (λ (t : List ℕ). joined p.texts ++ t) cut_step.parts
+          ∙ sym (append_assoc (joined p.texts) cut_step.front cut_step.unwritten);
+      written = append_assoc before (joined p.texts) cut_step.front;
+    })
+
+-- ---- faults
+
+pub fault_is : {T : Type 0} (fault other : TellFault) → IsErrOf {T = T} {E = TellFault} (Err fault) other → fault ≡ other
+fault_is fault other e = cc
+
+pub stops : {T : Type 0} (fault : TellFault)
+    → IsErrOf {T = T} {E = TellFault} (Err fault) Read ⊎ IsErrOf {T = T} {E = TellFault} (Err fault) Memory → Stops fault
+stops {T} fault (inl e) = subst Stops (sym (fault_is {T = T} fault Read e)) tt
+stops {T} fault (inr e) = subst Stops (sym (fault_is {T = T} fault Memory e)) tt
+
+-- a fault of one call as that of another
+pub err_as : {S T : Type 0} (fault other : TellFault) → IsErrOf {T = S} {E = TellFault} (Err fault) other
+    → IsErrOf {T = T} {E = TellFault} (Err fault) other
+err_as {S} {T} fault other e = ap Err (fault_is {T = S} fault other e)

@@ -1,0 +1,131 @@
+-- What becomes of a log whose lines are told in words.
+use Rattle.std.specs.Prelude.{◌≡◌, ◌⊎◌, ℕ, ◌+◌, ◌<◌, ◌≤◌, Bool, true, false, List, [], ◌∷◌, ◌++◌, length, take, drop, Option, Some, Result, Ok, Err, ⊤}
+use Rattle.std.specs.List.{flat_map}
+use Rattle.gw_audit.specs.Entry.{IsLineOf, IsShowable}
+use Rattle.gw_audit.specs.declared.denial.Denial.{Denial}
+use Rattle.gw_script.specs.Reader.{BeginsLong}
+use Rattle.gw_script.specs.Script.{lines_of}
+use Rattle.gw_audit.specs.Words.{words}
+use Rattle.gw_audit.specs.declared.telling.TellFault.{TellFault}
+use Rattle.gw_audit.specs.declared.telling.TellFault.TheVariants.{Read, Line, Write, Memory}
+
+-- ---- a line
+
+-- a line that a denial has, told by its words
+pub record IsInWords (line text : List ℕ) : Type 0 where
+  pub denial : Denial
+  pub showable : IsShowable denial
+  pub spelled : IsLineOf line denial
+  pub told : text ≡ words denial ++ 10 ∷ []
+
+-- a line that no denial has, passed on as it is
+pub record IsPassedOn (line text : List ℕ) : Type 0 where
+  pub is_none : (d : Denial) → IsShowable d → ¬ (IsLineOf line d)
+  pub same : text ≡ line ++ 10 ∷ []
+
+-- what becomes of a line, with a line feed behind it
+abbrev pub IsToldAs : List ℕ → List ℕ → Type 0
+IsToldAs line text = IsInWords line text ⊎ IsPassedOn line text
+
+-- a line has one telling
+abbrev pub TellsOnce : Type 0
+TellsOnce = (line a b : List ℕ) → IsToldAs line a → IsToldAs line b → a ≡ b
+
+-- and that of a denial's line are the words of the denial
+abbrev pub TellsEach : Type 0
+TellsEach =
+    (d : Denial) (line text : List ℕ) → IsShowable d → IsLineOf line d → IsToldAs line text → text ≡ words d ++ 10 ∷ []
+
+-- ---- the lines of a log
+
+-- a line of at most 4096 octets without its line feed, and what becomes of it
+pub record IsToldLine (line text : List ℕ) : Type 0 where
+  pub most : length line ≤ 4096
+  pub told : IsToldAs line text
+
+-- lines, and what becomes of each
+abbrev pub AreTold : List (List ℕ) → List (List ℕ) → Type 0
+AreTold [] [] = ⊤
+AreTold [] (text ∷ texts) = ⊥
+AreTold (line ∷ lines) [] = ⊥
+AreTold (line ∷ lines) (text ∷ texts) = IsToldLine line text × AreTold lines texts
+
+-- texts one behind the other
+abbrev pub joined : List (List ℕ) → List ℕ
+joined texts = flat_map (λ text. text) texts
+
+-- what becomes of the first lines of a log
+abbrev pub FirstTold : List ℕ → List (List ℕ) → Type 0
+FirstTold log texts = AreTold (take (length texts) (lines_of log)) texts
+
+-- every line is told, and what was written is that
+pub record TellsWhole (log before after : List ℕ) : Type 0 where
+  pub texts : List (List ℕ)
+  pub lines : AreTold (lines_of log) texts
+  pub written : after ≡ before ++ joined texts
+
+-- the lines before this one, which is counted from 1, are told, this line is too long, and what was written is the telling
+-- of those before it
+pub record TellsToLine (n : ℕ) (log before after : List ℕ) : Type 0 where
+  pub texts : List (List ℕ)
+  pub number : n ≡ length texts + 1
+  pub lines : FirstTold log texts
+  pub line : List ℕ
+  pub rest : List (List ℕ)
+  pub stands : drop (length texts) (lines_of log) ≡ line ∷ rest
+  pub long : 4096 < length line
+  pub written : after ≡ before ++ joined texts
+
+-- some first lines are told, and what was written is that, whole
+pub record TellsPart (log before after : List ℕ) : Type 0 where
+  pub texts : List (List ℕ)
+  pub lines : FirstTold log texts
+  pub written : after ≡ before ++ joined texts
+
+-- some first lines are told, and what was written is a front of that
+pub record TellsFront (log before after : List ℕ) : Type 0 where
+  pub texts : List (List ℕ)
+  pub lines : FirstTold log texts
+  pub front : List ℕ
+  pub unwritten : List ℕ
+  pub parts : joined texts ≡ front ++ unwritten
+  pub written : after ≡ before ++ front
+
+-- ---- one line of a log
+
+-- the first line is told, and that was appended
+pub record WholeLine (log : List ℕ) (left : Option (List ℕ)) (before : List ℕ) (after : Option (List ℕ)) : Type 0 where
+  pub line : List ℕ
+  pub text : List ℕ
+  pub told : IsToldLine line text
+  pub rest : List ℕ
+  pub remains : left ≡ Some rest
+  pub lines : lines_of log ≡ line ∷ lines_of rest
+  pub appended : after ≡ Some (before ++ text)
+
+-- the first line is told, and a front of that was appended
+pub record CutLine (log before : List ℕ) (after : Option (List ℕ)) : Type 0 where
+  pub line : List ℕ
+  pub text : List ℕ
+  pub others : List (List ℕ)
+  pub told : IsToldLine line text
+  pub lines : lines_of log ≡ line ∷ others
+  pub front : List ℕ
+  pub unwritten : List ℕ
+  pub parts : text ≡ front ++ unwritten
+  pub appended : after ≡ Some (before ++ front)
+
+-- what comes of the first line, whose number this is
+abbrev pub LineOutcome : ℕ → List ℕ → Option (List ℕ) → List ℕ → Option (List ℕ) → Result Bool TellFault → Type 0
+LineOutcome n log left before after (Ok true) = WholeLine log left before after
+LineOutcome n log left before after (Ok false) = (lines_of log ≡ []) × (after ≡ Some before)
+LineOutcome n log left before after (Err (Line m)) = (m ≡ n) × BeginsLong log × (after ≡ Some before)
+LineOutcome n log left before after (Err Write) = CutLine log before after
+LineOutcome n log left before after (Err Read) = after ≡ Some before
+LineOutcome n log left before after (Err Memory) = after ≡ Some before
+
+-- the same, where the log that is left and what was written are known
+abbrev pub OnKnownLine : ℕ → Option (List ℕ) → Option (List ℕ) → Option (List ℕ) → Option (List ℕ)
+    → Result Bool TellFault → Type 0
+OnKnownLine n left leaves held holds result =
+    (log before : List ℕ) → left ≡ Some log → held ≡ Some before → LineOutcome n log leaves before holds result

@@ -1,0 +1,362 @@
+//! The words that tell what a line of the log shows.
+
+ghost use Rattle.std.specs.Prelude.{◌≡◌, ◌++◌, ◌∷◌, [], decimal, option_map, OnOk};
+ghost use Rattle.gw_addr.specs.Appending.{IsAppended};
+ghost use Rattle.gw_audit.specs.Line.{field_text, operation_of};
+ghost use Rattle.gw_audit.specs.Told.{IsToldAs};
+ghost use Rattle.gw_audit.specs.Words.{by_other_text, by_text, deed_of, deed_text, is_one, kind_text, name_text, network_name, network_text, object_text, priority_text, property_text, service_text, source_text, station_text, target_text, words_of};
+
+use crate::entry::{Shown, ShownAsk};
+use crate::names::{object_type_name, property_name, service_name};
+use crate::reading::read_line;
+use gw_addr::{Mac, Source, bip_from_slice, put_decimal, put_octet, put_slice};
+use gw_rules::Operation;
+use std::alloc::AllocError;
+
+/// The network number that stands for every network (clause 6.2.2).
+const EVERY_NETWORK: u64 = 65535;
+
+/// The services by which it is registered and deleted, read and written where no other is told.
+const REGISTER: u64 = 773;
+
+const DELETE: u64 = 776;
+
+const READ_PROPERTY: u64 = 12;
+
+const WRITE_PROPERTY: u64 = 15;
+
+/// Makes what a line of a log is told as, with a line feed behind it, in the place of what the buffer
+/// holds: the words of the denial whose line it is, or the line itself where it is none. The line is
+/// taken without its line feed.
+///
+/// ```text
+/// 192.168.1.5:47808 on network 1 reads 85 present-value of 5,2 binary-value of the device: denied by hide
+/// ```
+///
+/// 1 Memory: a growth of the buffer was refused; it then holds no more than a front of the text.
+pub fn tell_line(line: &[u8], text: &mut Vec<u8>) -> Result<(), AllocError>
+    ensures { OnOk result (IsToldAs line.now text.new.items) }
+{
+    text.clear();
+    match read_line(line) {
+        Some(shown) => put_words_line(text, &shown),
+        None => put_line(text, line),
+    }
+}
+
+/// Appends a line, and its line feed.
+fn put_line(out: &mut Vec<u8>, line: &[u8]) -> Result<(), AllocError>
+    ensures { IsAppended (line.now ++ 10 ∷ []) out.old out.new result }
+{
+    put_slice(out, line)?;
+    put_octet(out, b'\n')
+}
+
+/// Appends the words of a line, and a line feed.
+fn put_words_line(out: &mut Vec<u8>, shown: &Shown<'_>) -> Result<(), AllocError>
+    ensures { IsAppended (words_of shown.now.ask shown.now.rule.now ++ 10 ∷ []) out.old out.new result }
+{
+    put_words(out, shown)?;
+    put_octet(out, b'\n')
+}
+
+/// Appends the words of what a line shows.
+#[tactic(auto, unfolding(crate::specs::Words::words_of))]
+fn put_words(out: &mut Vec<u8>, shown: &Shown<'_>) -> Result<(), AllocError>
+    ensures { IsAppended (words_of shown.now.ask shown.now.rule.now) out.old out.new result }
+{
+    put_source(out, &shown.ask.source)?;
+    put_octet(out, b' ')?;
+    put_deed(out, &shown.ask)?;
+    put_slice(out, b": denied by ")?;
+    put_text(out, shown.rule)
+}
+
+/// Appends a text.
+fn put_text(out: &mut Vec<u8>, text: &str) -> Result<(), AllocError>
+    ensures { IsAppended text.now out.old out.new result }
+{
+    put_slice(out, text.as_bytes())
+}
+
+/// Appends a station, and the network that it is on.
+#[tactic(auto, unfolding(crate::specs::Words::source_text))]
+fn put_source(out: &mut Vec<u8>, source: &Source) -> Result<(), AllocError>
+    ensures { IsAppended (source_text source.now) out.old out.new result }
+{
+    put_station(out, &source.mac)?;
+    put_slice(out, b" on network ")?;
+    source.net.put_text(out)
+}
+
+/// Appends a station: six octets as an address of BACnet/IP, others as digits.
+#[tactic(auto, unfolding(crate::specs::Words::station_text))]
+fn put_station(out: &mut Vec<u8>, mac: &Mac) -> Result<(), AllocError>
+    ensures { IsAppended (station_text mac.now) out.old out.new result }
+{
+    if let Ok(address) = bip_from_slice(mac.as_slice()) {
+        return address.put_text(out);
+    }
+    put_slice(out, b"station ")?;
+    mac.put_text(out)
+}
+
+/// Appends what is asked for.
+#[tactic(auto, unfolding(crate::specs::Words::deed_text))]
+fn put_deed(out: &mut Vec<u8>, ask: &ShownAsk) -> Result<(), AllocError>
+    ensures { IsAppended (deed_text ask.now) out.old out.new result }
+{
+    let Some(number) = ask.operation else {
+        return put_slice(out, b"does something");
+    };
+    match operation_of(number) {
+        Some(operation) => put_deed_of(out, operation, ask),
+        None => put_number(out, b"does operation ", number),
+    }
+}
+
+/// The operation of a number, or `None` where none has it.
+fn operation_of(number: u64) -> Option<Operation>
+    ensures { result ≡ operation_of number }
+{
+    Operation::from_number(number)
+}
+
+/// Appends a number behind a word.
+fn put_number(out: &mut Vec<u8>, word: &[u8], number: u64) -> Result<(), AllocError>
+    ensures { IsAppended (word.now ++ decimal number) out.old out.new result }
+{
+    put_slice(out, word)?;
+    put_decimal(out, number)
+}
+
+/// Appends what is asked for by an operation.
+#[tactic(auto, unfolding(crate::specs::Words::deed_of))]
+fn put_deed_of(out: &mut Vec<u8>, operation: Operation, ask: &ShownAsk) -> Result<(), AllocError>
+    ensures { IsAppended (deed_of operation ask.now) out.old out.new result }
+{
+    match operation {
+        Operation::Cast => {
+            put_slice(out, b"casts ")?;
+            put_service(out, ask.service)?;
+            put_network(out, b" to ", ask.destination_network)
+        }
+        Operation::Route => {
+            put_slice(out, b"sends ")?;
+            put_service(out, ask.service)?;
+            put_network(out, b" on to ", ask.destination_network)
+        }
+        Operation::Register => {
+            put_slice(out, b"registers as a foreign device")?;
+            put_by_other(out, REGISTER, ask.service)
+        }
+        Operation::Delete => put_delete(out, ask),
+        Operation::ReadTable => {
+            put_slice(out, b"reads a table")?;
+            put_by(out, ask.service)
+        }
+        Operation::WriteTable => {
+            put_slice(out, b"writes a table")?;
+            put_by(out, ask.service)
+        }
+        Operation::Learn => put_learn(out, ask),
+        Operation::Network => put_question(out, ask),
+        Operation::Read => put_read(out, ask),
+        Operation::Write => put_write(out, ask),
+        Operation::List => {
+            put_slice(out, b"looks for ")?;
+            put_object(out, ask.object_type, ask.instance)?;
+            put_by(out, ask.service)
+        }
+    }
+}
+
+/// Appends that a registration is deleted.
+#[tactic(auto, unfolding(crate::specs::Words::deed_of))]
+fn put_delete(out: &mut Vec<u8>, ask: &ShownAsk) -> Result<(), AllocError>
+    ensures { IsAppended (deed_of Operation.Delete ask.now) out.old out.new result }
+{
+    put_slice(out, b"deletes a foreign device")?;
+    put_by_other(out, DELETE, ask.service)
+}
+
+/// Appends that the way to a network is told.
+#[tactic(auto, unfolding(crate::specs::Words::deed_of))]
+fn put_learn(out: &mut Vec<u8>, ask: &ShownAsk) -> Result<(), AllocError>
+    ensures { IsAppended (deed_of Operation.Learn ask.now) out.old out.new result }
+{
+    put_slice(out, b"tells the way")?;
+    put_network(out, b" to ", ask.destination_network)?;
+    put_by(out, ask.service)
+}
+
+/// Appends that a question about networks is asked.
+#[tactic(auto, unfolding(crate::specs::Words::deed_of))]
+fn put_question(out: &mut Vec<u8>, ask: &ShownAsk) -> Result<(), AllocError>
+    ensures { IsAppended (deed_of Operation.Network ask.now) out.old out.new result }
+{
+    put_slice(out, b"asks the gateway")?;
+    put_network(out, b" about ", ask.destination_network)?;
+    put_by(out, ask.service)
+}
+
+/// Appends what is read.
+#[tactic(auto, unfolding(crate::specs::Words::deed_of))]
+fn put_read(out: &mut Vec<u8>, ask: &ShownAsk) -> Result<(), AllocError>
+    ensures { IsAppended (deed_of Operation.Read ask.now) out.old out.new result }
+{
+    put_slice(out, b"reads ")?;
+    put_target(out, ask)?;
+    put_slice(out, b" of the device")?;
+    put_by_other(out, READ_PROPERTY, ask.service)
+}
+
+/// Appends what is written.
+#[tactic(auto, unfolding(crate::specs::Words::deed_of))]
+fn put_write(out: &mut Vec<u8>, ask: &ShownAsk) -> Result<(), AllocError>
+    ensures { IsAppended (deed_of Operation.Write ask.now) out.old out.new result }
+{
+    put_slice(out, b"writes ")?;
+    put_target(out, ask)?;
+    put_slice(out, b" of the device")?;
+    put_priority(out, ask.priority)?;
+    put_by_other(out, WRITE_PROPERTY, ask.service)
+}
+
+/// Appends a space and a name, where there is one.
+fn put_name(out: &mut Vec<u8>, name: Option<&str>) -> Result<(), AllocError>
+    ensures { IsAppended (name_text (option_map (λ n. n.now) name.entry)) out.old out.new result }
+{
+    let Some(name) = name else {
+        return Ok(());
+    };
+    put_octet(out, b' ')?;
+    put_text(out, name)
+}
+
+/// Appends the number of a service, and its name.
+fn put_service(out: &mut Vec<u8>, service: Option<u64>) -> Result<(), AllocError>
+    ensures { IsAppended (service_text service) out.old out.new result }
+{
+    let Some(number) = service else {
+        return put_slice(out, b"something");
+    };
+    put_decimal(out, number)?;
+    put_name(out, service_name(number))
+}
+
+/// Appends by which service it is asked for.
+fn put_by(out: &mut Vec<u8>, service: Option<u64>) -> Result<(), AllocError>
+    ensures { IsAppended (by_text service) out.old out.new result }
+{
+    put_slice(out, b" by ")?;
+    put_service(out, service)
+}
+
+/// Whether a field has this number.
+fn is_one(number: u64, value: Option<u64>) -> bool
+    ensures { result ≡ is_one number value }
+{
+    match value {
+        Some(n) => n == number,
+        None => false,
+    }
+}
+
+/// Appends by which service it is asked for, where that isn't the one that is meant.
+fn put_by_other(out: &mut Vec<u8>, own: u64, service: Option<u64>) -> Result<(), AllocError>
+    ensures { IsAppended (by_other_text own service) out.old out.new result }
+{
+    if is_one(own, service) {
+        return Ok(());
+    }
+    put_by(out, service)
+}
+
+/// Appends a network behind a word, where there is one.
+fn put_network(out: &mut Vec<u8>, word: &[u8], network: Option<u64>) -> Result<(), AllocError>
+    ensures { IsAppended (network_text word.now network) out.old out.new result }
+{
+    let Some(number) = network else {
+        return Ok(());
+    };
+    put_slice(out, word)?;
+    put_network_name(out, number)
+}
+
+/// Appends what a network is called.
+fn put_network_name(out: &mut Vec<u8>, number: u64) -> Result<(), AllocError>
+    ensures { IsAppended (network_name number) out.old out.new result }
+{
+    if number == EVERY_NETWORK {
+        return put_slice(out, b"every network");
+    }
+    put_number(out, b"network ", number)
+}
+
+/// Appends a property of an object, or the object alone.
+fn put_target(out: &mut Vec<u8>, ask: &ShownAsk) -> Result<(), AllocError>
+    ensures { IsAppended (target_text ask.now) out.old out.new result }
+{
+    put_property(out, ask.property)?;
+    put_object(out, ask.object_type, ask.instance)
+}
+
+/// Appends the number of a property and its name, before its object.
+fn put_property(out: &mut Vec<u8>, property: Option<u64>) -> Result<(), AllocError>
+    ensures { IsAppended (property_text property) out.old out.new result }
+{
+    let Some(number) = property else {
+        return Ok(());
+    };
+    put_decimal(out, number)?;
+    put_name(out, property_name(number))?;
+    put_slice(out, b" of ")
+}
+
+/// Appends an object, by the number of its type, its instance and the name of its type.
+fn put_object(
+    out: &mut Vec<u8>,
+    object_type: Option<u64>,
+    instance: Option<u64>,
+) -> Result<(), AllocError>
+    ensures { IsAppended (object_text object_type instance) out.old out.new result }
+{
+    if object_type.is_none() && instance.is_none() {
+        return put_slice(out, b"something");
+    }
+    put_field(out, object_type)?;
+    put_octet(out, b',')?;
+    put_field(out, instance)?;
+    put_kind(out, object_type)
+}
+
+/// Appends the name of a type of objects.
+fn put_kind(out: &mut Vec<u8>, object_type: Option<u64>) -> Result<(), AllocError>
+    ensures { IsAppended (kind_text object_type) out.old out.new result }
+{
+    match object_type {
+        Some(number) => put_name(out, object_type_name(number)),
+        None => Ok(()),
+    }
+}
+
+/// Appends a number, or a dash where there is none.
+fn put_field(out: &mut Vec<u8>, value: Option<u64>) -> Result<(), AllocError>
+    ensures { IsAppended (field_text value) out.old out.new result }
+{
+    match value {
+        Some(number) => put_decimal(out, number),
+        None => put_slice(out, b"-"),
+    }
+}
+
+/// Appends the priority of a write.
+fn put_priority(out: &mut Vec<u8>, priority: Option<u64>) -> Result<(), AllocError>
+    ensures { IsAppended (priority_text priority) out.old out.new result }
+{
+    match priority {
+        Some(number) => put_number(out, b" at priority ", number),
+        None => Ok(()),
+    }
+}
