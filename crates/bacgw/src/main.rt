@@ -1,9 +1,7 @@
 //! The program `bacgw`: a gateway of BACnet/IP, run from the command line.
 //!
-//! `bacgw check` says what the configuration in a file has, `bacgw replay` reads events from standard
-//! input and writes what the gateway gives for each to standard output, and `bacgw run` serves the
-//! ports of a configuration over UDP. What these do is `gw_shell`'s; `main` hands it the words, the
-//! files, the machine and the streams of the process.
+//! `main` hands the words, the files, the machine and the streams of the process to `gw_shell`, whose
+//! `run` says what the program does.
 #![tactic(auto)]
 
 use gw_shell::{Fault, SystemFiles, SystemHost, end, run};

@@ -26,7 +26,7 @@ use Rattle.gw_rules.specs.declared.rule.Rule.{Rule}
 use Rattle.gw_rules.proofs.EachAsk.{each_both, each_weaker, none_allowed, none_both}
 use Rattle.gw_script.specs.Event.{Event, Datagram, Tick}
 use Rattle.gw_tags.specs.Object.{Object}
-use Rattle.gw_core.specs.Asks.{apdu_asks, asks, asks_for, cast_asks, link_asks, manage_asks, message_asks, route_asks}
+use Rattle.gw_core.specs.Asks.{apdu_asks, asks, asks_for, cast_asks_for, link_asks_for, manage_asks_for, message_asks, route_asks_for}
 use Rattle.gw_core.specs.NoLeak.{AreBlind, AsksCarryTheirClaim, WritesAreHidden, claim, kept, state_before}
 use Rattle.gw_relay.specs.Message.{Message, message_of}
 use Rattle.gw_core.specs.Receive.{Received, comes_in, dropped, managed, unregistered, manages, message, npdu_of, payload_of, receive, receive_datagram, receive_frame, receive_npdu, receive_on}
@@ -122,9 +122,9 @@ from_message rules relay d m =
     let cast = broadcasts_carry_their_claim m in
     let routed = routing_carries_the_claim relay m in
     let answered = network_messages_carry_their_claim relay m in
-    each_both each (cast_asks (message m) ++ route_asks relay (message m) ++ manage_asks relay (message m)) (message_asks rules d m)
-    (each_both each (cast_asks (message m) ++ route_asks relay (message m)) (manage_asks relay (message m))
-    (each_both each (cast_asks (message m)) (route_asks relay (message m)) cast routed) answered)
+    each_both each (cast_asks_for (message m) ++ route_asks_for relay (message m) ++ manage_asks_for relay (message m)) (message_asks rules d m)
+    (each_both each (cast_asks_for (message m) ++ route_asks_for relay (message m)) (manage_asks_for relay (message m))
+    (each_both each (cast_asks_for (message m)) (route_asks_for relay (message m)) cast routed) answered)
     (from_apdu rules d (context_of network m) (apdu_for network m.npdu))
 
 claimed_so : (w : State) (e : Event) (m : Message) → receive w e ≡ message m → IsClaimed m
@@ -155,18 +155,18 @@ blind_source rules sources o source xs blind is from =
     })) xs from
 
 blind_table : (rules : List Rule) (o : Object) (on : PortState) (from : BipAddr) (frame : Frame)
-    → NoReadAllowed rules o (link_asks (managed on from frame))
+    → NoReadAllowed rules o (link_asks_for (managed on from frame))
 blind_table rules o on from frame =
-    none_allowed (AsksToRead o) rules (link_asks (managed on from frame))
+    none_allowed (AsksToRead o) rules (link_asks_for (managed on from frame))
     (each_weaker (λ ask. IsFor operations.Read ask → ⊥) (λ ask. AsksToRead o ask → ⊥) (λ ask never reads. never reads.operation)
-    (link_asks (managed on from frame)) (table_asks_read_nothing on.port from frame))
+    (link_asks_for (managed on from frame)) (table_asks_read_nothing on.port from frame))
 
 blind_asks : (rules : List Rule) (sources : List Source) (o : Object) (relay : Relay) (d : Database) (received : Received) → AreBlind rules sources o
     → IfMessage received → IfSome (claim received) (Contains sources) → NoReadAllowed rules o (asks_for rules relay d received)
 blind_asks rules sources o relay d dropped blind is claims = tt
 blind_asks rules sources o relay d (unregistered m) blind is claims = tt
 blind_asks rules sources o relay d (managed on from frame) blind is claims =
-    let asked = link_asks (managed on from frame) in
+    let asked = link_asks_for (managed on from frame) in
     let both = none_both (AsksToRead o) rules in
     both (asked ++ [] ++ [] ++ []) [] (both (asked ++ [] ++ []) [] (both (asked ++ []) [] (both asked [] (blind_table rules o on from frame) tt) tt) tt) tt
 blind_asks rules sources o relay d (message m) blind is claims =

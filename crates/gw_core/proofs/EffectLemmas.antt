@@ -14,7 +14,8 @@ use Rattle.gw_audit.specs.declared.denial.Denial.{Denial}
 use Rattle.gw_script.specs.Event.{Event}
 use Rattle.gw_script.specs.Event.{Datagram, Tick}
 use Rattle.gw_core.specs.Denials.{denials_at}
-use Rattle.gw_core.specs.Effects.{change_at, change_for, effects_at, effects_for, move_at, move_for, nothing, passes_end, relay_change_for, sends, sends_for, ticks_of}
+use Rattle.gw_core.specs.Asks.{asks}
+use Rattle.gw_core.specs.Effects.{NeedsNoMemory, change_at, change_for, effects_at, effects_for, move_at, move_for, nothing, passes_end, relay_change_for, sends, sends_for, ticks_of}
 use Rattle.gw_core.specs.Receive.{Received, receive, receive_on}
 use Rattle.gw_core.specs.State.{State, device_network}
 
@@ -22,6 +23,11 @@ use Rattle.gw_core.specs.State.{State, device_network}
 pub effects_at-tick : (w : State) → effects_at w Tick ≡ nothing
 unfolding effects_at receive
 effects_at-tick w = refl
+
+-- a tick needs no memory
+pub tick_needs_none : (w : State) → NeedsNoMemory w Tick
+unfolding asks sends receive
+tick_needs_none w = (refl, refl)
 
 -- a tick is denied nothing
 pub no_denials_at_tick : (w : State) → 0 ≡ length (denials_at w Tick)

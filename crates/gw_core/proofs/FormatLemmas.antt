@@ -24,9 +24,9 @@ use Rattle.gw_relay.specs.Steps.{Step, asks_of, sends_of}
 use Rattle.gw_relay.specs.declared.port.PortState.{PortState}
 use Rattle.gw_script.specs.Event.{Event}
 use Rattle.gw_core.specs.declared.event.Counts.{Counts}
-use Rattle.gw_core.specs.Asks.{asks_for, cast_asks, link_asks, manage_asks, route_asks, serve_asks}
+use Rattle.gw_core.specs.Asks.{asks_for, cast_asks_for, link_asks_for, manage_asks_for, route_asks_for, serve_asks_for}
 use Rattle.gw_core.specs.Denials.{denials_of}
-use Rattle.gw_core.specs.Effects.{cast_sends, effects_at, link_sends, manage_sends, route_sends, sends_for, serve_sends}
+use Rattle.gw_core.specs.Effects.{cast_sends_for, effects_at, link_sends_for, manage_sends_for, route_sends_for, sends_for, serve_sends_for}
 use Rattle.gw_core.specs.FormatOne.{asks_before, copy_step, route_asks_before, route_sends_before, routing_before, sends_before, steps_before, way_step}
 use Rattle.gw_core.specs.History.{acts_of, state_after}
 use Rattle.gw_core.specs.Laws.{FormatOneIsAsBefore, FormatStays}
@@ -79,14 +79,14 @@ routed relay m is = ap (λ (steps : List Step). if is_local m.npdu.payload then 
     towards None = refl
     towards (Some d) = by_way relay m d (way relay.routes d.address.network) is
 
-same_asks : (relay : Relay) (received : Received) → relay.format ≡ One → route_asks relay received ≡ route_asks_before relay received
+same_asks : (relay : Relay) (received : Received) → relay.format ≡ One → route_asks_for relay received ≡ route_asks_before relay received
 same_asks relay dropped is = refl
 same_asks relay (managed on from frame) is = refl
 same_asks relay (unregistered m) is = refl
 same_asks relay (message m) is = ap (λ (steps : List Step). asks_of steps) (routed relay m is)
 
 same_sends : (rules : List Rule) (relay : Relay) (received : Received) → relay.format ≡ One
-    → route_sends rules relay received ≡ route_sends_before rules relay received
+    → route_sends_for rules relay received ≡ route_sends_before rules relay received
 same_sends rules relay dropped is = refl
 same_sends rules relay (managed on from frame) is = refl
 same_sends rules relay (unregistered m) is = refl
@@ -97,14 +97,14 @@ same_sends rules relay (message m) is = ap (λ (steps : List Step). sends_of rul
 asked : (w : State) (received : Received) → w.relay.format ≡ One
     → asks_for w.rules w.relay w.device received ≡ asks_before w received
 asked w received is =
-    ap (λ (routed : List Ask). link_asks received ++ cast_asks received ++ routed
-    ++ manage_asks w.relay received ++ serve_asks w.rules w.device received) (same_asks w.relay received is)
+    ap (λ (routed : List Ask). link_asks_for received ++ cast_asks_for received ++ routed
+    ++ manage_asks_for w.relay received ++ serve_asks_for w.rules w.device received) (same_asks w.relay received is)
 
 sent : (w : State) (received : Received) → w.relay.format ≡ One
     → sends_for w.rules w.relay w.device received ≡ sends_before w received
 sent w received is =
-    ap (λ (routed : List Sending). link_sends w.rules received ++ cast_sends w.rules received ++ routed
-    ++ manage_sends w.rules w.relay received ++ serve_sends w.rules w.device received) (same_sends w.rules w.relay received is)
+    ap (λ (routed : List Sending). link_sends_for w.rules received ++ cast_sends_for w.rules received ++ routed
+    ++ manage_sends_for w.rules w.relay received ++ serve_sends_for w.rules w.device received) (same_sends w.rules w.relay received is)
 
 pub format_one_is_as_before : FormatOneIsAsBefore
 unfolding effects_at

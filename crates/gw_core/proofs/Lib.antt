@@ -11,7 +11,6 @@ pub mod ServeLemmas
 pub mod ReportLemmas
 pub mod ReplayLemmas
 pub mod ExplainedLemmas
-pub mod CallLemmas
 pub mod RespondLemmas
 pub mod TrafficLemmas
 pub mod QuietLemmas

@@ -18,7 +18,7 @@ use Rattle.gw_rules.specs.declared.rule.Rule.{Rule}
 use Rattle.gw_script.specs.Event.{Event, Datagram, Tick}
 use Rattle.gw_core.specs.declared.effects.Effects.{Effects}
 use Rattle.gw_core.specs.declared.event.Counts.{Counts}
-use Rattle.gw_core.specs.Asks.{apdu_asks, asks, asks_for, cast_asks, link_asks as received_asks, manage_asks as asks_managed, message_asks, route_asks}
+use Rattle.gw_core.specs.Asks.{apdu_asks, asks, asks_for, cast_asks_for, link_asks_for as received_asks, manage_asks_for as asks_managed, message_asks, route_asks_for}
 use Rattle.gw_core.specs.Denials.{denials_at, denials_from, denials_of, rule_name}
 use Rattle.gw_core.specs.Effects.{apdu_change, change_at, change_for, changed, effects_at, move_at, relay_change_for}
 use Rattle.gw_core.specs.History.{next, run_from, state_after}
@@ -97,7 +97,7 @@ quiet_relay rules relay d (managed on from frame) h =
     (front_quiet rules (asked ++ [] ++ [] ++ []) [] h)))))
 quiet_relay rules relay d (message m) h =
     routes_are_kept rules relay m
-    (part_quiet rules (cast_asks (message m) ++ route_asks relay (message m)) (asks_managed relay (message m)) (message_asks rules d m) h
+    (part_quiet rules (cast_asks_for (message m) ++ route_asks_for relay (message m)) (asks_managed relay (message m)) (message_asks rules d m) h
     operations.Learn refl)
 
 quiet_device : (rules : List Rule) (relay : Relay) (d : Database) (received : Received)
@@ -107,7 +107,7 @@ quiet_device rules relay d (unregistered m) h = refl
 quiet_device rules relay d (managed on from frame) h = refl
 quiet_device rules relay d (message m) h =
     quiet_apdu rules d (context_of (device_network d) m) (apdu_for (device_network d) m.npdu)
-    (last_quiet rules (cast_asks (message m) ++ route_asks relay (message m) ++ asks_managed relay (message m)) (message_asks rules d m) h)
+    (last_quiet rules (cast_asks_for (message m) ++ route_asks_for relay (message m) ++ asks_managed relay (message m)) (message_asks rules d m) h)
 
 abbrev standing_so : State → Relay → Database → ℕ → ℕ → State
 standing_so w relay device ticks denials = record w { relay = relay; device = device; ticks = ticks; denials = denials }

@@ -15,6 +15,9 @@ use Rattle.gw_script.specs.Script.{lines_of, IsLine, AreLines}
 use Rattle.gw_core.specs.Shown.{event_text, text_of_run, effects_text}
 use Rattle.gw_core.specs.Replay.{Telling, no_counts, run_text, text_after, FirstLines, RunsWhole, RunsToLine, RunsToEnd, RunsToMemory, RunsPart, RunsFront}
 use Rattle.gw_core.specs.LineOutcome.{LineOutcome}
+use Rattle.gw_core.specs.Flawed.{HasFlaw, IsFirstFlaw}
+use Rattle.gw_script.specs.Flaw.{IsFlaw}
+use Rattle.gw_script.specs.declared.flaw.LineFlaw.{LineFlaw}
 use Rattle.gw_core.proofs.HistoryLemmas.{after_next, ports_stay}
 
 pub taken_more : (h l : List Event) (e : Event) → history_after h (l ++ e ∷ []) ≡ e ∷ history_after h l
@@ -239,6 +242,23 @@ ends_at_line told c script before n w moved text left written after m p turns =
       no_event = λ e is. none.no_event e
           (subst (λ (q : ℕ). IsLine q none.line e) (sym (same_ports c w (history_after [] p.events) p.stands)) is);
       text = refl;
+    })
+
+pub flaw_at_line : (told : Telling) (c : Configuration) (script before : List ℕ) (n : ℕ) (w moved : State) (text left written after : Option (List ℕ))
+    (m : ℕ) (flaw : LineFlaw)
+    → Progress told c script before n w text written → Turns told n w moved text left written after (Err (Line m))
+    → ((t : List ℕ) → text ≡ Some t → IsFirstFlaw (length w.relay.links) t flaw)
+    → IsSomeAnd after (λ (a : List ℕ). HasFlaw (length c.ports) m script flaw)
+flaw_at_line told c script before n w moved text left written after m flaw p turns first =
+    let said = turns p.left (before ++ run_text told c p.events) p.text_is p.written_is in
+    let one = first p.left p.text_is in
+    known (λ (a : List ℕ). HasFlaw (length c.ports) m script flaw) after (before ++ run_text told c p.events) said.2 (record {
+      before = p.done;
+      line = one.line;
+      others = one.others;
+      lines = p.lines ∙ ap (λ (l : List (List ℕ)). p.done ++ l) one.lines;
+      number = omega (arith, said.0, p.number, are_length (length c.ports) p.done p.events p.are);
+      is = subst (λ (q : ℕ). IsFlaw q one.line flaw) (same_ports c w (history_after [] p.events) p.stands) one.is;
     })
 
 pub ends_at_end : (told : Telling) (c : Configuration) (script before : List ℕ) (n : ℕ) (w moved : State) (text left written after : Option (List ℕ))

@@ -1,10 +1,10 @@
 -- How long the text of effects is.
-use Rattle.std.proofs.Common.{◌≡◌, ℕ, zero, suc, ◌+◌, ◌<◌, ◌≤◌, List, [], ◌∷◌, ◌++◌, length, map, take, get_or, refl, ap, ap₂, ◌∙◌, arith}
+use Rattle.std.proofs.Common.{◌≡◌, ℕ, zero, suc, ◌+◌, ◌<◌, ◌≤◌, List, [], ◌∷◌, ◌++◌, length, map, take, get_or, refl, sym, ap, ap₂, ◌∙◌, arith}
 use Rattle.std.specs.List.{flat_map}
 use Rattle.std.proofs.lemmas.List.{length-append}
 use Rattle.std.proofs.lemmas.List.Concat.{flat_map-cons}
 use Rattle.gw_audit.specs.declared.denial.Denial.{Denial}
-use Rattle.gw_script.specs.Event.{Event}
+use Rattle.gw_script.specs.Event.{Event, Tick}
 use Rattle.std.proofs.lemmas.Grind.{flat_map-append}
 use Rattle.gw_addr.specs.declared.bip.BipAddr.{BipAddr}
 use Rattle.gw_script.specs.Text.{send_line}
@@ -12,8 +12,9 @@ use Rattle.gw_relay.specs.Sends.{Batch, Sending, sending, sendings_of}
 use Rattle.gw_core.specs.Denials.{denials_at}
 use Rattle.gw_core.specs.State.{State}
 use Rattle.gw_core.specs.Effects.{NeedsNoMemory, effects_at, sends}
-use Rattle.gw_core.specs.Shown.{batch_text, denials_text, effects_text, sending_line, sends_text}
+use Rattle.gw_core.specs.Shown.{batch_text, denials_text, effects_text, event_text, sending_line, sends_text}
 use Rattle.gw_core.proofs.DenialLemmas.{no_denials}
+use Rattle.gw_core.proofs.EffectLemmas.{effects_at-tick}
 use Rattle.gw_script.specs.Text.{end_line}
 
 -- what needs no memory has `end` alone as its text
@@ -21,6 +22,11 @@ pub few_octets : (w : State) (e : Event) → NeedsNoMemory w e → length (effec
 unfolding effects_text effects_at denials_at sends
 few_octets w e none =
     ap₂ (λ (d : List Denial) (s : List Sending). length (denials_text d ++ sends_text s ++ end_line)) (no_denials w e none.0) none.1
+
+-- the text of a tick is `end` alone
+pub tick_text : (w : State) → end_line ≡ event_text w Tick
+unfolding effects_text
+tick_text w = sym (ap effects_text (effects_at-tick w))
 
 text_length : {A : Type 0} (text : A → List ℕ) (x : A) (xs : List A)
     → length (flat_map text (x ∷ xs)) ≡ length (text x) + length (flat_map text xs)

@@ -44,7 +44,7 @@ use Rattle.gw_relay.specs.Steps.{npdu_octets, unicast}
 use Rattle.gw_relay.proofs.Asking.{unasked_change}
 use Rattle.gw_relay.proofs.Learning.{unasked_learning}
 use Rattle.gw_script.specs.Event.{Datagram}
-use Rattle.gw_core.specs.Asks.{apdu_asks, asks, asks_for, cast_asks, link_asks, manage_asks, message_asks, route_asks}
+use Rattle.gw_core.specs.Asks.{apdu_asks, asks, asks_for, cast_asks_for, link_asks_for, manage_asks_for, message_asks, route_asks_for}
 use Rattle.gw_core.specs.Effects.{answer_sends, apdu_change, change_at, change_for, message_sends, move_at, relay_change_for, sends, sends_for}
 use Rattle.gw_core.specs.Laws.{DroppedNeedsNoMemory, NothingAskedIsChanged, NothingAskedIsWritten}
 use Rattle.gw_relay.specs.Message.{Message}
@@ -258,7 +258,7 @@ unwritten rules relay d dropped none = refl
 unwritten rules relay d (managed on from frame) none = refl
 unwritten rules relay d (unregistered m) none = refl
 unwritten rules relay d (message m) none =
-    let parts = five_empty [] (cast_asks (message m)) (route_asks relay (message m)) (manage_asks relay (message m))
+    let parts = five_empty [] (cast_asks_for (message m)) (route_asks_for relay (message m)) (manage_asks_for relay (message m))
     (message_asks rules d m) none in
     unwritten_apdu rules d (context_of (device_network d) m) (apdu_for (device_network d) m.npdu) parts.4
 
@@ -271,11 +271,11 @@ pub unchanged : (rules : List Rule) (relay : Relay) (d : Database) (received : R
     → relay_change_for rules received ≡ None
 unchanged rules relay d dropped none = refl
 unchanged rules relay d (managed on from frame) none =
-    let parts = five_empty (link_asks (managed on from frame)) [] [] [] [] none in
+    let parts = five_empty (link_asks_for (managed on from frame)) [] [] [] [] none in
     unasked_change rules on from frame parts.0
 unchanged rules relay d (unregistered m) none = refl
 unchanged rules relay d (message m) none =
-    let parts = five_empty [] (cast_asks (message m)) (route_asks relay (message m)) (manage_asks relay (message m))
+    let parts = five_empty [] (cast_asks_for (message m)) (route_asks_for relay (message m)) (manage_asks_for relay (message m))
     (message_asks rules d m) none in
     unasked_learning rules relay m parts.3
 

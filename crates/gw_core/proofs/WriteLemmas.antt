@@ -28,9 +28,9 @@ use Rattle.gw_rules.specs.declared.rule.Rule.{Rule}
 use Rattle.gw_script.specs.Event.{Event, Datagram, Tick}
 use Rattle.gw_tags.specs.Object.{Object}
 use Rattle.gw_core.specs.declared.effects.Effects.{Effects}
-use Rattle.gw_core.specs.Asks.{apdu_asks, asks, asks_for, cast_asks, manage_asks as asks_managed, message_asks, route_asks}
+use Rattle.gw_core.specs.Asks.{apdu_asks, asks, asks_for, cast_asks_for, manage_asks_for as asks_managed, message_asks, route_asks_for}
 use Rattle.gw_core.specs.Denials.{denials_at, denials_of}
-use Rattle.gw_core.specs.Effects.{answer_sends, apdu_answer, apdu_change, cast_sends, change_at, change_for, changed, effects_at, effects_for, manage_sends, message_change, move_at, relay_change_for, route_sends, sends_for}
+use Rattle.gw_core.specs.Effects.{answer_sends, apdu_answer, apdu_change, cast_sends_for, change_at, change_for, changed, effects_at, effects_for, manage_sends_for, message_change, move_at, relay_change_for, route_sends_for, sends_for}
 use Rattle.gw_core.specs.History.{next, run_from, state_after, state_from}
 use Rattle.gw_core.specs.NoLeak.{IsWriteOf, WritesAreUnread, kept, object_of, seen, unnumbered}
 use Rattle.gw_relay.specs.Message.{Message}
@@ -78,8 +78,8 @@ received_alike rules o relay c s t (managed on from frame) agree h = (refl, refl
 received_alike rules o relay c s t (unregistered m) agree h = (refl, refl)
 received_alike rules o relay c s t (message m) agree h =
     let network = c.device.network in
-    let asked = cast_asks (message m) ++ route_asks relay (message m) ++ asks_managed relay (message m) in
-    let sent = cast_sends rules (message m) ++ route_sends rules relay (message m) ++ manage_sends rules relay (message m) in
+    let asked = cast_asks_for (message m) ++ route_asks_for relay (message m) ++ asks_managed relay (message m) in
+    let sent = cast_sends_for rules (message m) ++ route_sends_for rules relay (message m) ++ manage_sends_for rules relay (message m) in
     let same = answer_alike rules o c s t (context_of network m) (apdu_for network m.npdu) agree
     (none_rest (AsksToRead o) rules asked (message_asks rules (standing c t) m) h) in
     (ap (λ (xs : List Ask). asked ++ xs) same.0, ap (λ (x : Option Answer). sent ++ answer_sends network m x) same.1)

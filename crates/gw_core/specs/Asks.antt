@@ -19,32 +19,32 @@ use Rattle.gw_core.specs.State.{State, device_network}
 -- ---- the list, part by part
 
 -- tables of a port that are read or changed (Annex J.2, J.4, J.5)
-abbrev pub link_asks : Received → List Ask
-link_asks dropped = []
-link_asks (managed on from frame) = table.link_asks on.port from frame
-link_asks (unregistered m) = []
-link_asks (message m) = []
+abbrev pub link_asks_for : Received → List Ask
+link_asks_for dropped = []
+link_asks_for (managed on from frame) = table.link_asks on.port from frame
+link_asks_for (unregistered m) = []
+link_asks_for (message m) = []
 
 -- distribution to peers and foreign devices (Annex J.4, J.5)
-abbrev pub cast_asks : Received → List Ask
-cast_asks dropped = []
-cast_asks (managed on from frame) = []
-cast_asks (unregistered m) = []
-cast_asks (message m) = broadcast.cast_asks m
+abbrev pub cast_asks_for : Received → List Ask
+cast_asks_for dropped = []
+cast_asks_for (managed on from frame) = []
+cast_asks_for (unregistered m) = []
+cast_asks_for (message m) = broadcast.cast_asks m
 
 -- routing by the destination network (clause 6.5)
-abbrev pub route_asks : Relay → Received → List Ask
-route_asks relay dropped = []
-route_asks relay (managed on from frame) = []
-route_asks relay (unregistered m) = []
-route_asks relay (message m) = routing.route_asks relay m
+abbrev pub route_asks_for : Relay → Received → List Ask
+route_asks_for relay dropped = []
+route_asks_for relay (managed on from frame) = []
+route_asks_for relay (unregistered m) = []
+route_asks_for relay (message m) = routing.route_asks relay m
 
 -- network layer messages to the gateway (clause 6.4)
-abbrev pub manage_asks : Relay → Received → List Ask
-manage_asks relay dropped = []
-manage_asks relay (managed on from frame) = []
-manage_asks relay (unregistered m) = []
-manage_asks relay (message m) = network.manage_asks relay m
+abbrev pub manage_asks_for : Relay → Received → List Ask
+manage_asks_for relay dropped = []
+manage_asks_for relay (managed on from frame) = []
+manage_asks_for relay (unregistered m) = []
+manage_asks_for relay (message m) = network.manage_asks relay m
 
 -- the device, for an APDU where there is one
 abbrev pub apdu_asks : List Rule → Database → Context → Option (List ℕ) → List Ask
@@ -56,17 +56,17 @@ message_asks rules d m =
     apdu_asks rules d (context_of (device_network d) m) (apdu_for (device_network d) m.npdu)
 
 -- requests to the device (clauses 15 and 16)
-abbrev pub serve_asks : List Rule → Database → Received → List Ask
-serve_asks rules d dropped = []
-serve_asks rules d (managed on from frame) = []
-serve_asks rules d (unregistered m) = []
-serve_asks rules d (message m) = message_asks rules d m
+abbrev pub serve_asks_for : List Rule → Database → Received → List Ask
+serve_asks_for rules d dropped = []
+serve_asks_for rules d (managed on from frame) = []
+serve_asks_for rules d (unregistered m) = []
+serve_asks_for rules d (message m) = message_asks rules d m
 
 -- all of them, in the order of the steps
 abbrev pub asks_for : List Rule → Relay → Database → Received → List Ask
 asks_for rules relay d received =
-    link_asks received ++ cast_asks received ++ route_asks relay received ++ manage_asks relay received
-    ++ serve_asks rules d received
+    link_asks_for received ++ cast_asks_for received ++ route_asks_for relay received ++ manage_asks_for relay received
+    ++ serve_asks_for rules d received
 
 -- what an event asks in this state
 unfoldable pub asks : State → Event → List Ask

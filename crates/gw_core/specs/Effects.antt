@@ -29,33 +29,33 @@ use Rattle.gw_core.specs.State.{State, device_network}
 -- ---- the sends, part by part
 
 -- answers to the management of a port's tables (Annex J.2)
-abbrev pub link_sends : List Rule → Received → List Sending
-link_sends rules dropped = []
-link_sends rules (managed on from frame) = table.link_answer rules on from frame
-link_sends rules (unregistered m) = []
-link_sends rules (message m) = []
+abbrev pub link_sends_for : List Rule → Received → List Sending
+link_sends_for rules dropped = []
+link_sends_for rules (managed on from frame) = table.link_answer rules on from frame
+link_sends_for rules (unregistered m) = []
+link_sends_for rules (message m) = []
 
 -- distribution to peers and foreign devices, and its refusal (Annex J.4, J.5)
-abbrev pub cast_sends : List Rule → Received → List Sending
-cast_sends rules dropped = []
-cast_sends rules (managed on from frame) = []
-cast_sends rules (unregistered m) = broadcast.cast_sends rules m
-cast_sends rules (message m) = broadcast.cast_sends rules m
+abbrev pub cast_sends_for : List Rule → Received → List Sending
+cast_sends_for rules dropped = []
+cast_sends_for rules (managed on from frame) = []
+cast_sends_for rules (unregistered m) = broadcast.cast_sends rules m
+cast_sends_for rules (message m) = broadcast.cast_sends rules m
 
 -- what goes onward to another network (clause 6.5)
-abbrev pub route_sends : List Rule → Relay → Received → List Sending
-route_sends rules relay dropped = []
-route_sends rules relay (managed on from frame) = []
-route_sends rules relay (unregistered m) = []
-route_sends rules relay (message m) =
+abbrev pub route_sends_for : List Rule → Relay → Received → List Sending
+route_sends_for rules relay dropped = []
+route_sends_for rules relay (managed on from frame) = []
+route_sends_for rules relay (unregistered m) = []
+route_sends_for rules relay (message m) =
     routing.route_sends rules relay m
 
 -- answers to network layer messages (clause 6.4)
-abbrev pub manage_sends : List Rule → Relay → Received → List Sending
-manage_sends rules relay dropped = []
-manage_sends rules relay (managed on from frame) = []
-manage_sends rules relay (unregistered m) = []
-manage_sends rules relay (message m) =
+abbrev pub manage_sends_for : List Rule → Relay → Received → List Sending
+manage_sends_for rules relay dropped = []
+manage_sends_for rules relay (managed on from frame) = []
+manage_sends_for rules relay (unregistered m) = []
+manage_sends_for rules relay (message m) =
     network.manage_sends rules relay m
 
 -- the datagrams of an answer, where there is one
@@ -74,17 +74,17 @@ message_sends rules d m =
     answer_sends network m (apdu_answer rules d (context_of network m) (apdu_for network m.npdu))
 
 -- answers of the device (clauses 15 and 16)
-abbrev pub serve_sends : List Rule → Database → Received → List Sending
-serve_sends rules d dropped = []
-serve_sends rules d (managed on from frame) = []
-serve_sends rules d (unregistered m) = []
-serve_sends rules d (message m) = message_sends rules d m
+abbrev pub serve_sends_for : List Rule → Database → Received → List Sending
+serve_sends_for rules d dropped = []
+serve_sends_for rules d (managed on from frame) = []
+serve_sends_for rules d (unregistered m) = []
+serve_sends_for rules d (message m) = message_sends rules d m
 
 -- all of them, in the order of the steps
 abbrev pub sends_for : List Rule → Relay → Database → Received → List Sending
 sends_for rules relay d received =
-    link_sends rules received ++ cast_sends rules received ++ route_sends rules relay received
-    ++ manage_sends rules relay received ++ serve_sends rules d received
+    link_sends_for rules received ++ cast_sends_for rules received ++ route_sends_for rules relay received
+    ++ manage_sends_for rules relay received ++ serve_sends_for rules d received
 
 -- what an event sends in this state
 unfoldable pub sends : State → Event → List Sending

@@ -1,6 +1,8 @@
--- Worked examples of the built-in configuration, frame by frame: what a reader can hold against the standard. Frames are written in
--- hexadecimal. In each, a station at 192.168.1.5 on port 1 sends a datagram to a fresh gateway.
-use Rattle.std.specs.Prelude.{◌≡◌, Bool, ℕ, zero, suc, ◌+◌, ◌-◌, ◌*◌, ◌^◌, true, false, List, [], ◌∷◌, ◌++◌, take, map, replicate, codes, Some, None, nat_lt, if◌then◌else◌}
+-- Worked examples of the built-in configuration, frame by frame: what a reader can hold against the
+-- standard. Frames are written in hexadecimal. In each, a station at 192.168.1.5 on port 1 sends a
+-- datagram to a fresh gateway.
+use Rattle.std.specs.Prelude.{◌≡◌, Bool, ℕ, zero, suc, ◌+◌, ◌-◌, ◌*◌, ◌^◌, true, false, List, [], ◌∷◌, ◌++◌, take, map}
+use Rattle.std.specs.Prelude.{replicate, codes, Some, None, nat_lt, if◌then◌else◌}
 use Rattle.gw_addr.specs.declared.bip.BipAddr.{BipAddr}
 use Rattle.gw_rules.specs.Ask.{Ask}
 use Rattle.gw_rules.specs.Hides.{hides_from, hides_from_network}
@@ -12,7 +14,8 @@ use Rattle.gw_core.specs.Effects.{nothing, passes_end}
 use Rattle.gw_core.specs.History.{effects, run, state_after}
 use Rattle.gw_tags.specs.Object.{Object}
 use Rattle.gw_core.specs.NoLeak.{IsWriteOf, LeavesOut, kept}
-use Rattle.gw_rules.specs.declared.field.FieldName.TheVariants.{Instance, ObjectType, Operation, SourceKey, SourceNetwork}
+use Rattle.gw_rules.specs.declared.field.FieldName.TheVariants.{Instance, ObjectType, Operation, SourceKey}
+use Rattle.gw_rules.specs.declared.field.FieldName.TheVariants.{SourceNetwork}
 use Rattle.gw_rules.specs.Rule.{rule_without_fields, with_range}
 use Rattle.gw_policy_text.specs.Configuration.{Configuration}
 use Rattle.gw_relay.specs.Sends.{Sending}
@@ -83,7 +86,9 @@ ReadIsAnswered = gives read_frame ≡ answers (hex (codes "810A00180108006401013
 
 -- A read of hidden Binary Value 2 answers the access error, and is denied by the rule that hides it.
 abbrev pub HiddenReadIsDenied : Type 0
-HiddenReadIsDenied = gives (hex (codes "810A0016012400640101FF0005080C0C014000021955")) ≡ refuses (hex (codes "810A001101080064010150080C9102911B")) 2
+HiddenReadIsDenied =
+    gives (hex (codes "810A0016012400640101FF0005080C0C014000021955"))
+    ≡ refuses (hex (codes "810A001101080064010150080C9102911B")) 2
 
 -- A read that names no destination network isn't heard by the device.
 abbrev pub LocalReadIsUnheard : Type 0
@@ -91,11 +96,15 @@ LocalReadIsUnheard = gives (hex (codes "810A001101040005070C0C014000011955")) �
 
 -- A read of Binary Value 7, which isn't there but is hidden, doesn't tell that it isn't there.
 abbrev pub HiddenObjectIsUntold : Type 0
-HiddenObjectIsUntold = gives (hex (codes "810A0016012400640101FF0005090C0C014000071955")) ≡ refuses (hex (codes "810A001101080064010150090C9102911B")) 7
+HiddenObjectIsUntold =
+    gives (hex (codes "810A0016012400640101FF0005090C0C014000071955"))
+    ≡ refuses (hex (codes "810A001101080064010150090C9102911B")) 7
 
 -- A read of Binary Value 50, which is neither hidden nor there, tells that the object is unknown.
 abbrev pub UnknownObjectIsTold : Type 0
-UnknownObjectIsTold = gives (hex (codes "810A0016012400640101FF0005090C0C014000321955")) ≡ answers (hex (codes "810A001101080064010150090C9101911F"))
+UnknownObjectIsTold =
+    gives (hex (codes "810A0016012400640101FF0005090C0C014000321955"))
+    ≡ answers (hex (codes "810A001101080064010150090C9101911F"))
 
 -- the numbers below a number
 abbrev pub below : ℕ → List ℕ
@@ -125,7 +134,8 @@ going_on ticks denials = state_after setting (record { ticks = ticks; denials = 
 abbrev pub CountsEnd : Type 0
 CountsEnd =
     (passes_end (going_on (2 ^ 63) 0) Tick ≡ true)
-    × (passes_end (going_on 0 (2 ^ 63)) (Datagram 1 (node 1 5) (hex (codes "810A0016012400640101FF0005080C0C014000021955"))) ≡ true)
+    × (passes_end (going_on 0 (2 ^ 63))
+    (Datagram 1 (node 1 5) (hex (codes "810A0016012400640101FF0005080C0C014000021955"))) ≡ true)
     × (passes_end (going_on 0 (2 ^ 63)) (Datagram 1 (node 1 5) read_frame) ≡ false)
 
 -- a read of hidden Binary Value 2, as an event, and the access error that answers it
@@ -183,7 +193,10 @@ RelinquishIsSeen =
 
 -- the built-in configuration, where a first rule denies all writes
 abbrev pub no_writes : Configuration
-no_writes = record setting { rules = with_range Operation (only 10) (rule_without_fields (codes "no-writes") false) ∷ setting.rules }
+no_writes =
+    record setting {
+      rules = with_range Operation (only 10) (rule_without_fields (codes "no-writes") false) ∷ setting.rules;
+    }
 
 -- a write of Binary Value 1 without a priority, which is one at 16
 abbrev pub write_ask : Ask
@@ -192,7 +205,8 @@ write_ask = record (asks_for 1) { operation = Some 10; service = Some 15; priori
 -- A denied write answers the access error and is logged; the read behind it doesn't see it.
 abbrev pub DeniedWriteIsUnseen : Type 0
 DeniedWriteIsUnseen =
-    run no_writes (record { ticks = 0; denials = 0 }) (sent (hex (codes "810A001A012400640101FF0005100F0C0140000119553E91013F")) ∷ sent read_frame ∷ [])
+    run no_writes (record { ticks = 0; denials = 0 })
+    (sent (hex (codes "810A001A012400640101FF0005100F0C0140000119553E91013F")) ∷ sent read_frame ∷ [])
     ≡ denies 1 0 write_ask (codes "no-writes") (hex (codes "810A001101080064010150100F91029128"))
     ∷ answers (hex (codes "810A001801080064010130070C0C0140000119553E91003F")) ∷ []
 
@@ -244,7 +258,8 @@ registers = from_afar (hex (codes "81050006003C"))
 abbrev pub asks_registered : Event
 asks_registered = from_afar (hex (codes "81060004"))
 
--- A registration for 60 seconds is told as a success, is shown 89 ticks later with one second left, and is gone with the 90th tick.
+-- A registration for 60 seconds is told as a success, is shown 89 ticks later with one second left,
+-- and is gone with the 90th tick.
 abbrev pub RegistrationEnds : Type 0
 RegistrationEnds =
     (after_all [] registers ≡ sends_all (sends_to 1 (node 3 9) (hex (codes "810000060000")) ∷ []))
@@ -253,10 +268,12 @@ RegistrationEnds =
     × (after_all (replicate 90 Tick ++ registers ∷ []) asks_registered
     ≡ sends_all (sends_to 1 (node 3 9) (hex (codes "81070004")) ∷ []))
 
--- A table of the port itself and of the manager 192.168.4.1 is written; then a broadcast on the subnet goes to that manager, and to nobody else.
+-- A table of the port itself and of the manager 192.168.4.1 is written; then a broadcast on the
+-- subnet goes to that manager, and to nobody else.
 abbrev pub BroadcastIsDistributed : Type 0
 BroadcastIsDistributed =
-    runs (sent (hex (codes "81010018C0A8010ABAC0FFFFFFFFC0A80401BAC0FFFFFFFF")) ∷ sent (hex (codes "810B000801001008")) ∷ [])
+    runs (sent (hex (codes "81010018C0A8010ABAC0FFFFFFFFC0A80401BAC0FFFFFFFF"))
+    ∷ sent (hex (codes "810B000801001008")) ∷ [])
     ≡ answers (hex (codes "810000060000"))
     ∷ sends_all (sends_to 1 (node 4 1) (hex (codes "8104000EC0A80105BAC001001008")) ∷ []) ∷ []
 
@@ -264,11 +281,12 @@ BroadcastIsDistributed =
 abbrev pub to_400 : Event
 to_400 = sent (hex (codes "810A000D012001900107FF1008"))
 
--- A router on port 2 names networks 400 and 300. A message for network 400 then goes to it, with its source added and one hop less. Network 300
--- has a configured route, and keeps it.
+-- A router on port 2 names networks 400 and 300. A message for network 400 then goes to it, with
+-- its source added and one hop less. Network 300 has a configured route, and keeps it.
 abbrev pub LearnedRouteIsTaken : Type 0
 LearnedRouteIsTaken =
-    runs (Datagram 2 (node 2 21) (hex (codes "810B000B0180010190012C")) ∷ to_400 ∷ sent (hex (codes "810A000D0120012C0107FF1008")) ∷ [])
+    runs (Datagram 2 (node 2 21) (hex (codes "810B000B0180010190012C")) ∷ to_400
+    ∷ sent (hex (codes "810A000D0120012C0107FF1008")) ∷ [])
     ≡ nothing
     ∷ sends_all (sends_to 2 (node 2 21) (hex (codes "810A0016012801900107000106C0A80105BAC0FE1008")) ∷ [])
     ∷ sends_all (sends_to 2 (node 2 20) (hex (codes "810A00160128012C0107000106C0A80105BAC0FE1008")) ∷ []) ∷ []
@@ -277,9 +295,11 @@ LearnedRouteIsTaken =
 abbrev pub UnknownNetworkIsSought : Type 0
 UnknownNetworkIsSought =
     after_all [] to_400
-    ≡ sends_all (sends_to 1 (node 1 5) (hex (codes "810A000A018003010190")) ∷ sends_to 2 (node 2 255) (hex (codes "810B00090180000190")) ∷ [])
+    ≡ sends_all (sends_to 1 (node 1 5) (hex (codes "810A000A018003010190"))
+    ∷ sends_to 2 (node 2 255) (hex (codes "810B00090180000190")) ∷ [])
 
--- A Who-Is to every network goes on to the other port, with one hop less, and the device answers it on the port that it came on.
+-- A Who-Is to every network goes on to the other port, with one hop less, and the device answers it
+-- on the port that it came on.
 abbrev pub GlobalWhoIsGoesOn : Type 0
 GlobalWhoIsGoesOn =
     after_all [] (sent (hex (codes "810B000C0120FFFF00FF1008")))
@@ -313,7 +333,9 @@ write_unseen =
 
 -- what a read of Multi-state Value 1 is then: denied, and logged
 abbrev pub blind_read : Effects
-blind_read = denies 1 0 (record (asks_for 1) { object_type = Some 19 }) (codes "blind") (hex (codes "810A0011010800640101500B0C9102911B"))
+blind_read =
+    denies 1 0 (record (asks_for 1) { object_type = Some 19 }) (codes "blind")
+    (hex (codes "810A0011010800640101500B0C9102911B"))
 
 abbrev pub other_read : Effects
 other_read = answers (hex (codes "810A001801080064010130070C0C0140000119553E91003F"))

@@ -1,5 +1,5 @@
--- The text of an event with its asks: a line for each ask, allowed or denied, with the rule that decides it; and behind them the lines of
--- what the event does.
+-- The text of an event with its asks: a line for each ask, allowed or denied, with the rule that
+-- decides it; and behind them the lines of what the event does.
 use Rattle.std.specs.Prelude.{ℕ, List, [], ◌∷◌, ◌++◌, Option, Some, None, codes, if◌then◌else◌}
 use Rattle.std.specs.Fmt.{decimal}
 use Rattle.std.specs.List.{flat_map}
@@ -20,7 +20,8 @@ abbrev pub by_text : List Rule → Option ℕ → List ℕ
 by_text rules None = codes " default"
 by_text rules (Some number) = codes " rule " ++ decimal number ++ codes " " ++ name_at rules number
 
--- what the policy says of an ask, and by which rule: `allow rule <number> <name>`, `deny rule <number> <name>` or `deny default`
+-- what the policy says of an ask, and by which rule: `allow rule <number> <name>`, `deny rule
+-- <number> <name>` or `deny default`
 unfoldable pub verdict_text : List Rule → Ask → List ℕ
 verdict_text rules ask = (if allows rules ask then codes "allow" else codes "deny") ++ by_text rules (first rules ask)
 

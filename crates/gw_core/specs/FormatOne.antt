@@ -19,9 +19,9 @@ use Rattle.gw_relay.specs.Steps.{Step, asks_of, broadcast, sends_of, step}
 use Rattle.gw_relay.specs.declared.port.PortState.{PortState}
 use Rattle.gw_script.specs.Event.{Event}
 use Rattle.gw_core.specs.declared.effects.Effects.{Effects}
-use Rattle.gw_core.specs.Asks.{cast_asks, link_asks, manage_asks, serve_asks}
+use Rattle.gw_core.specs.Asks.{cast_asks_for, link_asks_for, manage_asks_for, serve_asks_for}
 use Rattle.gw_core.specs.Denials.{denials_of}
-use Rattle.gw_core.specs.Effects.{cast_sends, link_sends, manage_sends, serve_sends}
+use Rattle.gw_core.specs.Effects.{cast_sends_for, link_sends_for, manage_sends_for, serve_sends_for}
 use Rattle.gw_core.specs.Receive.{Received, dropped, managed, unregistered, message, origin, receive}
 use Rattle.gw_core.specs.State.{State}
 
@@ -61,13 +61,13 @@ route_sends_before rules relay (message m) = sends_of rules (routing_before rela
 
 abbrev pub asks_before : State → Received → List Ask
 asks_before w received =
-    link_asks received ++ cast_asks received ++ route_asks_before w.relay received
-    ++ manage_asks w.relay received ++ serve_asks w.rules w.device received
+    link_asks_for received ++ cast_asks_for received ++ route_asks_before w.relay received
+    ++ manage_asks_for w.relay received ++ serve_asks_for w.rules w.device received
 
 abbrev pub sends_before : State → Received → List Sending
 sends_before w received =
-    link_sends w.rules received ++ cast_sends w.rules received ++ route_sends_before w.rules w.relay received
-    ++ manage_sends w.rules w.relay received ++ serve_sends w.rules w.device received
+    link_sends_for w.rules received ++ cast_sends_for w.rules received ++ route_sends_before w.rules w.relay received
+    ++ manage_sends_for w.rules w.relay received ++ serve_sends_for w.rules w.device received
 
 -- what an event does
 abbrev pub effects_before : State → Event → Effects

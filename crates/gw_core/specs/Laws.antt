@@ -1,5 +1,6 @@
 -- Laws over the definitions of the headline: what the folds of a history say in plain words.
-use Rattle.std.specs.Prelude.{◌≡◌, None, ℕ, zero, suc, ◌+◌, Bool, true, false, List, [], ◌∷◌, length, map, filter, not, replicate, count_by}
+use Rattle.std.specs.Prelude.{◌≡◌, None, ℕ, zero, suc, ◌+◌, Bool, true, false, List, [], ◌∷◌, length, map, filter, not}
+use Rattle.std.specs.Prelude.{replicate, count_by}
 use Rattle.std.specs.List.{AllByRecursion, flat_map, list_all}
 use Rattle.gw_addr.specs.declared.bip.BipAddr.{BipAddr}
 use Rattle.gw_relay.specs.Cast.{accepts}
@@ -15,7 +16,8 @@ use Rattle.gw_script.specs.Event.{Event}
 use Rattle.gw_script.specs.Event.{Datagram, Tick}
 use Rattle.gw_policy_text.specs.Configuration.{Configuration}
 use Rattle.gw_policy_text.specs.declared.format.Format.TheVariants.{One}
-use Rattle.gw_core.specs.History.{RoutesStand, TablesStand, WritesStand, learnings, port_acts, writes, state_after, run, history_after, IsStep, IsStateAfter, effects, run_after, run_from, state_from, next}
+use Rattle.gw_core.specs.History.{RoutesStand, TablesStand, WritesStand, learnings, port_acts, writes, state_after, run}
+use Rattle.gw_core.specs.History.{history_after, IsStep, IsStateAfter, effects, run_after, run_from, state_from, next}
 use Rattle.gw_rules.specs.Ask.{Ask}
 use Rattle.gw_rules.specs.declared.rule.Rule.{Rule}
 use Rattle.gw_rules.specs.RuleList.{first, allows}
@@ -30,12 +32,13 @@ use Rattle.gw_device.specs.Read.{named_read, read_ask, read_response}
 use Rattle.gw_device.specs.Response.{to_client}
 use Rattle.gw_services.specs.Choices.{read_property, write_property}
 use Rattle.gw_device.specs.Write.{write_ask, write_response}
-use Rattle.gw_core.specs.Asks.{asks, cast_asks, manage_asks, route_asks}
+use Rattle.gw_core.specs.Asks.{asks, cast_asks_for, manage_asks_for, route_asks_for}
 use Rattle.gw_core.specs.Denials.{rule_name}
 use Rattle.gw_core.specs.Replay.{no_counts, run_text}
 use Rattle.gw_core.specs.Shown.{event_text, text_of_run}
 use Rattle.gw_core.specs.FormatOne.{effects_before}
-use Rattle.gw_core.specs.Effects.{NeedsNoMemory, cast_sends, change_at, effects_at, manage_sends, move_at, nothing, route_sends}
+use Rattle.gw_core.specs.Effects.{NeedsNoMemory, cast_sends_for, change_at, effects_at, manage_sends_for, move_at}
+use Rattle.gw_core.specs.Effects.{nothing, route_sends_for}
 use Rattle.gw_relay.specs.Message.{Message}
 use Rattle.gw_core.specs.Explained.{ask_line, ask_lines}
 use Rattle.gw_core.specs.Receive.{dropped, message, origin, receive}
@@ -57,7 +60,8 @@ numbers_from first (suc count) = first ∷ numbers_from (first + 1) count
 
 -- The ticks of a gateway are the first count and the ticks of its history.
 abbrev pub TicksAreCounted : Type 0
-TicksAreCounted = (c : Configuration) (k : Counts) (h : List Event) → (state_after c k h).ticks ≡ k.ticks + count_by is_tick h
+TicksAreCounted =
+    (c : Configuration) (k : Counts) (h : List Event) → (state_after c k h).ticks ≡ k.ticks + count_by is_tick h
 
 -- The ticks that the ports' tables have seen are those of the history.
 abbrev pub RelayTicksAreCounted : Type 0
@@ -67,11 +71,15 @@ RelayTicksAreCounted = (c : Configuration) (k : Counts) (h : List Event) →
 
 -- The number of its last denial is the first count and the length of the log so far.
 abbrev pub DenialsAreCounted : Type 0
-DenialsAreCounted = (c : Configuration) (k : Counts) (l : List Event) → (state_after c k (history_after [] l)).denials ≡ k.denials + length (log (run c k l))
+DenialsAreCounted =
+    (c : Configuration) (k : Counts) (l : List Event)
+    → (state_after c k (history_after [] l)).denials ≡ k.denials + length (log (run c k l))
 
 -- The denials of the log are numbered one after the other, from one more than the first count on.
 abbrev pub LogIsNumbered : Type 0
-LogIsNumbered = (c : Configuration) (k : Counts) (l : List Event) → map (λ d. d.number) (log (run c k l)) ≡ numbers_from (k.denials + 1) (length (log (run c k l)))
+LogIsNumbered =
+    (c : Configuration) (k : Counts) (l : List Event)
+    → map (λ d. d.number) (log (run c k l)) ≡ numbers_from (k.denials + 1) (length (log (run c k l)))
 
 -- Each step extends every history: what was answered is what the event does after that history, and the
 -- state is that after one event more.
@@ -142,19 +150,19 @@ is_allowed rules step = list_all (allows rules) step.asks
 -- policy all allows, in order; and the asks are those of all steps.
 abbrev pub AllowedTrafficIsSent : Type 0
 AllowedTrafficIsSent = (rules : List Rule) (relay : Relay) (m : Message) →
-    (route_sends rules relay (message m)
+    (route_sends_for rules relay (message m)
     ≡ flat_map (λ s. s.sends) (filter (is_allowed rules) (route_steps relay m)))
-    × (route_asks relay (message m) ≡ flat_map (λ s. s.asks) (route_steps relay m))
-    × (manage_sends rules relay (message m)
+    × (route_asks_for relay (message m) ≡ flat_map (λ s. s.asks) (route_steps relay m))
+    × (manage_sends_for rules relay (message m)
     ≡ flat_map (λ s. s.sends) (filter (is_allowed rules) (manage_steps relay m)))
-    × (manage_asks relay (message m) ≡ flat_map (λ s. s.asks) (manage_steps relay m))
+    × (manage_asks_for relay (message m) ≡ flat_map (λ s. s.asks) (manage_steps relay m))
 
 -- A broadcast that the policy denies is distributed to nobody: a Distribute-Broadcast gets its refusal, and any
 -- other frame nothing.
 abbrev pub DeniedBroadcastsAreKept : Type 0
 DeniedBroadcastsAreKept = (rules : List Rule) (m : Message) →
-    list_all (allows rules) (cast_asks (message m)) ≡ false → accepts m.here m.from m.frame ≡ true →
-    cast_sends rules (message m) ≡ map (answer_to m.here.port m.from) (refused m.frame)
+    list_all (allows rules) (cast_asks_for (message m)) ≡ false → accepts m.here m.from m.frame ≡ true →
+    cast_sends_for rules (message m) ≡ map (answer_to m.here.port m.from) (refused m.frame)
 
 -- A datagram that is dropped asks nothing and sends nothing, so it needs no memory.
 abbrev pub DroppedNeedsNoMemory : Type 0
@@ -171,7 +179,8 @@ NothingAskedIsWritten = (w : State) (e : Event) → asks w e ≡ [] → change_a
 
 -- After every history the ports' tables are those that its granted acts and its ticks left.
 abbrev pub ActsLeaveTheTables : Type 0
-ActsLeaveTheTables = (c : Configuration) (k : Counts) (h : List Event) → TablesStand c (port_acts c k h) (state_after c k h)
+ActsLeaveTheTables =
+    (c : Configuration) (k : Counts) (h : List Event) → TablesStand c (port_acts c k h) (state_after c k h)
 
 -- And the routes are the configured ones, and those of the networks that were granted to be learned.
 abbrev pub LearningsLeaveTheRoutes : Type 0
@@ -180,7 +189,8 @@ LearningsLeaveTheRoutes =
 
 -- And each slot and each default of the device's objects is what the granted writes left.
 abbrev pub WritesLeaveTheSlots : Type 0
-WritesLeaveTheSlots = (c : Configuration) (k : Counts) (h : List Event) → WritesStand c (writes c k h) (state_after c k h)
+WritesLeaveTheSlots =
+    (c : Configuration) (k : Counts) (h : List Event) → WritesStand c (writes c k h) (state_after c k h)
 
 -- A gateway has the ports of its configuration, whatever comes.
 abbrev pub PortsStay : Type 0

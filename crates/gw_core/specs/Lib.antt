@@ -16,6 +16,7 @@ pub mod Shown
 pub mod Explained
 pub mod Replay
 pub mod LineOutcome
+pub mod Flawed
 pub mod Wire
 pub mod Serve
 pub mod ServeTurn

@@ -60,10 +60,6 @@ pub record MemoryWant (w : State) (text : List ℕ) : Type 0 where
   pub lines : lines_of text ≡ line ∷ others
   pub wants : ¬ (NeedsNoMemory w event)
 
--- a text of which an octet at least is left behind
-abbrev pub IsShorter : List ℕ → Option (List ℕ) → Type 0
-IsShorter text left = (rest : List ℕ) × (left ≡ Some rest) × (length rest + 1 ≤ length text)
-
 -- what comes of the first line, whose number this is
 abbrev pub LineOutcome : Telling → ℕ → State → State → List ℕ → Option (List ℕ) → List ℕ → Option (List ℕ)
     → Result Bool RunFault → Type 0

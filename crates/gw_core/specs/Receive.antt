@@ -1,12 +1,14 @@
 -- What the gateway makes of an event before any policy is asked.
-use Rattle.std.specs.Prelude.{ℕ, Bool, true, false, List, length, Option, Some, None, Ok, Err, nat_le, ◌==◌, ◌&&◌, ◌||◌, not, if◌then◌else◌}
+use Rattle.std.specs.Prelude.{ℕ, Bool, true, false, List, length, Option, Some, None, Ok, Err, nat_le, ◌==◌, ◌&&◌, ◌||◌}
+use Rattle.std.specs.Prelude.{not, if◌then◌else◌}
 use Rattle.std.specs.List.{list_any}
 use Rattle.gw_addr.specs.declared.bip.BipAddr.{BipAddr}
 use Rattle.gw_addr.specs.declared.station.Source.{Source}
 use Rattle.gw_addr.specs.Address.{octets_of, big_endian}
 use Rattle.gw_bvll.specs.Reading.{bvll_at}
 use Rattle.gw_bvll.specs.declared.writing.TheConstants.{MAX_LEN}
-use Rattle.gw_bvll.specs.Bvll.{write_bdt, read_bdt, forwarded, register, read_fdt, delete, distribute, original_unicast, original_broadcast}
+use Rattle.gw_bvll.specs.Bvll.{write_bdt, read_bdt, forwarded, register, read_fdt, delete, distribute, original_unicast}
+use Rattle.gw_bvll.specs.Bvll.{original_broadcast}
 use Rattle.gw_bvll.specs.Bvll.{Message as Frame}
 use Rattle.gw_npdu.specs.Npdu.{Fields, Address}
 use Rattle.gw_npdu.specs.Numbers.{max_len}

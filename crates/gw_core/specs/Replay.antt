@@ -12,8 +12,8 @@ use Rattle.gw_script.specs.Script.{lines_of, IsLine, AreLines}
 abbrev pub no_counts : Counts
 no_counts = record { ticks = 0; denials = 0 }
 
--- How an event is told: the text of it, in the state in which it comes. A replay tells what each event does (`event_text`), and one that
--- explains also what each asks (`explained_text`).
+-- How an event is told: the text of it, in the state in which it comes. A replay tells what each
+-- event does (`event_text`), and one that explains also what each asks (`explained_text`).
 abbrev pub Telling : Type 0
 Telling = State → Event → List ℕ
 
@@ -36,7 +36,8 @@ pub record RunsWhole (told : Telling) (c : Configuration) (script before after :
   pub lines : AreLines (length c.ports) (lines_of script) events
   pub text : after ≡ before ++ run_text told c events
 
--- the lines before this one, which is counted from 1, write events, this line writes none, and what was written is the text of their run
+-- the lines before this one, which is counted from 1, write events, this line writes none, and what
+-- was written is the text of their run
 pub record RunsToLine (told : Telling) (n : ℕ) (c : Configuration) (script before after : List ℕ) : Type 0 where
   pub events : List Event
   pub number : n ≡ length events + 1
@@ -53,8 +54,8 @@ pub record RunsPart (told : Telling) (c : Configuration) (script before after : 
   pub lines : FirstLines c script events
   pub text : after ≡ before ++ run_text told c events
 
--- some first lines write events, the line behind them writes one that would pass the end of a count, and what was written is the text of
--- the run of those before
+-- some first lines write events, the line behind them writes one that would pass the end of a
+-- count, and what was written is the text of the run of those before
 pub record RunsToEnd (told : Telling) (c : Configuration) (script before after : List ℕ) : Type 0 where
   pub events : List Event
   pub lines : FirstLines c script events
@@ -75,8 +76,8 @@ pub record MemoryLine (c : Configuration) (script : List ℕ) (events : List Eve
   pub writes : IsLine (length c.ports) line event
   pub wants : ¬ (NeedsNoMemory (state_after c no_counts (history_after [] events)) event)
 
--- Some first lines write events, and what was written is the text of their run, whole. Either there are none of them, or the line behind
--- them writes an event for which memory may be wanted.
+-- Some first lines write events, and what was written is the text of their run, whole. Either there
+-- are none of them, or the line behind them writes an event for which memory may be wanted.
 pub record RunsToMemory (told : Telling) (c : Configuration) (script before after : List ℕ) : Type 0 where
   pub events : List Event
   pub lines : FirstLines c script events
@@ -91,8 +92,3 @@ pub record RunsFront (told : Telling) (c : Configuration) (script before after :
   pub unwritten : List ℕ
   pub parts : run_text told c events ≡ front ++ unwritten
   pub text : after ≡ before ++ front
-
--- Where the octets of the reader and those that the writer holds are known, they are so known after the replay, and this is said of
--- the script, of what was written before and of what is written then.
-abbrev pub OnKnown : Option (List ℕ) → Option (List ℕ) → Option (List ℕ) → (List ℕ → List ℕ → List ℕ → Type 0) → Type 0
-OnKnown read held holds said = (script before : List ℕ) → read ≡ Some script → held ≡ Some before → IsSomeAnd holds (said script before)

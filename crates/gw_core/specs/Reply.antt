@@ -1,6 +1,7 @@
 -- The message that an APDU for the device comes in, and those that carry its answer (clauses 6.2.2, 16.9
 -- and 16.10).
-use Rattle.std.specs.Prelude.{ℕ, ◌-◌, Bool, true, false, List, [], ◌∷◌, length, slice_index, Option, Some, None, is_some, ◌==◌, ◌&&◌, ◌||◌, not, if◌then◌else◌}
+use Rattle.std.specs.Prelude.{ℕ, ◌-◌, Bool, true, false, List, [], ◌∷◌, length, slice_index, Option, Some, None}
+use Rattle.std.specs.Prelude.{is_some, ◌==◌, ◌&&◌, ◌||◌, not, if◌then◌else◌}
 use Rattle.std.specs.Option.{option_map}
 use Rattle.gw_addr.specs.Station.{key_of}
 use Rattle.gw_npdu.specs.Npdu.{Fields, Address, Destination, Payload, apdu, message}

@@ -1,5 +1,6 @@
 -- What is told of serving: a report each so many seconds, and one at the end.
-use Rattle.std.specs.Prelude.{◌≡◌, ℕ, ◌-◌, ◌%◌, ◌==◌, ◌&&◌, nat_lt, Bool, if◌then◌else◌, List, [], ◌∷◌, ◌++◌, codes, decimal, length, sum_by}
+use Rattle.std.specs.Prelude.{◌≡◌, ℕ, ◌-◌, ◌%◌, ◌==◌, ◌&&◌, nat_lt, Bool, if◌then◌else◌, List, [], ◌∷◌, ◌++◌, codes}
+use Rattle.std.specs.Prelude.{decimal, length, sum_by}
 use Rattle.std.specs.Prelude.{Result, Ok, Err}
 use Rattle.gw_bdt_fdt.specs.Peers.{peers}
 use Rattle.gw_relay.specs.declared.port.PortState.{PortState}
@@ -25,8 +26,8 @@ peer_count links = sum_by (λ link. length (peers link.port.address link.bdt)) l
 abbrev pub counts_at : State → Counts
 counts_at w = record { ticks = w.ticks; denials = w.denials }
 
--- What is told in this state of a gateway that began with these counts, when so much was done. A second is a tick that was taken, and a
--- datagram any other event that was.
+-- What is told in this state of a gateway that began with these counts, when so much was done. A
+-- second is a tick that was taken, and a datagram any other event that was.
 abbrev pub report_of : Counts → State → Served → Report
 report_of start w s = record {
   seconds = w.ticks - start.ticks;
@@ -86,11 +87,12 @@ reports_from seconds start w s (turn ∷ turns) =
     due_text seconds start w (state_from w (turn_events turn)) (count_turn s turn)
     ++ reports_from seconds start (state_from w (turn_events turn)) (count_turn s turn) turns
 
--- What is told of a run from one state to another by these turns: the reports, and at the end, whatever it is, one more of all that was
--- done.
+-- What is told of a run from one state to another by these turns: the reports, and at the end,
+-- whatever it is, one more of all that was done.
 abbrev pub told_of : (seconds : ℕ) → State → List Turn → State → Served → List ℕ
 told_of seconds before turns after served =
-    reports_from seconds (counts_at before) before zero_counts turns ++ report_line (report_of (counts_at before) after served)
+    reports_from seconds (counts_at before) before zero_counts turns
+    ++ report_line (report_of (counts_at before) after served)
 
 -- a run of serving, by its answer, of whose turns this holds
 abbrev pub IsRunWith : (count : ℕ) → Scene → Result Served ServeStop → Scene → (Holds : List Turn → Type 0) → Type 0

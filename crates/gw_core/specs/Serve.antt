@@ -1,5 +1,6 @@
 -- What comes of serving a wire: turn by turn what came, what was taken, logged and sent, and how all stands then.
-use Rattle.std.specs.Prelude.{◌≡◌, ℕ, ◌+◌, ◌<◌, Bool, true, false, not, List, [], ◌∷◌, ◌++◌, length, map, count_by, Option, Result, Ok}
+use Rattle.std.specs.Prelude.{◌≡◌, ℕ, ◌+◌, ◌<◌, Bool, true, false, not, List, [], ◌∷◌, ◌++◌, length, map, count_by}
+use Rattle.std.specs.Prelude.{Option, Result, Ok}
 use Rattle.std.specs.Prelude.{Err, ⊤, if◌then◌else◌}
 use Rattle.std.specs.List.{flat_map}
 use Rattle.std.specs.Io.KnownBytes.{Appends}
@@ -25,16 +26,17 @@ pub record Try : Type 0 where
   pub sending : Sending
   pub success : Bool
 
--- One receive and what followed it: nothing had come; it failed; an event came and wasn't taken, since memory was wanted; or an event
--- came and was taken, and its datagrams were tried to be sent.
+-- One receive and what followed it: nothing had come; it failed; an event came and wasn't taken,
+-- since memory was wanted; or an event came and was taken, and its datagrams were tried to be sent.
 pub data Turn : Type 0 where
   empty_turn : Turn
   failed_turn : Turn
   lost_event : (event : Event) → Turn
   taken_event : (event : Event) (tries : List Try) → Turn
 
--- What a turn may be in this state of the gateway. Memory may be wanted only for an event that asks or sends something. An event that
--- is taken passes the end of no count, and what it sends is tried, once and in order.
+-- What a turn may be in this state of the gateway. Memory may be wanted only for an event that asks
+-- or sends something. An event that is taken passes the end of no count, and what it sends is
+-- tried, once and in order.
 abbrev pub IsTurn : State → Turn → Type 0
 IsTurn w empty_turn = ⊤
 IsTurn w failed_turn = ⊤
@@ -134,8 +136,9 @@ pub record Scene : Type 0 where
 abbrev pub scene : State → Option (List ℕ) → Option (List Call) → Scene
 scene w log calls = record { gateway = w; log = log; calls = calls }
 
--- What these turns lead to: the gateway took their events, in order; the log has the lines of exactly the denials of that run behind
--- what it held; and the wire tells of these receives and sends, in order.
+-- What these turns lead to: the gateway took their events, in order; the log has the lines of
+-- exactly the denials of that run behind what it held; and the wire tells of these receives and
+-- sends, in order.
 pub record LeadTo (before : Scene) (turns : List Turn) (after : Scene) : Type 0 where
   pub each : AreTurns before.gateway turns
   pub gateway : after.gateway ≡ state_from before.gateway (events_of turns)
@@ -185,7 +188,8 @@ EndsBy Log = EndsAtLog
 EndsBy Memory = EndsAtMemory
 EndsBy CountEnd = EndsAtCount
 
--- the counts where the last turn ended in a fault: one receive more, and one event more taken, but for the end of a count
+-- the counts where the last turn ended in a fault: one receive more, and one event more taken, but
+-- for the end of a count
 abbrev pub count_fault : Served → ServeFault → Served
 count_fault s Log = record s { turns = s.turns + 1; taken = s.taken + 1 }
 count_fault s Memory = record s { turns = s.turns + 1; taken = s.taken + 1 }

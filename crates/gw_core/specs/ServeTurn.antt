@@ -11,7 +11,8 @@ use Rattle.gw_core.specs.declared.serving.Served.{Served}
 use Rattle.gw_core.specs.declared.serving.ServeFault.{ServeFault}
 use Rattle.gw_core.specs.declared.serving.ServeFault.TheVariants.{Log, Memory, CountEnd}
 use Rattle.gw_core.specs.Wire.{Call, Tells}
-use Rattle.gw_core.specs.Serve.{Scene, Try, Turn, LeadTo, EndsBy, count_turn, count_fault, failures, lines_of, successes, try_call}
+use Rattle.gw_core.specs.Serve.{Scene, Try, Turn, LeadTo, EndsBy, count_turn, count_fault, failures, lines_of}
+use Rattle.gw_core.specs.Serve.{successes, try_call}
 
 -- what was received, without where its octets lie in memory
 abbrev pub event_answer : Result (Option LentEvent) WireFault → Result (Option Event) WireFault
@@ -38,12 +39,14 @@ TurnEnd before s after t (Err fault) = (event : Event) × EndsBy fault before ev
 abbrev pub LogEnd : List Denial → Option (List ℕ) → Option (List ℕ) → Result Unit ServeFault → Type 0
 LogEnd denials before after (Ok done) = Appends before after (lines_of denials)
 LogEnd denials before after (Err Log) =
-    ¬ (denials ≡ []) × (front : List ℕ) × (unwritten : List ℕ) × (lines_of denials ≡ front ++ unwritten) × Appends before after front
+    ¬ (denials ≡ []) × (front : List ℕ) × (unwritten : List ℕ) × (lines_of denials ≡ front ++ unwritten)
+    × Appends before after front
 LogEnd denials before after (Err Memory) = ¬ (denials ≡ []) × (after ≡ before)
 LogEnd denials before after (Err CountEnd) = ⊥
 
 -- these datagrams were tried to be sent, once and in order, and what came of each is counted
-pub record AreTried (sendings : List Sending) (told tells : Option (List Call)) (s t : Served) (wire_failures then : ℕ) : Type 0 where
+pub record AreTried (sendings : List Sending) (told tells : Option (List Call)) (s t : Served) (wire_failures then : ℕ)
+    : Type 0 where
   pub tries : List Try
   pub are : map (λ x. x.sending) tries ≡ sendings
   pub calls : Tells told tells (map try_call tries)

@@ -9,7 +9,9 @@ use Rattle.gw_policy_text.specs.declared.device.Device.{Device}
 use Rattle.gw_policy_text.specs.declared.format.Format.TheVariants.{One}
 use Rattle.gw_policy_text.specs.declared.object.Object.{Object}
 use Rattle.gw_policy_text.specs.declared.object.ObjectValue.{ObjectValue}
-use Rattle.gw_policy_text.specs.declared.object.ObjectValue.TheVariants.{BinaryValue, MultiStateValue, CharacterStringValue, IntegerValue, PositiveIntegerValue}
+use Rattle.gw_policy_text.specs.declared.object.ObjectValue.TheVariants.{BinaryValue, MultiStateValue}
+use Rattle.gw_policy_text.specs.declared.object.ObjectValue.TheVariants.{CharacterStringValue, IntegerValue}
+use Rattle.gw_policy_text.specs.declared.object.ObjectValue.TheVariants.{PositiveIntegerValue}
 use Rattle.gw_policy_text.specs.declared.port.Port.{Port}
 use Rattle.gw_policy_text.specs.Configuration.{Configuration}
 
@@ -53,7 +55,8 @@ abbrev pub objects : List Object
 objects =
     object 1 (codes "fan") inactive
     ∷ object 2 (codes "door") inactive
-    ∷ object 1 (codes "mode") (MultiStateValue (record { default = 1; states = codes "off" ∷ codes "auto" ∷ codes "on" ∷ [] }))
+    ∷ object 1 (codes "mode")
+    (MultiStateValue (record { default = 1; states = codes "off" ∷ codes "auto" ∷ codes "on" ∷ [] }))
     ∷ object 1 (codes "note") (CharacterStringValue (codes "hi"))
     ∷ object 1 (codes "offset") (IntegerValue (negsuc 4) no_units)
     ∷ object 1 (codes "count") (PositiveIntegerValue 0 no_units)
@@ -65,7 +68,8 @@ only n = record { low = n; high = n }
 -- reads, writes and listings of Binary Values 2 to 9 are denied
 abbrev pub hide : Rule
 hide = with_range Instance (record { low = 2; high = 9 }) (with_range ObjectType (only 5)
-    (with_range Operation (only 11) (with_range Operation (only 10) (with_range Operation (only 9) (rule_without_fields (codes "hide") false)))))
+    (with_range Operation (only 11) (with_range Operation (only 10) (with_range Operation (only 9)
+    (rule_without_fields (codes "hide") false)))))
 
 -- reads of the description of Binary Value 1 are denied
 abbrev pub no_description : Rule

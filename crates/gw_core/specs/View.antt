@@ -10,7 +10,8 @@ use Rattle.gw_relay.specs.declared.port.PortState.{PortState}
 use Rattle.gw_core.specs.declared.denial.Origin.{Origin as CodeOrigin}
 use Rattle.gw_core.specs.declared.receive.Received.{Received as LentReceived}
 use Rattle.gw_core.specs.declared.receive.Received.TheVariants as lent
-use Rattle.gw_core.specs.Receive.{Origin, Received, message_origin, node_origin, dropped, managed, unregistered, message}
+use Rattle.gw_core.specs.Receive.{Origin, Received, message_origin, node_origin, dropped, managed, unregistered}
+use Rattle.gw_core.specs.Receive.{message}
 
 -- A message is judged once it is passed on: it may be unheard, or an unregistered sender's.
 abbrev pub judged : Message → Received

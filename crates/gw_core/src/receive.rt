@@ -113,7 +113,8 @@ fn receive_npdu<'a>(
     frame: &Bvll<'a>,
     octets: &'a [u8],
 ) -> Received<'a>
-    ensures { received_view result ≡ received_npdu on.now from (frame_view frame.now) (npdu_of links.now device octets.now) }
+    ensures { received_view result
+        ≡ received_npdu on.now from (frame_view frame.now) (npdu_of links.now device octets.now) }
 {
     match npdu_of(links, device, octets) {
         None => Received::Dropped,
@@ -133,7 +134,8 @@ fn receive_frame<'a>(
     from: BipAddr,
     frame: &Bvll<'a>,
 ) -> Received<'a>
-    ensures { received_view result ≡ receive_frame links.now device on.now from (frame_view frame.now) }
+    ensures { received_view result
+        ≡ receive_frame links.now device on.now from (frame_view frame.now) }
 {
     if manages(frame) {
         return Received::Managed {

@@ -8,15 +8,19 @@ ghost use Rattle.gw_policy_text.specs.Configuration.{Configuration};
 ghost use Rattle.gw_core.specs.History.{IsStateAfter};
 ghost use Rattle.gw_core.specs.Explained.{explained_text};
 ghost use Rattle.gw_core.specs.Shown.{event_text};
-ghost use Rattle.gw_core.specs.Replay.{OnKnown, no_counts, RunsWhole, RunsToLine, RunsToEnd, RunsToMemory, RunsPart, RunsFront};
-ghost use Rattle.gw_core.specs.LineOutcome.{IsShorter, OnKnownLine};
+ghost use Rattle.gw_core.specs.Replay.{no_counts, RunsWhole, RunsToLine, RunsToEnd, RunsToMemory, RunsPart, RunsFront};
+ghost use Rattle.gw_script.specs.Known.{OnKnown};
+ghost use Rattle.gw_core.specs.LineOutcome.{OnKnownLine};
+ghost use Rattle.gw_script.specs.Known.{IsShorter};
+ghost use Rattle.gw_core.specs.Flawed.{HasFlaw, IsFirstFlaw};
 
 use crate::event::Counts;
 use crate::gateway::Gateway;
 use crate::telling::{Explaining, Plain, Telling};
 use gw_policy_text::Config;
 use gw_script::{
-    LineReader, MAX_DATAGRAM, NextLine, OctetSink, OctetSource, parse_spelled, write_whole,
+    LineFlaw, LineReader, MAX_DATAGRAM, NextLine, OctetSink, OctetSource, flaw_of, parse_spelled,
+    write_whole,
 };
 use std::alloc::Global;
 use thiserror::Error;
@@ -44,13 +48,14 @@ pub enum RunFault {
     CountEnd,
 }
 
-/// What a replay keeps from line to line.
+/// What a replay keeps from line to line, and what is wrong with the line that ends it.
 #[derive(Drop)]
 struct ScriptRun {
     gateway: Gateway,
     lines: LineReader,
     datagram: [u8; MAX_DATAGRAM],
     text: Vec<u8>,
+    flaw: LineFlaw,
     ghost room: { 4 ≤ vec_capacity text },
 }
 
@@ -118,7 +123,8 @@ pub fn replay<R: OctetSource, W: OctetSink>(
         ¬ (IsErrOf result RunFault.Read) }
     ensures sure_writer { W.NeverFails writer.old → ¬ (IsErrOf result RunFault.Write) }
 {
-    replay_telling(alloc, &Plain, config, reader, writer)
+    let mut flaw = LineFlaw::Form;
+    replay_telling(alloc, &Plain, config, reader, writer, &mut flaw)
 }
 
 /// As [`replay`], and before the lines of what an event does there is one for each of its asks, allowed or
@@ -132,11 +138,14 @@ pub fn replay<R: OctetSource, W: OctetSink>(
 /// send 1 192.168.1.5:47808 810A001101080064010150080C9102911B
 /// end
 /// ```
+///
+/// At `Line` it also says what is wrong with that line.
 pub fn replay_explaining<R: OctetSource, W: OctetSink>(
     alloc: Global,
     config: Config,
     reader: &mut R,
     writer: &mut W,
+    flaw: &mut LineFlaw,
 ) -> Result<(), RunFault>
     // What is written then, as of `replay`.
     ensures whole { OnOk result
@@ -145,6 +154,9 @@ pub fn replay_explaining<R: OctetSource, W: OctetSink>(
     ensures line { (n : ℕ) → IsErrOf result (RunFault.Line n) →
         OnKnown (R.left reader.old) (W.held writer.old) (W.held writer.new)
         (RunsToLine explained_text n config) }
+    ensures flaw { (n : ℕ) → IsErrOf result (RunFault.Line n) →
+        OnKnown (R.left reader.old) (W.held writer.old) (W.held writer.new)
+        (λ script before after. HasFlaw (length config.ports) n script flaw.new) }
     ensures count_end { IsErrOf result RunFault.CountEnd →
         OnKnown (R.left reader.old) (W.held writer.old) (W.held writer.new)
         (RunsToEnd explained_text config) }
@@ -162,7 +174,7 @@ pub fn replay_explaining<R: OctetSource, W: OctetSink>(
         ¬ (IsErrOf result RunFault.Read) }
     ensures sure_writer { W.NeverFails writer.old → ¬ (IsErrOf result RunFault.Write) }
 {
-    replay_telling(alloc, &Explaining, config, reader, writer)
+    replay_telling(alloc, &Explaining, config, reader, writer, flaw)
 }
 
 /// Runs the events of a script through a fresh gateway, and tells each so.
@@ -172,6 +184,7 @@ fn replay_telling<T: Telling, R: OctetSource, W: OctetSink>(
     config: Config,
     reader: &mut R,
     writer: &mut W,
+    flaw: &mut LineFlaw,
 ) -> Result<(), RunFault>
     ensures whole { OnOk result
         (OnKnown (R.left reader.old) (W.held writer.old) (W.held writer.new)
@@ -179,6 +192,9 @@ fn replay_telling<T: Telling, R: OctetSource, W: OctetSink>(
     ensures line { (n : ℕ) → IsErrOf result (RunFault.Line n) →
         OnKnown (R.left reader.old) (W.held writer.old) (W.held writer.new)
         (RunsToLine T.told n config) }
+    ensures flaw { (n : ℕ) → IsErrOf result (RunFault.Line n) →
+        OnKnown (R.left reader.old) (W.held writer.old) (W.held writer.new)
+        (λ script before after. HasFlaw (length config.ports) n script flaw.new) }
     ensures count_end { IsErrOf result RunFault.CountEnd →
         OnKnown (R.left reader.old) (W.held writer.old) (W.held writer.new)
         (RunsToEnd T.told config) }
@@ -211,8 +227,11 @@ fn replay_telling<T: Telling, R: OctetSource, W: OctetSink>(
         lines: LineReader::new(),
         datagram: [0; MAX_DATAGRAM],
         text,
+        flaw: *flaw,
     };
-    run.replay_script(alloc, telling, reader, writer)
+    let done = run.replay_script(alloc, telling, reader, writer);
+    *flaw = run.flaw;
+    done
 }
 
 impl ScriptRun {
@@ -232,6 +251,9 @@ impl ScriptRun {
         ensures line { (c : Configuration) (n : ℕ) → IsStateAfter self.old.gateway c no_counts [] → IsErrOf result (RunFault.Line n) →
             OnKnown (R.left reader.old) (W.held writer.old) (W.held writer.new)
             (RunsToLine T.told n c) }
+        ensures flaw { (c : Configuration) (n : ℕ) → IsStateAfter self.old.gateway c no_counts [] → IsErrOf result (RunFault.Line n) →
+            OnKnown (R.left reader.old) (W.held writer.old) (W.held writer.new)
+            (λ script before after. HasFlaw (length c.ports) n script self.new.flaw) }
         ensures count_end { (c : Configuration) → IsStateAfter self.old.gateway c no_counts [] → IsErrOf result RunFault.CountEnd →
             OnKnown (R.left reader.old) (W.held writer.old) (W.held writer.new)
             (RunsToEnd T.told c) }
@@ -273,6 +295,9 @@ impl ScriptRun {
             (prepend_known self.old.lines.unread (R.left reader.old))
             (prepend_known self.new.lines.unread (R.left reader.new))
             (W.held writer.old) (W.held writer.new) result }
+        ensures flaw { (n : ℕ) → IsErrOf result (RunFault.Line n) → (text : List ℕ) →
+            prepend_known self.old.lines.unread (R.left reader.old) ≡ Some text →
+            IsFirstFlaw (length self.old.gateway.relay.links) text self.new.flaw }
         ensures shorter { (text : List ℕ) →
             prepend_known self.old.lines.unread (R.left reader.old) ≡ Some text → result ≡ Ok true →
             IsShorter text (prepend_known self.new.lines.unread (R.left reader.new)) }
@@ -286,13 +311,17 @@ impl ScriptRun {
     {
         let (len, span) = match self.lines.find_line(reader) {
             Ok(NextLine::Line { len, span }) => (len, span),
-            Ok(NextLine::Long) => return Err(RunFault::Line(number)),
+            Ok(NextLine::Long) => {
+                self.flaw = LineFlaw::Long;
+                return Err(RunFault::Line(number));
+            }
             Ok(NextLine::End) => return Ok(false),
             Err(_) => return Err(RunFault::Read),
         };
         let line = self.lines.front(len);
         let ports = self.gateway.ports();
         let Some((event, sender)) = parse_spelled(ports, line, &mut self.datagram) else {
+            self.flaw = flaw_of(ports, line);
             return Err(RunFault::Line(number));
         };
         match telling.make_text(alloc, &mut self.gateway, &event, &sender, &mut self.text) {

@@ -112,7 +112,8 @@ fn write_field<S: OctetSink>(name: &str, number: u128, sink: &mut S) -> Result<(
 /// Writes in how many seconds how many datagrams were taken, events dropped and asks denied.
 #[tactic(auto, unfolding(crate::specs::Reports::events_text))]
 fn write_events<S: OctetSink>(report: &Report, sink: &mut S) -> Result<(), WriteFailed>
-    ensures ok { OnOk result (Appends (S.held sink.old) (S.held sink.new) (events_text report.now)) }
+    ensures ok { OnOk result
+        (Appends (S.held sink.old) (S.held sink.new) (events_text report.now)) }
     ensures sure { S.NeverFails sink.old → IsOk result }
     ensures lasts { S.NeverFails sink.old → S.NeverFails sink.new }
 {
@@ -152,7 +153,8 @@ fn write_calls<S: OctetSink>(report: &Report, sink: &mut S) -> Result<(), WriteF
 /// Writes what the tables hold.
 #[tactic(auto, unfolding(crate::specs::Reports::tables_text))]
 fn write_tables<S: OctetSink>(report: &Report, sink: &mut S) -> Result<(), WriteFailed>
-    ensures ok { OnOk result (Appends (S.held sink.old) (S.held sink.new) (tables_text report.now)) }
+    ensures ok { OnOk result
+        (Appends (S.held sink.old) (S.held sink.new) (tables_text report.now)) }
     ensures sure { S.NeverFails sink.old → IsOk result }
     ensures lasts { S.NeverFails sink.old → S.NeverFails sink.new }
 {
@@ -170,7 +172,8 @@ fn write_tables<S: OctetSink>(report: &Report, sink: &mut S) -> Result<(), Write
 /// Writes the line of a report.
 #[tactic(auto, unfolding(crate::specs::Reports::report_line))]
 fn write_report<S: OctetSink>(report: &Report, sink: &mut S) -> Result<(), WriteFailed>
-    ensures ok { OnOk result (Appends (S.held sink.old) (S.held sink.new) (report_line report.now)) }
+    ensures ok { OnOk result
+        (Appends (S.held sink.old) (S.held sink.new) (report_line report.now)) }
     ensures sure { S.NeverFails sink.old → IsOk result }
     ensures lasts { S.NeverFails sink.old → S.NeverFails sink.new }
 {

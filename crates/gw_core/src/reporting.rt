@@ -44,7 +44,8 @@ pub fn serve_with_reports<W: Wire, L: OctetSink, R: OctetSink>(
         W.failure_count wire.new
         ≡ W.failure_count wire.old + served.recv_failures + served.send_failures }
     ensures ports { W.port_count wire.new ≡ W.port_count wire.old }
-    ensures sure_log { L.NeverFails log.old → IfErr result (λ stop. ¬ (stop.fault ≡ ServeFault.Log)) }
+    ensures sure_log { L.NeverFails log.old →
+        IfErr result (λ stop. ¬ (stop.fault ≡ ServeFault.Log)) }
     ensures lasting_reports { R.NeverFails reports.old → R.NeverFails reports.new }
 {
     let schedule = Schedule {

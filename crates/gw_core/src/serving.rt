@@ -186,15 +186,14 @@ fn receive<'a, W: Wire>(
         Tells (W.calls wire.old) (W.calls wire.new) (call ∷ []) }
     ensures failures { W.failure_count wire.new ≡ W.failure_count wire.old + failures_of result }
 {
-    match wire.recv(datagram) {
-        Ok(Got::Datagram { port, from, len }) => Ok(Some(Event::Datagram {
+    match wire.recv(datagram)? {
+        Got::Datagram { port, from, len } => Ok(Some(Event::Datagram {
             port,
             from,
             octets: &datagram[..len],
         })),
-        Ok(Got::Tick) => Ok(Some(Event::Tick)),
-        Ok(Got::Idle) => Ok(None),
-        Err(fault) => Err(fault),
+        Got::Tick => Ok(Some(Event::Tick)),
+        Got::Idle => Ok(None),
     }
 }
 

@@ -20,7 +20,8 @@ pub(crate) fn append_effects(
     at_hand: &Option<SpelledAddr<'_>>,
 ) -> Result<(), AllocError>
     ensures ok { OnOk result (out.new.items ≡ out.old.items ++ effects_text effects.now) }
-    ensures room { vec_len out.old + length (effects_text effects.now) ≤ vec_capacity out.old → IsOk result }
+    ensures room { vec_len out.old + length (effects_text effects.now) ≤ vec_capacity out.old →
+        IsOk result }
     ensures capacity { vec_capacity out.old ≤ vec_capacity out.new }
 {
     append_denials(out, effects.denials.as_slice())?;
@@ -31,7 +32,8 @@ pub(crate) fn append_effects(
 /// Appends a line for each denial. Refused only where the buffer had no room for them.
 fn append_denials(out: &mut Vec<u8>, denials: &[Denial]) -> Result<(), AllocError>
     ensures ok { OnOk result (out.new.items ≡ out.old.items ++ denials_text denials.now) }
-    ensures room { vec_len out.old + length (denials_text denials.now) ≤ vec_capacity out.old → IsOk result }
+    ensures room { vec_len out.old + length (denials_text denials.now) ≤ vec_capacity out.old →
+        IsOk result }
     ensures capacity { vec_capacity out.old ≤ vec_capacity out.new }
 {
     for denial in denials {
@@ -43,7 +45,8 @@ fn append_denials(out: &mut Vec<u8>, denials: &[Denial]) -> Result<(), AllocErro
 /// Appends the line of a denial, behind `deny `. Refused only where the buffer had no room for it.
 fn append_denial(out: &mut Vec<u8>, denial: &Denial) -> Result<(), AllocError>
     ensures ok { OnOk result (out.new.items ≡ out.old.items ++ denial_line denial.now) }
-    ensures room { vec_len out.old + length (denial_line denial.now) ≤ vec_capacity out.old → IsOk result }
+    ensures room { vec_len out.old + length (denial_line denial.now) ≤ vec_capacity out.old →
+        IsOk result }
     ensures capacity { vec_capacity out.old ≤ vec_capacity out.new }
 {
     put_slice(out, b"deny ")?;
@@ -57,7 +60,8 @@ fn append_sends(
     at_hand: &Option<SpelledAddr<'_>>,
 ) -> Result<(), AllocError>
     ensures ok { OnOk result (out.new.items ≡ out.old.items ++ sends_text sends.now) }
-    ensures room { vec_len out.old + length (sends_text sends.now) ≤ vec_capacity out.old → IsOk result }
+    ensures room { vec_len out.old + length (sends_text sends.now) ≤ vec_capacity out.old →
+        IsOk result }
     ensures capacity { vec_capacity out.old ≤ vec_capacity out.new }
 {
     append_batches(out, sends.batches(), at_hand)
@@ -70,7 +74,8 @@ fn append_batches(
     at_hand: &Option<SpelledAddr<'_>>,
 ) -> Result<(), AllocError>
     ensures ok { OnOk result (out.new.items ≡ out.old.items ++ flat_map batch_text batches.now) }
-    ensures room { vec_len out.old + length (flat_map batch_text batches.now) ≤ vec_capacity out.old → IsOk result }
+    ensures room { vec_len out.old + length (flat_map batch_text batches.now)
+        ≤ vec_capacity out.old → IsOk result }
     ensures capacity { vec_capacity out.old ≤ vec_capacity out.new }
 {
     for batch in batches {
@@ -86,7 +91,8 @@ fn append_batch(
     at_hand: &Option<SpelledAddr<'_>>,
 ) -> Result<(), AllocError>
     ensures ok { OnOk result (out.new.items ≡ out.old.items ++ batch_text batch.now) }
-    ensures room { vec_len out.old + length (batch_text batch.now) ≤ vec_capacity out.old → IsOk result }
+    ensures room { vec_len out.old + length (batch_text batch.now) ≤ vec_capacity out.old →
+        IsOk result }
     ensures capacity { vec_capacity out.old ≤ vec_capacity out.new }
 {
     for target in batch.targets() {

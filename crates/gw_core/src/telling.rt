@@ -1,7 +1,7 @@
 //! How a replay tells an event: by what it does, or before that also by what it asks.
 
 ghost use Rattle.std.specs.Prelude.{◌≡◌, ◌+◌, ◌≤◌, ◌++◌, IsOk, OnOk, IfErr, vec_capacity, vec_len};
-ghost use Rattle.gw_script.specs.Event.{event_view};
+ghost use Rattle.gw_script.specs.Event.{Tick, event_view};
 ghost use Rattle.gw_core.specs.Effects.{NeedsNoMemory};
 ghost use Rattle.gw_core.specs.Explained.{asks_text};
 ghost use Rattle.gw_core.specs.History.{next};
@@ -13,7 +13,7 @@ use crate::gateway::Gateway;
 use crate::replaying::RunFault;
 use crate::shown::append_effects;
 use crate::whole_run::take_event;
-use gw_script::{Event, SpelledAddr};
+use gw_script::{Event, SpelledAddr, append_end};
 use std::alloc::{AllocError, Global};
 
 /// How a replay tells an event.
@@ -66,8 +66,25 @@ fn append_asked(
     }
 }
 
-/// Has the gateway take an event, and appends the lines of what it does.
-fn append_taken(
+/// Has the gateway take a tick, and appends its only line.
+fn append_tick(gateway: &mut Gateway, text: &mut Vec<u8>) -> Result<(), RunFault>
+    requires room { vec_len text.old + 4 ≤ vec_capacity text.old }
+    ensures text { OnOk result (text.new.items ≡ text.old.items ++ event_text gateway.old Tick) }
+    ensures moved { OnOk result (gateway.new ≡ next gateway.old Tick) }
+    ensures fault { IfErr result (IsEventFault gateway.old Tick) }
+    ensures capacity { vec_capacity text.old ≤ vec_capacity text.new }
+{
+    let Ok(()) = gateway.tick() else {
+        return Err(RunFault::CountEnd);
+    };
+    match append_end(text) {
+        Ok(()) => Ok(()),
+        Err(_) => Err(RunFault::Memory),
+    }
+}
+
+/// Has the gateway take a datagram, and appends the lines of what it does.
+fn append_step(
     alloc: Global,
     gateway: &mut Gateway,
     event: &Event<'_>,
@@ -92,6 +109,28 @@ fn append_taken(
         Err(_) => return Err(RunFault::Memory),
     }
     Ok(())
+}
+
+/// Has the gateway take an event, and appends the lines of what it does.
+fn append_taken(
+    alloc: Global,
+    gateway: &mut Gateway,
+    event: &Event<'_>,
+    sender: &Option<SpelledAddr<'_>>,
+    text: &mut Vec<u8>,
+) -> Result<(), RunFault>
+    requires room { NeedsNoMemory gateway.old (event_view event.now) →
+        vec_len text.old + 4 ≤ vec_capacity text.old }
+    ensures text { let due = event_text gateway.old (event_view event.now) in
+        OnOk result (text.new.items ≡ text.old.items ++ due) }
+    ensures moved { OnOk result (gateway.new ≡ next gateway.old (event_view event.now)) }
+    ensures fault { IfErr result (IsEventFault gateway.old (event_view event.now)) }
+    ensures capacity { vec_capacity text.old ≤ vec_capacity text.new }
+{
+    match event {
+        Event::Datagram { .. } => append_step(alloc, gateway, event, sender, text),
+        Event::Tick => append_tick(gateway, text),
+    }
 }
 
 impl Telling for Plain {

@@ -21,8 +21,10 @@ pub(crate) fn take_event(
     ensures given { IfOk result (λ given. given ≡ effects_at gateway.old (event_view event.now)) }
     ensures moved { OnOk result (gateway.new ≡ next gateway.old (event_view event.now)) }
     ensures within { IsOk result → passes_end gateway.old (event_view event.now) ≡ false }
-    ensures count_end { IsErrOf result StepFault.CountEnd → passes_end gateway.old (event_view event.now) ≡ true }
-    ensures memory { IsErrOf result StepFault.Memory → ¬ (NeedsNoMemory gateway.old (event_view event.now)) }
+    ensures count_end { IsErrOf result StepFault.CountEnd →
+        passes_end gateway.old (event_view event.now) ≡ true }
+    ensures memory { IsErrOf result StepFault.Memory →
+        ¬ (NeedsNoMemory gateway.old (event_view event.now)) }
     ensures err { OnErr result (gateway.new ≡ gateway.old) }
 {
     match event {
@@ -42,10 +44,13 @@ pub fn run(
     gateway: &mut Gateway,
     events: &[Event<'_>],
 ) -> Result<Vec<Effects>, StepFault>
-    ensures effects { IfOk result (λ given. given.items ≡ run_from gateway.old (map event_view events.now)) }
+    ensures effects { IfOk result
+        (λ given. given.items ≡ run_from gateway.old (map event_view events.now)) }
     ensures state { OnOk result (gateway.new ≡ state_from gateway.old (map event_view events.now)) }
-    ensures count_end { IsErrOf result StepFault.CountEnd → StopsAtEnd gateway.old (map event_view events.now) gateway.new }
-    ensures err { OnErr result ((n : ℕ) × HasTaken gateway.old (map event_view events.now) n gateway.new) }
+    ensures count_end { IsErrOf result StepFault.CountEnd →
+        StopsAtEnd gateway.old (map event_view events.now) gateway.new }
+    ensures err { OnErr result
+        ((n : ℕ) × HasTaken gateway.old (map event_view events.now) n gateway.new) }
 {
     let mut given = Vec::new(alloc);
     let mut rest = events;

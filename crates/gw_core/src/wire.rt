@@ -73,7 +73,8 @@ pub trait Wire {
     fn send(&mut self, port: u8, to: BipAddr, octets: &[u8]) -> Result<(), WireFault>
         requires { failure_count self.old < 2 ^ 128 - 1 }
         ensures ports { port_count self.new ≡ port_count self.old }
-        ensures calls { let call = send_call result (record { port = port; to = to; octets = octets.now }) in
+        ensures calls { let call = send_call result
+            (record { port = port; to = to; octets = octets.now }) in
             Tells (calls self.old) (calls self.new) (call ∷ []) }
         ensures failures { failure_count self.new ≡ failure_count self.old + failures_of result };
 }

@@ -6,7 +6,6 @@ pub mod Lines
 pub mod Listing
 pub mod Lying
 pub mod Narrowing
-pub mod Numbering
 pub mod Parting
 pub mod Raised
 pub mod RelayAsks

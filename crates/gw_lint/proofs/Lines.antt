@@ -1,12 +1,13 @@
 -- Lines that are appended one after the other.
-use Rattle.std.proofs.Common.{◌≡◌, ◌∙◌, ◌+◌, ◌<◌, ◌≤◌, ◌++◌, ◌∷◌, [], ℕ, List, Result, Ok, Err, ap, arith, append_assoc, refl, length, get_or, suc, sym, subst, take, zero}
+use Rattle.std.proofs.Common.{◌≡◌, ◌∙◌, ◌+◌, ◌<◌, ◌≤◌, ◌++◌, ◌∷◌, [], ℕ, List, Result, Ok, Err, ap, arith, append_assoc, refl, length, get_or, sym, subst, take}
 use Rattle.std.proofs.lemmas.List.{append-nil, length-append, take_all, take_at}
 use Rattle.std.specs.Prelude.{IsErr, OnOk, vec_capacity, vec_items}
 use Rattle.std.specs.Global.{Vec}
 use Rattle.gw_addr.specs.Appending.{IsAppended}
 use Rattle.gw_addr.specs.Reading.{Keeps}
 use Rattle.gw_addr.proofs.Writing.{Keeps-front}
-use Rattle.gw_lint.specs.Warnings.{in_order}
+use Rattle.gw_script.proofs.Order.{in_order_front, in_order_next}
+use Rattle.gw_script.specs.Order.{in_order}
 
 -- the text stands behind what the buffer held
 pub record IsGrown (text : List ℕ) (old new : Vec ℕ) : Type 0 where
@@ -57,34 +58,11 @@ refused {a = a} {u = u} {w = w} (Err f) b is put = record {
 
 -- ---- the lines of items in their order
 
-one_more : {A : Type 0} (lines : ℕ → A → List ℕ) (start : ℕ) (items : List A) (place : ℕ) (d : A) → place < length items →
-    in_order lines start (take (suc place) items) ≡ in_order lines start (take place items) ++ lines (start + place) (get_or items place d)
-unfolding in_order
-one_more lines start [] place d inside = absurd (omega (arith, inside))
-one_more lines start (item ∷ items) zero d inside =
-    let same : start ≡ start + 0 = omega arith in
-    append-nil (lines start item) ∙ ap (λ (n : ℕ). lines n item) same
-one_more lines start (item ∷ items) (suc place) d inside =
-    let same : start + 1 + place ≡ start + suc place = omega arith in
-    ap (λ (t : List ℕ). lines start item ++ t) (one_more lines (start + 1) items place d (omega (arith, inside)))
-    ∙ sym (append_assoc (lines start item) (in_order lines (start + 1) (take place items)) (lines (start + 1 + place) (get_or items place d)))
-    ∙ ap (λ (n : ℕ). (lines start item ++ in_order lines (start + 1) (take place items)) ++ lines n (get_or items place d)) same
-
--- what a list comes to is what its front comes to, and more
-front_of : {A : Type 0} (lines : ℕ → A → List ℕ) (start place : ℕ) (items : List A) → (rest : List ℕ) × (in_order lines start items ≡ in_order lines start (take place items) ++ rest)
-unfolding in_order
-front_of lines start zero items = (in_order lines start items, refl)
-front_of lines start (suc place) [] = ([], sym (append-nil []))
-front_of lines start (suc place) (item ∷ items) =
-    let later = front_of lines (start + 1) place items in
-    (later.0, ap (λ (t : List ℕ). lines start item ++ t) later.1 ∙ sym (append_assoc (lines start item) (in_order lines (start + 1) (take place items)) later.0))
-
 next_line : {A : Type 0} (lines : ℕ → A → List ℕ) (items : List A) (place : ℕ) (d : A) → place < length items →
     in_order lines 0 (take (place + 1) items) ≡ in_order lines 0 (take place items) ++ lines place (get_or items place d)
 next_line lines items place d inside =
-    let next : place + 1 ≡ suc place = omega arith in
     let same : 0 + place ≡ place = omega arith in
-    ap (λ (n : ℕ). in_order lines 0 (take n items)) next ∙ one_more lines 0 items place d inside
+    in_order_next lines 0 items place d inside
     ∙ ap (λ (n : ℕ). in_order lines 0 (take place items) ++ lines n (get_or items place d)) same
 
 -- no line yet
@@ -109,7 +87,7 @@ pub lines_failed : {A T F : Type 0} (e : F) (r : Result T F) (lines : ℕ → A 
 lines_failed {T = T} {F = F} e r lines items place d u v w is inside grown put =
     let a = in_order lines 0 (take place items) in
     let b = lines place (get_or items place d) in
-    let parted = front_of lines 0 (place + 1) items in
+    let parted = in_order_front lines 0 (place + 1) items in
     let whole : (a ++ b) ++ parted.0 ≡ in_order lines 0 items =
     sym (parted.1 ∙ ap (λ (t : List ℕ). t ++ parted.0) (next_line lines items place d inside)) in
     subst (λ (t : List ℕ). IsAppended {T = T} {F = F} t u w r) whole

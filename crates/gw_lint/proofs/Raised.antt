@@ -22,7 +22,7 @@ use Rattle.gw_relay.specs.Message.{Message}
 use Rattle.gw_relay.specs.Route.{route_ask}
 use Rattle.gw_relay.specs.State.{Relay}
 use Rattle.gw_relay.specs.declared.port.Port.{Port}
-use Rattle.gw_core.specs.Asks.{apdu_asks, asks_for, manage_asks, message_asks, route_asks}
+use Rattle.gw_core.specs.Asks.{apdu_asks, asks_for, manage_asks_for, message_asks, route_asks_for}
 use Rattle.gw_core.specs.Receive.{message}
 use Rattle.gw_core.specs.Reply.{apdu_for, context_of}
 use Rattle.gw_core.specs.State.{device_network}
@@ -192,8 +192,8 @@ message_lies rules relay d from m comes =
     let device = device_network d in
     let P = Lies relay.format device from in
     let cast = cast_asks m in
-    let routed = route_asks relay (message m) in
-    let answered = manage_asks relay (message m) in
+    let routed = route_asks_for relay (message m) in
+    let answered = manage_asks_for relay (message m) in
     each_both P (cast ++ routed ++ answered) (message_asks rules d m)
     (each_both P (cast ++ routed) answered
     (each_both P cast routed (cast_lies relay.format device from m comes) (each_route P relay m (route_cases relay.format device from m comes)))

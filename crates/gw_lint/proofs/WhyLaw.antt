@@ -38,7 +38,7 @@ use Rattle.gw_rules.specs.declared.rule.Rule.{Rule}
 use Rattle.gw_rules.proofs.EachAsk.{each_both, each_weaker}
 use Rattle.gw_rules.proofs.First.{first_iff}
 use Rattle.gw_script.specs.Event.{Event, Datagram, Tick}
-use Rattle.gw_core.specs.Asks.{apdu_asks, asks_for, manage_asks, message_asks, route_asks}
+use Rattle.gw_core.specs.Asks.{apdu_asks, asks_for, manage_asks_for, message_asks, route_asks_for}
 use Rattle.gw_core.specs.Denials.{default_name, denials_at, denials_for, denials_from, denials_of, name_at, rule_name}
 use Rattle.gw_core.specs.Effects.{effects_at, effects_for}
 use Rattle.gw_core.specs.History.{state_after}
@@ -130,8 +130,8 @@ message_so : (rules : List Rule) (relay : Relay) (d : Database) (m : Message) â†
 message_so rules relay d m =
     let P = so m in
     let cast = cast_asks m in
-    let routed = route_asks relay (message m) in
-    let answered = manage_asks relay (message m) in
+    let routed = route_asks_for relay (message m) in
+    let answered = manage_asks_for relay (message m) in
     each_both P (cast ++ routed ++ answered) (message_asks rules d m)
     (each_both P (cast ++ routed) answered (each_both P cast routed (cast_so m) (each_route P relay m (route_so relay.format m)))
     (each_network P relay m (network_so m)))

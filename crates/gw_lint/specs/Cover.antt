@@ -31,7 +31,8 @@ lies_in_any outer inner = list_any (λ range. lies_in range inner) outer
 
 -- the earlier ranges hold what the later range holds of the side
 abbrev pub takes_range : Side → List Range → Range → Bool
-takes_range side earlier range = not (overlaps side.range range) || lies_in_any earlier side.range || lies_in_any earlier range
+takes_range side earlier range =
+    not (overlaps side.range range) || lies_in_any earlier side.range || lies_in_any earlier range
 
 -- the earlier ranges admit what the later ones admit of the side
 abbrev pub takes_side : Side → List Range → List Range → Bool

@@ -34,11 +34,12 @@ pub record IsTakenBy (shapes : List Shape) (rules : List Rule) (number by : ℕ)
 abbrev pub IsTakenByNone : List Shape → List Rule → ℕ → Rule → Type 0
 IsTakenByNone shapes rules number later = taker shapes (take (number - 1) rules) later ≡ None
 
--- what a finding says of a rule: of an ask that it decides, that it is the first to match that, and where nothing is known,
--- that neither of the first two is found
+-- what a finding says of a rule: of an ask that it decides, that it is the first to match that, and
+-- where nothing is known, that neither of the first two is found
 abbrev pub Tells : List Shape → List Rule → ℕ → Rule → Finding → Type 0
 Tells shapes rules number rule finding.MatchesNothing = MatchesNothing shapes rule
-Tells shapes rules number rule (finding.TakenBy by) = (is_met shapes rule ≡ true) × IsTakenBy shapes rules number by rule
+Tells shapes rules number rule (finding.TakenBy by) =
+    (is_met shapes rule ≡ true) × IsTakenBy shapes rules number by rule
 Tells shapes rules number rule finding.TakenTogether =
     (is_met shapes rule ≡ true) × IsTakenByNone shapes rules number rule × IsNeverFirst shapes rules number
 Tells shapes rules number rule (finding.Decides ask) =

@@ -1,5 +1,6 @@
--- Every ask that a gateway raises lies in a shape of its configuration, so a rule that no ask of the shapes comes to never
--- decides. And what the log shows of a denied ask is enough to tell which rule denied it.
+-- Every ask that a gateway raises lies in a shape of its configuration, so a rule that no ask of
+-- the shapes comes to never decides. And what the log shows of a denied ask is enough to tell which
+-- rule denied it.
 use Rattle.std.specs.Prelude.{◌≡◌, ◌⊎◌, ℕ, ◌≤◌, List, [], ◌∷◌, ◌++◌, None, Some, IfSome, codes, ⊤}
 use Rattle.std.specs.Fmt.{decimal}
 use Rattle.std.specs.List.{AllByRecursion}
@@ -40,7 +41,8 @@ NeverDecides c number = (k : Counts) (h : List Event) (e : Event) →
 
 -- So a rule that is never the first of an ask of the shapes decides nothing that the gateway does.
 abbrev pub NeverFirstNeverDecides : Type 0
-NeverFirstNeverDecides = (c : Configuration) (number : ℕ) → IsNeverFirst (shapes c) c.rules number → NeverDecides c number
+NeverFirstNeverDecides =
+    (c : Configuration) (number : ℕ) → IsNeverFirst (shapes c) c.rules number → NeverDecides c number
 
 -- ---- the rule of a line
 
@@ -53,8 +55,8 @@ IsSent Tick = ⊤
 abbrev pub denied_by : ℕ → List ℕ → List ℕ
 denied_by number name = codes "deny rule " ++ decimal number ++ codes " " ++ name ++ 10 ∷ []
 
--- The answer names the rule of the denial: the first one that matches its ask, which has the name that the line shows. Where
--- none matches it says so, and the line shows `default`.
+-- The answer names the rule of the denial: the first one that matches its ask, which has the name
+-- that the line shows. Where none matches it says so, and the line shows `default`.
 abbrev pub NamesTheRule : List Rule → Denial → ShownAsk → Type 0
 NamesTheRule rules d shown =
     ((first rules d.ask ≡ None) × (d.rule ≡ default_name) × (answer_to rules shown ≡ codes "deny default" ++ 10 ∷ []))

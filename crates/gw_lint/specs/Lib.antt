@@ -4,7 +4,6 @@ pub mod Laws
 pub mod Lint
 pub mod Meeting
 pub mod Notes
-pub mod Numbered
 pub mod Passage
 pub mod Pieces
 pub mod Search

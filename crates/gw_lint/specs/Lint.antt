@@ -6,7 +6,7 @@ use Rattle.gw_rules.specs.declared.rule.Rule.{Rule}
 use Rattle.gw_lint.specs.Finding.{AreTrue, Tells}
 use Rattle.gw_lint.specs.Laws.{NeverDecides}
 use Rattle.gw_lint.specs.Notes.{notes_text}
-use Rattle.gw_lint.specs.Numbered.{numbered}
+use Rattle.gw_script.specs.Order.{in_order}
 use Rattle.gw_lint.specs.Shapes.{shapes}
 use Rattle.gw_lint.specs.Text.{line_text}
 use Rattle.gw_lint.specs.declared.finding.Finding.{Finding}
@@ -14,7 +14,7 @@ use Rattle.gw_lint.specs.declared.finding.Finding.TheVariants as finding
 
 -- the lines of what is found of the rules, in their order, and the notes behind them
 abbrev pub lint_text : Configuration → Bool → List Finding → List ℕ
-lint_text c explains findings = numbered (line_text explains c.rules) 1 findings ++ notes_text (shapes c) c
+lint_text c explains findings = in_order (line_text explains c.rules) 1 findings ++ notes_text (shapes c) c
 
 -- A text is a lint of a configuration: its lines tell one finding for each rule, which is true over the shapes of the
 -- gateway's asks.

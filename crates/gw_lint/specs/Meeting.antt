@@ -1,5 +1,6 @@
 -- Whether a rule matches an ask of a shape.
-use Rattle.std.specs.Prelude.{ℕ, Bool, nat_le, nat_lt, ◌&&◌, ◌||◌, ◌==◌, List, length, Option, Some, None, find, if◌then◌else◌}
+use Rattle.std.specs.Prelude.{ℕ, Bool, nat_le, nat_lt, ◌&&◌, ◌||◌, ◌==◌, List, length, Option, Some, None, find}
+use Rattle.std.specs.Prelude.{if◌then◌else◌}
 use Rattle.std.specs.List.{list_any}
 use Rattle.std.specs.Option.{option_map}
 use Rattle.gw_rules.specs.Ask.{Ask}

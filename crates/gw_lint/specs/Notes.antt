@@ -1,5 +1,6 @@
 -- Notes on rules that may not mean what they say. Each says when it is made; none is a theorem about the gateway.
-use Rattle.std.specs.Prelude.{ℕ, Bool, not, ◌&&◌, ◌||◌, ◌==◌, nat_lt, if◌then◌else◌, List, [], ◌∷◌, ◌++◌, length, find, codes, decimal}
+use Rattle.std.specs.Prelude.{ℕ, Bool, not, ◌&&◌, ◌||◌, ◌==◌, nat_lt, if◌then◌else◌, List, [], ◌∷◌, ◌++◌, length, find}
+use Rattle.std.specs.Prelude.{codes, decimal}
 use Rattle.std.specs.List.{filter, flat_map, list_any}
 use Rattle.std.specs.Option.{is_some, option_map_or}
 use Rattle.gw_policy_text.specs.Configuration.{Configuration}
@@ -10,7 +11,7 @@ use Rattle.gw_rules.specs.declared.field.TheConstants.FieldName.{ALL}
 use Rattle.gw_rules.specs.declared.range.Range.{Range}
 use Rattle.gw_rules.specs.declared.rule.Rule.{Rule}
 use Rattle.gw_lint.specs.Meeting.{overlaps}
-use Rattle.gw_lint.specs.Numbered.{numbered}
+use Rattle.gw_script.specs.Order.{in_order}
 use Rattle.gw_lint.specs.Passage.{answers, is_routed, is_unnamed, opener, opens_beyond, requests}
 use Rattle.gw_lint.specs.Shape.{Shape}
 use Rattle.gw_lint.specs.Text.{key_of, rule_text}
@@ -35,12 +36,14 @@ abbrev pub is_unknown : Configuration → Range → Bool
 is_unknown c range = (range.low == range.high) && not (is_known c range.low)
 
 abbrev pub network_words : Range → List ℕ
-network_words range = codes "source_network: " ++ decimal range.low ++ codes " is of no port, no route and not the device's"
+network_words range =
+    codes "source_network: " ++ decimal range.low ++ codes " is of no port, no route and not the device's"
 
 -- the first range of the rule's source networks that is so
 abbrev pub network_note : Configuration → ℕ → Rule → List ℕ
 network_note c number rule =
-    option_map_or (λ range. note_text c.rules number (network_words range)) (find (is_unknown c) rule.ranges.source_network) []
+    option_map_or (λ range. note_text c.rules number (network_words range))
+    (find (is_unknown c) rule.ranges.source_network) []
 
 -- ---- ranges that overlap
 
@@ -88,7 +91,7 @@ answer_note rules number port other_number other =
     (opener rules (requests number port other.network)) []
 
 abbrev pub answer_notes : Configuration → ℕ → Port → List ℕ
-answer_notes c number port = numbered (answer_note c.rules number port) 1 c.ports
+answer_notes c number port = in_order (answer_note c.rules number port) 1 c.ports
 
 -- ---- all of them
 
@@ -99,4 +102,4 @@ rule_notes shapes c number rule =
 
 -- rule by rule, and then port by port, over the shapes of the configuration
 abbrev pub notes_text : List Shape → Configuration → List ℕ
-notes_text shapes c = numbered (rule_notes shapes c) 1 c.rules ++ numbered (answer_notes c) 1 c.ports
+notes_text shapes c = in_order (rule_notes shapes c) 1 c.rules ++ in_order (answer_notes c) 1 c.ports

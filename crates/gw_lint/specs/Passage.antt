@@ -1,5 +1,6 @@
 -- Whether asks of a shape may pass a policy, as far as the ranges of its rules tell.
-use Rattle.std.specs.Prelude.{ℕ, ◌+◌, ◌-◌, Bool, false, not, ◌&&◌, ◌||◌, ◌==◌, if◌then◌else◌, List, [], Option, Some, None, position}
+use Rattle.std.specs.Prelude.{ℕ, ◌+◌, ◌-◌, Bool, false, not, ◌&&◌, ◌||◌, ◌==◌, if◌then◌else◌, List, [], Option, Some}
+use Rattle.std.specs.Prelude.{None, position}
 use Rattle.std.specs.Option.{option_map, option_map_or}
 use Rattle.gw_policy_text.specs.declared.port.Port.{Port}
 use Rattle.gw_rules.specs.Fields.{value_of}
@@ -29,7 +30,8 @@ settler rules shape = option_map (λ place. place + 1) (position (settles shape)
 
 -- that number where the rule allows: then an ask of the shape may pass by it
 abbrev pub opener : List Rule → Shape → Option ℕ
-opener rules shape = option_map_or (λ number. if allows_at rules number then Some number else None) (settler rules shape) None
+opener rules shape =
+    option_map_or (λ number. if allows_at rules number then Some number else None) (settler rules shape) None
 
 -- ---- requests and their answers
 
@@ -69,4 +71,5 @@ towards networks shape = record shape { destination_network = networks }
 -- and so it is for those to another network than the device's, which is below that or above it
 abbrev pub opens_beyond : List Rule → ℕ → ℕ → Shape → Bool
 opens_beyond rules device number shape =
-    opens rules number (towards (numbers 0 (device - 1)) shape) || opens rules number (towards (numbers (device + 1) most) shape)
+    opens rules number (towards (numbers 0 (device - 1)) shape)
+    || opens rules number (towards (numbers (device + 1) most) shape)

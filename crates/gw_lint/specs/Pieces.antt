@@ -1,5 +1,6 @@
 -- What is left of a shape outside another one, in pieces.
-use Rattle.std.specs.Prelude.{ℕ, ◌+◌, ◌-◌, true, false, not, ◌&&◌, ◌==◌, nat_lt, if◌then◌else◌, List, [], ◌∷◌, ◌++◌, length, Option, Some, None, find}
+use Rattle.std.specs.Prelude.{ℕ, ◌+◌, ◌-◌, true, false, not, ◌&&◌, ◌==◌, nat_lt, if◌then◌else◌, List, [], ◌∷◌, ◌++◌}
+use Rattle.std.specs.Prelude.{length, Option, Some, None, find}
 use Rattle.std.specs.Option.{option_map_or}
 use Rattle.gw_rules.specs.Ask.{Ask}
 use Rattle.gw_rules.specs.Fields.{value_of, with_value}
@@ -55,7 +56,8 @@ abbrev pub pieces_at : FieldName → Shape → Shape → List Shape
 pieces_at field shape cut =
     let side = value_of field shape in
     let other = value_of field cut in
-    piece field shape (below side other) ++ piece field shape (above side other) ++ piece field shape (missing side other)
+    piece field shape (below side other) ++ piece field shape (above side other)
+    ++ piece field shape (missing side other)
 
 -- the shape as far as it is inside in one field
 abbrev pub inside_at : FieldName → Shape → Shape → Shape

@@ -1,5 +1,6 @@
 -- The line that `check --lint` has for a rule.
-use Rattle.std.specs.Prelude.{ℕ, ◌-◌, Bool, true, not, nat_lt, if◌then◌else◌, List, [], ◌∷◌, ◌++◌, drop, slice_get, Option, codes, decimal}
+use Rattle.std.specs.Prelude.{ℕ, ◌-◌, Bool, true, not, nat_lt, if◌then◌else◌, List, [], ◌∷◌, ◌++◌, drop, slice_get}
+use Rattle.std.specs.Prelude.{Option, codes, decimal}
 use Rattle.std.specs.Int.{w64, to_be_bytes}
 use Rattle.std.specs.List.{flat_map}
 use Rattle.std.specs.Option.{option_map_or}
@@ -9,7 +10,9 @@ use Rattle.gw_rules.specs.Ask.{Ask}
 use Rattle.gw_rules.specs.Fields.{value_of}
 use Rattle.gw_rules.specs.RuleList.{allows_at}
 use Rattle.gw_rules.specs.declared.field.FieldName.{FieldName}
-use Rattle.gw_rules.specs.declared.field.FieldName.TheVariants.{Operation, Port, SourceNetwork, SourceKey, DestinationNetwork, Service, ObjectType, Instance, Property, Priority}
+use Rattle.gw_rules.specs.declared.field.FieldName.TheVariants.{Operation, Port, SourceNetwork, SourceKey}
+use Rattle.gw_rules.specs.declared.field.FieldName.TheVariants.{DestinationNetwork, Service, ObjectType, Instance}
+use Rattle.gw_rules.specs.declared.field.FieldName.TheVariants.{Property, Priority}
 use Rattle.gw_rules.specs.declared.field.TheConstants.FieldName.{ALL}
 use Rattle.gw_rules.specs.declared.rule.Rule.{Rule}
 use Rattle.gw_lint.specs.declared.finding.Finding.{Finding}
@@ -46,8 +49,8 @@ abbrev pub item_text : Ask → FieldName → List ℕ
 item_text ask field = codes " " ++ key_of field ++ codes "=" ++ value_text field (value_of field ask)
 
 -- the ten fields of an ask
-abbrev pub ask_text : Ask → List ℕ
-ask_text ask = flat_map (item_text ask) ALL
+abbrev pub ask_fields_text : Ask → List ℕ
+ask_fields_text ask = flat_map (item_text ask) ALL
 
 -- ---- a rule
 
@@ -75,7 +78,7 @@ found_text rules number (finding.TakenBy by) =
     ++ likeness_text rules by number
 found_text rules number finding.TakenTogether =
     codes "never decides: the rules before it together take all that it matches"
-found_text rules number (finding.Decides ask) = codes "decides, for one," ++ ask_text ask
+found_text rules number (finding.Decides ask) = codes "decides, for one," ++ ask_fields_text ask
 found_text rules number finding.Unknown = codes "can't tell within the steps given"
 
 -- a rule that decides has a line only where that is asked for
@@ -86,4 +89,6 @@ is_told explains _ = true
 -- the line of the rule of a number, if it has one
 abbrev pub line_text : Bool → List Rule → ℕ → Finding → List ℕ
 line_text explains rules number found =
-    if is_told explains found then rule_text rules number ++ codes ": " ++ found_text rules number found ++ 10 ∷ [] else []
+    if is_told explains found
+    then rule_text rules number ++ codes ": " ++ found_text rules number found ++ 10 ∷ []
+    else []

@@ -1,8 +1,10 @@
 -- What a configuration has that is accepted and can't be meant, and the lines that tell it.
-use Rattle.std.specs.Prelude.{ℕ, ◌+◌, ◌-◌, ◌==◌, Bool, ◌&&◌, ◌||◌, not, nat_lt, if◌then◌else◌, List, [], ◌∷◌, ◌++◌, length, drop, codes, decimal, Option, Some, None, position, slice_get}
+use Rattle.std.specs.Prelude.{ℕ, ◌+◌, ◌-◌, ◌==◌, Bool, ◌&&◌, ◌||◌, not, nat_lt, if◌then◌else◌, List, [], ◌∷◌, ◌++◌}
+use Rattle.std.specs.Prelude.{length, drop, codes, decimal, Option, Some, None, position, slice_get}
 use Rattle.std.specs.Int.{w64, to_be_bytes}
 use Rattle.std.specs.Option.{option_map_or}
 use Rattle.gw_addr.specs.Address.{address_in, text_of}
+use Rattle.gw_script.specs.Order.{in_order}
 use Rattle.gw_addr.specs.Text.{four_text}
 use Rattle.gw_addr.specs.declared.bip.BipAddr.{BipAddr}
 use Rattle.gw_addr.specs.declared.entry.BdtEntry.{BdtEntry}
@@ -17,7 +19,8 @@ use Rattle.gw_lint.specs.Subnet.{has_holes, is_elsewhere, is_multicast, is_off_s
 use Rattle.gw_lint.specs.declared.spot.Spot.{Spot}
 use Rattle.gw_lint.specs.declared.spot.Spot.TheVariants.{Address, Broadcast, PeerAddress, PeerMask, Next}
 use Rattle.gw_lint.specs.declared.oddity.Oddity.{Oddity}
-use Rattle.gw_lint.specs.declared.oddity.Oddity.TheVariants.{ZeroPort, Multicast, OtherPort, OffSubnet, IsBroadcast, IsOwn, Elsewhere}
+use Rattle.gw_lint.specs.declared.oddity.Oddity.TheVariants.{ZeroPort, Multicast, OtherPort, OffSubnet, IsBroadcast}
+use Rattle.gw_lint.specs.declared.oddity.Oddity.TheVariants.{IsOwn, Elsewhere}
 
 -- ---- words
 
@@ -25,7 +28,8 @@ use Rattle.gw_lint.specs.declared.oddity.Oddity.TheVariants.{ZeroPort, Multicast
 abbrev pub spot_words : Spot → List ℕ
 spot_words (Address port) = numbered (codes "port ") port ++ codes ": address: "
 spot_words (Broadcast port) = numbered (codes "port ") port ++ codes ": broadcast: "
-spot_words (PeerAddress port peer) = numbered (codes "port ") port ++ numbered (codes ": peer ") peer ++ codes ": address: "
+spot_words (PeerAddress port peer) =
+    numbered (codes "port ") port ++ numbered (codes ": peer ") peer ++ codes ": address: "
 spot_words (PeerMask port peer) = numbered (codes "port ") port ++ numbered (codes ": peer ") peer ++ codes ": mask: "
 spot_words (Next route) = numbered (codes "route ") route ++ codes ": next: "
 
@@ -51,16 +55,12 @@ line_where holds spot address oddity = if holds then line spot address oddity el
 -- the line of a mask with holes
 abbrev pub holes_line : Spot → List ℕ → List ℕ
 holes_line spot mask =
-    codes "warning: " ++ spot_words spot ++ four_text mask ++ codes " has holes: a mask is ones and then zeros" ++ 10 ∷ []
+    codes "warning: " ++ spot_words spot ++ four_text mask ++ codes " has holes: a mask is ones and then zeros"
+    ++ 10 ∷ []
 
 -- that line where it has some
 abbrev pub mask_line : Spot → List ℕ → List ℕ
 mask_line spot mask = if has_holes mask then holes_line spot mask else []
-
--- the lines of items in their order, each by its position, from this one on
-unfoldable pub in_order : {A : Type 0} → (ℕ → A → List ℕ) → ℕ → List A → List ℕ
-in_order lines place [] = []
-in_order lines place (item ∷ items) = lines place item ++ in_order lines (place + 1) items
 
 -- ---- ports and their peers
 
@@ -91,7 +91,8 @@ own_lines place port =
 abbrev pub broadcast_lines : ℕ → Port → List ℕ
 broadcast_lines place port =
     line_where (is_multicast port.broadcast) (Broadcast place) port.broadcast Multicast
-    ++ line_where (not (port.broadcast.udp == port.address.udp)) (Broadcast place) port.broadcast (OtherPort port.address)
+    ++ line_where (not (port.broadcast.udp == port.address.udp)) (Broadcast place) port.broadcast
+    (OtherPort port.address)
     ++ line_where (is_off_subnet port.address port.broadcast) (Broadcast place) port.broadcast (OffSubnet port.address)
 
 -- of a peer

@@ -1,5 +1,6 @@
 -- Which rule would decide the asks that a text tells, line by line.
-use Rattle.std.specs.Prelude.{◌≡◌, ℕ, ◌+◌, ◌-◌, ◌≤◌, Bool, true, false, List, [], ◌∷◌, ◌++◌, length, take, drop, codes, Option, Some, None, Result, Ok, Err, slice_get, ⊤}
+use Rattle.std.specs.Prelude.{◌≡◌, ℕ, ◌+◌, ◌-◌, ◌≤◌, Bool, true, false, List, [], ◌∷◌, ◌++◌, length, take, drop, codes}
+use Rattle.std.specs.Prelude.{Option, Some, None, Result, Ok, Err, slice_get, ⊤}
 use Rattle.std.specs.Fmt.{decimal}
 use Rattle.std.specs.List.{flat_map}
 use Rattle.std.specs.Option.{option_map_or}
@@ -63,8 +64,8 @@ pub record AnswersWhole (rules : List Rule) (text before after : List ℕ) : Typ
   pub lines : AreAskLines (lines_of text) asks
   pub written : after ≡ before ++ answers rules asks
 
--- the lines before this one, which is counted from 1, tell asks, this line tells none, and what was written are the answers
--- to them
+-- the lines before this one, which is counted from 1, tell asks, this line tells none, and what was
+-- written are the answers to them
 pub record AnswersToLine (n : ℕ) (rules : List Rule) (text before after : List ℕ) : Type 0 where
   pub asks : List ShownAsk
   pub number : n ≡ length asks + 1
@@ -123,7 +124,8 @@ pub record CutAnswer (rules : List Rule) (text before : List ℕ) (after : Optio
   pub appended : after ≡ Some (before ++ front)
 
 -- what comes of the first line, whose number this is
-abbrev pub AnswerOutcome : ℕ → List Rule → List ℕ → Option (List ℕ) → List ℕ → Option (List ℕ) → Result Bool WhyFault → Type 0
+abbrev pub AnswerOutcome : ℕ → List Rule → List ℕ → Option (List ℕ) → List ℕ → Option (List ℕ) → Result Bool WhyFault
+    → Type 0
 AnswerOutcome n rules text left before after (Ok true) = WholeAnswer rules text left before after
 AnswerOutcome n rules text left before after (Ok false) = (lines_of text ≡ []) × (after ≡ Some before)
 AnswerOutcome n rules text left before after (Err (Line m)) = (m ≡ n) × NoAsk text × (after ≡ Some before)
@@ -135,4 +137,5 @@ AnswerOutcome n rules text left before after (Err Memory) = after ≡ Some befor
 abbrev pub OnKnownAnswer : ℕ → List Rule → Option (List ℕ) → Option (List ℕ) → Option (List ℕ) → Option (List ℕ)
     → Result Bool WhyFault → Type 0
 OnKnownAnswer n rules left leaves held holds result =
-    (text before : List ℕ) → left ≡ Some text → held ≡ Some before → AnswerOutcome n rules text leaves before holds result
+    (text before : List ℕ) → left ≡ Some text → held ≡ Some before
+    → AnswerOutcome n rules text leaves before holds result

@@ -4,8 +4,8 @@ ghost use Rattle.std.specs.Prelude.{◌≡◌, ◌+◌, ◌*◌, ◌<◌, ◌⊎
 ghost use Rattle.std.specs.Io.KnownBytes.{prepend_known};
 ghost use Rattle.gw_addr.specs.Appending.{IsAppended};
 ghost use Rattle.gw_audit.specs.Entry.{ask_shown};
-ghost use Rattle.gw_core.specs.LineOutcome.{IsShorter};
-ghost use Rattle.gw_core.specs.Replay.{OnKnown};
+ghost use Rattle.gw_script.specs.Known.{IsShorter};
+ghost use Rattle.gw_script.specs.Known.{OnKnown};
 ghost use Rattle.gw_rules.specs.RuleList.{IsNumberOf};
 ghost use Rattle.gw_script.specs.Reader.{IsPaid};
 ghost use Rattle.gw_lint.specs.Why.{AnswersFront, AnswersPart, AnswersToLine, AnswersWhole, OnKnownAnswer, answer, answer_by, answer_to, rule_answer, verdict};
@@ -68,12 +68,15 @@ pub fn why<R: OctetSource, W: OctetSink>(
         (OnKnown (R.left reader.old) (W.held writer.old) (W.held writer.new) (AnswersWhole rules.now)) }
     // of the lines before one that tells no ask,
     ensures line { (n : ℕ) → IsErrOf result (WhyFault.Line n) →
-        OnKnown (R.left reader.old) (W.held writer.old) (W.held writer.new) (AnswersToLine n rules.now) }
+        OnKnown (R.left reader.old) (W.held writer.old) (W.held writer.new)
+        (AnswersToLine n rules.now) }
     // or of some first lines, of which a failed write may leave a front.
     ensures front { IsErrOf result WhyFault.Write →
-        OnKnown (R.left reader.old) (W.held writer.old) (W.held writer.new) (AnswersFront rules.now) }
+        OnKnown (R.left reader.old) (W.held writer.old) (W.held writer.new)
+        (AnswersFront rules.now) }
     ensures part { (IsErrOf result WhyFault.Read ⊎ IsErrOf result WhyFault.Memory) →
-        OnKnown (R.left reader.old) (W.held writer.old) (W.held writer.new) (AnswersPart rules.now) }
+        OnKnown (R.left reader.old) (W.held writer.old) (W.held writer.new)
+        (AnswersPart rules.now) }
     // What never fails doesn't end the answers: a reader, of a text of less than 2 GiB, and a writer.
     ensures sure_reader { R.NeverFails reader.old → (text : List ℕ) →
         R.left reader.old ≡ Some text → 2 * length text + 1 < 4294967295 →
@@ -110,11 +113,14 @@ impl Answering {
         ensures whole { OnOk result
             (OnKnown (R.left reader.old) (W.held writer.old) (W.held writer.new) (AnswersWhole rules.now)) }
         ensures line { (n : ℕ) → IsErrOf result (WhyFault.Line n) →
-            OnKnown (R.left reader.old) (W.held writer.old) (W.held writer.new) (AnswersToLine n rules.now) }
+            OnKnown (R.left reader.old) (W.held writer.old) (W.held writer.new)
+            (AnswersToLine n rules.now) }
         ensures front { IsErrOf result WhyFault.Write →
-            OnKnown (R.left reader.old) (W.held writer.old) (W.held writer.new) (AnswersFront rules.now) }
+            OnKnown (R.left reader.old) (W.held writer.old) (W.held writer.new)
+            (AnswersFront rules.now) }
         ensures part { (IsErrOf result WhyFault.Read ⊎ IsErrOf result WhyFault.Memory) →
-            OnKnown (R.left reader.old) (W.held writer.old) (W.held writer.new) (AnswersPart rules.now) }
+            OnKnown (R.left reader.old) (W.held writer.old) (W.held writer.new)
+            (AnswersPart rules.now) }
         ensures sure_reader { R.NeverFails reader.old → (text : List ℕ) →
             R.left reader.old ≡ Some text → 2 * length text + 1 < 4294967295 →
             ¬ (IsErrOf result WhyFault.Read) }

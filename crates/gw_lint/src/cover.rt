@@ -70,7 +70,8 @@ fn takes_shape(earlier: &Rule, later: &Rule, shape: &Shape) -> bool
 
 fn takes_fields(earlier: &Rule, later: &Rule, shape: &Shape) -> bool
     ensures { result ≡ each_field (λ field.
-        takes_side (value_of field shape.now) (ranges_of field earlier.now) (ranges_of field later.now)) }
+        takes_side (value_of field shape.now) (ranges_of field earlier.now)
+        (ranges_of field later.now)) }
 {
     FieldName::ALL.iter().all(|field| {
         takes_side(

@@ -3,7 +3,7 @@ ghost use Rattle.std.specs.Prelude.{◌≡◌, ◌&&◌, ◌==◌, ◌++◌, fin
 ghost use Rattle.std.specs.List.{filter, flat_map, list_any};
 ghost use Rattle.gw_lint.specs.Meeting.{overlaps};
 ghost use Rattle.gw_lint.specs.Notes.{answer_note, answer_notes, answer_words, has_overlap, head_text, is_known, is_unknown, lets_unnamed, network_note, network_words, note_text, notes_text, object_note, overlap_note, overlap_words, rule_notes};
-ghost use Rattle.gw_lint.specs.Numbered.{numbered};
+ghost use Rattle.gw_script.specs.Order.{in_order};
 ghost use Rattle.gw_lint.specs.Passage.{is_routed, is_unnamed, opener, opens_beyond};
 
 use crate::Shape;
@@ -29,7 +29,7 @@ pub(crate) fn put_notes(
 
 fn put_rules_notes(out: &mut Vec<u8>, shapes: &[Shape], config: &Config) -> Result<(), AllocError>
     ensures { OnOk result (out.new.items ≡
-        out.old.items ++ numbered (rule_notes shapes.now config.now) 1 config.now.rules) }
+        out.old.items ++ in_order (rule_notes shapes.now config.now) 1 config.now.rules) }
 {
     let rules = config.rules().rules();
     for place in 0..rules.len() {
@@ -40,7 +40,7 @@ fn put_rules_notes(out: &mut Vec<u8>, shapes: &[Shape], config: &Config) -> Resu
 
 fn put_ports_notes(out: &mut Vec<u8>, config: &Config) -> Result<(), AllocError>
     ensures { OnOk result (out.new.items ≡
-        out.old.items ++ numbered (answer_notes config.now) 1 config.now.ports) }
+        out.old.items ++ in_order (answer_notes config.now) 1 config.now.ports) }
 {
     let ports = config.ports();
     for place in 0..ports.len() {
@@ -122,7 +122,8 @@ fn put_network_note(
     number: u16,
     rule: &Rule,
 ) -> Result<(), AllocError>
-    ensures { OnOk result (out.new.items ≡ out.old.items ++ network_note config.now number rule.now) }
+    ensures { OnOk result
+        (out.new.items ≡ out.old.items ++ network_note config.now number rule.now) }
 {
     match first_unknown(config, rule.ranges.source_network.as_slice()) {
         Some(range) => put_unknown_note(out, config.rules(), number, &range),
@@ -191,7 +192,8 @@ fn put_overlap_note(
     rule: &Rule,
     field: FieldName,
 ) -> Result<(), AllocError>
-    ensures { OnOk result (out.new.items ≡ out.old.items ++ overlap_note rules.now number rule.now field) }
+    ensures { OnOk result
+        (out.new.items ≡ out.old.items ++ overlap_note rules.now number rule.now field) }
 {
     if !has_overlap(rule.ranges(field).as_slice()) {
         return Ok(());
@@ -211,7 +213,8 @@ fn put_overlap_words(out: &mut Vec<u8>, field: FieldName) -> Result<(), AllocErr
 
 /// Whether messages are routed at all.
 fn routes_any(shapes: &[Shape], rules: &RuleList) -> bool
-    ensures { result ≡ list_any (λ shape. is_routed shape && is_some (opener rules.now shape)) shapes.now }
+    ensures { result
+        ≡ list_any (λ shape. is_routed shape && is_some (opener rules.now shape)) shapes.now }
 {
     shapes
         .iter()
@@ -243,7 +246,8 @@ fn put_object_note(
     config: &Config,
     number: u16,
 ) -> Result<(), AllocError>
-    ensures { OnOk result (out.new.items ≡ out.old.items ++ object_note shapes.now config.now number) }
+    ensures { OnOk result
+        (out.new.items ≡ out.old.items ++ object_note shapes.now config.now number) }
 {
     if !lets_unnamed(shapes, config, number) {
         return Ok(());
@@ -260,7 +264,8 @@ fn put_answer_notes(
     number: u16,
     port: &Port,
 ) -> Result<(), AllocError>
-    ensures { OnOk result (out.new.items ≡ out.old.items ++ answer_notes config.now number port.now) }
+    ensures { OnOk result
+        (out.new.items ≡ out.old.items ++ answer_notes config.now number port.now) }
 {
     let ports = config.ports();
     for place in 0..ports.len() {
@@ -306,7 +311,8 @@ fn put_way_note(
     here: u16,
     there: u16,
 ) -> Result<(), AllocError>
-    ensures { OnOk result (out.new.items ≡ out.old.items ++ note_text rules.now by (answer_words here there)) }
+    ensures { OnOk result
+        (out.new.items ≡ out.old.items ++ note_text rules.now by (answer_words here there)) }
 {
     put_head(out, rules, by)?;
     put_answer_words(out, here, there)?;

@@ -2,7 +2,8 @@
 ghost use Rattle.std.specs.Prelude.{◌≡◌, ◌==◌, position};
 ghost use Rattle.gw_addr.specs.Appending.{IsAppended};
 ghost use Rattle.gw_policy_text.specs.Duplicates.{key};
-ghost use Rattle.gw_lint.specs.Warnings.{broadcast_lines, has_zero_port, in_order, other_than, own_lines, owner, peer_lines, port_lines};
+ghost use Rattle.gw_script.specs.Order.{in_order};
+ghost use Rattle.gw_lint.specs.Warnings.{broadcast_lines, has_zero_port, other_than, own_lines, owner, peer_lines, port_lines};
 
 use crate::oddity::{Oddity, put_mask, put_owned, put_where};
 use crate::spot::Spot;
@@ -96,7 +97,8 @@ fn put_peers(
     port: &Port,
     peers: &[BdtEntry],
 ) -> Result<(), AllocError>
-    ensures { IsAppended (in_order (peer_lines ports.now place port.now) 0 peers.now) out.old out.new result }
+    ensures { IsAppended
+        (in_order (peer_lines ports.now place port.now) 0 peers.now) out.old out.new result }
 {
     for (index, peer) in peers.iter().enumerate() {
         put_peer(out, ports, place, port, index, peer)?;
@@ -112,7 +114,8 @@ fn put_peer(
     index: usize,
     peer: &BdtEntry,
 ) -> Result<(), AllocError>
-    ensures { IsAppended (peer_lines ports.now place port.now index peer.now) out.old out.new result }
+    ensures { IsAppended
+        (peer_lines ports.now place port.now index peer.now) out.old out.new result }
 {
     let address = peer.address;
     let spot = Spot::PeerAddress {

@@ -1,6 +1,7 @@
 //! Warnings of routes.
 ghost use Rattle.gw_addr.specs.Appending.{IsAppended};
-ghost use Rattle.gw_lint.specs.Warnings.{in_order, next_lines, route_lines, way_lines};
+ghost use Rattle.gw_script.specs.Order.{in_order};
+ghost use Rattle.gw_lint.specs.Warnings.{next_lines, route_lines, way_lines};
 
 use crate::oddity::{Oddity, put_owned, put_where};
 use crate::port_warnings::{is_same, owner};

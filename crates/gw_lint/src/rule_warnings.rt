@@ -1,7 +1,8 @@
 //! Warnings of rules.
 ghost use Rattle.std.specs.Prelude.{◌≡◌, codes};
 ghost use Rattle.gw_addr.specs.Appending.{IsAppended};
-ghost use Rattle.gw_lint.specs.Warnings.{address_of, cut_line, ends_words, in_order, is_cut, is_missing, item_words, missing_line, missing_lines, name_words, range_words, rule_lines, source_lines, with_udp};
+ghost use Rattle.gw_script.specs.Order.{in_order};
+ghost use Rattle.gw_lint.specs.Warnings.{address_of, cut_line, ends_words, is_cut, is_missing, item_words, missing_line, missing_lines, name_words, range_words, rule_lines, source_lines, with_udp};
 
 use crate::spot::put_numbered;
 use crate::subnet::number_of;
@@ -37,7 +38,8 @@ fn put_missing(
     name: &RuleName,
     ranges: &[Range],
 ) -> Result<(), AllocError>
-    ensures { IsAppended (in_order (missing_lines ports index name.now) 0 ranges.now) out.old out.new result }
+    ensures { IsAppended
+        (in_order (missing_lines ports index name.now) 0 ranges.now) out.old out.new result }
 {
     for (item, range) in ranges.iter().enumerate() {
         put_missing_item(out, ports, index, name, item, range)?;
@@ -53,7 +55,8 @@ fn put_missing_item(
     item: usize,
     range: &Range,
 ) -> Result<(), AllocError>
-    ensures { IsAppended (missing_lines ports index name.now item range.now) out.old out.new result }
+    ensures { IsAppended
+        (missing_lines ports index name.now item range.now) out.old out.new result }
 {
     if is_missing(ports, range) {
         put_missing_line(out, ports, index, name, item, range)
@@ -108,7 +111,8 @@ fn put_sources(
     name: &RuleName,
     ranges: &[Range],
 ) -> Result<(), AllocError>
-    ensures { IsAppended (in_order (source_lines index name.now) 0 ranges.now) out.old out.new result }
+    ensures { IsAppended
+        (in_order (source_lines index name.now) 0 ranges.now) out.old out.new result }
 {
     for (item, range) in ranges.iter().enumerate() {
         put_source(out, index, name, item, range)?;

@@ -73,7 +73,8 @@ fn narrow_to(
 
 /// The rule of a number that is lower than another one.
 fn earlier(rules: &RuleList, number: u16, by: Option<u16>) -> Option<&Rule>
-    ensures { IfSome (option_copied result) (λ rule. (lower : ℕ) × (lower < number) × HasNumber rules.now lower rule) }
+    ensures { IfSome (option_copied result)
+        (λ rule. (lower : ℕ) × (lower < number) × HasNumber rules.now lower rule) }
 {
     match by {
         Some(by) if 1 <= by && by < number => rule_at(rules, by),
@@ -92,7 +93,8 @@ pub fn search_for(
     steps: u32,
 ) -> Result<Outcome, AllocError>
     ensures never { result ≡ Ok Outcome.Never → IsNeverFirst shapes.now rules.now number }
-    ensures decides { (ask : Ask) → result ≡ Ok (Outcome.Decides ask) → first rules.now ask ≡ Some number }
+    ensures decides { (ask : Ask) → result ≡ Ok (Outcome.Decides ask) →
+        first rules.now ask ≡ Some number }
 {
     let mut left = Vec::from_slice(alloc, shapes)?;
     for _ in 0..steps {

@@ -90,7 +90,8 @@ fn is_broadcast_of(own: u64, last: u64) -> bool
 }
 
 fn is_beside(own: u64, last: u64, other: u64) -> bool
-    ensures { result ≡ list_any (λ size. is_subnet own last size && is_subnet other last size) sizes }
+    ensures { result
+        ≡ list_any (λ size. is_subnet own last size && is_subnet other last size) sizes }
 {
     sizes().iter().any(|size| is_subnet(own, last, *size) && is_subnet(other, last, *size))
 }

@@ -3,7 +3,7 @@ ghost use Rattle.std.specs.Prelude.{◌≡◌, ◌++◌, codes, length, OnOk};
 ghost use Rattle.std.specs.List.{flat_map};
 ghost use Rattle.gw_audit.specs.Line.{operation_of, operation_text};
 ghost use Rattle.gw_rules.specs.RuleList.{allows_at};
-ghost use Rattle.gw_lint.specs.Numbered.{numbered};
+ghost use Rattle.gw_script.specs.Order.{in_order};
 ghost use Rattle.gw_lint.specs.Text.{found_text, is_told, item_text, key_of, likeness_text, line_text, rule_text, says_same, source_text, value_text};
 
 use crate::Finding;
@@ -27,7 +27,7 @@ pub(crate) fn put_lines(
 ) -> Result<(), AllocError>
     requires { length findings.now ≡ length rules.now }
     ensures { OnOk result (out.new.items ≡
-        out.old.items ++ numbered (line_text explains rules.now) 1 findings.now) }
+        out.old.items ++ in_order (line_text explains rules.now) 1 findings.now) }
 {
     let count = rules.rules().len();
     for place in 0..count {
@@ -44,7 +44,8 @@ fn put_line(
     number: u16,
     found: &Finding,
 ) -> Result<(), AllocError>
-    ensures { OnOk result (out.new.items ≡ out.old.items ++ line_text explains rules.now number found.now) }
+    ensures { OnOk result
+        (out.new.items ≡ out.old.items ++ line_text explains rules.now number found.now) }
 {
     if !is_told(explains, found) {
         return Ok(());
@@ -106,7 +107,8 @@ fn put_found(
 
 /// Appends which rule takes all that the one of this number matches.
 fn put_taken(out: &mut Vec<u8>, rules: &RuleList, number: u16, by: u16) -> Result<(), AllocError>
-    ensures { OnOk result (out.new.items ≡ out.old.items ++ codes "never decides: " ++ rule_text rules.now by
+    ensures { OnOk result
+        (out.new.items ≡ out.old.items ++ codes "never decides: " ++ rule_text rules.now by
         ++ codes " takes all that it matches, and says the " ++ likeness_text rules.now by number) }
 {
     out.extend_from_slice(b"never decides: ")?;
@@ -149,7 +151,8 @@ pub(crate) fn allows_at(rules: &RuleList, number: u16) -> bool
 
 /// Appends what an ask has for these fields, each by its key in a configuration.
 fn put_items(out: &mut Vec<u8>, ask: &Ask, fields: &[FieldName]) -> Result<(), AllocError>
-    ensures { OnOk result (out.new.items ≡ out.old.items ++ flat_map (item_text ask.now) fields.now) }
+    ensures { OnOk result
+        (out.new.items ≡ out.old.items ++ flat_map (item_text ask.now) fields.now) }
 {
     for field in fields {
         put_item(out, ask, *field)?;

@@ -15,9 +15,10 @@ pub record ArePassed {S : Type 0} (looks : S → ℕ) (empty : S → Bool) (befo
   pub each : (own : Bool) → IsPassed looks empty (socket own before) (socket own after)
   pub order : after.own_first ≡ before.own_first
 
--- The own socket answered, or the other one. Before it the turn was the other's where that was first, and nothing came of it; behind it
--- the other wasn't asked. Then the other is first.
-pub record AnswersOf {S : Type 0} (looks : S → ℕ) (empty : S → Bool) (own : Bool) (before after : SockPair S) : Type 0 where
+-- The own socket answered, or the other one. Before it the turn was the other's where that was
+-- first, and nothing came of it; behind it the other wasn't asked. Then the other is first.
+pub record AnswersOf {S : Type 0} (looks : S → ℕ) (empty : S → Bool) (own : Bool) (before after : SockPair S)
+    : Type 0 where
   pub answered : HasAnswered looks empty (socket own before) (socket own after)
   pub first : own ≡ before.own_first → socket (not own) after ≡ socket (not own) before
   pub second : own ≢ before.own_first → IsPassed looks empty (socket (not own) before) (socket (not own) after)
@@ -36,7 +37,8 @@ pub record IsAnswer {S : Type 0} (looks : S → ℕ) (empty : S → Bool) (Answe
 abbrev pub is_awake : {S : Type 0} → SockPair S → Bool
 is_awake pair = pair.own.is_awake || pair.broadcast.is_awake
 
--- the number of a socket among those of all ports, by the place of its port: of each port that of the own one comes first
+-- the number of a socket among those of all ports, by the place of its port: of each port that of
+-- the own one comes first
 abbrev pub number_of : ℕ → Bool → ℕ
 number_of place true = 2 * place
 number_of place false = 2 * place + 1
@@ -45,7 +47,8 @@ number_of place false = 2 * place + 1
 abbrev pub IsWoken : {S : Type 0} → Type 0 → Watch S → Watch S → Type 0
 IsWoken Quiet before after = (after ≡ woken true before) ⊎ (Quiet × (after ≡ before))
 
--- Of the two sockets of the port at a place it is noted where something may wait, by the numbers of those at which nothing came.
+-- Of the two sockets of the port at a place it is noted where something may wait, by the numbers of
+-- those at which nothing came.
 pub record AreWoken {S : Type 0} (Quiet : ℕ → Type 0) (place : ℕ) (before after : SockPair S) : Type 0 where
   pub each : (own : Bool) → IsWoken (Quiet (number_of place own)) (socket own before) (socket own after)
   pub order : after.own_first ≡ before.own_first

@@ -26,8 +26,10 @@ rest_between from to = (to - from) % second
 abbrev pub with_due : {S : Type 0} → ℕ → Ports S → Ports S
 with_due ticks ports = record ports { ticks = min (ports.ticks + ticks) (2 ^ 63) }
 
--- The clock told a moment. The whole seconds until then are counted, each a tick that is due, and so long is left to the next.
-pub record IsCounted {S C P : Type 0} (Told : C → ℕ → Type 0) (before after : TimedPorts S C P) (left : ℕ) : Type 0 where
+-- The clock told a moment. The whole seconds until then are counted, each a tick that is due, and
+-- so long is left to the next.
+pub record IsCounted {S C P : Type 0} (Told : C → ℕ → Type 0) (before after : TimedPorts S C P) (left : ℕ)
+    : Type 0 where
   pub moment : ℕ
   pub told : Told after.clock moment
   pub ports : after.ports ≡ with_due (seconds_between (as_nanos before.counted) moment) before.ports
@@ -50,18 +52,21 @@ is_idle (Ok came) = false
 is_idle (Err fault) = false
 
 -- It was waited so long at most, and then noted where something may have come.
-pub record HasWaited {S C P : Type 0} (Waited Quiet : P → ℕ → Type 0) (before after : TimedPorts S C P) (most : ℕ) : Type 0 where
+pub record HasWaited {S C P : Type 0} (Waited Quiet : P → ℕ → Type 0) (before after : TimedPorts S C P) (most : ℕ)
+    : Type 0 where
   pub waited : Waited after.waiter most
   pub woken : AreAllWoken (Quiet after.waiter) before.ports after.ports
   pub counted : after.counted ≡ before.counted
 
--- Where something may wait at a socket the waiter told, without a wait, where more came; else that is left to the wait behind it.
+-- Where something may wait at a socket the waiter told, without a wait, where more came; else that
+-- is left to the wait behind it.
 pub record HasLooked {S C P : Type 0} (Waited Quiet : P → ℕ → Type 0) (before after : TimedPorts S C P) : Type 0 where
   pub awake : list_any is_awake before.ports.pairs ≡ true → HasWaited Waited Quiet before after 0
   pub asleep : list_any is_awake before.ports.pairs ≡ false → after ≡ before
 
 -- It was waited so long at most, then the seconds were counted, and this came next.
-pub record IsReceivedLater {S C P : Type 0} (Told : C → ℕ → Type 0) (Waited Quiet : P → ℕ → Type 0) (Follows : Following S)
+pub record IsReceivedLater {S C P : Type 0} (Told : C → ℕ → Type 0) (Waited Quiet : P → ℕ → Type 0)
+    (Follows : Following S)
     (before after : TimedPorts S C P) (most : ℕ) (buffer : List ℕ) (given : Got) : Type 0 where
   pub woken : TimedPorts S C P
   pub counted : TimedPorts S C P
@@ -71,14 +76,16 @@ pub record IsReceivedLater {S C P : Type 0} (Told : C → ℕ → Type 0) (Waite
   pub counts : IsCounted Told woken counted left
   pub follows : Follows counted.ports after.ports buffer given
 
--- The seconds were counted, it was looked for what came, and something came next; or nothing did, and it was waited for as long as is left
--- of the second.
+-- The seconds were counted, it was looked for what came, and something came next; or nothing did,
+-- and it was waited for as long as is left of the second.
 pub data IsReceived {S C P : Type 0} (Told : C → ℕ → Type 0) (Waited Quiet : P → ℕ → Type 0) (Follows : Following S)
     (before after : TimedPorts S C P) (buffer : List ℕ) (given : Got) : Type 0 where
   at_once : (counted looked : TimedPorts S C P) (left : ℕ) → IsCounted Told before counted left →
-      HasLooked Waited Quiet counted looked → Follows looked.ports after.ports buffer given → is_idle (Ok given) ≡ false →
+      HasLooked Waited Quiet counted looked → Follows looked.ports after.ports buffer given
+      → is_idle (Ok given) ≡ false →
       IsReceived Told Waited Quiet Follows before after buffer given
   later : (counted looked idle : TimedPorts S C P) (left : ℕ) (held : List ℕ) → IsCounted Told before counted left →
-      HasLooked Waited Quiet counted looked → Follows looked.ports idle.ports held got.Idle → idle.counted ≡ looked.counted →
+      HasLooked Waited Quiet counted looked → Follows looked.ports idle.ports held got.Idle
+      → idle.counted ≡ looked.counted →
       IsReceivedLater Told Waited Quiet Follows idle after left buffer given →
       IsReceived Told Waited Quiet Follows before after buffer given

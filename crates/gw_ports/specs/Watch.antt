@@ -1,9 +1,10 @@
--- A socket that is asked only while something may wait there, by how often it says that it was asked, and whether nothing waited there the
--- last time.
+-- A socket that is asked only while something may wait there, by how often it says that it was
+-- asked, and whether nothing waited there the last time.
 use Rattle.std.specs.Prelude.{◌≡◌, ℕ, ◌+◌, ◌%◌, ◌^◌, Bool, true, false}
 use Rattle.gw_ports.specs.declared.watch.Watch.{Watch}
 
--- Nothing came of it: where something might wait there it was asked once, and nothing waited; else it wasn't asked. Then nothing waits.
+-- Nothing came of it: where something might wait there it was asked once, and nothing waited; else
+-- it wasn't asked. Then nothing waits.
 pub record IsPassed {S : Type 0} (looks : S → ℕ) (empty : S → Bool) (before after : Watch S) : Type 0 where
   pub asleep : before.is_awake ≡ false → after ≡ before
   pub once : before.is_awake ≡ true → looks after.socket ≡ (looks before.socket + 1) % 2 ^ 64

@@ -57,7 +57,8 @@ impl<S: Sock, C: Timepiece, P: Waiter> TimedPorts<S, C, P> {
     fn advance(&mut self, now: Duration) -> Duration
         ensures ticks { let seconds = seconds_between (as_nanos self.old.counted) (as_nanos now) in
             self.new.ports ≡ with_due seconds self.old.ports }
-        ensures counted { let seconds = seconds_between (as_nanos self.old.counted) (as_nanos now) in
+        ensures counted { let seconds = seconds_between (as_nanos self.old.counted)
+            (as_nanos now) in
             as_nanos self.new.counted
             ≡ min (as_nanos self.old.counted + seconds * second) max_nanos }
         ensures left { as_nanos result
@@ -114,7 +115,8 @@ impl<S: Sock, C: Timepiece, P: Waiter> TimedPorts<S, C, P> {
     fn recv_later(&mut self, most: Duration, buf: &mut [u8; RECEIVE_ROOM]) -> Result<Got, WireFault>
         requires { self.old.ports.failures < 2 ^ 128 - 1 }
         ensures later { IfOk result (IsReceivedLater C.Told P.Waited P.Quiet
-            (ComesNext S.look_count S.is_empty S.Answered) self.old self.new (as_nanos most) buf.new) }
+            (ComesNext S.look_count S.is_empty S.Answered) self.old self.new
+            (as_nanos most) buf.new) }
         ensures count { length self.new.ports.pairs ≡ length self.old.ports.pairs }
         ensures handed_in { IfOk result (IsHandedIn (length self.new.ports.pairs)) }
         ensures failures { self.new.ports.failures
@@ -146,7 +148,8 @@ impl<S: Sock, C: Timepiece, P: Waiter> TimedPorts<S, C, P> {
         ensures buffer { is_idle came ≡ false → buf.new ≡ buf.old }
         ensures later { is_idle came ≡ true →
             IfOk result (IsReceivedLater C.Told P.Waited P.Quiet
-            (ComesNext S.look_count S.is_empty S.Answered) self.old self.new (as_nanos most) buf.new) }
+            (ComesNext S.look_count S.is_empty S.Answered) self.old self.new
+            (as_nanos most) buf.new) }
         ensures count { length self.new.ports.pairs ≡ length self.old.ports.pairs }
         ensures handed_in { IfOk result (IsHandedIn (length self.new.ports.pairs)) }
         ensures failures { self.new.ports.failures + failures_of came
@@ -200,7 +203,8 @@ impl<S: Sock, C: Timepiece, P: Waiter> Wire for TimedPorts<S, C, P> {
         ensures sent { (d : SockPair S) →
             OnOk result (S.Sent (slice_index_or self.new.ports.pairs (port - 1) d).own.socket to octets.now) }
         ensures ports { length self.new.ports.pairs ≡ length self.old.ports.pairs }
-        ensures calls { let call = send_call result (record { port = port; to = to; octets = octets.now }) in
+        ensures calls { let call = send_call result
+            (record { port = port; to = to; octets = octets.now }) in
             Tells None None (call ∷ []) }
         ensures failures { self.new.ports.failures
             ≡ self.old.ports.failures + failures_of result }

@@ -62,7 +62,8 @@ impl<S: Sock> Ports<S> {
     pub fn own_first(&self, port: u8) -> bool
         requires least { 1 ≤ port }
         requires most { port ≤ length self.now.pairs }
-        ensures { (d : SockPair S) → result ≡ (slice_index_or self.now.pairs (port - 1) d).own_first }
+        ensures { (d : SockPair S) →
+            result ≡ (slice_index_or self.now.pairs (port - 1) d).own_first }
     {
         self.pairs[usize::from(port) - 1].own_first
     }
@@ -241,7 +242,8 @@ impl<S: Sock> Wire for Ports<S> {
         ensures sent { (d : SockPair S) →
             OnOk result (S.Sent (slice_index_or self.new.pairs (port - 1) d).own.socket to octets.now) }
         ensures ports { length self.new.pairs ≡ length self.old.pairs }
-        ensures calls { let call = send_call result (record { port = port; to = to; octets = octets.now }) in
+        ensures calls { let call = send_call result
+            (record { port = port; to = to; octets = octets.now }) in
             Tells None None (call ∷ []) }
         ensures failures { self.new.failures ≡ self.old.failures + failures_of result }
     {

@@ -18,6 +18,10 @@ pub three_writes : {T E : Type 0} (r : Result T E) (a b c d : Option (List ℕ))
 three_writes (Ok done) a b c d x y z first second third = appends_three a b c d x y z first second third
 three_writes (Err failed) a b c d x y z first second third = tt
 
+-- a line of four parts and its end
+pub line_joined : (a b c d e : List ℕ) → (a ++ (b ++ c)) ++ (d ++ e) ≡ (a ++ b ++ c ++ d) ++ e
+line_joined a b c d e = sym (ap (λ (t : List ℕ). t ++ (d ++ e)) (append_assoc a b c)) ∙ sym (append_assoc (a ++ b ++ c) d e)
+
 nothing_behind : (text : List ℕ) → text ++ [] ≡ text
 nothing_behind text = search rules
 

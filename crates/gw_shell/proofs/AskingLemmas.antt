@@ -1,7 +1,7 @@
 -- What the answers to asks leave written, from what they and the flush behind them leave.
 use Rattle.std.proofs.Common.{◌≡◌, ◌⊎◌, inl, inr, refl, sym, rules, true, false, Bool, ℕ, ◌++◌, List, Result, Ok, Err, Option, [], ◌∷◌, length, take, OnOk, IsErrOf}
 use Rattle.gw_audit.specs.declared.entry.ShownAsk.{ShownAsk}
-use Rattle.gw_core.specs.Replay.{OnKnown}
+use Rattle.gw_script.specs.Known.{OnKnown}
 use Rattle.gw_lint.specs.Why.{AnswersFront, AnswersPart, AnswersToLine, AnswersWhole, AreAskLines, answers}
 use Rattle.gw_lint.specs.declared.asking.WhyFault.{WhyFault}
 use Rattle.gw_lint.specs.declared.asking.WhyFault.TheVariants as asking

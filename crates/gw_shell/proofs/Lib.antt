@@ -3,7 +3,7 @@ mod AppendLemmas
 mod AskingLemmas
 mod ChoiceLemmas
 mod HiddenLemmas
-mod NumberedLemmas
 mod ReplayLemmas
 mod ServingLemmas
+mod TellingLemmas
 mod WordsLemmas

@@ -4,27 +4,66 @@ use Rattle.std.specs.Io.KnownBytes.{Keeps}
 use Rattle.gw_core.specs.declared.replaying.RunFault.{RunFault}
 use Rattle.gw_core.specs.declared.replaying.RunFault.TheVariants as run
 use Rattle.gw_script.specs.Event.{Event}
-use Rattle.gw_core.specs.Replay.{RunsFront, RunsPart, RunsToEnd, RunsToLine, RunsToMemory, RunsWhole, OnKnown, Telling, run_text}
+use Rattle.gw_core.specs.Replay.{RunsFront, RunsPart, RunsToEnd, RunsToLine, RunsToMemory, RunsWhole, Telling, run_text}
+use Rattle.gw_script.specs.Known.{OnKnown}
 use Rattle.gw_script.specs.Script.{AreLines, lines_of}
 use Rattle.gw_policy_text.specs.Configuration.{Configuration}
-use Rattle.gw_shell.specs.Replay.{Leaves, Plays}
-use Rattle.gw_shell.specs.Ending.{first_fault}
+use Rattle.gw_core.specs.Explained.{explained_text}
+use Rattle.gw_core.specs.Flawed.{HasFlaw}
+use Rattle.gw_core.specs.Shown.{event_text}
+use Rattle.gw_script.specs.declared.flaw.LineFlaw.{LineFlaw}
+use Rattle.gw_shell.specs.declared.fault.Fault.{Fault}
+use Rattle.gw_shell.specs.declared.fault.Fault.TheVariants as fault
+use Rattle.gw_shell.specs.Replay.{Plays, telling}
+use Rattle.gw_shell.specs.Ending.{first_fault, outcome_of}
+
+-- what always holds, beside a fact of known bytes
+both : (P Q : List ℕ → Type 0) (held : Option (List ℕ)) → ((bytes : List ℕ) → P bytes) → IsSomeAnd held Q
+    → IsSomeAnd held (λ (bytes : List ℕ). P bytes × Q bytes)
+both P Q None always holds = absurd holds
+both P Q (Some bytes) always holds = (always bytes, holds)
+
+-- two facts of known bytes
+three : (P Q : List ℕ → Type 0) (held : Option (List ℕ)) → IsSomeAnd held P → IsSomeAnd held Q
+    → IsSomeAnd held (λ (bytes : List ℕ). (true ≡ true) × P bytes × Q bytes)
+three P Q None holds also = absurd holds
+three P Q (Some bytes) holds also = (refl, holds, also)
 
 -- the clauses of a run as one
-pub run_leaves : (told : Telling) (c : Configuration) (read held holds : Option (List ℕ)) (r : Result (Unit {0}) RunFault)
-    → OnOk r (OnKnown read held holds (RunsWhole told c))
-    → ((n : ℕ) → IsErrOf r (run.Line n) → OnKnown read held holds (RunsToLine told n c))
-    → (IsErrOf r run.Write → OnKnown read held holds (RunsFront told c))
-    → (IsErrOf r run.CountEnd → OnKnown read held holds (RunsToEnd told c))
-    → (IsErrOf r run.Memory → OnKnown read held holds (RunsToMemory told c))
-    → ((IsErrOf r run.Read ⊎ IsErrOf r run.Memory) → OnKnown read held holds (RunsPart told c))
-    → OnKnown read held holds (λ script before. Leaves told c script before r)
-run_leaves told c read held holds (Ok done) whole line front count_end memory part = whole
-run_leaves told c read held holds (Err (run.Line n)) whole line front count_end memory part = line n refl
-run_leaves told c read held holds (Err run.Read) whole line front count_end memory part = part (inl refl)
-run_leaves told c read held holds (Err run.Write) whole line front count_end memory part = front refl
-run_leaves told c read held holds (Err run.Memory) whole line front count_end memory part = memory refl
-run_leaves told c read held holds (Err run.CountEnd) whole line front count_end memory part = count_end refl
+pub run_plays : (c : Configuration) (read held holds : Option (List ℕ)) (r : Result (Unit {0}) RunFault)
+    → OnOk r (OnKnown read held holds (RunsWhole event_text c))
+    → ((n : ℕ) → IsErrOf r (run.Line n) → OnKnown read held holds (RunsToLine event_text n c))
+    → (IsErrOf r run.Write → OnKnown read held holds (RunsFront event_text c))
+    → (IsErrOf r run.CountEnd → OnKnown read held holds (RunsToEnd event_text c))
+    → (IsErrOf r run.Memory → OnKnown read held holds (RunsToMemory event_text c))
+    → ((IsErrOf r run.Read ⊎ IsErrOf r run.Memory) → OnKnown read held holds (RunsPart event_text c))
+    → OnKnown read held holds (λ script before. Plays false c script before (outcome_of None r))
+run_plays c read held holds (Ok done) whole line front count_end memory part = whole
+run_plays c read held holds (Err (run.Line n)) whole line front count_end memory part = λ script before known written.
+    both (λ (after : List ℕ). false ≡ false) (RunsToLine event_text n c script before) holds (λ bytes. refl) (line n refl script before known written)
+run_plays c read held holds (Err run.Read) whole line front count_end memory part = part (inl refl)
+run_plays c read held holds (Err run.Write) whole line front count_end memory part = front refl
+run_plays c read held holds (Err run.Memory) whole line front count_end memory part = memory refl
+run_plays c read held holds (Err run.CountEnd) whole line front count_end memory part = count_end refl
+
+-- and those of one that explains
+pub explained_plays : (c : Configuration) (read held holds : Option (List ℕ)) (r : Result (Unit {0}) RunFault) (flaw : LineFlaw)
+    → OnOk r (OnKnown read held holds (RunsWhole explained_text c))
+    → ((n : ℕ) → IsErrOf r (run.Line n) → OnKnown read held holds (RunsToLine explained_text n c))
+    → ((n : ℕ) → IsErrOf r (run.Line n) → OnKnown read held holds (λ script before after. HasFlaw (length c.ports) n script flaw))
+    → (IsErrOf r run.Write → OnKnown read held holds (RunsFront explained_text c))
+    → (IsErrOf r run.CountEnd → OnKnown read held holds (RunsToEnd explained_text c))
+    → (IsErrOf r run.Memory → OnKnown read held holds (RunsToMemory explained_text c))
+    → ((IsErrOf r run.Read ⊎ IsErrOf r run.Memory) → OnKnown read held holds (RunsPart explained_text c))
+    → OnKnown read held holds (λ script before. Plays true c script before (outcome_of (Some flaw) r))
+explained_plays c read held holds (Ok done) flaw whole line is front count_end memory part = whole
+explained_plays c read held holds (Err (run.Line n)) flaw whole line is front count_end memory part = λ script before known written.
+    three (RunsToLine explained_text n c script before) (λ (after : List ℕ). HasFlaw (length c.ports) n script flaw) holds
+    (line n refl script before known written) (is n refl script before known written)
+explained_plays c read held holds (Err run.Read) flaw whole line is front count_end memory part = part (inl refl)
+explained_plays c read held holds (Err run.Write) flaw whole line is front count_end memory part = front refl
+explained_plays c read held holds (Err run.Memory) flaw whole line is front count_end memory part = memory refl
+explained_plays c read held holds (Err run.CountEnd) flaw whole line is front count_end memory part = count_end refl
 
 -- what holds of known bytes holds where they are kept
 pub kept : (P : List ℕ → Type 0) (held now : Option (List ℕ)) → Keeps held now → IsSomeAnd held P → IsSomeAnd now P
@@ -59,11 +98,8 @@ whole_is_front told c script before after whole = record {
 }
 
 -- the flush changes nothing of what is left written, and its failure is told behind a run without a fault
-pub flushed_plays : (told : Telling) (c : Configuration) (script before after : List ℕ) (r : Result (Unit {0}) RunFault) (is_flushed : Bool) → Leaves told c script before r after → Plays told c script before (first_fault r is_flushed) after
-flushed_plays told c script before after (Ok done) true leaves = leaves
-flushed_plays told c script before after (Ok done) false leaves = whole_is_front told c script before after leaves
-flushed_plays told c script before after (Err (run.Line n)) flushed leaves = leaves
-flushed_plays told c script before after (Err run.Read) flushed leaves = leaves
-flushed_plays told c script before after (Err run.Write) flushed leaves = leaves
-flushed_plays told c script before after (Err run.Memory) flushed leaves = leaves
-flushed_plays told c script before after (Err run.CountEnd) flushed leaves = leaves
+pub flushed_plays : (explains : Bool) (c : Configuration) (script before after : List ℕ) (r : Result (Unit {0}) Fault) (is_flushed : Bool)
+    → Plays explains c script before r after → Plays explains c script before (first_fault r is_flushed) after
+flushed_plays explains c script before after (Ok done) true plays = plays
+flushed_plays explains c script before after (Ok done) false plays = whole_is_front (telling explains) c script before after plays
+flushed_plays explains c script before after (Err f) flushed plays = plays

@@ -11,7 +11,7 @@ use Rattle.clap.specs.declared.error.kind.ErrorKind.TheVariants as parse
 use Rattle.clap.proofs.OnLiterals.{clap_on_literals}
 use Rattle.clap.proofs.ValueTestLemmas.{accepts-Accepts}
 use Rattle.clap.specs.declared.builder.value_parser.ValueParser.TheVariants.{Unsigned}
-use Rattle.gw_shell.specs.CommandLine.{AreNoOptions, Asks, AsksNothing, Call, call_by, called, commands, most_seconds, most_turns, CallsCheck, CallsExplain, CallsLint, CallsReplay, CallsReplayExplained, CallsRun, CallsRunWhole, CallsWhy, IsAnswer, IsCheck, IsChosen, IsRefusal, IsReplay, IsPeriod, IsServing, IsShown, IsTurns, IsWhy}
+use Rattle.gw_shell.specs.CommandLine.{AreNoOptions, Asks, AsksNothing, Call, call_by, called, commands, most_seconds, most_turns, CallsCheck, CallsExplain, CallsLint, CallsLog, CallsReplay, CallsReplayExplained, CallsRun, CallsRunWhole, CallsWhy, IsAnswer, IsCheck, IsChosen, IsLog, IsRefusal, IsReplay, IsPeriod, IsServing, IsShown, IsTurns, IsWhy}
 use Rattle.gw_shell.specs.declared.command_line.Choice.{Choice}
 use Rattle.gw_shell.specs.declared.command_line.Choice.TheVariants as choice
 use Rattle.gw_shell.specs.declared.fault.Fault.{Fault}
@@ -42,6 +42,7 @@ refusal_answers words k (Ok (choice.Check file explains lints)) among is = absur
 refusal_answers words k (Ok (choice.Replay file explains)) among is = absurd is
 refusal_answers words k (Ok (choice.Run options)) among is = absurd is
 refusal_answers words k (Ok (choice.Why file)) among is = absurd is
+refusal_answers words k (Ok choice.Log) among is = absurd is
 refusal_answers words k (Ok (choice.Help text)) among is =
     (k, mistake_among (fault_of commands words) k among (λ memory. memory_shows_nothing k memory is), is)
 refusal_answers words k (Ok (choice.Usage text)) among is = (k, mistake_among (fault_of commands words) k among is.2, is)
@@ -50,6 +51,7 @@ refusal_answers words k (Err fault.Memory) among is = tt
 refusal_answers words k (Err fault.Unreadable) among is = absurd is
 refusal_answers words k (Err (fault.Configuration f)) among is = absurd is
 refusal_answers words k (Err (fault.Line n)) among is = absurd is
+refusal_answers words k (Err (fault.FlawedLine n flaw)) among is = absurd is
 refusal_answers words k (Err fault.Read) among is = absurd is
 refusal_answers words k (Err fault.Write) among is = absurd is
 refusal_answers words k (Err fault.Log) among is = absurd is
@@ -67,6 +69,7 @@ taken_answers words (Ok (choice.Check file explains lints)) none is = (none, is)
 taken_answers words (Ok (choice.Replay file explains)) none is = (none, is)
 taken_answers words (Ok (choice.Run options)) none is = (none, is)
 taken_answers words (Ok (choice.Why file)) none is = (none, is)
+taken_answers words (Ok choice.Log) none is = (none, is)
 taken_answers words (Ok (choice.Help text)) none is = in_nothing (called words) is
 taken_answers words (Ok (choice.Usage text)) none is = in_nothing (called words) is
 taken_answers words (Err fault.CommandLine) none is = inr (none, is)
@@ -74,6 +77,7 @@ taken_answers words (Err fault.Memory) none is = tt
 taken_answers words (Err fault.Unreadable) none is = absurd is
 taken_answers words (Err (fault.Configuration f)) none is = absurd is
 taken_answers words (Err (fault.Line n)) none is = absurd is
+taken_answers words (Err (fault.FlawedLine n flaw)) none is = absurd is
 taken_answers words (Err fault.Read) none is = absurd is
 taken_answers words (Err fault.Write) none is = absurd is
 taken_answers words (Err fault.Log) none is = absurd is
@@ -121,6 +125,18 @@ why_check e = search rules
 why_run : codes "why" ≡ codes "run" → ⊥
 why_run e = search rules
 
+log_replay : codes "log" ≡ codes "replay" → ⊥
+log_replay e = search rules
+
+log_check : codes "log" ≡ codes "check" → ⊥
+log_check e = search rules
+
+log_run : codes "log" ≡ codes "run" → ⊥
+log_run e = search rules
+
+log_why : codes "log" ≡ codes "why" → ⊥
+log_why e = search rules
+
 -- a call of `run` whose options ask for nothing asks for nothing
 pub run_asks_nothing : (name : Text) (value : Text → Option Text) (f : Fault) → name ≡ codes "run" → AreNoOptions value f → IsChosen (Some (call_by name value)) (Err f)
 run_asks_nothing name value fault.CommandLine named nothing = record {
@@ -128,11 +144,13 @@ run_asks_nothing name value fault.CommandLine named nothing = record {
   check = λ file e has. run_check (sym named ∙ e);
   run = λ file n period e has turns. nothing n period turns;
   why = λ file e has. why_run (sym e ∙ named);
+  log = λ e. log_run (sym e ∙ named);
 }
 run_asks_nothing name value fault.Memory named nothing = tt
 run_asks_nothing name value fault.Unreadable named nothing = absurd nothing
 run_asks_nothing name value (fault.Configuration f) named nothing = absurd nothing
 run_asks_nothing name value (fault.Line n) named nothing = absurd nothing
+run_asks_nothing name value (fault.FlawedLine n flaw) named nothing = absurd nothing
 run_asks_nothing name value fault.Read named nothing = absurd nothing
 run_asks_nothing name value fault.Write named nothing = absurd nothing
 run_asks_nothing name value fault.Log named nothing = absurd nothing
@@ -159,6 +177,7 @@ of_call words c (Ok (choice.Check file explains lints)) none calls is = asked wo
 of_call words c (Ok (choice.Replay file explains)) none calls is = asked words c (choice.Replay file explains) calls is.1
 of_call words c (Ok (choice.Run options)) none calls is = asked words c (choice.Run options) calls is.1
 of_call words c (Ok (choice.Why file)) none calls is = asked words c (choice.Why file) calls is.1
+of_call words c (Ok choice.Log) none calls is = asked words c choice.Log calls is.1
 of_call words c (Ok (choice.Help text)) none calls is = absurd (no_kind (fault_of commands words) is.0 none is.1)
 of_call words c (Ok (choice.Usage text)) none calls is = absurd (no_kind (fault_of commands words) is.0 none is.1)
 of_call words c (Err fault.CommandLine) none calls (inl is) = absurd (no_kind (fault_of commands words) is.0 none is.1)
@@ -167,6 +186,7 @@ of_call words c (Err fault.Memory) none calls is = tt
 of_call words c (Err fault.Unreadable) none calls is = absurd is
 of_call words c (Err (fault.Configuration f)) none calls is = absurd is
 of_call words c (Err (fault.Line n)) none calls is = absurd is
+of_call words c (Err (fault.FlawedLine n flaw)) none calls is = absurd is
 of_call words c (Err fault.Read) none calls is = absurd is
 of_call words c (Err fault.Write) none calls is = absurd is
 of_call words c (Err fault.Log) none calls is = absurd is
@@ -214,6 +234,7 @@ replay_or_memory c (Ok (choice.Check file explains lints)) named is = absurd (ch
 replay_or_memory c (Ok (choice.Replay file explains)) named is = (is.1, is.2)
 replay_or_memory c (Ok (choice.Run options)) named is = absurd (run_replay (sym is.0 ∙ named))
 replay_or_memory c (Ok (choice.Why file)) named is = absurd (why_replay (sym is.0 ∙ named))
+replay_or_memory c (Ok choice.Log) named is = absurd (log_replay (sym is ∙ named))
 replay_or_memory c (Ok (choice.Help text)) named is = absurd is
 replay_or_memory c (Ok (choice.Usage text)) named is = absurd is
 replay_or_memory c (Err fault.CommandLine) named is = absurd (is.replay named)
@@ -221,6 +242,7 @@ replay_or_memory c (Err fault.Memory) named is = tt
 replay_or_memory c (Err fault.Unreadable) named is = absurd is
 replay_or_memory c (Err (fault.Configuration f)) named is = absurd is
 replay_or_memory c (Err (fault.Line n)) named is = absurd is
+replay_or_memory c (Err (fault.FlawedLine n flaw)) named is = absurd is
 replay_or_memory c (Err fault.Read) named is = absurd is
 replay_or_memory c (Err fault.Write) named is = absurd is
 replay_or_memory c (Err fault.Log) named is = absurd is
@@ -291,6 +313,7 @@ check_or_memory c file (Ok (choice.Check name explains lints)) named has is = (s
 check_or_memory c file (Ok (choice.Replay name explains)) named has is = absurd (check_replay (sym named ∙ is.0))
 check_or_memory c file (Ok (choice.Run options)) named has is = absurd (run_check (sym is.0 ∙ named))
 check_or_memory c file (Ok (choice.Why name)) named has is = absurd (why_check (sym is.0 ∙ named))
+check_or_memory c file (Ok choice.Log) named has is = absurd (log_check (sym is ∙ named))
 check_or_memory c file (Ok (choice.Help text)) named has is = absurd is
 check_or_memory c file (Ok (choice.Usage text)) named has is = absurd is
 check_or_memory c file (Err fault.CommandLine) named has is = absurd (is.check file named has)
@@ -298,6 +321,7 @@ check_or_memory c file (Err fault.Memory) named has is = tt
 check_or_memory c file (Err fault.Unreadable) named has is = absurd is
 check_or_memory c file (Err (fault.Configuration f)) named has is = absurd is
 check_or_memory c file (Err (fault.Line n)) named has is = absurd is
+check_or_memory c file (Err (fault.FlawedLine n flaw)) named has is = absurd is
 check_or_memory c file (Err fault.Read) named has is = absurd is
 check_or_memory c file (Err fault.Write) named has is = absurd is
 check_or_memory c file (Err fault.Log) named has is = absurd is
@@ -383,6 +407,7 @@ run_or_memory c file n period (Ok (choice.Replay name explains)) named has turns
 run_or_memory c file n period (Ok (choice.Run options)) named has turns seconds is =
     (some_same _ _ (sym is.1 ∙ has), is.2, turns_same c.turns options.turns n is.3 turns, is.4, period_same c.stats options.stats period is.5 seconds)
 run_or_memory c file n period (Ok (choice.Why name)) named has turns seconds is = absurd (why_run (sym is.0 ∙ named))
+run_or_memory c file n period (Ok choice.Log) named has turns seconds is = absurd (log_run (sym is ∙ named))
 run_or_memory c file n period (Ok (choice.Help text)) named has turns seconds is = absurd is
 run_or_memory c file n period (Ok (choice.Usage text)) named has turns seconds is = absurd is
 run_or_memory c file n period (Err fault.CommandLine) named has turns seconds is = absurd (is.run file n period named has turns seconds)
@@ -390,6 +415,7 @@ run_or_memory c file n period (Err fault.Memory) named has turns seconds is = tt
 run_or_memory c file n period (Err fault.Unreadable) named has turns seconds is = absurd is
 run_or_memory c file n period (Err (fault.Configuration f)) named has turns seconds is = absurd is
 run_or_memory c file n period (Err (fault.Line m)) named has turns seconds is = absurd is
+run_or_memory c file n period (Err (fault.FlawedLine m flaw)) named has turns seconds is = absurd is
 run_or_memory c file n period (Err fault.Read) named has turns seconds is = absurd is
 run_or_memory c file n period (Err fault.Write) named has turns seconds is = absurd is
 run_or_memory c file n period (Err fault.Log) named has turns seconds is = absurd is
@@ -439,6 +465,7 @@ why_or_memory c file (Ok (choice.Check name explains lints)) named has is = absu
 why_or_memory c file (Ok (choice.Replay name explains)) named has is = absurd (why_replay (sym named ∙ is.0))
 why_or_memory c file (Ok (choice.Run options)) named has is = absurd (why_run (sym named ∙ is.0))
 why_or_memory c file (Ok (choice.Why name)) named has is = some_same _ _ (sym is.1 ∙ has)
+why_or_memory c file (Ok choice.Log) named has is = absurd (log_why (sym is ∙ named))
 why_or_memory c file (Ok (choice.Help text)) named has is = absurd is
 why_or_memory c file (Ok (choice.Usage text)) named has is = absurd is
 why_or_memory c file (Err fault.CommandLine) named has is = absurd (is.why file named has)
@@ -446,6 +473,7 @@ why_or_memory c file (Err fault.Memory) named has is = tt
 why_or_memory c file (Err fault.Unreadable) named has is = absurd is
 why_or_memory c file (Err (fault.Configuration f)) named has is = absurd is
 why_or_memory c file (Err (fault.Line n)) named has is = absurd is
+why_or_memory c file (Err (fault.FlawedLine n flaw)) named has is = absurd is
 why_or_memory c file (Err fault.Read) named has is = absurd is
 why_or_memory c file (Err fault.Write) named has is = absurd is
 why_or_memory c file (Err fault.Log) named has is = absurd is
@@ -457,3 +485,54 @@ why_is_taken words r is call =
     why_or_memory why_call (codes "site.toml") r refl refl
     (of_call words why_call r (ap (λ (w : List Text). fault_of commands w) call.1 ∙ why_no_fault call.0)
     (ap called call.1 ∙ calls_why call.0) is)
+
+-- ---- a call that tells a log in words
+
+abbrev log_call : Call
+log_call = record {
+  name = codes "log";
+  config = None;
+  log = None;
+  turns = None;
+  stats = None;
+  explains = false;
+  lints = false;
+  verbose = false;
+}
+
+abbrev log_words : Text → List Text
+log_words program = program ∷ codes "log" ∷ []
+
+log_no_fault : (program : Text) → fault_of commands (log_words program) ≡ []
+unfolding clap_on_literals
+log_no_fault program = refl
+
+calls_log : (program : Text) → called (log_words program) ≡ Some log_call
+unfolding clap_on_literals
+calls_log program = refl
+
+log_or_memory : (c : Call) (r : Result Choice Fault) → c.name ≡ codes "log" → IsOfCall c r → IsLog r
+log_or_memory c (Ok (choice.Check name explains lints)) named is = absurd (log_check (sym named ∙ is.0))
+log_or_memory c (Ok (choice.Replay name explains)) named is = absurd (log_replay (sym named ∙ is.0))
+log_or_memory c (Ok (choice.Run options)) named is = absurd (log_run (sym named ∙ is.0))
+log_or_memory c (Ok (choice.Why name)) named is = absurd (log_why (sym named ∙ is.0))
+log_or_memory c (Ok choice.Log) named is = tt
+log_or_memory c (Err fault.CommandLine) named is = absurd (is.log named)
+log_or_memory c (Ok (choice.Help text)) named is = absurd is
+log_or_memory c (Ok (choice.Usage text)) named is = absurd is
+log_or_memory c (Err fault.Memory) named is = tt
+log_or_memory c (Err fault.Unreadable) named is = absurd is
+log_or_memory c (Err (fault.Configuration f)) named is = absurd is
+log_or_memory c (Err (fault.Line n)) named is = absurd is
+log_or_memory c (Err (fault.FlawedLine n flaw)) named is = absurd is
+log_or_memory c (Err fault.Read) named is = absurd is
+log_or_memory c (Err fault.Write) named is = absurd is
+log_or_memory c (Err fault.Log) named is = absurd is
+log_or_memory c (Err (fault.Socket port)) named is = absurd is
+log_or_memory c (Err fault.CountEnd) named is = absurd is
+
+pub log_is_taken : (words : List Text) (r : Result Choice Fault) → IsAnswer words r → CallsLog words → IsLog r
+log_is_taken words r is call =
+    log_or_memory log_call r refl
+    (of_call words log_call r (ap (λ (w : List Text). fault_of commands w) call.1 ∙ log_no_fault call.0)
+    (ap called call.1 ∙ calls_log call.0) is)

@@ -1,16 +1,18 @@
 -- What `run --verbose` tells at the start: one line on what is served.
-use Rattle.std.specs.Prelude.{ℕ, Bool, true, false, List, [], ◌∷◌, ◌++◌, length, map, if◌then◌else◌, Option, Some, None, codes, decimal}
+use Rattle.std.specs.Prelude.{ℕ, Bool, true, false, List, [], ◌∷◌, ◌++◌, length, map, if◌then◌else◌, Option, Some, None}
+use Rattle.std.specs.Prelude.{codes, decimal}
 use Rattle.gw_addr.specs.Address.{text_of}
 use Rattle.gw_policy_text.specs.Configuration.{Configuration}
 use Rattle.gw_policy_text.specs.Explanation.{is_printed}
 use Rattle.gw_policy_text.specs.declared.device.Device.{Device}
 use Rattle.gw_policy_text.specs.declared.port.Port.{Port}
-use Rattle.gw_shell.specs.Numbered.{numbered}
+use Rattle.gw_script.specs.Order.{in_order}
 
 -- a port by its number, and its two addresses
 abbrev pub port_text : ℕ → Port → List ℕ
 port_text number port =
-    codes "port " ++ decimal number ++ codes " at " ++ text_of port.address ++ codes ", broadcast " ++ text_of port.broadcast ++ codes "; "
+    codes "port " ++ decimal number ++ codes " at " ++ text_of port.address ++ codes ", broadcast "
+    ++ text_of port.broadcast ++ codes "; "
 
 -- how many rules there are
 abbrev pub rules_text : Configuration → List ℕ
@@ -36,7 +38,8 @@ log_text None = codes "standard output"
 -- the line
 abbrev pub announcement : Configuration → Option (List ℕ) → List ℕ
 announcement c log =
-    codes "bacgw: serving " ++ numbered port_text 1 c.ports ++ device_text c.device ++ objects_text c ++ rules_text c ++ log_text log ++ 10 ∷ []
+    codes "bacgw: serving " ++ in_order port_text 1 c.ports ++ device_text c.device ++ objects_text c ++ rules_text c
+    ++ log_text log ++ 10 ∷ []
 
 -- what is told at the start: the line where that is asked for, and else nothing
 abbrev pub startup_line : Bool → Configuration → Option (List ℕ) → List ℕ

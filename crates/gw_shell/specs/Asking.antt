@@ -11,6 +11,7 @@ use Rattle.gw_shell.specs.declared.fault.Fault.TheVariants as fault
 abbrev pub Answers : List Rule → List ℕ → List ℕ → Result (Unit {0}) Fault → List ℕ → Type 0
 Answers rules text before (Ok done) after = AnswersWhole rules text before after
 Answers rules text before (Err (fault.Line n)) after = AnswersToLine n rules text before after
+Answers rules text before (Err (fault.FlawedLine n flaw)) after = ⊥
 Answers rules text before (Err fault.Read) after = AnswersPart rules text before after
 Answers rules text before (Err fault.Write) after = AnswersFront rules text before after
 Answers rules text before (Err fault.Memory) after = AnswersPart rules text before after

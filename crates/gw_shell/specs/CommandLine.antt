@@ -71,6 +71,10 @@ run = with_rule run_of_turns stats
 abbrev pub why : App
 why = with_rule (new_app (codes "why")) needed_config
 
+-- `log`, which needs nothing
+abbrev pub log_in_words : App
+log_in_words = new_app (codes "log")
+
 -- the commands of the program, of which the call has to name one
 abbrev pub commands : App
 commands =
@@ -78,10 +82,12 @@ commands =
     (with_subcommand
     (with_subcommand
     (with_subcommand
+    (with_subcommand
     (on_top (λ top. record top { subcommand_required = true; has_version = true }) (new_app (codes "bacgw"))) check.top)
     replay.top)
     run.top)
-    why.top
+    why.top)
+    log_in_words.top
 
 -- a call: the command's name, the values of its options, and whether those without a value are given
 pub record Call : Type 0 where
@@ -170,10 +176,11 @@ Asks (choice.Run options) call =
     (call.name ≡ codes "run") × (call.config ≡ Some (string_bytes options.config)) × (option_map string_bytes options.log ≡ call.log)
     × IsTurns call.turns options.turns × (options.verbose ≡ call.verbose) × IsPeriod call.stats options.stats
 Asks (choice.Why file) call = (call.name ≡ codes "why") × (call.config ≡ Some (string_bytes file))
+Asks choice.Log call = call.name ≡ codes "log"
 Asks (choice.Help text) call = ⊥
 Asks (choice.Usage text) call = ⊥
 
--- A call of `replay` asks for something, one of `check` or `why` where a file is named, and one of `run` where a file is named and the
+-- A call of `replay` or `log` asks for something, one of `check` or `why` where a file is named, and one of `run` where a file is named and the
 -- texts of the turns and of the seconds between two reports are such numbers; other calls ask for nothing.
 pub record AsksNothing (call : Call) : Type 0 where
   pub replay : call.name ≢ codes "replay"
@@ -181,6 +188,7 @@ pub record AsksNothing (call : Call) : Type 0 where
   pub run : (file : Text) (n : ℕ) (period : Option ℕ) → call.name ≡ codes "run" → call.config ≡ Some file → IsTurns call.turns n →
       ¬ (IsPeriod call.stats period)
   pub why : (file : Text) → call.name ≡ codes "why" → call.config ≢ Some file
+  pub log : call.name ≢ codes "log"
 
 -- a choice is what the call asks for, and a bad command line is a call that asks for nothing; memory may run out at any
 abbrev pub IsChosen : Option Call → Result Choice Fault → Type 0
@@ -225,6 +233,7 @@ IsAnswer words (Ok (choice.Check file explains lints)) = IsTaken words (Ok (choi
 IsAnswer words (Ok (choice.Replay file explains)) = IsTaken words (Ok (choice.Replay file explains))
 IsAnswer words (Ok (choice.Run options)) = IsTaken words (Ok (choice.Run options))
 IsAnswer words (Ok (choice.Why file)) = IsTaken words (Ok (choice.Why file))
+IsAnswer words (Ok choice.Log) = IsTaken words (Ok choice.Log)
 IsAnswer words (Ok (choice.Help text)) = AsksToShow words
 IsAnswer words (Ok (choice.Usage text)) = IsMistake words
 IsAnswer words (Err fault.CommandLine) = IsMistake words ⊎ IsTaken words (Err fault.CommandLine)
@@ -256,6 +265,10 @@ CallsLint words = (program : Text) × (words ≡ program ∷ codes "check" ∷ c
 abbrev pub CallsWhy : List Text → Type 0
 CallsWhy words = (program : Text) × (words ≡ program ∷ codes "why" ∷ codes "--config" ∷ codes "site.toml" ∷ [])
 
+-- the words of a call that tells a log in words
+abbrev pub CallsLog : List Text → Type 0
+CallsLog words = (program : Text) × (words ≡ program ∷ codes "log" ∷ [])
+
 -- the words of a call that serves the ports of the file `site.toml`, and of one with all options
 abbrev pub CallsRun : List Text → Type 0
 CallsRun words = (program : Text) × (words ≡ program ∷ codes "run" ∷ codes "--config" ∷ codes "site.toml" ∷ [])
@@ -283,6 +296,12 @@ abbrev pub IsWhy : Text → Result Choice Fault → Type 0
 IsWhy file (Ok (choice.Why chosen)) = string_bytes chosen ≡ file
 IsWhy file (Err fault.Memory) = ⊤
 IsWhy file _ = ⊥
+
+-- the log is told in words, or memory ran out
+abbrev pub IsLog : Result Choice Fault → Type 0
+IsLog (Ok choice.Log) = ⊤
+IsLog (Err fault.Memory) = ⊤
+IsLog _ = ⊥
 
 -- The ports of that file are served with that log for so many turns, it is told what is served or not, and reports are told with so many
 -- seconds between two, where they are; or memory ran out.

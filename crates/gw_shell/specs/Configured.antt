@@ -16,7 +16,8 @@ IsConfigurationOf (Ok text) (Err _) = ⊥
 IsConfigurationOf (Err f) c = c ≡ Err f
 
 -- That of the file of this name, which gave what `Reads` says, or the built-in one where no file is named.
-abbrev pub IsConfigured : (Reads : List ℕ → Result (List ℕ) Fault → Type 0) → Option (List ℕ) → Result Configuration Fault → Type 0
+abbrev pub IsConfigured : (Reads : List ℕ → Result (List ℕ) Fault → Type 0) → Option (List ℕ)
+    → Result Configuration Fault → Type 0
 IsConfigured Reads None c = IsConfigurationOf (Ok SETTING.now) c
 IsConfigured Reads (Some name) c = (text : Result (List ℕ) Fault) × Reads name text × IsConfigurationOf text c
 

@@ -1,5 +1,5 @@
 -- What the program tells of a fault: the line on standard error, and the exit status.
-use Rattle.std.specs.Prelude.{◌≡◌, ◌⊎◌, IsTrue, ℕ, Bool, true, false, List, [], ◌∷◌, ◌++◌, codes, decimal, Some, Result, Ok, Err, string_bytes}
+use Rattle.std.specs.Prelude.{◌≡◌, ◌⊎◌, IsTrue, ℕ, Bool, true, false, List, [], ◌∷◌, ◌++◌, codes, decimal, Option, Some, Result, Ok, Err, string_bytes}
 use Rattle.std.specs.List.{list_all}
 use Rattle.gw_policy_text.specs.Explanation.{ExplainsText, is_printed}
 use Rattle.gw_shell.specs.declared.command_line.Choice.{Choice}
@@ -11,6 +11,8 @@ use Rattle.gw_policy_text.specs.declared.fault.ConfigFault.TheVariants as config
 use Rattle.gw_core.specs.declared.replaying.RunFault.{RunFault}
 use Rattle.gw_core.specs.declared.replaying.RunFault.TheVariants as run
 use Rattle.gw_core.specs.declared.serving.ServeFault.{ServeFault}
+use Rattle.gw_script.specs.declared.flaw.LineFlaw.{LineFlaw}
+use Rattle.gw_script.specs.declared.flaw.LineFlaw.TheVariants as flaw
 use Rattle.gw_core.specs.declared.serving.ServeFault.TheVariants as serving
 
 -- the name of a fault of a configuration
@@ -24,12 +26,23 @@ name_of config.Duplicate = codes "Duplicate"
 name_of config.TooMany = codes "TooMany"
 name_of config.Memory = codes "Memory"
 
+-- what is wrong with a line
+abbrev pub words_of : LineFlaw → List ℕ
+words_of flaw.Long = codes "it has more than 4096 octets"
+words_of flaw.CarriageReturn = codes "it ends with a carriage return"
+words_of flaw.Form = codes "it is neither tick nor a port, an address and octets"
+words_of flaw.Port = codes "there is no such port"
+words_of flaw.Address = codes "behind its port stands no address and a space"
+words_of flaw.OddDigits = codes "its octets have an odd number of digits"
+words_of flaw.Digits = codes "its octets are no pairs of digits"
+
 -- the line on standard error, without its line feed
 abbrev pub text_of : Fault → List ℕ
 text_of fault.CommandLine = codes "bacgw: bad command line"
 text_of fault.Unreadable = codes "bacgw: cannot read configuration"
 text_of (fault.Configuration f) = codes "bacgw: configuration: " ++ name_of f
 text_of (fault.Line n) = codes "bacgw: line " ++ decimal n
+text_of (fault.FlawedLine n f) = codes "bacgw: line " ++ decimal n ++ codes ": " ++ words_of f
 text_of fault.Read = codes "bacgw: read failed"
 text_of fault.Write = codes "bacgw: write failed"
 text_of fault.Log = codes "bacgw: log failed"
@@ -43,6 +56,7 @@ status_of fault.CommandLine = 2
 status_of fault.Unreadable = 1
 status_of (fault.Configuration f) = 2
 status_of (fault.Line n) = 2
+status_of (fault.FlawedLine n f) = 2
 status_of fault.Read = 1
 status_of fault.Write = 1
 status_of fault.Log = 1
@@ -69,11 +83,17 @@ fault_of_serving serving.Log = fault.Log
 fault_of_serving serving.Memory = fault.Memory
 fault_of_serving serving.CountEnd = fault.CountEnd
 
+-- the outcome of a run, as the program tells it: also what is wrong with a line, where that is known
+abbrev pub outcome_of : Option LineFlaw → Result (Unit {0}) RunFault → Result (Unit {0}) Fault
+outcome_of flaw (Ok done) = Ok done
+outcome_of (Some f) (Err (run.Line n)) = Err (fault.FlawedLine n f)
+outcome_of flaw (Err of_run) = Err (fault_of of_run)
+
 -- the first fault of a run and of the flush behind it
-abbrev pub first_fault : Result (Unit {0}) RunFault → Bool → Result (Unit {0}) Fault
+abbrev pub first_fault : Result (Unit {0}) Fault → Bool → Result (Unit {0}) Fault
 first_fault (Ok done) true = Ok done
 first_fault (Ok done) false = Err fault.Write
-first_fault (Err of_run) flushed = Err (fault_of of_run)
+first_fault (Err of_run) flushed = Err of_run
 
 -- what standard error is given: nothing, or the fault's line and a line feed
 abbrev pub error_text : Result (Unit {0}) Fault → List ℕ

@@ -1,5 +1,6 @@
--- What `check` tells of a configuration. With `--explain` that is also from which of the ports' networks the policy hides each object, and
--- what can't be meant; with `--lint` also which rules never decide.
+-- What `check` tells of a configuration. With `--explain` that is also from which of the ports'
+-- networks the policy hides each object, and what can't be meant; with `--lint` also which rules
+-- never decide.
 use Rattle.std.specs.Prelude.{◌≡◌, ℕ, Bool, true, false, List, [], ◌∷◌, ◌++◌, map, if◌then◌else◌, codes, decimal}
 use Rattle.std.specs.List.{flat_map}
 use Rattle.gw_lint.specs.Lint.{AppendsLint}
@@ -12,12 +13,13 @@ use Rattle.gw_rules.specs.Hides.{hides_from_network}
 use Rattle.gw_rules.specs.declared.rule.Rule.{Rule}
 use Rattle.gw_shell.specs.Announcement.{shown}
 use Rattle.gw_shell.specs.Configured.{summary}
-use Rattle.gw_shell.specs.Numbered.{numbered}
+use Rattle.gw_script.specs.Order.{in_order}
 
 -- an object by its number from 1, its type and instance, and its name
 abbrev pub object_text : ℕ → Object → List ℕ
 object_text number object =
-    codes "object " ++ decimal number ++ codes " (" ++ decimal (type_number object.value) ++ codes "," ++ decimal object.instance
+    codes "object " ++ decimal number ++ codes " (" ++ decimal (type_number object.value) ++ codes ","
+    ++ decimal object.instance
     ++ codes ") \"" ++ map shown object.name
 
 -- the line that an object is hidden from a network
@@ -28,7 +30,8 @@ hidden_line number object network =
 -- that line where the policy hides the object from every source of the network
 abbrev pub network_line : List Rule → ℕ → Object → ℕ → List ℕ
 network_line rules number object network =
-    if hides_from_network rules network (type_number object.value) object.instance then hidden_line number object network else []
+    if hides_from_network rules network (type_number object.value) object.instance
+    then hidden_line number object network else []
 
 -- the lines of an object, in order of the ports
 abbrev pub object_lines : List Rule → List Port → ℕ → Object → List ℕ
@@ -36,7 +39,7 @@ object_lines rules ports number object = flat_map (λ port. network_line rules n
 
 -- the lines of the objects, in their order
 abbrev pub hidden_lines : Configuration → List ℕ
-hidden_lines c = numbered (object_lines c.rules c.ports) 1 c.objects
+hidden_lines c = in_order (object_lines c.rules c.ports) 1 c.objects
 
 -- the summary of a configuration, and what is hidden and what can't be meant where that is asked for
 abbrev pub explained_text : Bool → Configuration → List ℕ

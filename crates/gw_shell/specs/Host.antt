@@ -26,10 +26,12 @@ abbrev pub line_end : Bool → List ℕ
 line_end true = 10 ∷ []
 line_end false = []
 
--- A log of this name is opened so that a line begins: where its last line was cut it has been given its line feed. It can't be where it
--- isn't opened, or where that line feed can't be written.
-abbrev pub OpensAtLine : {Log : Type 0} → LogOpening Log → (IsCut : List ℕ → Bool → Type 0) → (Log → Option (List ℕ)) → LogOpening Log
+-- A log of this name is opened so that a line begins: where its last line was cut it has been given
+-- its line feed. It can't be where it isn't opened, or where that line feed can't be written.
+abbrev pub OpensAtLine : {Log : Type 0} → LogOpening Log → (IsCut : List ℕ → Bool → Type 0) → (Log → Option (List ℕ))
+    → LogOpening Log
 OpensAtLine LogOpens IsCut held name (Ok log) =
-    (opened : _) × (cut : Bool) × LogOpens name (Ok opened) × IsCut name cut × Appends (held opened) (held log) (line_end cut)
+    (opened : _) × (cut : Bool) × LogOpens name (Ok opened) × IsCut name cut
+    × Appends (held opened) (held log) (line_end cut)
 OpensAtLine LogOpens IsCut held name (Err f) =
     LogOpens name (Err f) ⊎ ((opened : _) × LogOpens name (Ok opened) × IsCut name true × (f ≡ fault.Log))

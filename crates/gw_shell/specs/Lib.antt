@@ -6,9 +6,9 @@ pub mod Ending
 pub mod Files
 pub mod Hidden
 pub mod Host
-pub mod Numbered
 pub mod Opening
 pub mod Program
 pub mod Replay
 pub mod Serving
+pub mod Telling
 pub mod Waiting

@@ -39,7 +39,8 @@ reason_text reason.Other = codes "refused by the system"
 -- the line on a step that failed
 abbrev pub failure_text : FailedStep → List ℕ
 failure_text f =
-    codes "port " ++ decimal f.port ++ codes ": " ++ step_text f.step ++ codes " " ++ text_of f.address ++ codes ": " ++ reason_text f.reason
+    codes "port " ++ decimal f.port ++ codes ": " ++ step_text f.step ++ codes " " ++ text_of f.address ++ codes ": "
+    ++ reason_text f.reason
     ++ 10 ∷ []
 
 -- What is told where not all can be opened: the line of a step that failed, if there is memory for it.

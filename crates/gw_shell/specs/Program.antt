@@ -1,7 +1,7 @@
 -- The program as a whole: what the words chose, what stands on standard output then, the line on standard error and the exit status.
 use Rattle.std.specs.Prelude.{◌≡◌, ⊤, Bool, ℕ, List, [], ◌++◌, Option, Some, Result, Ok, Err, OnOk, option_map, string_bytes}
 use Rattle.std.specs.Io.KnownBytes.{Appends}
-use Rattle.gw_core.specs.Replay.{OnKnown}
+use Rattle.gw_script.specs.Known.{OnKnown}
 use Rattle.gw_policy_text.specs.Configuration.{Configuration}
 use Rattle.gw_shell.specs.declared.command_line.Choice.{Choice}
 use Rattle.gw_shell.specs.declared.command_line.Choice.TheVariants as choice
@@ -11,8 +11,9 @@ use Rattle.gw_shell.specs.Asking.{Answers}
 use Rattle.gw_shell.specs.Configured.{IsConfigurationOf, IsConfigured}
 use Rattle.gw_shell.specs.Ending.{FaultNote, error_text, status_after, usage_of}
 use Rattle.gw_shell.specs.Hidden.{IsChecked}
-use Rattle.gw_shell.specs.Replay.{Plays, telling}
+use Rattle.gw_shell.specs.Replay.{Plays}
 use Rattle.gw_shell.specs.Serving.{IsFlushedFor, LeavesRun, Machine}
+use Rattle.gw_shell.specs.Telling.{Tells}
 
 -- known octets grow by a front of a text
 pub record AppendsFront (held holds : Option (List ℕ)) (text : List ℕ) : Type 0 where
@@ -49,7 +50,7 @@ LeavesOfText explains lints text held holds outcome =
 abbrev pub LeavesPlayed : Bool → Option (List ℕ) → Option (List ℕ) → Option (List ℕ)
     → Result Configuration Fault → Result (Unit {0}) Fault → Type 0
 LeavesPlayed explains input held holds (Ok c) outcome =
-    OnKnown input held holds (λ script before. Plays (telling explains) c script before outcome)
+    OnKnown input held holds (λ script before. Plays explains c script before outcome)
 LeavesPlayed explains input held holds (Err f) outcome = (outcome ≡ Err f) × (holds ≡ held)
 
 -- What `why` leaves by the rules of the configuration that was read. Where there is none nothing is answered, and the outcome is why.
@@ -59,8 +60,9 @@ LeavesAnswered input held holds (Ok c) outcome = OnKnown input held holds (λ te
 LeavesAnswered input held holds (Err f) outcome = (outcome ≡ Err f) × (holds ≡ held)
 
 -- What stands on standard output, which held `held` before, where files give what `Reads` says and `run` opens what the machine says: at
--- `check`, `replay` and `why` what they leave of some configuration that is the one they name, at `run` also what was told at the start, and at
--- help its text, of which a failed write may leave a front. Words that choose nothing leave it as it was, and their fault is the outcome.
+-- `check`, `replay` and `why` what they leave of some configuration that is the one they name, at `run` also what was told at the start, at
+-- `log` what that leaves of the log, and at help its text, of which a failed write may leave a front. Words that choose nothing leave it
+-- as it was, and their fault is the outcome.
 abbrev pub LeavesOutput : {Log Sockets : Type 0} → (Reads : List ℕ → Result (List ℕ) Fault → Type 0) → Machine Log Sockets
     → Option (List ℕ) → Option (List ℕ) → Option (List ℕ) → List ℕ → Result Choice Fault → Result (Unit {0}) Fault → Type 0
 LeavesOutput Reads machine input held holds told (Ok (choice.Check file explains lints)) outcome =
@@ -72,6 +74,8 @@ LeavesOutput Reads machine input held holds told (Ok (choice.Run options)) outco
     × (c : Result Configuration Fault) × IsConfigurationOf text c × LeavesRun machine text held holds options c told outcome
 LeavesOutput Reads machine input held holds told (Ok (choice.Why file)) outcome =
     (c : Result Configuration Fault) × IsConfigured Reads (Some (string_bytes file)) c × LeavesAnswered input held holds c outcome
+LeavesOutput Reads machine input held holds told (Ok choice.Log) outcome =
+    OnKnown input held holds (λ log before. Tells log before outcome)
 LeavesOutput Reads machine input held holds told (Ok (choice.Help text)) (Ok done) = Appends held holds (string_bytes text)
 LeavesOutput Reads machine input held holds told (Ok (choice.Help text)) (Err f) =
     (f ≡ fault.Write) × AppendsFront held holds (string_bytes text)

@@ -1,5 +1,7 @@
--- What `run` leaves: what was opened, and what came of serving it from the gateway's first state, over the definitions of `gw_core`.
-use Rattle.std.specs.Prelude.{◌≡◌, ◌⊎◌, ⊤, ℕ, Bool, List, [], ◌++◌, Option, Some, None, Result, Ok, Err, option_map, string_bytes}
+-- What `run` leaves: what was opened, and what came of serving it from the gateway's first state,
+-- over the definitions of `gw_core`.
+use Rattle.std.specs.Prelude.{◌≡◌, ◌⊎◌, ⊤, ℕ, Bool, List, [], ◌++◌, Option, Some, None, Result, Ok, Err, option_map}
+use Rattle.std.specs.Prelude.{string_bytes}
 use Rattle.std.specs.Io.KnownBytes.{Keeps}
 use Rattle.gw_core.specs.History.{state_after}
 use Rattle.gw_core.specs.Replay.{no_counts}
@@ -57,18 +59,21 @@ pub record ServesWhole (c : Configuration) (how : Service) (before after : Ends)
   pub reports : text ≡ reports_of how.stats (state_after c no_counts []) serves.turns gateway served
 
 -- Serving stopped by this fault, before all turns were done, and these are their reports.
-pub record StopsBy (by : ServeFault) (c : Configuration) (how : Service) (before after : Ends) (text : List ℕ) : Type 0 where
+pub record StopsBy (by : ServeFault) (c : Configuration) (how : Service) (before after : Ends) (text : List ℕ)
+    : Type 0 where
   pub gateway : State
   pub served : Served
-  pub stops : Stops how.turns (first_scene c before) (record { fault = by; served = served }) (scene gateway after.log after.calls)
+  pub stops : Stops how.turns (first_scene c before) (record { fault = by; served = served })
+      (scene gateway after.log after.calls)
   pub reports : text ≡ reports_of how.stats (state_after c no_counts []) stops.turns gateway served
 
--- What serving from the gateway's first state leaves at each outcome, and what is told of it. Memory may run out before the first turn
--- too, and then nothing was received or told.
+-- What serving from the gateway's first state leaves at each outcome, and what is told of it.
+-- Memory may run out before the first turn too, and then nothing was received or told.
 abbrev pub Serves : Configuration → Service → Ends → Ends → List ℕ → Result (Unit {0}) Fault → Type 0
 Serves c how before after text (Ok done) = ServesWhole c how before after text
 Serves c how before after text (Err fault.Log) = StopsBy serving.Log c how before after text
-Serves c how before after text (Err fault.Memory) = StopsBy serving.Memory c how before after text ⊎ ((after ≡ before) × (text ≡ []))
+Serves c how before after text (Err fault.Memory) =
+    StopsBy serving.Memory c how before after text ⊎ ((after ≡ before) × (text ≡ []))
 Serves c how before after text (Err fault.CountEnd) = StopsBy serving.CountEnd c how before after text
 Serves c how before after text (Err _) = ⊥
 
@@ -84,8 +89,9 @@ ServesFrom how before after text outcome =
     × IsRunWith how.turns before answer after
     (λ run. text ≡ reports_of how.stats before.gateway run after.gateway (counts_of_answer answer))
 
--- What opening and closing may give: of a machine, the log of a name, the sockets of some ports, and both when they are closed, the log
--- where one was opened; and what a log holds and sockets tell.
+-- What opening and closing may give: of a machine, the log of a name, the sockets of some ports,
+-- and both when they are closed, the log where one was opened; and what a log holds and sockets
+-- tell.
 pub record Machine (Log Sockets : Type 0) : Type 1 where
   pub LogOpens : LogOpening Log
   pub SocketsOpen : List Port → Result Sockets SocketFailure → Type 0
@@ -103,14 +109,17 @@ machine LogOpens SocketsOpen Closes held calls = record {
   calls = calls;
 }
 
--- The log is open: it is in the file of this name, and standard output is as it was; or it is standard output, whose buffer was flushed.
-abbrev pub LogIsOpen : {Log : Type 0} → (LogOpens : LogOpening Log) → (name held holds : Option (List ℕ)) → Option Log → Type 0
+-- The log is open: it is in the file of this name, and standard output is as it was; or it is
+-- standard output, whose buffer was flushed.
+abbrev pub LogIsOpen : {Log : Type 0} → (LogOpens : LogOpening Log) → (name held holds : Option (List ℕ)) → Option Log
+    → Type 0
 LogIsOpen LogOpens (Some name) held holds (Some log) = LogOpens name (Ok log) × (holds ≡ held)
 LogIsOpen LogOpens None held holds None = Keeps held holds
 LogIsOpen LogOpens _ held holds _ = ⊥
 
 -- The log can't be opened. On standard output that is where its buffer can't be flushed.
-abbrev pub LogIsShut : {Log : Type 0} → (LogOpens : LogOpening Log) → (name held holds : Option (List ℕ)) → Fault → Type 0
+abbrev pub LogIsShut : {Log : Type 0} → (LogOpens : LogOpening Log) → (name held holds : Option (List ℕ)) → Fault
+    → Type 0
 LogIsShut LogOpens (Some name) held holds f = LogOpens name (Err f) × (holds ≡ held)
 LogIsShut LogOpens None held holds f = (f ≡ fault.Log) × Keeps held holds
 
@@ -119,7 +128,8 @@ abbrev pub log_held : {Log : Type 0} → (Log → Option (List ℕ)) → Option 
 log_held held (Some log) output = held log
 log_held held None output = output
 
--- While it is served a log in a file stays one, and standard output is as it was then; and a log on standard output stays there.
+-- While it is served a log in a file stays one, and standard output is as it was then; and a log on
+-- standard output stays there.
 abbrev pub LogStays : {Log : Type 0} → (log log_then : Option Log) → (held holds : Option (List ℕ)) → Type 0
 LogStays (Some log) (Some log_then) held holds = holds ≡ held
 LogStays None None held holds = ⊤
@@ -131,12 +141,14 @@ IsFlushedFor (Some name) was is = is ≡ was
 IsFlushedFor None was is = is ≡ []
 
 -- The log and the sockets are open.
-pub record AreOpen {Log Sockets : Type 0} (LogOpens : LogOpening Log) (SocketsOpen : Result Sockets SocketFailure → Type 0)
+pub record AreOpen {Log Sockets : Type 0} (LogOpens : LogOpening Log)
+    (SocketsOpen : Result Sockets SocketFailure → Type 0)
     (name held holds : Option (List ℕ)) (log : Option Log) (sockets : Sockets) : Type 0 where
   pub log_is : LogIsOpen LogOpens name held holds log
   pub sockets_are : SocketsOpen (Ok sockets)
 
--- Why they aren't: memory ran out before either, or the log can't be opened; or the sockets can't, when the log is open.
+-- Why they aren't: memory ran out before either, or the log can't be opened; or the sockets can't,
+-- when the log is open.
 abbrev pub ArentOpen : {Log Sockets : Type 0} → LogOpening Log → (Result Sockets SocketFailure → Type 0)
     → (name held holds : Option (List ℕ)) → OpenFailure → Type 0
 ArentOpen LogOpens SocketsOpen name held holds (opening.Log f) =
@@ -144,10 +156,12 @@ ArentOpen LogOpens SocketsOpen name held holds (opening.Log f) =
 ArentOpen LogOpens SocketsOpen name held holds (opening.Sockets failure) =
     (log : Option _) × LogIsOpen LogOpens name held holds log × SocketsOpen (Err failure)
 
--- What `run` leaves under a configuration: not all can be opened, and it may be told why; or all was opened, this line was told, and
--- then it was served, with its reports, and closed.
-pub data LeavesServed {Log Sockets : Type 0} (machine : Machine Log Sockets) (name : Option (List ℕ)) (held holds : Option (List ℕ))
-    (c : Configuration) (how : Service) (is_verbose : Bool) (line told : List ℕ) (outcome : Result (Unit {0}) Fault) : Type 0 where
+-- What `run` leaves under a configuration: not all can be opened, and it may be told why; or all
+-- was opened, this line was told, and then it was served, with its reports, and closed.
+pub data LeavesServed {Log Sockets : Type 0} (machine : Machine Log Sockets) (name : Option (List ℕ))
+    (held holds : Option (List ℕ))
+    (c : Configuration) (how : Service) (is_verbose : Bool) (line told : List ℕ) (outcome : Result (Unit {0}) Fault)
+    : Type 0 where
   shut : (failure : OpenFailure) → ArentOpen machine.LogOpens (machine.SocketsOpen c.ports) name held holds failure →
       outcome ≡ Err (fault_of_opening failure) → IsNote is_verbose failure told →
       LeavesServed machine name held holds c how is_verbose line told outcome
@@ -158,13 +172,14 @@ pub data LeavesServed {Log Sockets : Type 0} (machine : Machine Log Sockets) (na
       (ends (log_held machine.held log_then holds) (machine.calls sockets_then)) reports outcome →
       told ≡ line ++ reports → LeavesServed machine name held holds c how is_verbose line told outcome
 
--- What `run` leaves under the configuration that was read from a text. Where there is none nothing is opened, the outcome is why, and it may be told
--- where its fault is.
-abbrev pub LeavesRun : {Log Sockets : Type 0} → Machine Log Sockets → Result (List ℕ) Fault → (held holds : Option (List ℕ)) → RunOptions
+-- What `run` leaves under the configuration that was read from a text. Where there is none nothing
+-- is opened, the outcome is why, and it may be told where its fault is.
+abbrev pub LeavesRun : {Log Sockets : Type 0} → Machine Log Sockets → Result (List ℕ) Fault
+    → (held holds : Option (List ℕ)) → RunOptions
     → Result Configuration Fault → (told : List ℕ) → Result (Unit {0}) Fault → Type 0
 LeavesRun machine text held holds options (Ok c) told outcome =
     let name = option_map string_bytes options.log in
-    LeavesServed machine name held holds c (service options.turns options.stats) options.verbose (startup_line options.verbose c name)
-    told outcome
+    LeavesServed machine name held holds c (service options.turns options.stats) options.verbose
+    (startup_line options.verbose c name) told outcome
 LeavesRun machine text held holds options (Err f) told outcome =
     (outcome ≡ Err f) × (holds ≡ held) × FaultNote options.verbose text f told

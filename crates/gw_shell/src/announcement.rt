@@ -3,7 +3,7 @@
 ghost use Rattle.std.specs.Prelude.{◌≡◌, ◌++◌, ◌≤◌, length, map, option_map, string_bytes, IfOk, OnOk};
 ghost use Rattle.gw_addr.specs.declared.TheConstants.{MAX_PORTS};
 ghost use Rattle.gw_shell.specs.Announcement.{announcement, device_text, log_text, objects_text, port_text, rules_text, shown, startup_line};
-ghost use Rattle.gw_shell.specs.Numbered.{numbered};
+ghost use Rattle.gw_script.specs.Order.{in_order};
 
 use gw_addr::put_decimal;
 use gw_policy_text::{Config, Device, Port};
@@ -62,7 +62,7 @@ fn put_port(out: &mut Vec<u8>, number: usize, port: &Port) -> Result<(), AllocEr
 /// Appends the ports in order.
 fn put_ports(out: &mut Vec<u8>, ports: &[Port]) -> Result<(), AllocError>
     requires { length ports.now ≤ MAX_PORTS }
-    ensures { OnOk result (out.new.items ≡ out.old.items ++ numbered port_text 1 ports.now) }
+    ensures { OnOk result (out.new.items ≡ out.old.items ++ in_order port_text 1 ports.now) }
 {
     for place in 0..ports.len() {
         put_port(out, place + 1, &ports[place])?;

@@ -2,7 +2,7 @@
 
 ghost use Rattle.std.specs.Prelude.{◌≡◌, [], OnOk};
 ghost use Rattle.std.specs.Io.Buffered.{writer_buffer, writer_contents};
-ghost use Rattle.gw_core.specs.Replay.{OnKnown};
+ghost use Rattle.gw_script.specs.Known.{OnKnown};
 ghost use Rattle.gw_shell.specs.Asking.{Answers, first_asking_fault};
 
 use crate::fault::Fault;
@@ -16,10 +16,11 @@ use std::io::{BufWriter, Write};
 fn first_asking_fault(answers: Result<(), WhyFault>, is_flushed: bool) -> Result<(), Fault>
     ensures { result ≡ first_asking_fault answers is_flushed }
 {
-    match answers {
-        Ok(()) if is_flushed => Ok(()),
-        Ok(()) => Err(Fault::Write),
-        Err(fault) => Err(Fault::from(fault)),
+    answers?;
+    if is_flushed {
+        Ok(())
+    } else {
+        Err(Fault::Write)
     }
 }
 

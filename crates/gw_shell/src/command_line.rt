@@ -3,7 +3,7 @@
 ghost use Rattle.std.specs.Prelude.{◌≡◌, ◌<◌, Some, None, true, false, IfOk, IfSome, MatchResult, map, codes, option_map, string_bytes};
 ghost use Rattle.clap.specs.Words.{app_of, first_value, found_of, kind_of, rule_of, subcommand_rows_of};
 ghost use Rattle.clap.specs.declared.builder.command.Command.TheViews.{out-Command};
-ghost use Rattle.gw_shell.specs.CommandLine.{call_by, call_of, check, check_of_file, commands, explain, is_given, replay, run, run_of_files, run_of_turns, needed_config, why, AreOptions, CallsCheck, CallsExplain, CallsLint, CallsReplay, CallsReplayExplained, CallsRun, CallsRunWhole, CallsWhy, IsAnswer, IsCheck, IsChosen, IsNoPeriod, IsNoTurns, AreNoOptions, IsPeriod, IsRefusal, IsReplay, IsServing, IsTurns, IsWhy};
+ghost use Rattle.gw_shell.specs.CommandLine.{call_by, call_of, check, check_of_file, commands, explain, is_given, log_in_words, replay, run, run_of_files, run_of_turns, needed_config, why, AreOptions, CallsCheck, CallsExplain, CallsLint, CallsLog, CallsReplay, CallsReplayExplained, CallsRun, CallsRunWhole, CallsWhy, IsAnswer, IsCheck, IsChosen, IsLog, IsNoPeriod, IsNoTurns, AreNoOptions, IsPeriod, IsRefusal, IsReplay, IsServing, IsTurns, IsWhy};
 
 use crate::fault::Fault;
 use crate::options::RunOptions;
@@ -34,6 +34,10 @@ const RUN_EXAMPLE: &str = "Example:
 const WHY_EXAMPLE: &str = "Example:
   bacgw why --config new.toml < denials.log | sort | uniq -c";
 
+/// What stands below the help on `log`.
+const LOG_EXAMPLE: &str = "Example:
+  bacgw log < denials.log | sort | uniq -c";
+
 /// What the words ask for.
 #[derive(Debug, Drop)]
 pub enum Choice {
@@ -55,6 +59,8 @@ pub enum Choice {
     /// Say of each ask on standard input which rule of the configuration in the file of this name
     /// decides it.
     Why(String),
+    /// Tell the log on standard input in words.
+    Log,
     /// Print this text, which is help or the version.
     Help(String),
     /// Tell that the words are no command line, and this text behind it, which says how the program is
@@ -171,6 +177,15 @@ fn make_why<'a>(alloc: Global) -> Result<Command<'a>, AllocError>
         .arg(make_config(alloc))
 }
 
+fn make_log<'a>(alloc: Global) -> Command<'a>
+    ensures app { app_of result ≡ log_in_words }
+    ensures local { (out-Command result).has_globals ≡ false }
+{
+    Command::new(alloc, "log")
+        .about("Tells each line of a log on standard input in words")
+        .after_help(LOG_EXAMPLE)
+}
+
 /// The commands of the program.
 fn make_commands<'a>(alloc: Global) -> Result<Command<'a>, AllocError>
     ensures { IfOk result (λ command. app_of command ≡ commands) }
@@ -186,7 +201,8 @@ fn make_commands<'a>(alloc: Global) -> Result<Command<'a>, AllocError>
         .subcommand(check)?
         .subcommand(replay)?
         .subcommand(run)?
-        .subcommand(why)
+        .subcommand(why)?
+        .subcommand(make_log(alloc))
 }
 
 /// What is made of a parse that gave no matches.
@@ -279,6 +295,9 @@ fn run_options(alloc: Global, matches: &ArgMatches<'_>, config: String) -> Resul
 fn choice_for(alloc: Global, name: &str, matches: &ArgMatches<'_>) -> Result<Choice, Fault>
     ensures { IsChosen (Some (call_by name.now (first_value (found_of matches.now)))) result }
 {
+    if name == "log" {
+        return Ok(Choice::Log);
+    }
     let config = file_of(alloc, matches, "config")?;
     if name == "replay" {
         let explains = is_given(matches, "explain");
@@ -329,6 +348,7 @@ pub fn choice_of(alloc: Global, words: &[String]) -> Result<Choice, Fault>
     ensures explain { CallsExplain (map string_bytes words.now) → IsCheck (codes "site.toml") true false result }
     ensures lint { CallsLint (map string_bytes words.now) → IsCheck (codes "site.toml") false true result }
     ensures why { CallsWhy (map string_bytes words.now) → IsWhy (codes "site.toml") result }
+    ensures log { CallsLog (map string_bytes words.now) → IsLog result }
     ensures run { CallsRun (map string_bytes words.now) →
         IsServing (codes "site.toml") None 9223372036854775807 false None result }
     ensures run_whole { CallsRunWhole (map string_bytes words.now) →

@@ -17,10 +17,7 @@ pub fn configuration_of(alloc: Global, text: &Result<Vec<u8>, Fault>) -> Result<
     ensures { IsConfigurationOf (result_map (λ octets. octets.items) text.now) result }
 {
     match text {
-        Ok(text) => match read_config(alloc, text) {
-            Ok(config) => Ok(config),
-            Err(fault) => Err(Fault::from(fault)),
-        },
+        Ok(text) => Ok(read_config(alloc, text)?),
         Err(fault) => Err(*fault),
     }
 }
@@ -48,10 +45,7 @@ pub fn configuration<F: ConfigFiles>(
 {
     match name {
         Some(name) => configuration_in(alloc, files, name.as_str()),
-        None => match setting_s(alloc) {
-            Ok(config) => Ok(config),
-            Err(fault) => Err(Fault::from(fault)),
-        },
+        None => Ok(setting_s(alloc)?),
     }
 }
 

@@ -3,19 +3,25 @@
 ghost use Rattle.std.specs.Prelude.{◌≡◌, ◌++◌, ◌∷◌, [], codes, decimal, IsOk, OnOk};
 ghost use Rattle.std.specs.Io.KnownBytes.{Appends};
 ghost use Rattle.std.specs.Process.{exit_status};
-ghost use Rattle.gw_shell.specs.Ending.{error_text, name_of, status_after, text_of, usage_of};
+ghost use Rattle.gw_shell.specs.declared.fault.Fault.TheVariants as fault;
+ghost use Rattle.gw_shell.specs.Ending.{error_text, name_of, status_after, text_of, usage_of, words_of};
 
 use crate::command_line::Choice;
-use crate::fault::{Fault, name_of};
+use crate::fault::{Fault, name_of, words_of};
 use gw_policy_text::ConfigFault;
-use gw_script::{OctetSink, WriteFailed, write_whole};
+use gw_script::{LineFlaw, OctetSink, WriteFailed, write_whole};
 use itoa::Buffer;
 use std::process::ExitCode;
 
-/// Writes a text, this number, and a line feed.
-fn write_number<E: OctetSink>(text: &str, number: u64, errors: &mut E) -> Result<(), WriteFailed>
+/// Writes a text, this number, and another text.
+fn write_number<E: OctetSink>(
+    text: &str,
+    number: u64,
+    behind: &str,
+    errors: &mut E,
+) -> Result<(), WriteFailed>
     ensures ok { OnOk result (Appends (E.held errors.old) (E.held errors.new)
-        (text.now ++ (decimal number ++ 10 ∷ []))) }
+        (text.now ++ (decimal number ++ behind.now))) }
     ensures sure { E.NeverFails errors.old → IsOk result }
     ensures lasts { E.NeverFails errors.old → E.NeverFails errors.new }
 {
@@ -27,7 +33,7 @@ fn write_number<E: OctetSink>(text: &str, number: u64, errors: &mut E) -> Result
         Ok(()) => {}
         Err(failed) => return Err(failed),
     }
-    write_whole(errors, b"\n")
+    write_whole(errors, behind.as_bytes())
 }
 
 /// Writes `bacgw: configuration: ` and the name of this fault, and a line feed.
@@ -51,6 +57,24 @@ fn write_configuration_fault<E: OctetSink>(
     write_whole(errors, b"\n")
 }
 
+/// Writes the number of a line, and what is wrong with it.
+fn write_flaw<E: OctetSink>(number: u64, flaw: LineFlaw, errors: &mut E) -> Result<(), WriteFailed>
+    ensures ok { OnOk result (Appends (E.held errors.old) (E.held errors.new)
+        (text_of (fault.FlawedLine number flaw) ++ 10 ∷ [])) }
+    ensures sure { E.NeverFails errors.old → IsOk result }
+    ensures lasts { E.NeverFails errors.old → E.NeverFails errors.new }
+{
+    match write_number("bacgw: line ", number, ": ", errors) {
+        Ok(()) => {}
+        Err(failed) => return Err(failed),
+    }
+    match write_whole(errors, words_of(flaw).as_bytes()) {
+        Ok(()) => {}
+        Err(failed) => return Err(failed),
+    }
+    write_whole(errors, b"\n")
+}
+
 /// Writes the line of a fault.
 fn write_fault<E: OctetSink>(fault: Fault, errors: &mut E) -> Result<(), WriteFailed>
     ensures ok { OnOk result (Appends (E.held errors.old) (E.held errors.new) (text_of fault ++ 10 ∷ [])) }
@@ -61,12 +85,18 @@ fn write_fault<E: OctetSink>(fault: Fault, errors: &mut E) -> Result<(), WriteFa
         Fault::CommandLine => write_whole(errors, b"bacgw: bad command line\n"),
         Fault::Unreadable => write_whole(errors, b"bacgw: cannot read configuration\n"),
         Fault::Configuration(fault) => write_configuration_fault(fault, errors),
-        Fault::Line(number) => write_number("bacgw: line ", number, errors),
+        Fault::Line(number) => write_number("bacgw: line ", number, "\n", errors),
+        Fault::FlawedLine(number, flaw) => write_flaw(number, flaw, errors),
         Fault::Read => write_whole(errors, b"bacgw: read failed\n"),
         Fault::Write => write_whole(errors, b"bacgw: write failed\n"),
         Fault::Log => write_whole(errors, b"bacgw: log failed\n"),
         Fault::Socket(port) => {
-            write_number("bacgw: socket failed on port ", u64::from(port), errors)
+            write_number(
+                "bacgw: socket failed on port ",
+                u64::from(port),
+                "\n",
+                errors,
+            )
         }
         Fault::Memory => write_whole(errors, b"bacgw: out of memory\n"),
         Fault::CountEnd => write_whole(errors, b"bacgw: count at its end\n"),

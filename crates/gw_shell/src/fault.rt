@@ -2,12 +2,15 @@
 
 ghost use Rattle.std.specs.Prelude.{◌≡◌, ◌≢◌};
 ghost use Rattle.gw_shell.specs.Asking.{fault_of_asking};
-ghost use Rattle.gw_shell.specs.Ending.{fault_of, fault_of_configuration, fault_of_serving, name_of, status_of};
+ghost use Rattle.gw_shell.specs.Ending.{fault_of, fault_of_configuration, fault_of_serving, name_of, status_of, words_of};
+ghost use Rattle.gw_shell.specs.Telling.{fault_of_telling};
 ghost use Rattle.gw_shell.specs.declared.fault.Fault.TheVariants.{CommandLine, Memory};
 
+use gw_audit::TellFault;
 use gw_core::{RunFault, ServeFault};
 use gw_lint::WhyFault;
 use gw_policy_text::ConfigFault;
+use gw_script::LineFlaw;
 use std::alloc::AllocError;
 use std::io::ErrorKind;
 
@@ -20,8 +23,11 @@ pub enum Fault {
     Unreadable,
     /// What the file of the configuration says is none, and why.
     Configuration(ConfigFault),
-    /// Line `n` of the script, counted from 1, is no event; or line `n` of the asks is none.
+    /// Line `n` of the script, counted from 1, is no event; or line `n` of the asks is none; or line `n`
+    /// of the log is too long.
     Line(u64),
+    /// Line `n` of the script, counted from 1, is no event, since it has this flaw.
+    FlawedLine(u64, LineFlaw),
     /// A read of standard input failed.
     Read,
     /// A write to standard output failed.
@@ -53,7 +59,10 @@ impl Fault {
         ensures { result ≡ status_of self }
     {
         match self {
-            Fault::CommandLine | Fault::Configuration(_) | Fault::Line(_) => 2,
+            Fault::CommandLine
+            | Fault::Configuration(_)
+            | Fault::Line(_)
+            | Fault::FlawedLine(_, _) => 2,
             Fault::Unreadable
             | Fault::Read
             | Fault::Write
@@ -78,6 +87,21 @@ pub fn name_of(fault: ConfigFault) -> &'static str
         ConfigFault::Duplicate => "Duplicate",
         ConfigFault::TooMany => "TooMany",
         ConfigFault::Memory => "Memory",
+    }
+}
+
+/// What is wrong with a line.
+pub fn words_of(flaw: LineFlaw) -> &'static str
+    ensures { result.now ≡ words_of flaw }
+{
+    match flaw {
+        LineFlaw::Long => "it has more than 4096 octets",
+        LineFlaw::CarriageReturn => "it ends with a carriage return",
+        LineFlaw::Form => "it is neither tick nor a port, an address and octets",
+        LineFlaw::Port => "there is no such port",
+        LineFlaw::Address => "behind its port stands no address and a space",
+        LineFlaw::OddDigits => "its octets have an odd number of digits",
+        LineFlaw::Digits => "its octets are no pairs of digits",
     }
 }
 
@@ -127,6 +151,19 @@ impl From<WhyFault> for Fault {
             WhyFault::Line(number) => Fault::Line(number),
             WhyFault::Write => Fault::Write,
             WhyFault::Memory => Fault::Memory,
+        }
+    }
+}
+
+impl From<TellFault> for Fault {
+    ghost from_gives = { λ telling fault. fault ≡ fault_of_telling telling };
+
+    fn from(telling: TellFault) -> Fault {
+        match telling {
+            TellFault::Read => Fault::Read,
+            TellFault::Line(number) => Fault::Line(number),
+            TellFault::Write => Fault::Write,
+            TellFault::Memory => Fault::Memory,
         }
     }
 }

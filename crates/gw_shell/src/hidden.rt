@@ -5,7 +5,7 @@ ghost use Rattle.std.specs.Prelude.{◌≡◌, ◌++◌, ◌≤◌, length, IfOk
 ghost use Rattle.gw_policy_text.specs.Duplicates.{type_number};
 ghost use Rattle.gw_rules.specs.Hides.{hides_from_network};
 ghost use Rattle.gw_shell.specs.Hidden.{IsChecked, explained_text, hidden_line, hidden_lines, network_line, object_lines, object_text};
-ghost use Rattle.gw_shell.specs.Numbered.{numbered};
+ghost use Rattle.gw_script.specs.Order.{in_order};
 
 use crate::announcement::{put_number, put_shown};
 use crate::configured::summary;
@@ -60,7 +60,8 @@ fn put_objects(
 ) -> Result<(), AllocError>
     requires { length objects.now ≤ 256 }
     ensures { OnOk result
-        (out.new.items ≡ out.old.items ++ numbered (object_lines rules.now ports.now) 1 objects.now) }
+        (out.new.items ≡ out.old.items
+        ++ in_order (object_lines rules.now ports.now) 1 objects.now) }
 {
     for place in 0..objects.len() {
         put_object(out, rules, ports, place + 1, &objects[place])?;

@@ -1,7 +1,7 @@
 //! The program `bacgw` over any words, files, streams and machine, and the sockets of the system.
 //!
 //! [`run`] is the whole program: the words choose a command, the file that they name has the configuration, and `check`, `replay`,
-//! `run`, `why` or help is done under it. A fault is one line on standard error, and the exit status says of which kind it is.
+//! `run` or `why` is done under it; `log` and help need none. A fault is one line on standard error, and the exit status says of which kind it is.
 #![tactic(auto)]
 
 mod announcement;
@@ -20,11 +20,12 @@ mod program;
 mod script;
 mod serving;
 mod system_clock;
+mod telling;
 mod udp;
 
 pub use command_line::{Choice, choice_of};
 pub use ending::end;
-pub use fault::Fault;
+pub use fault::{Fault, words_of};
 pub use files::{ConfigFiles, SystemFiles};
 pub use host::{Host, SystemHost};
 pub use opening::{FailedStep, OpenFailure, Reason, SocketFailure, Step};

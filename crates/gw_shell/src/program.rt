@@ -26,6 +26,7 @@ use crate::host::Host;
 use crate::options::RunOptions;
 use crate::script::replay;
 use crate::serving::serve_ports;
+use crate::telling;
 use gw_policy_text::{Config, ConfigFault, Explanation, explain};
 use gw_script::{OctetSink, OctetSource, write_whole};
 use std::alloc::{AllocError, Global};
@@ -164,10 +165,7 @@ fn play<R: OctetSource, W: Write + Drop>(
         (writer_contents W.contents output.new) config result }
     ensures flush { OnOk result (writer_buffer output.new ≡ []) }
 {
-    match config {
-        Ok(config) => replay(alloc, explains, config, input, output),
-        Err(fault) => Err(fault),
-    }
+    replay(alloc, explains, config?, input, output)
 }
 
 /// Answers each ask of standard input by the rules of a configuration.
@@ -181,10 +179,8 @@ fn answer<R: OctetSource, W: Write + Drop>(
         (writer_contents W.contents output.new) config result }
     ensures flush { OnOk result (writer_buffer output.new ≡ []) }
 {
-    match config {
-        Ok(config) => why(alloc, config.rules(), input, output),
-        Err(fault) => Err(fault),
-    }
+    let config = config?;
+    why(alloc, config.rules(), input, output)
 }
 
 /// Serves the ports of the configuration of a text that was read, or tells where its fault is, where
@@ -262,6 +258,7 @@ fn follow<F: ConfigFiles, H: Host, R: OctetSource, W: Write + Drop, E: OctetSink
             let config = configuration_in(alloc, files, file);
             answer(alloc, config, input, output)
         }
+        Ok(Choice::Log) => telling::tell(alloc, input, output),
         Ok(Choice::Help(text)) => print(text.as_bytes(), output),
         Ok(Choice::Usage(_)) => Err(Fault::CommandLine),
         Err(fault) => Err(*fault),
@@ -270,7 +267,7 @@ fn follow<F: ConfigFiles, H: Host, R: OctetSource, W: Write + Drop, E: OctetSink
 
 /// Runs the program on these words, or on the fault for which there are none: the configuration that
 /// they name is read from `files`, what it has is printed to `output`, or the script of `input` is
-/// replayed there, or its asks are answered, or what `host` opens is served, or help is printed; what
+/// replayed there, or its asks are answered, or its log is told in words, or what `host` opens is served, or help is printed; what
 /// is served, or where a fault is, may be told on `errors`, a fault is one line there, behind words
 /// that are no command line stands how the program is called, and the exit status says of which kind
 /// the fault is. The words begin with the program's name.

@@ -1,7 +1,7 @@
 //! The gateway at work: what `run` opens, and a fresh gateway that serves it.
 //!
-//! What owns a configuration or a gateway has nothing behind it that can fail, and lends it to the
-//! functions that can: each way out of such a function drops a large value.
+//! A function that owns a configuration or a gateway does nothing fallible after making it, and passes
+//! a reference on: each way out would drop a large value.
 
 ghost use Rattle.std.specs.Prelude.{◌≡◌, ◌⊎◌, ◌≤◌, ◌<◌, ◌^◌, [], ℕ, List, Ok, Err, None, Some, MatchResult, length, option_map, string_bytes, IfErr, IfOk, IfSome, OnErr, OnOk};
 ghost use Rattle.std.specs.Io.Buffered.{writer_buffer, writer_contents};
@@ -112,10 +112,7 @@ pub fn serve_fresh<S: Wire, L: OctetSink, E: OctetSink>(
 fn open_at_line<H: Host>(name: &str, host: &H) -> Result<H::Log, Fault>
     ensures { OpensAtLine (H.LogOpens host.now) (H.LogIsCut host.now) H.Log.held name.now result }
 {
-    let mut log = match host.open_log(name) {
-        Ok(log) => log,
-        Err(fault) => return Err(fault),
-    };
+    let mut log = host.open_log(name)?;
     if !host.is_cut(name) {
         return Ok(log);
     }
@@ -141,10 +138,7 @@ fn open_log<H: Host, W: Write + Drop>(
         (writer_buffer output.old) (writer_buffer output.new)) }
 {
     match log {
-        Some(name) => match open_at_line(name, host) {
-            Ok(log) => Ok(Some(log)),
-            Err(fault) => Err(fault),
-        },
+        Some(name) => Ok(Some(open_at_line(name, host)?)),
         None => match output.flush() {
             Ok(()) => Ok(None),
             Err(_) => Err(Fault::Log),

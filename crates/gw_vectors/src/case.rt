@@ -86,13 +86,17 @@ pub fn unfolded(alloc: Global, text: &str) -> io::Result<Vec<u8>> {
     Ok(out)
 }
 
-/// Appends a space and a text, with `~` for each line feed; nothing where the text is empty.
+/// Appends a space and a text, with `~` for each line feed and `^` for each carriage return; nothing where the text is empty.
 pub fn put_word(text: &[u8], out: &mut Vec<u8>) -> io::Result<()> {
     if !text.is_empty() {
         out.push(b' ')?;
     }
     for octet in text {
-        out.push(if *octet == b'\n' { b'~' } else { *octet })?;
+        out.push(match octet {
+            b'\n' => b'~',
+            b'\r' => b'^',
+            _ => *octet,
+        })?;
     }
     Ok(())
 }

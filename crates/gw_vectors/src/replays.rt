@@ -10,7 +10,8 @@ use gw_core::{
     Counts, Denial, Effects, Event, Gateway, RunFault, Sends, StepFault, replay, replay_explaining,
     run,
 };
-use gw_script::{MAX_DATAGRAM, append_end, append_send, parse_line};
+use gw_script::{LineFlaw, MAX_DATAGRAM, append_end, append_send, parse_line};
+use gw_shell::words_of;
 use std::alloc::Global;
 use std::io;
 use std::io::{ErrorKind, Read, Write};
@@ -62,7 +63,12 @@ pub fn explained(alloc: Global, config: &str, body: &str, out: &mut Vec<u8>) -> 
     let lines = event_lines(alloc, body)?;
     let mut reader = lines.as_slice();
     let config = read(alloc, config)?;
-    put_end(replay_explaining(alloc, config, &mut reader, out), out)?;
+    let mut flaw = LineFlaw::Form;
+    let end = replay_explaining(alloc, config, &mut reader, out, &mut flaw);
+    put_end(end, out)?;
+    if let Err(RunFault::Line(_)) = end {
+        write!(out, ": {}", words_of(flaw))?;
+    }
     writeln!(out)
 }
 

@@ -1,9 +1,10 @@
-//! Replays from a reader of one octet a call, to a writer of some octets a call, each of which fails at a call of the case's choice.
+//! Replays, and logs told in words, from a reader of one octet a call, to a writer of some octets a call, each of which fails at a call of the case's choice.
 
 ghost use Rattle.std.specs.Prelude.{Some};
 
 use crate::case::{number, number_or_none, put_word, unfolded};
 use crate::replays::{end_of, put_end};
+use gw_audit::tell_log;
 use std::alloc::{AllocError, Global};
 use std::io;
 use std::io::{ErrorKind, Read, Write};
@@ -90,5 +91,24 @@ pub fn stream(alloc: Global, config: &str, line: &str, out: &mut Vec<u8>) -> io:
     let mut writer = Narrow::new(alloc, write, octets)?;
     let end = end_of(alloc, config, &mut reader, &mut writer)?;
     put_end(end, out)?;
+    put_word(writer.held(), out)
+}
+
+/// What a log is told as in words, and how the telling ends. A case is as one of a replay, with the log in the script's place.
+pub fn told(alloc: Global, line: &str, out: &mut Vec<u8>) -> io::Result<()> {
+    let mut words = line.splitn(4, ' ');
+    let fails = number_or_none(words.next())?;
+    let write = number_or_none(words.next())?;
+    let octets = number(words.next())?;
+    let log = unfolded(alloc, words.next().unwrap_or(""))?;
+    let mut reader = Slow {
+        octets: &log,
+        fails,
+    };
+    let mut writer = Narrow::new(alloc, write, octets)?;
+    match tell_log(alloc, &mut reader, &mut writer) {
+        Ok(()) => write!(out, "ok")?,
+        Err(fault) => write!(out, "{fault}")?,
+    }
     put_word(writer.held(), out)
 }

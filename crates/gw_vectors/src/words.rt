@@ -1,6 +1,7 @@
 //! Words of a command line, and what they choose; and how the program ends at each fault.
 
 use gw_policy_text::ConfigFault;
+use gw_script::LineFlaw;
 use gw_shell::{Choice, Fault, RunOptions, choice_of, end};
 use itoa::Buffer;
 use std::alloc::{AllocError, Global};
@@ -52,6 +53,7 @@ fn put_choice(choice: &Result<Choice, Fault>, out: &mut Vec<u8>) -> Result<(), A
         }
         Ok(Choice::Run(options)) => put_options(options, out),
         Ok(Choice::Why(file)) => put(out, &["why ", file.as_str()]),
+        Ok(Choice::Log) => put(out, &["log"]),
         Ok(Choice::Help(_)) => put(out, &["help"]),
         Ok(Choice::Usage(_)) | Err(Fault::CommandLine) => put(out, &["refused"]),
         Err(Fault::Memory) => put(out, &["out of memory"]),
@@ -96,6 +98,8 @@ pub fn faults(alloc: Global, out: &mut Vec<u8>) -> io::Result<()> {
         Fault::Configuration(ConfigFault::UnknownKey),
         Fault::Line(1),
         Fault::Line(u64::MAX),
+        Fault::FlawedLine(2, LineFlaw::Long),
+        Fault::FlawedLine(u64::MAX, LineFlaw::Digits),
         Fault::Read,
         Fault::Write,
         Fault::Log,

@@ -1,5 +1,6 @@
 use Rattle.std.proofs.Common.{take}
-use Rattle.gw_lint.specs.Warnings.{in_order, peer_lines}
+use Rattle.gw_script.specs.Order.{in_order}
+use Rattle.gw_lint.specs.Warnings.{peer_lines}
 use Rattle.gw_lint.proofs.Lines.{IsGrown}
 use Rattle.gw_lint.proofs.port_warnings.put_peers.Given as goal
 

@@ -1,5 +1,6 @@
 use Rattle.std.proofs.Common.{take}
-use Rattle.gw_lint.specs.Warnings.{in_order, missing_lines}
+use Rattle.gw_script.specs.Order.{in_order}
+use Rattle.gw_lint.specs.Warnings.{missing_lines}
 use Rattle.gw_lint.proofs.Lines.{IsGrown}
 use Rattle.gw_lint.proofs.rule_warnings.put_missing.Given as goal
 

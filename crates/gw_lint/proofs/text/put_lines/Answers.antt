@@ -1,11 +1,11 @@
 use Rattle.std.proofs.Common.{length, rules, ◌≡◌, ◌<◌, ◌++◌, ◌+◌, get_or}
 use Rattle.gw_lint.specs.declared.finding.Finding.TheVariants as finding
 use Rattle.gw_lint.specs.Text.{line_text}
-use Rattle.gw_lint.proofs.Numbering.{numbered_none, numbered_step}
+use Rattle.gw_script.proofs.Order.{in_order_none, in_order_step}
 use Rattle.gw_lint.proofs.text.put_lines.Goals as goal
 
 pub loop-place-init : goal.loop-place-init
-loop-place-init c = numbered_none (line_text c.args.explains c.args.rules.now) c.args.out.now.items
+loop-place-init c = in_order_none (line_text c.args.explains c.args.rules.now) c.args.out.now.items
 
 pub loop-place-preserved : goal.loop-place-preserved
 loop-place-preserved c =
@@ -15,5 +15,5 @@ loop-place-preserved c =
     let within : place < length findings = search rules in
     let then : c.put_line.new.out.items ≡ c.loop-place.out.items ++ text (place + 1) (get_or findings place finding.MatchesNothing) =
     c.in_ok-put_line.ensures in
-    numbered_step text c.args.out.now.items c.loop-place.out.items c.put_line.new.out.items findings place finding.MatchesNothing within
+    in_order_step text c.args.out.now.items c.loop-place.out.items c.put_line.new.out.items findings place finding.MatchesNothing within
     c.loop-place.invariant then

@@ -31,3 +31,9 @@ returns-in-Ok-Why-clause-followed g c =
     c.deref-in-Ok-Why.ensures c.configuration_in-config.ensures in
     followed _ _ c.args.choice.now (Ok chosen) c.answer.result is refl (config, configured, c.answer.ensures.output)
     (λ never. appends_nothing (g.E.OctetSink.held c.args.errors.now))
+
+pub returns-in-Ok-Log-clause-followed : goal.returns-in-Ok-Log-clause-followed
+returns-in-Ok-Log-clause-followed g c =
+    let is : c.args.choice.now ≡ Ok choice.Log = search rules in
+    followed _ _ c.args.choice.now (Ok choice.Log) c.tell.result is refl c.tell.ensures.tells
+    (λ never. appends_nothing (g.E.OctetSink.held c.args.errors.now))

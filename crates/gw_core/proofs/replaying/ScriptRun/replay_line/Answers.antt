@@ -5,7 +5,8 @@ use Rattle.gw_script.specs.declared.reader.NextLine.{NextLine}
 use Rattle.gw_script.specs.Reader.{IsNextLine, IsWithin}
 use Rattle.gw_script.specs.Script.{lines_of}
 use Rattle.gw_script.specs.Event.{event_view}
-use Rattle.gw_core.proofs.LineOutcomeLemmas.{left_known, if_known, appended, same_line, not_taken}
+use Rattle.gw_core.proofs.LineOutcomeLemmas.{same_flaw, same_line, not_taken}
+use Rattle.gw_script.proofs.KnownTexts.{left_known, if_known, appended}
 use Rattle.gw_core.proofs.replaying.ScriptRun.replay_line.Goals as goal
 
 pub returns-in_default-clause-outcome : goal.returns-in_default-clause-outcome
@@ -29,6 +30,22 @@ returns-in_default-clause-outcome g c = λ text before known written.
       },
       written,
     )
+
+pub returns-in_default-clause-flaw : goal.returns-in_default-clause-flaw
+returns-in_default-clause-flaw g c = λ n e text known.
+    let front = c.find_line.new.self.unread in
+    let len = c.in-Ok-Line.len in
+    let span = c.in-Ok-Line.span in
+    let left = left_known _ _ _ front text c.in-Ok-Line.ensures.text known in
+    let piece : IsNextLine front left.rest c.in-Ok-Line.field-0 = if_known
+    (λ (r : List ℕ). IsNextLine front r c.in-Ok-Line.field-0) _ left.rest left.is c.in-Ok-Line.ensures.found in
+    let lines : lines_of (front ++ left.rest) ≡ take len front ∷ lines_of (drop span front ++ left.rest) = subst
+    (λ (p : NextLine). IsNextLine front left.rest p) c.in-Ok-Line.field-0-is piece in record {
+      line = take len front;
+      others = lines_of (drop span front ++ left.rest);
+      lines = ap lines_of left.text_is ∙ lines;
+      is = same_flaw _ _ _ _ _ c.ports-ports.ensures.count c.front-line.ensures c.flaw_of-self.ensures;
+    }
 
 pub returns-in-Err-make_text-clause-outcome : goal.returns-in-Err-make_text-clause-outcome
 returns-in-Err-make_text-clause-outcome g c = λ text before known written.

@@ -2,9 +2,9 @@ use Rattle.std.proofs.Common.{Bool, Ok, Err, subst, ap, arith}
 use Rattle.std.specs.Io.KnownBytes.{prepend_known}
 use Rattle.gw_core.specs.declared.replaying.RunFault.{RunFault}
 use Rattle.gw_core.specs.declared.replaying.RunFault.TheVariants.{Read, Line, Write, Memory, CountEnd}
-use Rattle.gw_core.proofs.LineOutcomeLemmas.{nothing_held}
-use Rattle.gw_core.proofs.CallLemmas.{bound_at_first, bound_goes_on, calls_left, lines_left}
-use Rattle.gw_core.proofs.ReplayLemmas.{begins, goes_on, ends_whole, ends_part, stops_part, ends_at_line, ends_at_write, ends_at_end, ends_at_memory, fault_is, err_as, stops, Turns}
+use Rattle.gw_script.proofs.KnownTexts.{nothing_held}
+use Rattle.gw_script.proofs.Calls.{bound_at_first, bound_goes_on, calls_left, lines_left}
+use Rattle.gw_core.proofs.ReplayLemmas.{begins, goes_on, ends_whole, ends_part, stops_part, ends_at_line, flaw_at_line, ends_at_write, ends_at_end, ends_at_memory, fault_is, err_as, stops, Turns}
 use Rattle.gw_core.proofs.replaying.ScriptRun.replay_script.Goals as goal
 
 pub loop-number-init : goal.loop-number-init
@@ -63,6 +63,21 @@ returns-in-Err-clause-line g c = λ configuration m stands e script before known
     ends_at_line g.T.Telling.told configuration script before n w moved text left so_far after m progress
     (subst (λ (f : RunFault). Turns g.T.Telling.told n w moved text left so_far after (Err f))
     (fault_is {T = Unit {0}} c.in-Err.fault (Line m) e) c.in-Err.ensures.outcome)
+
+pub returns-in-Err-clause-flaw : goal.returns-in-Err-clause-flaw
+returns-in-Err-clause-flaw g c = λ configuration m stands e script before known written.
+    let progress = c.loop-number.invariant.progress configuration stands script before known written in
+    let n = c.loop-number.number in
+    let w = c.loop-number.self.gateway in
+    let moved = c.replay_line.new.self.gateway in
+    let text = prepend_known c.loop-number.self.lines.unread (g.R.OctetSource.left c.loop-number.reader) in
+    let left = prepend_known c.replay_line.new.self.lines.unread (g.R.OctetSource.left c.replay_line.new.reader) in
+    let so_far = g.W.OctetSink.held c.loop-number.writer in
+    let after = g.W.OctetSink.held c.replay_line.new.writer in
+    flaw_at_line g.T.Telling.told configuration script before n w moved text left so_far after m c.replay_line.new.self.flaw progress
+    (subst (λ (f : RunFault). Turns g.T.Telling.told n w moved text left so_far after (Err f))
+    (fault_is {T = Unit {0}} c.in-Err.fault (Line m) e) c.in-Err.ensures.outcome)
+    (λ t is. c.in-Err.ensures.flaw m (err_as {S = Unit {0}} {T = Bool} c.in-Err.fault (Line m) e) t is)
 
 pub returns-in-Err-clause-front : goal.returns-in-Err-clause-front
 returns-in-Err-clause-front g c = λ configuration stands e script before known written.

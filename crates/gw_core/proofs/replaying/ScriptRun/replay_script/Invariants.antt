@@ -3,7 +3,7 @@ use Rattle.std.specs.Io.KnownBytes.{prepend_known}
 use Rattle.gw_policy_text.specs.Configuration.{Configuration}
 use Rattle.gw_core.specs.History.{IsStateAfter}
 use Rattle.gw_core.specs.Replay.{no_counts}
-use Rattle.gw_core.proofs.CallLemmas.{CallBound}
+use Rattle.gw_script.proofs.Calls.{CallBound}
 use Rattle.gw_core.proofs.ReplayLemmas.{Progress}
 use Rattle.gw_core.proofs.replaying.ScriptRun.replay_script.Given as goal
 

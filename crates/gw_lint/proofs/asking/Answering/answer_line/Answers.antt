@@ -5,7 +5,7 @@ use Rattle.gw_audit.specs.Entry.{TellsAsk}
 use Rattle.gw_script.specs.declared.reader.NextLine.{NextLine}
 use Rattle.gw_script.specs.Reader.{IsNextLine, IsWithin}
 use Rattle.gw_script.specs.Script.{lines_of}
-use Rattle.gw_core.proofs.LineOutcomeLemmas.{appended, if_known, left_known}
+use Rattle.gw_script.proofs.KnownTexts.{appended, if_known, left_known}
 use Rattle.gw_lint.proofs.WhyLemmas.{same_line}
 use Rattle.gw_lint.proofs.asking.Answering.answer_line.Goals as goal
 

@@ -1,7 +1,7 @@
 use Rattle.std.proofs.Common.{Bool, Ok, Err, subst, ap, arith}
 use Rattle.std.specs.Io.KnownBytes.{prepend_known}
-use Rattle.gw_core.proofs.LineOutcomeLemmas.{nothing_held}
-use Rattle.gw_core.proofs.CallLemmas.{bound_at_first, bound_goes_on, calls_left, lines_left}
+use Rattle.gw_script.proofs.KnownTexts.{nothing_held}
+use Rattle.gw_script.proofs.Calls.{bound_at_first, bound_goes_on, calls_left, lines_left}
 use Rattle.gw_lint.specs.declared.asking.WhyFault.{WhyFault}
 use Rattle.gw_lint.specs.declared.asking.WhyFault.TheVariants.{Read, Line, Write}
 use Rattle.gw_lint.proofs.WhyLemmas.{Turns, begins, ends_at_line, ends_at_write, ends_part, ends_whole, err_as, fault_is, goes_on, stops, stops_part}

@@ -1,6 +1,6 @@
 use Rattle.std.proofs.Common.{◌≡◌, ℕ, List, Some}
 use Rattle.std.specs.Io.KnownBytes.{prepend_known}
-use Rattle.gw_core.proofs.CallLemmas.{CallBound}
+use Rattle.gw_script.proofs.Calls.{CallBound}
 use Rattle.gw_lint.proofs.WhyLemmas.{Progress}
 use Rattle.gw_lint.proofs.asking.Answering.answer_lines.Given as goal
 

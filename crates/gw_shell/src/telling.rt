@@ -1,0 +1,40 @@
+//! A log, told in words.
+
+ghost use Rattle.std.specs.Prelude.{◌≡◌, [], OnOk};
+ghost use Rattle.std.specs.Io.Buffered.{writer_buffer, writer_contents};
+ghost use Rattle.gw_script.specs.Known.{OnKnown};
+ghost use Rattle.gw_shell.specs.Telling.{Tells, first_telling_fault};
+
+use crate::fault::Fault;
+use gw_audit::{TellFault, tell_log};
+use gw_script::OctetSource;
+use std::alloc::Global;
+use std::io::{BufWriter, Write};
+
+/// The first fault of the telling and of the flush behind it.
+fn first_telling_fault(telling: Result<(), TellFault>, is_flushed: bool) -> Result<(), Fault>
+    ensures { result ≡ first_telling_fault telling is_flushed }
+{
+    telling?;
+    if is_flushed {
+        Ok(())
+    } else {
+        Err(Fault::Write)
+    }
+}
+
+/// Tells in words each line of the log that `reader` has left. What was written is flushed at every
+/// outcome. Faults: those of the telling, and `Write` also where the flush alone fails.
+pub fn tell<R: OctetSource, W: Write + Drop>(
+    alloc: Global,
+    reader: &mut R,
+    writer: &mut BufWriter<W>,
+) -> Result<(), Fault>
+    ensures tells { OnKnown (R.left reader.old) (writer_contents W.contents writer.old)
+        (writer_contents W.contents writer.new) (λ log before. Tells log before result) }
+    ensures flushed { OnOk result (writer_buffer writer.new ≡ []) }
+{
+    let telling = tell_log(alloc, reader, writer);
+    let is_flushed = writer.flush().is_ok();
+    first_telling_fault(telling, is_flushed)
+}
