@@ -95,6 +95,7 @@ SUBNETS, PORT = 8, 47808
 STOPPED = 30  # seconds that the process is stopped
 DOWN = 5  # seconds that an interface is down
 STILL = 3  # seconds without a probe behind either
+TIMEOUT, RETRIES = 3, 3  # the seconds that a probe waits, and how often it asks again
 chance = random.Random(1)
 
 LINE = re.compile(r"^[12] \d+\.\d+\.\d+\.\d+:\d+ ([0-9A-Fa-f]+)$")
@@ -177,16 +178,19 @@ def answers():
 
 
 def probe(subnet, wanted):
-    """Whether the gateway answers as replay does, within two seconds. What else comes is passed over."""
+    """Reads as a client does, which asks three times more: whether the gateway answers as replay does, each time within
+    three seconds. What else comes is passed over."""
     octets = with_invoke_id(chance.choice(PROBES), chance.randrange(256))
     sock = probes[subnet]
     while select.select([sock], [], [], 0)[0]:
         sock.recv(2048)
-    sock.sendto(octets, (f"10.{subnet}.0.2", PORT))
-    until = time.monotonic() + 2
-    while (left := until - time.monotonic()) > 0 and select.select([sock], [], [], left)[0]:
-        if sock.recv(2048) == wanted[subnet, octets]:
-            return True
+    for asked in range(1 + RETRIES):
+        counts["asked again"] += asked > 0
+        sock.sendto(octets, (f"10.{subnet}.0.2", PORT))
+        until = time.monotonic() + TIMEOUT
+        while (left := until - time.monotonic()) > 0 and select.select([sock], [], [], left)[0]:
+            if sock.recv(2048) == wanted[subnet, octets]:
+                return True
     return False
 
 
@@ -202,7 +206,7 @@ def field(state, subnet):
     subprocess.run(["ip", "link", "set", f"field{subnet}", state], check=True)
 
 
-counts = {"sent": 0, "not sent": 0, "received": 0, "probes": 0, "unanswered": 0, "stops": 0, "downs": 0}
+counts = {"sent": 0, "not sent": 0, "received": 0, "probes": 0, "asked again": 0, "unanswered": 0, "stops": 0, "downs": 0}
 wanted = answers()
 start = time.monotonic()
 end = start + 60 * minutes

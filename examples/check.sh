@@ -86,7 +86,28 @@ head -2 "$here/refusals.why.out" > "$work/line"
 echo 'bacgw: line 3' > "$work/told"
 agrees 'a line that is no ask' 2 "$work/line" "$work/told"
 
+
+# The same log in words, with a line that is none among its lines.
+{ head -2 "$work/denials"; echo 'no line of a log'; tail -3 "$work/denials"; } | "$program" log > "$work/out" 2> "$work/err"
+status=$?
+agrees 'a log in words' 0 "$here/refusals.log.out" /dev/null
+
 echo 'bacgw: bad command line' > "$work/refusal"
+
+# flawed LINE WORDS: a replay that explains says what is wrong with the third line
+flawed() {
+    printf 'tick\ntick\n%b' "$1" > "$work/flawed.script"
+    "$program" replay --explain < "$work/flawed.script" > "$work/out" 2> "$work/err"
+    status=$?
+    tells "a line that is no event: $2" 2 "bacgw: line 3: $2"
+}
+flawed 'tick\r\n' 'it ends with a carriage return'
+flawed "$(printf '%04100d' 0)" 'it has more than 4096 octets'
+flawed '3 192.168.1.5:47808 -\n' 'there is no such port'
+flawed '1 192.168.1.5 -\n' 'behind its port stands no address and a space'
+flawed '1 192.168.1.5:47808 81F' 'its octets have an odd number of digits'
+flawed '1 192.168.1.5:47808 8x' 'its octets are no pairs of digits'
+flawed 'tack' 'it is neither tick nor a port, an address and octets'
 
 # refused WORDS...: the words are refused, and behind the line stands what is wrong with them
 refused() {
@@ -116,6 +137,7 @@ refused check --config a --config a
 refused check --lint
 refused why
 refused why --config a --explain
+refused log site.log
 refused_alone run --config a --turns 0
 refused_alone run --config a --turns 9223372036854775808
 refused run --config a --explain
@@ -148,6 +170,7 @@ helped replay --help
 helped help check
 helped run --help
 helped why --help
+helped log --help
 
 checked() {
     "$program" check --config "$1" < /dev/null > "$work/out" 2> "$work/err"
@@ -263,6 +286,15 @@ send_failures=$number"
     done
 fi
 
+# A socket that may not broadcast can't send to the one address of the loopback device that is a broadcast address to the system.
+sed 's/127\.4\.0\.255/127.255.255.255/' "$work/served.toml" > "$work/broadcast.toml"
+python3 "$here/loopback.py" broadcast "$program" "$work/broadcast.toml" > "$work/out" 2>&1
+same 'broadcasts are sent' "$(cat "$work/out")" 'sends=2 send_failures=0'
+
+python3 "$here/loopback.py" burst "$program" "$work/served.toml" > "$work/out" 2>&1
+same 'reads that come at once' "$(cat "$work/out")" '16 answers within a second
+16 answers within a second'
+
 # taken ADDRESS PORT SOCKET: while another socket stands at this address, `run` says which port and which socket can't be opened
 taken() {
     python3 "$here/loopback.py" taken "$program" "$work/served.toml" "$1" > "$work/out" 2> "$work/err"
@@ -294,6 +326,21 @@ for octets in 4000 900000; do
     checked "$work/long.toml"
     echo 'ok 2 ports 1 objects 4 rules' > "$work/line"
     agrees "a configuration behind $octets octets" 0 "$work/line" /dev/null
+done
+# The most rules in the most octets, one rule more, and one octet more.
+for rules in 512 513; do
+    { cat "$here/base.toml"; for ((number = 1; number <= rules; number++)); do printf '[[rule]]\nname = "n%d"\nallow = true\n' "$number"; done; printf '#'; } > "$work/rules.toml"
+    head -c $((1048576 - $(wc -c < "$work/rules.toml"))) /dev/zero | tr '\0' '#' >> "$work/rules.toml"
+    checked "$work/rules.toml"
+    if [ "$rules" = 512 ]; then
+        echo 'ok 2 ports 2 objects 512 rules' > "$work/line"
+        agrees '512 rules in 1,048,576 octets' 0 "$work/line" /dev/null
+        printf '#' >> "$work/rules.toml"
+        checked "$work/rules.toml"
+        tells '512 rules in an octet more' 2 'bacgw: configuration: TooMany'
+    else
+        tells '513 rules' 2 'bacgw: configuration: TooMany'
+    fi
 done
 checked "$work"
 tells 'a folder in the place of a configuration' 1 'bacgw: cannot read configuration'

@@ -6,6 +6,8 @@
     loopback.py ports PROGRAM FILE COUNT     reads a point by each socket of so many ports, while nothing else comes and in a flood
     loopback.py short PROGRAM FILE LIBRARY   runs it for four turns under this library, reads a point, and prints what of its counts
                                              says how many sends failed
+    loopback.py broadcast PROGRAM FILE       runs it for eight turns, has it send two broadcasts and prints what its counts say of them
+    loopback.py burst PROGRAM FILE           gives it 16 reads at once, and prints whether all were answered within a second
 
 It prints the answers in hexadecimal and the exit status; what the gateway tells goes to standard error.
 """
@@ -107,6 +109,35 @@ def short(program, file, library):
     print(*re.findall(r"\bsend_failures=\d+", told.decode())[-1:])
 
 
+def broadcast(program, file):
+    """Gives a gateway two messages for all of network 2, and prints what it counts of them."""
+    words = [program, "run", "--config", file, "--turns", "8", "--stats", "60", "--verbose"]
+    gateway = subprocess.Popen(words, stdin=subprocess.DEVNULL, stderr=subprocess.PIPE)
+    line = open_line(CLIENT)
+    gateway.stderr.readline()
+    for _ in range(2):
+        line.sendto(bytes.fromhex("810A000C0120000200FF1008"), (PORT_1, UDP))
+    _, told = gateway.communicate(timeout=20)
+    print(*re.findall(r"\bsend(?:s|_failures)=\d+", told.decode())[-2:])
+
+
+def burst(program, file):
+    """Gives 16 reads at once to each socket of port 1, and prints how many of them were answered, and whether within a second."""
+    gateway = subprocess.Popen([program, "run", "--config", file, "--verbose"], stdin=subprocess.DEVNULL, stderr=subprocess.PIPE)
+    try:
+        gateway.stderr.readline()
+        line = open_line(CLIENT)
+        for to in (PORT_1, BROADCAST_1):
+            start = time.monotonic()
+            for _ in range(16):
+                line.sendto(READ_FAN, (to, UDP))
+            answers = [line.recvfrom(1508) for _ in range(16)]
+            print(len(answers), "answers", "within a second" if time.monotonic() - start < 1 else "too late")
+    finally:
+        gateway.terminate()
+        gateway.wait(timeout=10)
+
+
 def flood(to, is_over):
     """Keeps 64 reads in flight at a socket, until it is over."""
     line = socket.socket(socket.AF_INET, socket.SOCK_DGRAM)
@@ -155,4 +186,12 @@ def ports(program, file, count):
         gateway.wait(timeout=10)
 
 
-{"serve": serve, "taken": taken, "rotate": rotate, "ports": ports, "short": short}[sys.argv[1]](*sys.argv[2:])
+{
+    "serve": serve,
+    "taken": taken,
+    "rotate": rotate,
+    "ports": ports,
+    "short": short,
+    "broadcast": broadcast,
+    "burst": burst,
+}[sys.argv[1]](*sys.argv[2:])

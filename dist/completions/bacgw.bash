@@ -3,7 +3,7 @@ _bacgw() {
     local word=${COMP_WORDS[COMP_CWORD]} before=${COMP_WORDS[COMP_CWORD - 1]} options
     COMPREPLY=()
     if [ "$COMP_CWORD" = 1 ]; then
-        options='check replay run why help --help --version'
+        options='check replay run why log help --help --version'
     else
         case $before in
             --config | --log) compopt -o default; return ;;
@@ -14,7 +14,8 @@ _bacgw() {
             replay) options='--config --explain --help' ;;
             run) options='--config --log --turns --stats --verbose --help' ;;
             why) options='--config --help' ;;
-            help) options='check replay run why' ;;
+            log) options='--help' ;;
+            help) options='check replay run why log' ;;
             *) return ;;
         esac
     fi
