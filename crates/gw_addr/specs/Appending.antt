@@ -1,5 +1,6 @@
 -- What a function that appends to a buffer gives, told of the buffer as it was and as it is.
-use Rattle.std.specs.Prelude.{◌≡◌, ℕ, ◌+◌, ◌≤◌, List, ◌++◌, length, Result, IsOk, OnOk, OnErr, vec_items, vec_len, vec_capacity}
+use Rattle.std.specs.Prelude.{◌≡◌, ℕ, ◌+◌, ◌≤◌, List, ◌++◌, length, Result, IsOk, OnOk, OnErr, vec_items, vec_len}
+use Rattle.std.specs.Prelude.{vec_capacity}
 use Rattle.std.specs.Global.{Vec}
 use Rattle.gw_addr.specs.Reading.{Keeps}
 

@@ -2,7 +2,8 @@
 -- of all codecs. Each reading function (`octet_at` and the like) computes: it answers the value
 -- with the octets after it, or the fault that its caller names. What a codec asks to be believed is
 -- its relation between octets and values (`Is..`), above these.
-use Rattle.std.specs.Prelude.{◌≡◌, ℕ, ◌<◌, List, [], ◌∷◌, ◌++◌, length, take, drop, slice_index, Result, Ok, Err, nat_lt, if◌then◌else◌}
+use Rattle.std.specs.Prelude.{◌≡◌, ℕ, ◌<◌, List, [], ◌∷◌, ◌++◌, length, take, drop, slice_index, Result, Ok, Err}
+use Rattle.std.specs.Prelude.{nat_lt, if◌then◌else◌}
 use Rattle.std.specs.Int.{Width, byte_len, from_be_bytes}
 
 -- what is read next, unless there was a fault

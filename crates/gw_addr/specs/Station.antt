@@ -1,5 +1,6 @@
 -- Network numbers and the addresses of stations (clauses 6.1, 6.2.2 and 6.3).
-use Rattle.std.specs.Prelude.{ℕ, ◌+◌, ◌/◌, ◌%◌, Bool, List, [], ◌∷◌, length, nat_lt, Option, Some, None, nat_le, ◌==◌, ◌&&◌, if◌then◌else◌}
+use Rattle.std.specs.Prelude.{ℕ, ◌+◌, ◌/◌, ◌%◌, Bool, List, [], ◌∷◌, length, nat_lt, Option, Some, None, nat_le, ◌==◌}
+use Rattle.std.specs.Prelude.{◌&&◌, if◌then◌else◌}
 use Rattle.gw_addr.specs.Address.{big_endian}
 
 -- a network number: 1 to 65534

@@ -1,10 +1,12 @@
 -- APDUs (ISO 16484-5, clause 20.1): their headers, and which octets are an APDU.
-use Rattle.std.specs.Prelude.{◌≡◌, ℕ, ◌+◌, ◌/◌, ◌%◌, ◌≤◌, Bool, ◌==◌, List, [], ◌∷◌, ◌++◌, get_or, Option, Some, None, is_some, IfSome}
+use Rattle.std.specs.Prelude.{◌≡◌, ℕ, ◌+◌, ◌/◌, ◌%◌, ◌≤◌, Bool, ◌==◌, List, [], ◌∷◌, ◌++◌, get_or, Option, Some, None}
+use Rattle.std.specs.Prelude.{is_some, IfSome}
 use Rattle.std.specs.Int.RustNames.{bit_and}
 use Rattle.gw_apdu.specs.declared.header.Apdu.{Apdu}
 use Rattle.gw_apdu.specs.declared.header.Segment.{Segment}
 use Rattle.gw_apdu.specs.declared.header.Header.{Header}
-use Rattle.gw_apdu.specs.declared.header.Header.TheVariants.{ConfirmedRequest, UnconfirmedRequest, SimpleAck, ComplexAck, SegmentAck, Error, Reject, Abort}
+use Rattle.gw_apdu.specs.declared.header.Header.TheVariants.{ConfirmedRequest, UnconfirmedRequest, SimpleAck}
+use Rattle.gw_apdu.specs.declared.header.Header.TheVariants.{ComplexAck, SegmentAck, Error, Reject, Abort}
 use Rattle.gw_apdu.specs.declared.pdu_type.PduType.{PduType}
 use Rattle.gw_apdu.specs.declared.pdu_type.PduType.TheVariants as types
 use Rattle.gw_apdu.specs.Numbers.{segmented_bit, more_bit, accepted_bit}

@@ -1,6 +1,7 @@
 -- Computes; believe `IsApdu` (Apdu.antt). How octets are read as an APDU, from the front. The law
 -- `laws::reading` ties what is computed here to the relations.
-use Rattle.std.specs.Prelude.{ℕ, ◌/◌, ◌%◌, Bool, true, false, List, [], ◌∷◌, slice_get, Option, Some, None, Result, Ok, Err}
+use Rattle.std.specs.Prelude.{ℕ, ◌/◌, ◌%◌, Bool, true, false, List, [], ◌∷◌, slice_get, Option, Some, None, Result, Ok}
+use Rattle.std.specs.Prelude.{Err}
 use Rattle.std.specs.Option.{ok_or}
 use Rattle.gw_addr.specs.Reading.{◌>>=◌, octet_at}
 use Rattle.gw_apdu.specs.declared.fault.ApduFault.{ApduFault}
@@ -8,7 +9,8 @@ use Rattle.gw_apdu.specs.declared.fault.ApduFault.TheVariants as faults
 use Rattle.gw_apdu.specs.declared.header.Segment.{Segment}
 use Rattle.gw_apdu.specs.declared.header.ConfirmedRequest.{ConfirmedRequest as Request}
 use Rattle.gw_apdu.specs.declared.header.Header.{Header}
-use Rattle.gw_apdu.specs.declared.header.Header.TheVariants.{ConfirmedRequest, UnconfirmedRequest, SimpleAck, ComplexAck, SegmentAck, Error, Reject, Abort}
+use Rattle.gw_apdu.specs.declared.header.Header.TheVariants.{ConfirmedRequest, UnconfirmedRequest, SimpleAck}
+use Rattle.gw_apdu.specs.declared.header.Header.TheVariants.{ComplexAck, SegmentAck, Error, Reject, Abort}
 use Rattle.gw_apdu.specs.declared.pdu_type.PduType.{PduType}
 use Rattle.gw_apdu.specs.declared.pdu_type.PduType.TheVariants as types
 use Rattle.gw_apdu.specs.Numbers.{segmented_bit, more_bit, accepted_bit}

@@ -1,5 +1,6 @@
 -- What becomes of a log whose lines are told in words.
-use Rattle.std.specs.Prelude.{◌≡◌, ◌⊎◌, ℕ, ◌+◌, ◌<◌, ◌≤◌, Bool, true, false, List, [], ◌∷◌, ◌++◌, length, take, drop, Option, Some, Result, Ok, Err, ⊤}
+use Rattle.std.specs.Prelude.{◌≡◌, ◌⊎◌, ℕ, ◌+◌, ◌<◌, ◌≤◌, Bool, true, false, List, [], ◌∷◌, ◌++◌, length, take, drop}
+use Rattle.std.specs.Prelude.{Option, Some, Result, Ok, Err, ⊤}
 use Rattle.std.specs.List.{flat_map}
 use Rattle.gw_audit.specs.Entry.{IsLineOf, IsShowable}
 use Rattle.gw_audit.specs.declared.denial.Denial.{Denial}
@@ -64,8 +65,8 @@ pub record TellsWhole (log before after : List ℕ) : Type 0 where
   pub lines : AreTold (lines_of log) texts
   pub written : after ≡ before ++ joined texts
 
--- the lines before this one, which is counted from 1, are told, this line is too long, and what was written is the telling
--- of those before it
+-- the lines before this one, which is counted from 1, are told, this line is too long, and what was written is the
+-- telling of those before it
 pub record TellsToLine (n : ℕ) (log before after : List ℕ) : Type 0 where
   pub texts : List (List ℕ)
   pub number : n ≡ length texts + 1

@@ -7,7 +7,9 @@ use Rattle.gw_addr.specs.Address.{address_in, text_of}
 use Rattle.gw_addr.specs.Station.{two_digits}
 use Rattle.gw_addr.specs.declared.station.Source.{Source}
 use Rattle.gw_rules.specs.declared.operation.Operation.{Operation}
-use Rattle.gw_rules.specs.declared.operation.Operation.TheVariants.{Cast, Route, Register, Delete, ReadTable, WriteTable, Learn, Network, Read, Write, List as Listing}
+use Rattle.gw_rules.specs.declared.operation.Operation.TheVariants.{Cast, Route, Register, Delete, ReadTable}
+use Rattle.gw_rules.specs.declared.operation.Operation.TheVariants.{WriteTable, Learn, Network, Read, Write}
+use Rattle.gw_rules.specs.declared.operation.Operation.TheVariants.{List as Listing}
 use Rattle.gw_audit.specs.declared.denial.Denial.{Denial}
 use Rattle.gw_audit.specs.declared.entry.ShownAsk.{ShownAsk}
 use Rattle.gw_audit.specs.Entry.{shown_ask}
@@ -95,7 +97,8 @@ deed_of Listing ask = codes "looks for " ++ object_text ask.object_type ask.inst
 unfoldable pub deed_text : ShownAsk → List ℕ
 deed_text ask =
     option_map_or
-    (λ number. option_map_or (λ operation. deed_of operation ask) (operation_of number) (codes "does operation " ++ decimal number))
+    (λ number. option_map_or (λ operation. deed_of operation ask) (operation_of number)
+      (codes "does operation " ++ decimal number))
     ask.operation (codes "does something")
 
 -- ---- the whole

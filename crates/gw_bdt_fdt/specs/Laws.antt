@@ -1,10 +1,12 @@
 -- What the definitions of a history come to, in plain words.
-use Rattle.std.specs.Prelude.{◌≡◌, ◌↔◌, ℕ, ◌<◌, Bool, false, not, ◌&&◌, if◌then◌else◌, List, [], ◌∷◌, ◌++◌, length, Some, IsTrue, IsFalse}
+use Rattle.std.specs.Prelude.{◌≡◌, ◌↔◌, ℕ, ◌<◌, Bool, false, not, ◌&&◌, if◌then◌else◌, List, [], ◌∷◌, ◌++◌, length}
+use Rattle.std.specs.Prelude.{Some, IsTrue, IsFalse}
 use Rattle.std.specs.List.{list_any, IsDistinct, AllByRecursion}
 use Rattle.std.specs.Map.{lookup}
 use Rattle.gw_addr.specs.declared.bip.BipAddr.{BipAddr}
 use Rattle.gw_bdt_fdt.specs.Registrations.{same}
-use Rattle.gw_bdt_fdt.specs.History.{Act, Register, Delete, Tick, History, Grant, last_grant, registration_after, is_registered, order_after, ticks_in, table_after}
+use Rattle.gw_bdt_fdt.specs.History.{Act, Register, Delete, Tick, History, Grant, last_grant, registration_after}
+use Rattle.gw_bdt_fdt.specs.History.{is_registered, order_after, ticks_in, table_after}
 
 -- two addresses are one exactly where all six octets are
 abbrev pub SameIsEqual : Type 0

@@ -1,5 +1,6 @@
 -- The foreign devices of a port and their registrations (Annex J.5).
-use Rattle.std.specs.Prelude.{ℕ, ◌+◌, ◌-◌, Bool, min, nat_eq, nat_lt, ◌&&◌, ◌||◌, if◌then◌else◌, List, [], length, filter_map, Option, Some, None, is_some}
+use Rattle.std.specs.Prelude.{ℕ, ◌+◌, ◌-◌, Bool, min, nat_eq, nat_lt, ◌&&◌, ◌||◌, if◌then◌else◌, List, [], length}
+use Rattle.std.specs.Prelude.{filter_map, Option, Some, None, is_some}
 use Rattle.std.specs.Cmp.Lexicographic.{pointwise}
 use Rattle.std.specs.Map.{lookup, remove_entry}
 use Rattle.gw_addr.specs.declared.bip.BipAddr.{BipAddr}

@@ -3,13 +3,15 @@
 -- project's choice.
 use Rattle.std.specs.Prelude.{ℕ}
 use Rattle.gw_apdu.specs.declared.writing.ServiceError.{ServiceError}
-use Rattle.gw_apdu.specs.Reasons.{invalid_tag, missing_required_parameter, parameter_out_of_range, too_many_arguments, inconsistent_parameters}
+use Rattle.gw_apdu.specs.Reasons.{invalid_tag, missing_required_parameter, parameter_out_of_range, too_many_arguments}
+use Rattle.gw_apdu.specs.Reasons.{inconsistent_parameters}
 use Rattle.gw_objects.specs.declared.fault.ReadFault.{ReadFault}
 use Rattle.gw_objects.specs.declared.fault.ReadFault.TheVariants as read
 use Rattle.gw_objects.specs.declared.fault.WriteFault.{WriteFault}
 use Rattle.gw_objects.specs.declared.fault.WriteFault.TheVariants as write
 use Rattle.gw_services.specs.declared.fault.BodyFault.{BodyFault}
-use Rattle.gw_services.specs.declared.fault.BodyFault.TheVariants.{InvalidTag, Missing, OutOfRange, TooMany, Inconsistent, Memory}
+use Rattle.gw_services.specs.declared.fault.BodyFault.TheVariants.{InvalidTag, Missing, OutOfRange, TooMany}
+use Rattle.gw_services.specs.declared.fault.BodyFault.TheVariants.{Inconsistent, Memory}
 
 -- ---- classes (clause 18.1)
 

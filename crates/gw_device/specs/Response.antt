@@ -1,5 +1,6 @@
 -- What the device does about an APDU: what it asks of the policy, what it answers, what it changes.
-use Rattle.std.specs.Prelude.{◌≡◌, ◌<◌, ℕ, IfSome, Bool, true, false, ◌&&◌, nat_le, if◌then◌else◌, List, [], length, Option, Some, None}
+use Rattle.std.specs.Prelude.{◌≡◌, ◌<◌, ℕ, IfSome, Bool, true, false, ◌&&◌, nat_le, if◌then◌else◌, List, [], length}
+use Rattle.std.specs.Prelude.{Option, Some, None}
 use Rattle.std.specs.Option.{option_map}
 use Rattle.gw_apdu.specs.declared.header.ConfirmedRequest.{ConfirmedRequest}
 use Rattle.gw_apdu.specs.Apdu.{max_apdu_len}

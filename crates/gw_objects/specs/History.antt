@@ -1,5 +1,6 @@
 -- What a history of successful writes, newest first, says of the slots and the defaults.
-use Rattle.std.specs.Prelude.{◌≡◌, ℕ, ◌==◌, if◌then◌else◌, List, length, filter_map, slice_get, slice_set, Option, Some, None}
+use Rattle.std.specs.Prelude.{◌≡◌, ℕ, ◌==◌, if◌then◌else◌, List, length, filter_map, slice_get, slice_set, Option, Some}
+use Rattle.std.specs.Prelude.{None}
 use Rattle.std.specs.Option.{option_map}
 use Rattle.gw_priority.specs.Commandable.{with_slot, with_default}
 use Rattle.gw_priority.specs.History.{Act, Command, Relinquish, SetDefault, state_after}

@@ -12,7 +12,8 @@ use Rattle.gw_tags.specs.Object.{Object}
 use Rattle.gw_objects.specs.declared.configured.Configured.{Configured}
 use Rattle.gw_objects.specs.declared.configured.ConfiguredObject.{ConfiguredObject}
 use Rattle.gw_objects.specs.declared.configured.Details.{Details}
-use Rattle.gw_objects.specs.declared.configured.Details.TheVariants.{BinaryValue, MultiStateValue, CharacterStringValue, IntegerValue, PositiveIntegerValue}
+use Rattle.gw_objects.specs.declared.configured.Details.TheVariants.{BinaryValue, MultiStateValue, CharacterStringValue}
+use Rattle.gw_objects.specs.declared.configured.Details.TheVariants.{IntegerValue, PositiveIntegerValue}
 use Rattle.gw_objects.specs.declared.property.ObjectType.{ObjectType}
 use Rattle.gw_objects.specs.declared.property.ObjectType.TheVariants as types
 use Rattle.gw_objects.specs.declared.value.PropertyValue.{PropertyValue}

@@ -2,9 +2,23 @@
 -- properties a type has, which of them are required, and their order are this project's own choice.
 use Rattle.std.specs.Prelude.{ℕ, ◌==◌, ◌++◌, List, [], ◌∷◌, find, Option}
 use Rattle.gw_objects.specs.declared.property.ObjectType.{ObjectType}
-use Rattle.gw_objects.specs.declared.property.ObjectType.TheVariants.{Device, BinaryValue, MultiStateValue, CharacterStringValue, IntegerValue, PositiveIntegerValue}
+use Rattle.gw_objects.specs.declared.property.ObjectType.TheVariants.{Device, BinaryValue, MultiStateValue}
+use Rattle.gw_objects.specs.declared.property.ObjectType.TheVariants.{CharacterStringValue, IntegerValue}
+use Rattle.gw_objects.specs.declared.property.ObjectType.TheVariants.{PositiveIntegerValue}
 use Rattle.gw_objects.specs.declared.property.Property.{Property}
-use Rattle.gw_objects.specs.declared.property.Property.TheVariants.{ActiveText, ApduTimeout, ApplicationSoftwareVersion, DatabaseRevision, Description, DeviceAddressBinding, EventState, FirmwareRevision, InactiveText, MaxApduLengthAccepted, ModelName, NumberOfApduRetries, NumberOfStates, ObjectIdentifier, ObjectList, ObjectName, ObjectType as TypeOfObject, OutOfService, PresentValue, PriorityArray, ProtocolObjectTypesSupported, ProtocolRevision, ProtocolServicesSupported, ProtocolVersion, RelinquishDefault, SegmentationSupported, StateText, StatusFlags, SystemStatus, Units, VendorIdentifier, VendorName}
+use Rattle.gw_objects.specs.declared.property.Property.TheVariants.{ActiveText, ApduTimeout, ApplicationSoftwareVersion}
+use Rattle.gw_objects.specs.declared.property.Property.TheVariants.{DatabaseRevision, Description, DeviceAddressBinding}
+use Rattle.gw_objects.specs.declared.property.Property.TheVariants.{EventState, FirmwareRevision, InactiveText}
+use Rattle.gw_objects.specs.declared.property.Property.TheVariants.{MaxApduLengthAccepted, ModelName}
+use Rattle.gw_objects.specs.declared.property.Property.TheVariants.{NumberOfApduRetries, NumberOfStates}
+use Rattle.gw_objects.specs.declared.property.Property.TheVariants.{ObjectIdentifier, ObjectList, ObjectName}
+use Rattle.gw_objects.specs.declared.property.Property.TheVariants.{ObjectType as TypeOfObject, OutOfService}
+use Rattle.gw_objects.specs.declared.property.Property.TheVariants.{PresentValue, PriorityArray}
+use Rattle.gw_objects.specs.declared.property.Property.TheVariants.{ProtocolObjectTypesSupported, ProtocolRevision}
+use Rattle.gw_objects.specs.declared.property.Property.TheVariants.{ProtocolServicesSupported, ProtocolVersion}
+use Rattle.gw_objects.specs.declared.property.Property.TheVariants.{RelinquishDefault, SegmentationSupported, StateText}
+use Rattle.gw_objects.specs.declared.property.Property.TheVariants.{StatusFlags, SystemStatus, Units, VendorIdentifier}
+use Rattle.gw_objects.specs.declared.property.Property.TheVariants.{VendorName}
 use Rattle.gw_objects.specs.declared.property.PropertySet.{PropertySet}
 use Rattle.gw_objects.specs.declared.property.PropertySet.TheVariants.{All, Required, Optional}
 

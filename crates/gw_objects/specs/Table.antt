@@ -1,16 +1,19 @@
 -- The table of properties: what each holds, by the configuration, the slots and the default (ISO
 -- 16484-5 clause 12). The sets of properties stand in Property.
-use Rattle.std.specs.Prelude.{ℕ, ◌+◌, ◌*◌, nat_eq, false, if◌then◌else◌, List, [], ◌∷◌, length, map, slice_get, Option, Result, Ok}
+use Rattle.std.specs.Prelude.{ℕ, ◌+◌, ◌*◌, nat_eq, false, if◌then◌else◌, List, [], ◌∷◌, length, map, slice_get, Option}
+use Rattle.std.specs.Prelude.{Result, Ok}
 use Rattle.std.specs.List.{list_any, range_with_len}
 use Rattle.std.specs.Option.{ok_or, option_map_or}
 use Rattle.gw_addr.specs.Reading.{◌>>=◌}
 use Rattle.gw_priority.specs.Commandable.{present}
 use Rattle.gw_tags.specs.Object.{Object}
-use Rattle.gw_tags.specs.Value.{Value, null, boolean, unsigned, signed, character_string, bit_string, enumerated, object_id, bit_of}
+use Rattle.gw_tags.specs.Value.{Value, null, boolean, unsigned, signed, character_string, bit_string, enumerated}
+use Rattle.gw_tags.specs.Value.{object_id, bit_of}
 use Rattle.gw_objects.specs.declared.configured.Configured.{Configured}
 use Rattle.gw_objects.specs.declared.configured.ConfiguredObject.{ConfiguredObject}
 use Rattle.gw_objects.specs.declared.configured.Details.{Details}
-use Rattle.gw_objects.specs.declared.configured.Details.TheVariants.{BinaryValue, MultiStateValue, IntegerValue, PositiveIntegerValue}
+use Rattle.gw_objects.specs.declared.configured.Details.TheVariants.{BinaryValue, MultiStateValue, IntegerValue}
+use Rattle.gw_objects.specs.declared.configured.Details.TheVariants.{PositiveIntegerValue}
 use Rattle.gw_objects.specs.declared.fault.ReadFault.{ReadFault}
 use Rattle.gw_objects.specs.declared.fault.ReadFault.TheVariants.{UnknownObject, UnknownProperty}
 use Rattle.gw_objects.specs.declared.property.ObjectType.{ObjectType}

@@ -1,6 +1,7 @@
 -- Writes: what a write does, or the first fault, by the configuration and the write alone. No slot
 -- and no default is looked at (ISO 16484-5 clauses 15.9 and 19.2).
-use Rattle.std.specs.Prelude.{◌≡◌, ◌≢◌, ℕ, ◌==◌, ◌&&◌, nat_le, nat_lt, not, Bool, true, false, if◌then◌else◌, List, [], ◌∷◌, length, slice_get, Option, Some, None, Result, Ok, Err}
+use Rattle.std.specs.Prelude.{◌≡◌, ◌≢◌, ℕ, ◌==◌, ◌&&◌, nat_le, nat_lt, not, Bool, true, false, if◌then◌else◌, List, []}
+use Rattle.std.specs.Prelude.{◌∷◌, length, slice_get, Option, Some, None, Result, Ok, Err}
 use Rattle.std.specs.Option.{ok_or}
 use Rattle.gw_addr.specs.Reading.{◌>>=◌}
 use Rattle.gw_priority.specs.declared.array.TheConstants.{RESERVED}
@@ -14,9 +15,12 @@ use Rattle.gw_tags.specs.Value.{Value, null, unsigned, signed, character_string,
 use Rattle.gw_objects.specs.declared.configured.Configured.{Configured}
 use Rattle.gw_objects.specs.declared.configured.ConfiguredObject.{ConfiguredObject}
 use Rattle.gw_objects.specs.declared.configured.Details.{Details}
-use Rattle.gw_objects.specs.declared.configured.Details.TheVariants.{BinaryValue, MultiStateValue, CharacterStringValue, IntegerValue, PositiveIntegerValue}
+use Rattle.gw_objects.specs.declared.configured.Details.TheVariants.{BinaryValue, MultiStateValue, CharacterStringValue}
+use Rattle.gw_objects.specs.declared.configured.Details.TheVariants.{IntegerValue, PositiveIntegerValue}
 use Rattle.gw_objects.specs.declared.fault.WriteFault.{WriteFault}
-use Rattle.gw_objects.specs.declared.fault.WriteFault.TheVariants.{UnknownObject, UnknownProperty, NotWritable, NotArray, Reserved, WrongKind, CharacterSet, OutOfRange, NoSpace, Memory}
+use Rattle.gw_objects.specs.declared.fault.WriteFault.TheVariants.{UnknownObject, UnknownProperty, NotWritable}
+use Rattle.gw_objects.specs.declared.fault.WriteFault.TheVariants.{NotArray, Reserved, WrongKind, CharacterSet}
+use Rattle.gw_objects.specs.declared.fault.WriteFault.TheVariants.{OutOfRange, NoSpace, Memory}
 use Rattle.gw_objects.specs.declared.property.ObjectType.{ObjectType}
 use Rattle.gw_objects.specs.declared.property.ObjectType.TheVariants as types
 use Rattle.gw_objects.specs.declared.property.Property.{Property}

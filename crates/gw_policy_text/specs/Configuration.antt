@@ -1,5 +1,6 @@
 -- What a gateway is configured with, and how it is read from the tables of its text.
-use Rattle.std.specs.Prelude.{ℕ, ◌+◌, ℤ, List, [], ◌∷◌, length, Bool, codes, ◌==◌, nat_le, nat_lt, ◌&&◌, not, if◌then◌else◌, Option, Some, None, Ok, Err}
+use Rattle.std.specs.Prelude.{ℕ, ◌+◌, ℤ, List, [], ◌∷◌, length, Bool, codes, ◌==◌, nat_le, nat_lt, ◌&&◌, not}
+use Rattle.std.specs.Prelude.{if◌then◌else◌, Option, Some, None, Ok, Err}
 use Rattle.std.specs.Option.{ok_or, option_map}
 use Rattle.toml.specs.Data.{Data, Members, get_member}
 use Rattle.gw_addr.specs.Reading.{◌>>=◌}
@@ -30,8 +31,10 @@ use Rattle.gw_policy_text.specs.declared.shape.Scalar.TheVariants.{Number, Opera
 use Rattle.gw_policy_text.specs.Field.{at_field, field_fault, located_in, range_in}
 use Rattle.gw_policy_text.specs.Located.{Find, Located, whole}
 use Rattle.gw_policy_text.specs.States.{States}
-use Rattle.gw_policy_text.specs.Tables.{device_fields, object_fields, peer_fields, port_fields, route_fields, rule_fields, type_field}
-use Rattle.gw_policy_text.specs.Value.{Read, address_in, boolean_in, kind_in, list_in, mask_in, number_in, rule_name_in, signed_in, table_in, text_in, text_within}
+use Rattle.gw_policy_text.specs.Tables.{device_fields, object_fields, peer_fields, port_fields, route_fields}
+use Rattle.gw_policy_text.specs.Tables.{rule_fields, type_field}
+use Rattle.gw_policy_text.specs.Value.{Read, address_in, boolean_in, kind_in, list_in, mask_in, number_in, rule_name_in}
+use Rattle.gw_policy_text.specs.Value.{signed_in, table_in, text_in, text_within}
 
 -- what is read where there is no fault
 abbrev pub unless : {A : Type 0} → Option Located → Find A → Find A
@@ -199,7 +202,8 @@ binary_value table = do
 -- the default is one of the states
 abbrev pub states_with : List (List ℕ) → Members → Read States
 states_with states table =
-    number_at 1 (length states) (codes "default") table >>= λ default. Ok (record { default = default; states = states })
+    number_at 1 (length states) (codes "default") table >>= λ default.
+    Ok (record { default = default; states = states })
 
 abbrev pub multi_state_value : Members → Read ObjectValue
 multi_state_value table = do

@@ -1,5 +1,6 @@
 -- What may stand only once in a configuration.
-use Rattle.std.specs.Prelude.{◌≡◌, is_some, ℕ, ◌+◌, ◌-◌, ◌*◌, ◌/◌, ◌%◌, ◌^◌, ◌++◌, ◌==◌, Bool, false, ◌||◌, nat_eq, nat_lt, List, [], ◌∷◌, length, map, codes, if◌then◌else◌, Option, Some, None, Ok}
+use Rattle.std.specs.Prelude.{◌≡◌, is_some, ℕ, ◌+◌, ◌-◌, ◌*◌, ◌/◌, ◌%◌, ◌^◌, ◌++◌, ◌==◌, Bool, false, ◌||◌, nat_eq}
+use Rattle.std.specs.Prelude.{nat_lt, List, [], ◌∷◌, length, map, codes, if◌then◌else◌, Option, Some, None, Ok}
 use Rattle.std.specs.Cmp.Lexicographic.{pointwise}
 use Rattle.std.specs.List.{flat_map, list_any}
 use Rattle.std.specs.Option.{option_map}
@@ -11,7 +12,9 @@ use Rattle.gw_policy_text.specs.declared.device.Device.{Device as DeviceEntry}
 use Rattle.gw_policy_text.specs.declared.fault.ConfigFault.TheVariants.{Duplicate}
 use Rattle.gw_policy_text.specs.declared.object.Object.{Object as ObjectEntry}
 use Rattle.gw_policy_text.specs.declared.object.ObjectValue.{ObjectValue}
-use Rattle.gw_policy_text.specs.declared.object.ObjectValue.TheVariants.{BinaryValue, MultiStateValue, CharacterStringValue, IntegerValue, PositiveIntegerValue}
+use Rattle.gw_policy_text.specs.declared.object.ObjectValue.TheVariants.{BinaryValue, MultiStateValue}
+use Rattle.gw_policy_text.specs.declared.object.ObjectValue.TheVariants.{CharacterStringValue, IntegerValue}
+use Rattle.gw_policy_text.specs.declared.object.ObjectValue.TheVariants.{PositiveIntegerValue}
 use Rattle.gw_policy_text.specs.declared.located.Place.{Place}
 use Rattle.gw_policy_text.specs.declared.located.Place.TheVariants.{Port, Peer, Device, Route, Object, Rule}
 use Rattle.gw_policy_text.specs.declared.port.Port.{Port as PortEntry}

@@ -1,7 +1,9 @@
 -- The line that says where a fault of a configuration is.
-use Rattle.std.specs.Prelude.{◌≡◌, ◌≢◌, ℕ, ◌+◌, Bool, true, false, ◌&&◌, ◌==◌, not, nat_lt, if◌then◌else◌, List, [], ◌∷◌, ◌++◌, length, map, codes, decimal, Option, Some, None, option_and_then, Ok, Err}
+use Rattle.std.specs.Prelude.{◌≡◌, ◌≢◌, ℕ, ◌+◌, Bool, true, false, ◌&&◌, ◌==◌, not, nat_lt, if◌then◌else◌, List, []}
+use Rattle.std.specs.Prelude.{◌∷◌, ◌++◌, length, map, codes, decimal, Option, Some, None, option_and_then, Ok, Err}
 use Rattle.std.specs.Fmt.{signed_decimal}
-use Rattle.toml.specs.Data.{Data, string, integer, float, boolean, datetime, array, table, Members, no_members, as_str, as_table, at, get_member}
+use Rattle.toml.specs.Data.{Data, string, integer, float, boolean, datetime, array, table, Members, no_members, as_str}
+use Rattle.toml.specs.Data.{as_table, at, get_member}
 use Rattle.gw_policy_text.specs.declared.fault.ConfigFault.{ConfigFault}
 use Rattle.gw_policy_text.specs.declared.fault.ConfigFault.TheVariants.{UnknownKey, Missing}
 use Rattle.gw_policy_text.specs.declared.located.Place.{Place}
@@ -33,7 +35,8 @@ table_at Text top = None
 table_at Top top = Some top
 table_at Device top = option_and_then as_table (get_member (codes "device") top)
 table_at (Port port) top = listed_table (codes "port") port top
-table_at (Peer port peer) top = option_and_then (listed_table (codes "peer") peer) (listed_table (codes "port") port top)
+table_at (Peer port peer) top =
+    option_and_then (listed_table (codes "peer") peer) (listed_table (codes "port") port top)
 table_at (Route route) top = listed_table (codes "route") route top
 table_at (Object object) top = listed_table (codes "object") object top
 table_at (Rule rule) top = listed_table (codes "rule") rule top
@@ -143,8 +146,10 @@ abbrev pub tables_or : Read Members → Members
 tables_or (Ok top) = top
 tables_or (Err fault) = no_members
 
--- The line of a fault that was found in these tables: its place, what is told first of it, and further words of what is wanted there.
-pub record IsExplanation (found : Find Configuration) (top : Members) (fault : ConfigFault) (line : List ℕ) : Type 0 where
+-- The line of a fault that was found in these tables: its place, what is told first of it, and further words of what
+-- is wanted there.
+pub record IsExplanation (found : Find Configuration) (top : Members) (fault : ConfigFault) (line : List ℕ) : Type 0
+  where
   pub located : Located
   pub first : found ≡ Err located
   pub same : located.fault ≡ fault

@@ -1,5 +1,6 @@
 -- The fields of a table, and the fault of a table.
-use Rattle.std.specs.Prelude.{ℕ, Bool, true, false, ◌||◌, nat_le, nat_lt, nat_eq, if◌then◌else◌, List, [], ◌∷◌, length, find, position, Option, Some, None, is_some, Ok, Err}
+use Rattle.std.specs.Prelude.{ℕ, Bool, true, false, ◌||◌, nat_le, nat_lt, nat_eq, if◌then◌else◌, List, [], ◌∷◌, length}
+use Rattle.std.specs.Prelude.{find, position, Option, Some, None, is_some, Ok, Err}
 use Rattle.std.specs.Cmp.Lexicographic.{pointwise}
 use Rattle.std.specs.List.{list_any}
 use Rattle.std.specs.Option.{option_map}
@@ -13,11 +14,13 @@ use Rattle.gw_policy_text.specs.declared.fault.ConfigFault.{ConfigFault}
 use Rattle.gw_policy_text.specs.declared.fault.ConfigFault.TheVariants.{UnknownKey, Missing, Kind, Range, TooMany}
 use Rattle.gw_policy_text.specs.declared.located.Place.{Place}
 use Rattle.gw_policy_text.specs.declared.shape.Scalar.{Scalar}
-use Rattle.gw_policy_text.specs.declared.shape.Scalar.TheVariants.{Number, Signed, ObjectType, Text, RuleName, Operation, Boolean, Address, Mask, Table}
+use Rattle.gw_policy_text.specs.declared.shape.Scalar.TheVariants.{Number, Signed, ObjectType, Text, RuleName}
+use Rattle.gw_policy_text.specs.declared.shape.Scalar.TheVariants.{Operation, Boolean, Address, Mask, Table}
 use Rattle.gw_policy_text.specs.declared.shape.Shape.{Shape}
 use Rattle.gw_policy_text.specs.declared.shape.Shape.TheVariants.{One, List as Listing, Ranges}
 use Rattle.gw_policy_text.specs.Located.{Located, at_key}
-use Rattle.gw_policy_text.specs.Value.{Read, address_in, boolean_in, kind_in, list_in, mask_in, number_in, operation_in, rule_name_in, signed_in, table_in, text_in}
+use Rattle.gw_policy_text.specs.Value.{Read, address_in, boolean_in, kind_in, list_in, mask_in, number_in, operation_in}
+use Rattle.gw_policy_text.specs.Value.{rule_name_in, signed_in, table_in, text_in}
 
 -- one value of its own
 

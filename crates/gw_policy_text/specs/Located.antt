@@ -7,7 +7,8 @@ use Rattle.gw_policy_text.specs.declared.located.Place.TheVariants.{Text}
 use Rattle.gw_policy_text.specs.declared.shape.Shape.{Shape}
 use Rattle.gw_policy_text.specs.Value.{Read}
 
--- a fault, the table where it is, the key there, the position in the list at that key, and what the value at the key was to be
+-- a fault, the table where it is, the key there, the position in the list at that key, and what the value at the key
+-- was to be
 pub record Located : Type 0 where
   pub fault : ConfigFault
   pub place : Place

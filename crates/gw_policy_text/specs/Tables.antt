@@ -2,8 +2,11 @@
 use Rattle.std.specs.Prelude.{ℕ, ◌++◌, List, [], ◌∷◌, true, false, codes}
 use Rattle.gw_addr.specs.declared.TheConstants.{MAX_PORTS}
 use Rattle.gw_policy_text.specs.declared.object.ObjectKind.{ObjectKind}
-use Rattle.gw_policy_text.specs.declared.object.ObjectKind.TheVariants.{BinaryValue, MultiStateValue, CharacterStringValue, IntegerValue, PositiveIntegerValue}
-use Rattle.gw_policy_text.specs.declared.shape.Scalar.TheVariants.{Number, Signed, ObjectType, Text, RuleName, Operation, Boolean, Address, Mask, Table}
+use Rattle.gw_policy_text.specs.declared.object.ObjectKind.TheVariants.{BinaryValue, MultiStateValue}
+use Rattle.gw_policy_text.specs.declared.object.ObjectKind.TheVariants.{CharacterStringValue, IntegerValue}
+use Rattle.gw_policy_text.specs.declared.object.ObjectKind.TheVariants.{PositiveIntegerValue}
+use Rattle.gw_policy_text.specs.declared.shape.Scalar.TheVariants.{Number, Signed, ObjectType, Text, RuleName}
+use Rattle.gw_policy_text.specs.declared.shape.Scalar.TheVariants.{Operation, Boolean, Address, Mask, Table}
 use Rattle.gw_policy_text.specs.declared.shape.Shape.{Shape}
 use Rattle.gw_policy_text.specs.declared.shape.Shape.TheVariants.{One, List as Listing, Ranges}
 use Rattle.gw_policy_text.specs.Field.{Field}

@@ -1,5 +1,6 @@
 -- Single values of a configuration: what each is read to, or its fault.
-use Rattle.std.specs.Prelude.{ℕ, pos, negsuc, ℤ, ◌^◌, Bool, ◌&&◌, ◌||◌, ◌==◌, not, nat_le, nat_lt, nat_eq, if◌then◌else◌, List, [], ◌∷◌, length, codes, Option, Some, None, Result, Err, find}
+use Rattle.std.specs.Prelude.{ℕ, pos, negsuc, ℤ, ◌^◌, Bool, ◌&&◌, ◌||◌, ◌==◌, not, nat_le, nat_lt, nat_eq}
+use Rattle.std.specs.Prelude.{if◌then◌else◌, List, [], ◌∷◌, length, codes, Option, Some, None, Result, Err, find}
 use Rattle.std.specs.Cmp.Lexicographic.{pointwise}
 use Rattle.std.specs.List.{list_all}
 use Rattle.std.specs.Option.{ok_or, option_map}
@@ -12,7 +13,9 @@ use Rattle.gw_rules.specs.Operation.{operation_name}
 use Rattle.gw_policy_text.specs.declared.fault.ConfigFault.{ConfigFault}
 use Rattle.gw_policy_text.specs.declared.fault.ConfigFault.TheVariants.{Kind, Range}
 use Rattle.gw_policy_text.specs.declared.object.ObjectKind.{ObjectKind}
-use Rattle.gw_policy_text.specs.declared.object.ObjectKind.TheVariants.{BinaryValue, MultiStateValue, CharacterStringValue, IntegerValue, PositiveIntegerValue}
+use Rattle.gw_policy_text.specs.declared.object.ObjectKind.TheVariants.{BinaryValue, MultiStateValue}
+use Rattle.gw_policy_text.specs.declared.object.ObjectKind.TheVariants.{CharacterStringValue, IntegerValue}
+use Rattle.gw_policy_text.specs.declared.object.ObjectKind.TheVariants.{PositiveIntegerValue}
 use Rattle.gw_policy_text.specs.Written.{address_written, mask_written}
 
 -- what is read, or the fault

@@ -25,14 +25,16 @@ split_at separator (c ∷ text) =
 -- the octet that is written before the first such character, and what stands behind it
 abbrev pub octet_written : ℕ → List ℕ → Option (ℕ × List ℕ)
 octet_written separator text =
-    option_and_then (λ parts. option_map (λ octet. (octet, parts.1)) (number_written 256 parts.0)) (split_at separator text)
+    option_and_then (λ parts. option_map (λ octet. (octet, parts.1)) (number_written 256 parts.0))
+      (split_at separator text)
 
 -- the address that is written `a.b.c.d:port`
 unfoldable pub address_written : List ℕ → Option BipAddr
 address_written text =
     option_and_then (λ a. option_and_then (λ b. option_and_then (λ c. option_and_then (λ d.
     option_map (λ udp. record { ip = a.0 ∷ b.0 ∷ c.0 ∷ d.0 ∷ []; udp = udp })
-    (number_written 65536 d.1)) (octet_written 58 c.1)) (octet_written 46 b.1)) (octet_written 46 a.1)) (octet_written 46 text)
+    (number_written 65536 d.1)) (octet_written 58 c.1)) (octet_written 46 b.1)) (octet_written 46 a.1))
+    (octet_written 46 text)
 
 -- the mask that is written `a.b.c.d`
 unfoldable pub mask_written : List ℕ → Option Mask

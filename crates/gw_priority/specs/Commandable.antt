@@ -1,5 +1,6 @@
 -- A commandable property (clause 19.2): slots by priority, a default, and the present value.
-use Rattle.std.specs.Prelude.{◌≡◌, ◌≢◌, ◌⊎◌, ℕ, ◌-◌, ◌<◌, ◌≤◌, List, [], ◌∷◌, replicate, Option, Some, None, slice_index_or, slice_set}
+use Rattle.std.specs.Prelude.{◌≡◌, ◌≢◌, ◌⊎◌, ℕ, ◌-◌, ◌<◌, ◌≤◌, List, [], ◌∷◌, replicate, Option, Some, None}
+use Rattle.std.specs.Prelude.{slice_index_or, slice_set}
 use Rattle.gw_priority.specs.declared.array.TheConstants.{PRIORITIES}
 
 -- the slots, that of priority 1 first, each with a value or empty, and the default

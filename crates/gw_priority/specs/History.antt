@@ -1,5 +1,6 @@
 -- What a history, the list of what was done, newest first, says of the slots and the default.
-use Rattle.std.specs.Prelude.{◌≡◌, ℕ, Bool, false, ◌==◌, IsTrue, IsFalse, List, ◌∷◌, ◌++◌, map, find, filter_map, All, slice_index_or, Option, Some, None, option_and_then}
+use Rattle.std.specs.Prelude.{◌≡◌, ℕ, Bool, false, ◌==◌, IsTrue, IsFalse, List, ◌∷◌, ◌++◌, map, find, filter_map, All}
+use Rattle.std.specs.Prelude.{slice_index_or, Option, Some, None, option_and_then}
 use Rattle.std.specs.List.{range_with_len}
 use Rattle.gw_priority.specs.declared.array.TheConstants.{PRIORITIES}
 use Rattle.gw_priority.specs.Commandable.{Commandable}

@@ -1,5 +1,6 @@
 -- Broadcasts, and whom they are distributed to (Annex J.4, J.5).
-use Rattle.std.specs.Prelude.{ℕ, Bool, true, false, not, ◌&&◌, ◌||◌, if◌then◌else◌, List, [], ◌∷◌, ◌++◌, length, filter, map, nat_eq, nat_le, slice_index, None}
+use Rattle.std.specs.Prelude.{ℕ, Bool, true, false, not, ◌&&◌, ◌||◌, if◌then◌else◌, List, [], ◌∷◌, ◌++◌, length, filter}
+use Rattle.std.specs.Prelude.{map, nat_eq, nat_le, slice_index, None}
 use Rattle.std.specs.Cmp.Lexicographic.{pointwise}
 use Rattle.std.specs.Int.{w8, bit_not}
 use Rattle.std.specs.Int.RustNames.{bit_or}

@@ -1,11 +1,13 @@
 -- Network layer messages that a router answers or learns from (clauses 6.4.1, 6.4.2, 6.4.19,
 -- 6.4.20): what is asked for each, what is sent, and what changes.
-use Rattle.std.specs.Prelude.{ℕ, Bool, true, false, not, ◌&&◌, ◌==◌, List, [], ◌∷◌, ◌++◌, length, filter, map, Option, Some, None, is_some, unwrap_or, if◌then◌else◌}
+use Rattle.std.specs.Prelude.{ℕ, Bool, true, false, not, ◌&&◌, ◌==◌, List, [], ◌∷◌, ◌++◌, length, filter, map, Option}
+use Rattle.std.specs.Prelude.{Some, None, is_some, unwrap_or, if◌then◌else◌}
 use Rattle.std.specs.Int.{w16, from_be_bytes, to_be_bytes}
 use Rattle.std.specs.List.{flat_map}
 use Rattle.std.specs.Option.{option_map_or}
 use Rattle.gw_addr.specs.Station.{is_network, network_of}
-use Rattle.gw_npdu.specs.declared.kind.MessageKind.TheVariants.{IAmRouterToNetwork, NetworkNumberIs, WhatIsNetworkNumber, WhoIsRouterToNetwork}
+use Rattle.gw_npdu.specs.declared.kind.MessageKind.TheVariants.{IAmRouterToNetwork, NetworkNumberIs}
+use Rattle.gw_npdu.specs.declared.kind.MessageKind.TheVariants.{WhatIsNetworkNumber, WhoIsRouterToNetwork}
 use Rattle.gw_npdu.specs.Npdu.{Address, Fields, payload_octets}
 use Rattle.gw_npdu.specs.Numbers.{every_network}
 use Rattle.gw_routes.specs.Table.{reachable_from, way}

@@ -1,6 +1,7 @@
 -- What a request reads or writes that is passed on: the asks behind its `route` ask, under the second
 -- format of a policy (ours; the bodies are those of clauses 15.5, 15.7 and 15.9).
-use Rattle.std.specs.Prelude.{ℕ, ◌==◌, ◌||◌, if◌then◌else◌, is_some, List, [], ◌∷◌, map, Option, Some, None, Result, Ok, Err}
+use Rattle.std.specs.Prelude.{ℕ, ◌==◌, ◌||◌, if◌then◌else◌, is_some, List, [], ◌∷◌, map, Option, Some, None, Result, Ok}
+use Rattle.std.specs.Prelude.{Err}
 use Rattle.gw_apdu.specs.Apdu.{Fields as Apdu}
 use Rattle.gw_apdu.specs.Reading.{apdu_at}
 use Rattle.gw_apdu.specs.declared.fault.ApduFault.{ApduFault}

@@ -1,13 +1,15 @@
 -- Routing (clauses 6.2.2, 6.4.4, 6.5): by the way of its destination, what is asked for a message
 -- and what is then sent.
-use Rattle.std.specs.Prelude.{ℕ, Bool, true, false, not, ◌||◌, ◌==◌, List, [], ◌∷◌, ◌++◌, length, filter, map, nat_eq, nat_lt, Option, Some, None, if◌then◌else◌}
+use Rattle.std.specs.Prelude.{ℕ, Bool, true, false, not, ◌||◌, ◌==◌, List, [], ◌∷◌, ◌++◌, length, filter, map, nat_eq}
+use Rattle.std.specs.Prelude.{nat_lt, Option, Some, None, if◌then◌else◌}
 use Rattle.std.specs.Int.{w16, to_be_bytes}
 use Rattle.std.specs.List.{flat_map}
 use Rattle.std.specs.Option.{option_map, option_map_or}
 use Rattle.gw_addr.specs.declared.bip.BipAddr.{BipAddr}
 use Rattle.gw_addr.specs.Address.{address_in, octets_of}
 use Rattle.gw_npdu.specs.declared.kind.MessageKind.{MessageKind}
-use Rattle.gw_npdu.specs.declared.kind.MessageKind.TheVariants.{NetworkNumberIs, RejectMessageToNetwork, WhatIsNetworkNumber, WhoIsRouterToNetwork}
+use Rattle.gw_npdu.specs.declared.kind.MessageKind.TheVariants.{NetworkNumberIs, RejectMessageToNetwork}
+use Rattle.gw_npdu.specs.declared.kind.MessageKind.TheVariants.{WhatIsNetworkNumber, WhoIsRouterToNetwork}
 use Rattle.gw_npdu.specs.Kind.{kind_number}
 use Rattle.gw_npdu.specs.Npdu.{Address, Destination, Fields, Payload, apdu, message}
 use Rattle.gw_npdu.specs.Onward.{onward}

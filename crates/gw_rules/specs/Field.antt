@@ -1,7 +1,9 @@
 -- The numbers of the ten fields, which are this project's own.
 use Rattle.std.specs.Prelude.{ℕ}
 use Rattle.gw_rules.specs.declared.field.FieldName.{FieldName}
-use Rattle.gw_rules.specs.declared.field.FieldName.TheVariants.{Operation, Port, SourceNetwork, SourceKey, DestinationNetwork, Service, ObjectType, Instance, Property, Priority}
+use Rattle.gw_rules.specs.declared.field.FieldName.TheVariants.{Operation, Port, SourceNetwork, SourceKey}
+use Rattle.gw_rules.specs.declared.field.FieldName.TheVariants.{DestinationNetwork, Service, ObjectType, Instance}
+use Rattle.gw_rules.specs.declared.field.FieldName.TheVariants.{Property, Priority}
 
 -- the number of a field
 abbrev pub field_number : FieldName → ℕ

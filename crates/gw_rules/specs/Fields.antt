@@ -1,6 +1,8 @@
 -- A value for each of the ten fields: the value at a name, and another value there.
 use Rattle.gw_rules.specs.declared.field.FieldName.{FieldName}
-use Rattle.gw_rules.specs.declared.field.FieldName.TheVariants.{Operation, Port, SourceNetwork, SourceKey, DestinationNetwork, Service, ObjectType, Instance, Property, Priority}
+use Rattle.gw_rules.specs.declared.field.FieldName.TheVariants.{Operation, Port, SourceNetwork, SourceKey}
+use Rattle.gw_rules.specs.declared.field.FieldName.TheVariants.{DestinationNetwork, Service, ObjectType, Instance}
+use Rattle.gw_rules.specs.declared.field.FieldName.TheVariants.{Property, Priority}
 use Rattle.gw_rules.specs.declared.fields.Fields.{Fields}
 
 -- the value for a field

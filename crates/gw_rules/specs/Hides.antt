@@ -1,6 +1,7 @@
--- Whether a policy hides an object from a source, or from every source of a network: no ask to read it is allowed there,
--- whatever else the ask says.
-use Rattle.std.specs.Prelude.{◌≡◌, ℕ, ◌<◌, ◌==◌, Bool, true, false, ◌&&◌, not, if◌then◌else◌, IsTrue, IsFalse, List, length, find, Option, Some, None}
+-- Whether a policy hides an object from a source, or from every source of a network: no ask to read it is allowed
+-- there, whatever else the ask says.
+use Rattle.std.specs.Prelude.{◌≡◌, ℕ, ◌<◌, ◌==◌, Bool, true, false, ◌&&◌, not, if◌then◌else◌, IsTrue, IsFalse, List}
+use Rattle.std.specs.Prelude.{length, find, Option, Some, None}
 use Rattle.std.specs.Option.{option_map_or}
 use Rattle.gw_rules.specs.Ask.{Ask, ask_of}
 use Rattle.gw_rules.specs.declared.operation.Operation.TheVariants.{Read}

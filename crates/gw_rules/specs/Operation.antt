@@ -1,7 +1,9 @@
 -- The eleven operations, each with its number and its name, which are this project's own.
 use Rattle.std.specs.Prelude.{ℕ, Bool, true, false, List, codes}
 use Rattle.gw_rules.specs.declared.operation.Operation.{Operation}
-use Rattle.gw_rules.specs.declared.operation.Operation.TheVariants.{Cast, Route, Register, Delete, ReadTable, WriteTable, Learn, Network, Read, Write, List as Listing}
+use Rattle.gw_rules.specs.declared.operation.Operation.TheVariants.{Cast, Route, Register, Delete, ReadTable}
+use Rattle.gw_rules.specs.declared.operation.Operation.TheVariants.{WriteTable, Learn, Network, Read, Write}
+use Rattle.gw_rules.specs.declared.operation.Operation.TheVariants.{List as Listing}
 
 -- the number under which asks and rules name an operation, and the name that configurations and the log show
 abbrev pub row : Operation → ℕ × List ℕ

@@ -1,5 +1,6 @@
 -- The first rule that matches, whether the policy allows an ask, and the limits of a rule list.
-use Rattle.std.specs.Prelude.{◌≡◌, ℕ, ◌+◌, ◌-◌, ◌≤◌, ◌<◌, Bool, false, ◌&&◌, if◌then◌else◌, nat_le, IsTrue, List, length, Option, Some, slice_get, position, All}
+use Rattle.std.specs.Prelude.{◌≡◌, ℕ, ◌+◌, ◌-◌, ◌≤◌, ◌<◌, Bool, false, ◌&&◌, if◌then◌else◌, nat_le, IsTrue, List}
+use Rattle.std.specs.Prelude.{length, Option, Some, slice_get, position, All}
 use Rattle.std.specs.List.{list_all}
 use Rattle.std.specs.Option.{option_map, option_map_or}
 use Rattle.gw_rules.specs.Ask.{Ask}

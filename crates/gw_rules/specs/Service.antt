@@ -1,7 +1,8 @@
 -- The numbers of services, whose bases are this project's own.
 use Rattle.std.specs.Prelude.{ℕ, ◌+◌}
 use Rattle.gw_rules.specs.declared.service.Service.{Service}
-use Rattle.gw_rules.specs.declared.service.Service.TheVariants.{Confirmed, Unconfirmed, NetworkMessage, BvllFunction, Pdu}
+use Rattle.gw_rules.specs.declared.service.Service.TheVariants.{Confirmed, Unconfirmed, NetworkMessage, BvllFunction}
+use Rattle.gw_rules.specs.declared.service.Service.TheVariants.{Pdu}
 
 -- the number under which asks and rules name a service: the base of its kind, and its own number
 abbrev pub service_number : Service → ℕ

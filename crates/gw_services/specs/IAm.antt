@@ -5,12 +5,14 @@ use Rattle.gw_tags.specs.Object.{Object, object_view}
 use Rattle.gw_tags.specs.Value.{object_id, unsigned, enumerated, value_encoding}
 use Rattle.gw_services.specs.declared.fault.BodyFault.{BodyFault}
 use Rattle.gw_services.specs.declared.segmentation.Segmentation.{Segmentation}
-use Rattle.gw_services.specs.declared.segmentation.Segmentation.TheVariants.{Both, Transmit, Receive, None as NoSegmentation}
+use Rattle.gw_services.specs.declared.segmentation.Segmentation.TheVariants.{Both, Transmit, Receive}
+use Rattle.gw_services.specs.declared.segmentation.Segmentation.TheVariants.{None as NoSegmentation}
 use Rattle.gw_services.specs.declared.discovery.IAm.{IAm as RustIAm}
 use Rattle.gw_services.specs.Limits.{last_short_number, last_segmentation}
 use Rattle.gw_services.specs.Parameter.{Content, object, number, plain_object, plain_unsigned, plain_enumerated}
 use Rattle.gw_services.specs.Body.{Body, done, must, IsBody}
-use Rattle.gw_services.specs.Reading.{value_of_kind_at, number_of_kind_at, object_value, unsigned_value, enumerated_value, ended}
+use Rattle.gw_services.specs.Reading.{value_of_kind_at, number_of_kind_at, object_value, unsigned_value}
+use Rattle.gw_services.specs.Reading.{enumerated_value, ended}
 
 -- four application values: the device, the longest APDU that it takes, its segmentation, its vendor
 abbrev pub i_am_body : Body

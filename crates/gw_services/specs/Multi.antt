@@ -1,5 +1,6 @@
 -- ReadPropertyMultiple (ISO 16484-5, clause 15.7).
-use Rattle.std.specs.Prelude.{◌≡◌, ◌≢◌, ℕ, zero, suc, Bool, true, false, List, [], ◌∷◌, ◌++◌, map, Option, Some, None, is_some, not, ◌==◌, ◌&&◌, ◌||◌}
+use Rattle.std.specs.Prelude.{◌≡◌, ◌≢◌, ℕ, zero, suc, Bool, true, false, List, [], ◌∷◌, ◌++◌, map, Option, Some, None}
+use Rattle.std.specs.Prelude.{is_some, not, ◌==◌, ◌&&◌, ◌||◌}
 use Rattle.gw_tags.specs.declared.tag.Kind.TheVariants.{Opening, Closing}
 use Rattle.gw_tags.specs.Tag.{BeginsWith, canonical}
 use Rattle.gw_tags.specs.List.{context}

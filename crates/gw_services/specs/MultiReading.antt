@@ -1,5 +1,6 @@
 -- Computes; believe `IsMulti` and `HasMultiFault` (Multi.antt). How a ReadPropertyMultiple is read.
-use Rattle.std.specs.Prelude.{ℕ, zero, suc, ◌-◌, Bool, true, false, List, [], ◌∷◌, ◌++◌, Option, Some, None, Result, Ok, Err, if◌then◌else◌}
+use Rattle.std.specs.Prelude.{ℕ, zero, suc, ◌-◌, Bool, true, false, List, [], ◌∷◌, ◌++◌, Option, Some, None, Result, Ok}
+use Rattle.std.specs.Prelude.{Err, if◌then◌else◌}
 use Rattle.gw_addr.specs.Reading.{◌>>=◌}
 use Rattle.gw_tags.specs.declared.fault.ContextFault.{ContextFault}
 use Rattle.gw_tags.specs.ContextReading.{opening_at, closing_tag_at}

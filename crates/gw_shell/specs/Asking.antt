@@ -7,7 +7,8 @@ use Rattle.gw_rules.specs.declared.rule.Rule.{Rule}
 use Rattle.gw_shell.specs.declared.fault.Fault.{Fault}
 use Rattle.gw_shell.specs.declared.fault.Fault.TheVariants as fault
 
--- `before` was written before the asks of this text were answered by these rules with this outcome, and `after` when that ended
+-- `before` was written before the asks of this text were answered by these rules with this outcome, and `after` when
+-- that ended
 abbrev pub Answers : List Rule → List ℕ → List ℕ → Result (Unit {0}) Fault → List ℕ → Type 0
 Answers rules text before (Ok done) after = AnswersWhole rules text before after
 Answers rules text before (Err (fault.Line n)) after = AnswersToLine n rules text before after

@@ -1,9 +1,12 @@
--- Which words the program takes. `fault_of` of the crate `clap` lists the kinds of fault that a parser finds at some words, and is
--- empty where it takes them; `subcommand_of` has the command that they name and the rows of its options.
-use Rattle.std.specs.Prelude.{◌≡◌, ◌≢◌, ◌⊎◌, ⊤, ℕ, Bool, true, false, List, [], ◌∷◌, nat_eq, Option, Some, None, Result, Ok, Err, codes, option_map, string_bytes, IfSome, IsSomeAnd}
+-- Which words the program takes. `fault_of` of the crate `clap` lists the kinds of fault that a parser finds at some
+-- words, and is empty where it takes them; `subcommand_of` has the command that they name and the rows of its
+-- options.
+use Rattle.std.specs.Prelude.{◌≡◌, ◌≢◌, ◌⊎◌, ⊤, ℕ, Bool, true, false, List, [], ◌∷◌, nat_eq, Option, Some, None, Result}
+use Rattle.std.specs.Prelude.{Ok, Err, codes, option_map, string_bytes, IfSome, IsSomeAnd}
 use Rattle.std.specs.Cmp.Lexicographic.{pointwise}
 use Rattle.std.specs.Str.Parse.{digits_value, without_leading_plus}
-use Rattle.clap.specs.Words.{App, IsAmong, IsUnsignedIn, Row, Rule, Text, fault_of, first_of, new_app, new_rule, subcommand_of, with_rule, with_subcommand}
+use Rattle.clap.specs.Words.{App, IsAmong, IsUnsignedIn, Row, Rule, Text, fault_of, first_of, new_app, new_rule}
+use Rattle.clap.specs.Words.{subcommand_of, with_rule, with_subcommand}
 use Rattle.clap.specs.Simple.{on_top}
 use Rattle.clap.specs.declared.builder.action.ArgAction.TheVariants.{SetTrue}
 use Rattle.clap.specs.declared.error.kind.ErrorKind.{ErrorKind}
@@ -145,7 +148,8 @@ most_seconds = 4294967295
 -- how many seconds lie between two reports: a decimal from 1 to the most, and none where none is given
 abbrev pub IsPeriod : Option Text → Option ℕ → Type 0
 IsPeriod None period = period ≡ None
-IsPeriod (Some text) period = IsUnsignedIn 1 most_seconds text × (period ≡ Some (digits_value 10 (without_leading_plus text)))
+IsPeriod (Some text) period =
+    IsUnsignedIn 1 most_seconds text × (period ≡ Some (digits_value 10 (without_leading_plus text)))
 
 -- The text is no number of seconds, which makes a bad command line.
 abbrev pub IsNoPeriod : Option Text → Fault → Type 0
@@ -169,23 +173,27 @@ AreNoOptions value _ = ⊥
 -- what a call asks for
 abbrev pub Asks : Choice → Call → Type 0
 Asks (choice.Check file explains lints) call =
-    (call.name ≡ codes "check") × (call.config ≡ Some (string_bytes file)) × (explains ≡ call.explains) × (lints ≡ call.lints)
+    (call.name ≡ codes "check") × (call.config ≡ Some (string_bytes file)) × (explains ≡ call.explains)
+    × (lints ≡ call.lints)
 Asks (choice.Replay file explains) call =
     (call.name ≡ codes "replay") × (option_map string_bytes file ≡ call.config) × (explains ≡ call.explains)
 Asks (choice.Run options) call =
-    (call.name ≡ codes "run") × (call.config ≡ Some (string_bytes options.config)) × (option_map string_bytes options.log ≡ call.log)
+    (call.name ≡ codes "run") × (call.config ≡ Some (string_bytes options.config))
+    × (option_map string_bytes options.log ≡ call.log)
     × IsTurns call.turns options.turns × (options.verbose ≡ call.verbose) × IsPeriod call.stats options.stats
 Asks (choice.Why file) call = (call.name ≡ codes "why") × (call.config ≡ Some (string_bytes file))
 Asks choice.Log call = call.name ≡ codes "log"
 Asks (choice.Help text) call = ⊥
 Asks (choice.Usage text) call = ⊥
 
--- A call of `replay` or `log` asks for something, one of `check` or `why` where a file is named, and one of `run` where a file is named and the
--- texts of the turns and of the seconds between two reports are such numbers; other calls ask for nothing.
+-- A call of `replay` or `log` asks for something, one of `check` or `why` where a file is named, and one of `run`
+-- where a file is named and the texts of the turns and of the seconds between two reports are such numbers; other
+-- calls ask for nothing.
 pub record AsksNothing (call : Call) : Type 0 where
   pub replay : call.name ≢ codes "replay"
   pub check : (file : Text) → call.name ≡ codes "check" → call.config ≢ Some file
-  pub run : (file : Text) (n : ℕ) (period : Option ℕ) → call.name ≡ codes "run" → call.config ≡ Some file → IsTurns call.turns n →
+  pub run : (file : Text) (n : ℕ) (period : Option ℕ) →
+    call.name ≡ codes "run" → call.config ≡ Some file → IsTurns call.turns n →
       ¬ (IsPeriod call.stats period)
   pub why : (file : Text) → call.name ≡ codes "why" → call.config ≢ Some file
   pub log : call.name ≢ codes "log"
@@ -205,8 +213,9 @@ IsShown kind = (kind ≡ parse.DisplayHelp) ⊎ (kind ≡ parse.DisplayVersion)
 abbrev pub IsWrong : ErrorKind → Type 0
 IsWrong kind = (kind ≢ parse.DisplayHelp) × (kind ≢ parse.DisplayVersion) × (kind ≢ parse.OutOfMemory)
 
--- what the program makes of a parse that failed: help or the version where that was asked for, and else a bad command line, with how the
--- program is called where there is memory for it; memory may have run out in the parse, or for the help
+-- what the program makes of a parse that failed: help or the version where that was asked for, and else a bad command
+-- line, with how the program is called where there is memory for it; memory may have run out in the parse, or for the
+-- help
 abbrev pub IsRefusal : ErrorKind → Result Choice Fault → Type 0
 IsRefusal kind (Ok (choice.Help text)) = IsShown kind
 IsRefusal kind (Ok (choice.Usage text)) = IsWrong kind
@@ -226,8 +235,9 @@ AsksToShow words = (k : ErrorKind) × IsAmong k (fault_of commands words) × IsS
 abbrev pub IsMistake : List Text → Type 0
 IsMistake words = (k : ErrorKind) × IsAmong k (fault_of commands words) × IsWrong k
 
--- what the program makes of words: what they call where the parser takes them, help or the version where that was asked for, a bad command
--- line where there is another fault; memory may run out at any words, since what parses them is made first
+-- what the program makes of words: what they call where the parser takes them, help or the version where that was
+-- asked for, a bad command line where there is another fault; memory may run out at any words, since what parses them
+-- is made first
 abbrev pub IsAnswer : List Text → Result Choice Fault → Type 0
 IsAnswer words (Ok (choice.Check file explains lints)) = IsTaken words (Ok (choice.Check file explains lints))
 IsAnswer words (Ok (choice.Replay file explains)) = IsTaken words (Ok (choice.Replay file explains))
@@ -240,7 +250,8 @@ IsAnswer words (Err fault.CommandLine) = IsMistake words ⊎ IsTaken words (Err 
 IsAnswer words (Err fault.Memory) = ⊤
 IsAnswer words _ = ⊥
 
--- the words of a call that plays a script under the built-in configuration: the program's name, whatever it is, and `replay`
+-- the words of a call that plays a script under the built-in configuration: the program's name, whatever it is, and
+-- `replay`
 abbrev pub CallsReplay : List Text → Type 0
 CallsReplay words = (program : Text) × (words ≡ program ∷ codes "replay" ∷ [])
 
@@ -259,7 +270,8 @@ CallsExplain words =
 
 -- the words of a call that says which of its rules never decide
 abbrev pub CallsLint : List Text → Type 0
-CallsLint words = (program : Text) × (words ≡ program ∷ codes "check" ∷ codes "--config" ∷ codes "site.toml" ∷ codes "--lint" ∷ [])
+CallsLint words = (program : Text)
+    × (words ≡ program ∷ codes "check" ∷ codes "--config" ∷ codes "site.toml" ∷ codes "--lint" ∷ [])
 
 -- the words of a call that says which of its rules decide what
 abbrev pub CallsWhy : List Text → Type 0
@@ -275,12 +287,13 @@ CallsRun words = (program : Text) × (words ≡ program ∷ codes "run" ∷ code
 
 abbrev pub CallsRunWhole : List Text → Type 0
 CallsRunWhole words = (program : Text)
-    × (words ≡ program ∷ codes "run" ∷ codes "--config" ∷ codes "site.toml" ∷ codes "--log" ∷ codes "denials.log" ∷ codes "--turns"
-    ∷ codes "100" ∷ codes "--verbose" ∷ codes "--stats" ∷ codes "60" ∷ [])
+    × (words ≡ program ∷ codes "run" ∷ codes "--config" ∷ codes "site.toml" ∷ codes "--log" ∷ codes "denials.log"
+    ∷ codes "--turns" ∷ codes "100" ∷ codes "--verbose" ∷ codes "--stats" ∷ codes "60" ∷ [])
 
 -- the script is played under the configuration of that file, its asks told or not, or memory ran out
 abbrev pub IsReplay : Option Text → Bool → Result Choice Fault → Type 0
-IsReplay file is_explained (Ok (choice.Replay chosen explains)) = (option_map string_bytes chosen ≡ file) × (explains ≡ is_explained)
+IsReplay file is_explained (Ok (choice.Replay chosen explains)) =
+    (option_map string_bytes chosen ≡ file) × (explains ≡ is_explained)
 IsReplay file is_explained (Err fault.Memory) = ⊤
 IsReplay file is_explained _ = ⊥
 
@@ -303,8 +316,8 @@ IsLog (Ok choice.Log) = ⊤
 IsLog (Err fault.Memory) = ⊤
 IsLog _ = ⊥
 
--- The ports of that file are served with that log for so many turns, it is told what is served or not, and reports are told with so many
--- seconds between two, where they are; or memory ran out.
+-- The ports of that file are served with that log for so many turns, it is told what is served or not, and reports
+-- are told with so many seconds between two, where they are; or memory ran out.
 abbrev pub IsServing : Text → Option Text → ℕ → Bool → Option ℕ → Result Choice Fault → Type 0
 IsServing file denials count tells period (Ok (choice.Run options)) =
     (string_bytes options.config ≡ file) × (option_map string_bytes options.log ≡ denials) × (options.turns ≡ count)

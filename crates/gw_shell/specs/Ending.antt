@@ -1,5 +1,6 @@
 -- What the program tells of a fault: the line on standard error, and the exit status.
-use Rattle.std.specs.Prelude.{◌≡◌, ◌⊎◌, IsTrue, ℕ, Bool, true, false, List, [], ◌∷◌, ◌++◌, codes, decimal, Option, Some, Result, Ok, Err, string_bytes}
+use Rattle.std.specs.Prelude.{◌≡◌, ◌⊎◌, IsTrue, ℕ, Bool, true, false, List, [], ◌∷◌, ◌++◌, codes, decimal, Option, Some}
+use Rattle.std.specs.Prelude.{Result, Ok, Err, string_bytes}
 use Rattle.std.specs.List.{list_all}
 use Rattle.gw_policy_text.specs.Explanation.{ExplainsText, is_printed}
 use Rattle.gw_shell.specs.declared.command_line.Choice.{Choice}
@@ -112,8 +113,8 @@ pub record IsExplainedBy (text : List ℕ) (f : ConfigFault) (note : List ℕ) :
   pub printed : IsTrue (list_all is_printed line)
   pub parts : note ≡ line ++ 10 ∷ []
 
--- What is told of a fault before its line: where that of the text is which was read for a configuration, where that is asked for and can be
--- said.
+-- What is told of a fault before its line: where that of the text is which was read for a configuration, where that
+-- is asked for and can be said.
 abbrev pub FaultNote : Bool → Result (List ℕ) Fault → Fault → List ℕ → Type 0
 FaultNote true (Ok text) (fault.Configuration f) note = (note ≡ []) ⊎ IsExplainedBy text f note
 FaultNote _ _ _ note = note ≡ []

@@ -1,5 +1,7 @@
--- The program as a whole: what the words chose, what stands on standard output then, the line on standard error and the exit status.
-use Rattle.std.specs.Prelude.{◌≡◌, ⊤, Bool, ℕ, List, [], ◌++◌, Option, Some, Result, Ok, Err, OnOk, option_map, string_bytes}
+-- The program as a whole: what the words chose, what stands on standard output then, the line on standard error and
+-- the exit status.
+use Rattle.std.specs.Prelude.{◌≡◌, ⊤, Bool, ℕ, List, [], ◌++◌, Option, Some, Result, Ok, Err, OnOk, option_map}
+use Rattle.std.specs.Prelude.{string_bytes}
 use Rattle.std.specs.Io.KnownBytes.{Appends}
 use Rattle.gw_script.specs.Known.{OnKnown}
 use Rattle.gw_policy_text.specs.Configuration.{Configuration}
@@ -27,18 +29,22 @@ abbrev pub LeavesFault : Bool → Result (List ℕ) Fault → Fault → Option (
 LeavesFault explains text f held holds = (note : List ℕ) × FaultNote explains text f note × AppendsFront held holds note
 
 -- What `check` leaves of a configuration: what it says of it, of which a failed write may leave a front.
-abbrev pub LeavesConfigured : (explains lints : Bool) → Option (List ℕ) → Option (List ℕ) → Configuration → Result (Unit {0}) Fault → Type 0
-LeavesConfigured explains lints held holds c (Ok done) = (text : List ℕ) × IsChecked explains lints c text × Appends held holds text
+abbrev pub LeavesConfigured : (explains lints : Bool) → Option (List ℕ) → Option (List ℕ) → Configuration
+    → Result (Unit {0}) Fault → Type 0
+LeavesConfigured explains lints held holds c (Ok done) =
+    (text : List ℕ) × IsChecked explains lints c text × Appends held holds text
 LeavesConfigured explains lints held holds c (Err fault.Write) =
     (text : List ℕ) × IsChecked explains lints c text × AppendsFront held holds text
 LeavesConfigured explains lints held holds c (Err fault.Memory) = holds ≡ held
 LeavesConfigured explains lints held holds c (Err _) = ⊥
 
--- What it leaves of what was read of a text. Where there is no configuration the outcome is why, whatever became of the explanation.
+-- What it leaves of what was read of a text. Where there is no configuration the outcome is why, whatever became of
+-- the explanation.
 abbrev pub LeavesChecked : (explains lints : Bool) → Result (List ℕ) Fault → Option (List ℕ) → Option (List ℕ)
     → Result Configuration Fault → Result (Unit {0}) Fault → Type 0
 LeavesChecked explains lints text held holds (Ok c) outcome = LeavesConfigured explains lints held holds c outcome
-LeavesChecked explains lints text held holds (Err f) outcome = (outcome ≡ Err f) × LeavesFault explains text f held holds
+LeavesChecked explains lints text held holds (Err f) outcome =
+    (outcome ≡ Err f) × LeavesFault explains text f held holds
 
 -- what `check` leaves of a text that was read, or of why none was
 abbrev pub LeavesOfText : (explains lints : Bool) → Result (List ℕ) Fault → Option (List ℕ) → Option (List ℕ)
@@ -46,40 +52,50 @@ abbrev pub LeavesOfText : (explains lints : Bool) → Result (List ℕ) Fault �
 LeavesOfText explains lints text held holds outcome =
     (c : Result Configuration Fault) × IsConfigurationOf text c × LeavesChecked explains lints text held holds c outcome
 
--- What `replay` leaves under the configuration that was read. Where there is none the script isn't played, and the outcome is why.
+-- What `replay` leaves under the configuration that was read. Where there is none the script isn't played, and the
+-- outcome is why.
 abbrev pub LeavesPlayed : Bool → Option (List ℕ) → Option (List ℕ) → Option (List ℕ)
     → Result Configuration Fault → Result (Unit {0}) Fault → Type 0
 LeavesPlayed explains input held holds (Ok c) outcome =
     OnKnown input held holds (λ script before. Plays explains c script before outcome)
 LeavesPlayed explains input held holds (Err f) outcome = (outcome ≡ Err f) × (holds ≡ held)
 
--- What `why` leaves by the rules of the configuration that was read. Where there is none nothing is answered, and the outcome is why.
+-- What `why` leaves by the rules of the configuration that was read. Where there is none nothing is answered, and the
+-- outcome is why.
 abbrev pub LeavesAnswered : Option (List ℕ) → Option (List ℕ) → Option (List ℕ)
     → Result Configuration Fault → Result (Unit {0}) Fault → Type 0
-LeavesAnswered input held holds (Ok c) outcome = OnKnown input held holds (λ text before. Answers c.rules text before outcome)
+LeavesAnswered input held holds (Ok c) outcome =
+    OnKnown input held holds (λ text before. Answers c.rules text before outcome)
 LeavesAnswered input held holds (Err f) outcome = (outcome ≡ Err f) × (holds ≡ held)
 
--- What stands on standard output, which held `held` before, where files give what `Reads` says and `run` opens what the machine says: at
--- `check`, `replay` and `why` what they leave of some configuration that is the one they name, at `run` also what was told at the start, at
--- `log` what that leaves of the log, and at help its text, of which a failed write may leave a front. Words that choose nothing leave it
--- as it was, and their fault is the outcome.
-abbrev pub LeavesOutput : {Log Sockets : Type 0} → (Reads : List ℕ → Result (List ℕ) Fault → Type 0) → Machine Log Sockets
-    → Option (List ℕ) → Option (List ℕ) → Option (List ℕ) → List ℕ → Result Choice Fault → Result (Unit {0}) Fault → Type 0
+-- What stands on standard output, which held `held` before, where files give what `Reads` says and `run` opens what
+-- the machine says: at `check`, `replay` and `why` what they leave of some configuration that is the one they name,
+-- at `run` also what was told at the start, at `log` what that leaves of the log, and at help its text, of which a
+-- failed write may leave a front. Words that choose nothing leave it as it was, and their fault is the outcome.
+abbrev pub LeavesOutput : {Log Sockets : Type 0} → (Reads : List ℕ → Result (List ℕ) Fault → Type 0)
+    → Machine Log Sockets → Option (List ℕ) → Option (List ℕ) → Option (List ℕ) → List ℕ
+    → Result Choice Fault → Result (Unit {0}) Fault → Type 0
 LeavesOutput Reads machine input held holds told (Ok (choice.Check file explains lints)) outcome =
-    (text : Result (List ℕ) Fault) × Reads (string_bytes file) text × LeavesOfText explains lints text held holds outcome
+    (text : Result (List ℕ) Fault) × Reads (string_bytes file) text
+    × LeavesOfText explains lints text held holds outcome
 LeavesOutput Reads machine input held holds told (Ok (choice.Replay file explains)) outcome =
-    (c : Result Configuration Fault) × IsConfigured Reads (option_map string_bytes file) c × LeavesPlayed explains input held holds c outcome
+    (c : Result Configuration Fault) × IsConfigured Reads (option_map string_bytes file) c
+    × LeavesPlayed explains input held holds c outcome
 LeavesOutput Reads machine input held holds told (Ok (choice.Run options)) outcome =
     (text : Result (List ℕ) Fault) × Reads (string_bytes options.config) text
-    × (c : Result Configuration Fault) × IsConfigurationOf text c × LeavesRun machine text held holds options c told outcome
+    × (c : Result Configuration Fault) × IsConfigurationOf text c
+    × LeavesRun machine text held holds options c told outcome
 LeavesOutput Reads machine input held holds told (Ok (choice.Why file)) outcome =
-    (c : Result Configuration Fault) × IsConfigured Reads (Some (string_bytes file)) c × LeavesAnswered input held holds c outcome
+    (c : Result Configuration Fault) × IsConfigured Reads (Some (string_bytes file)) c
+    × LeavesAnswered input held holds c outcome
 LeavesOutput Reads machine input held holds told (Ok choice.Log) outcome =
     OnKnown input held holds (λ log before. Tells log before outcome)
-LeavesOutput Reads machine input held holds told (Ok (choice.Help text)) (Ok done) = Appends held holds (string_bytes text)
+LeavesOutput Reads machine input held holds told (Ok (choice.Help text)) (Ok done) =
+    Appends held holds (string_bytes text)
 LeavesOutput Reads machine input held holds told (Ok (choice.Help text)) (Err f) =
     (f ≡ fault.Write) × AppendsFront held holds (string_bytes text)
-LeavesOutput Reads machine input held holds told (Ok (choice.Usage text)) outcome = (outcome ≡ Err fault.CommandLine) × (holds ≡ held)
+LeavesOutput Reads machine input held holds told (Ok (choice.Usage text)) outcome =
+    (outcome ≡ Err fault.CommandLine) × (holds ≡ held)
 LeavesOutput Reads machine input held holds told (Err f) outcome = (outcome ≡ Err f) × (holds ≡ held)
 
 -- Only `run` tells something before a fault's line.
@@ -87,25 +103,27 @@ abbrev pub IsQuiet : Result Choice Fault → List ℕ → Type 0
 IsQuiet (Ok (choice.Run options)) told = ⊤
 IsQuiet _ told = told ≡ []
 
--- What of standard output isn't flushed after a choice that was done: nothing, but that `run` leaves what was so before where its log is
--- in a file.
+-- What of standard output isn't flushed after a choice that was done: nothing, but that `run` leaves what was so
+-- before where its log is in a file.
 abbrev pub IsFlushed : Result Choice Fault → (was is : List ℕ) → Type 0
 IsFlushed (Ok (choice.Run options)) was is = IsFlushedFor (option_map string_bytes options.log) was is
 IsFlushed _ was is = is ≡ []
 
--- What was done by a choice. `Leaves` is what stands on standard output, with what was told at the start, and `Adds` what standard error
--- is given.
-pub record IsFollowed (Leaves : List ℕ → Result Choice Fault → Result (Unit {0}) Fault → Type 0) (Adds : List ℕ → Type 0)
-    (choice : Result Choice Fault) (outcome : Result (Unit {0}) Fault) : Type 0 where
+-- What was done by a choice. `Leaves` is what stands on standard output, with what was told at the start, and `Adds`
+-- what standard error is given.
+pub record IsFollowed (Leaves : List ℕ → Result Choice Fault → Result (Unit {0}) Fault → Type 0)
+    (Adds : List ℕ → Type 0) (choice : Result Choice Fault) (outcome : Result (Unit {0}) Fault) : Type 0 where
   pub told : List ℕ
   pub output : Leaves told choice outcome
   pub quiet : IsQuiet choice told
   pub errors : Adds told
 
--- One run of the program. `Chooses` is what the words ask for, `Leaves` what stands on standard output at a choice and an outcome, with
--- what was told at the start, `was` and `is` what of it wasn't flushed before and isn't then, and `Adds` what standard error is given.
+-- One run of the program. `Chooses` is what the words ask for, `Leaves` what stands on standard output at a choice
+-- and an outcome, with what was told at the start, `was` and `is` what of it wasn't flushed before and isn't then,
+-- and `Adds` what standard error is given.
 pub record IsRun (Chooses : Result Choice Fault → Type 0)
-    (Leaves : List ℕ → Result Choice Fault → Result (Unit {0}) Fault → Type 0) (was is : List ℕ) (Adds : List ℕ → Type 0)
+    (Leaves : List ℕ → Result Choice Fault → Result (Unit {0}) Fault → Type 0)
+    (was is : List ℕ) (Adds : List ℕ → Type 0)
     (exit : ℕ) : Type 0 where
   pub choice : Result Choice Fault
   pub outcome : Result (Unit {0}) Fault

@@ -1,5 +1,6 @@
 -- Lists of tagged values between an opening and a closing tag (ISO 16484-5, clause 20.2.1.3.2).
-use Rattle.std.specs.Prelude.{◌≡◌, ℕ, suc, Bool, true, List, [], ◌++◌, length, Option, Some, None, not, ◌==◌, ◌&&◌, if◌then◌else◌}
+use Rattle.std.specs.Prelude.{◌≡◌, ℕ, suc, Bool, true, List, [], ◌++◌, length, Option, Some, None, not, ◌==◌, ◌&&◌}
+use Rattle.std.specs.Prelude.{if◌then◌else◌}
 use Rattle.gw_tags.specs.declared.tag.Kind.{Kind}
 use Rattle.gw_tags.specs.declared.tag.Kind.TheVariants.{Length, Opening, Closing}
 use Rattle.gw_tags.specs.Tag.{Tag, IsTag, EncodesTag}

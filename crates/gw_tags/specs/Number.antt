@@ -1,5 +1,6 @@
 -- Numbers in one to four octets (ISO 16484-5, clauses 20.2.4 and 20.2.5).
-use Rattle.std.specs.Prelude.{◌≡◌, ℕ, ◌*◌, ◌-◌, ◌<◌, ◌≤◌, ◌^◌, List, length, drop, nat_lt, nat_le, ◌&&◌, if◌then◌else◌, Option, Some, None, ℤ, pos, negsuc, suc}
+use Rattle.std.specs.Prelude.{◌≡◌, ℕ, ◌*◌, ◌-◌, ◌<◌, ◌≤◌, ◌^◌, List, length, drop, nat_lt, nat_le, ◌&&◌, if◌then◌else◌}
+use Rattle.std.specs.Prelude.{Option, Some, None, ℤ, pos, negsuc, suc}
 use Rattle.std.specs.Int.{w32, to_be_bytes, cast_unsigned}
 use Rattle.gw_addr.specs.Address.{big_endian}
 use Rattle.gw_addr.specs.Reading.{AreOctets}

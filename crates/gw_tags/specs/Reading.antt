@@ -1,6 +1,7 @@
 -- Reading tags and values from the front of octets (ISO 16484-5, clause 20.2). This file computes;
 -- believe `BeginsWith`, `BeginsWithValue` and what is said of the faults.
-use Rattle.std.specs.Prelude.{ℕ, ◌-◌, ◌/◌, ◌%◌, Bool, true, false, List, [], ◌∷◌, Result, Ok, Err, nat_lt, nat_le, ◌==◌, ◌&&◌, if◌then◌else◌}
+use Rattle.std.specs.Prelude.{ℕ, ◌-◌, ◌/◌, ◌%◌, Bool, true, false, List, [], ◌∷◌, Result, Ok, Err, nat_lt, nat_le, ◌==◌}
+use Rattle.std.specs.Prelude.{◌&&◌, if◌then◌else◌}
 use Rattle.std.specs.Int.{w16, w32}
 use Rattle.gw_addr.specs.Address.{big_endian}
 use Rattle.gw_addr.specs.Reading.{◌>>=◌, octet_at, front_at, number_at}
@@ -9,7 +10,8 @@ use Rattle.gw_tags.specs.declared.tag.Kind.TheVariants.{Length, Opening, Closing
 use Rattle.gw_tags.specs.declared.fault.TagFault.{TagFault}
 use Rattle.gw_tags.specs.declared.fault.TagFault.TheVariants.{Short, BadTag}
 use Rattle.gw_tags.specs.declared.fault.ValueFault.{ValueFault}
-use Rattle.gw_tags.specs.declared.fault.ValueFault.TheVariants.{Short as ShortValue, BadTag as BadValueTag, BadLength, BadText}
+use Rattle.gw_tags.specs.declared.fault.ValueFault.TheVariants.{Short as ShortValue, BadTag as BadValueTag, BadLength}
+use Rattle.gw_tags.specs.declared.fault.ValueFault.TheVariants.{BadText}
 use Rattle.gw_tags.specs.declared.datatype.Datatype.{Datatype}
 use Rattle.gw_tags.specs.declared.datatype.Datatype.TheVariants as kinds
 use Rattle.gw_tags.specs.Fault.{fault_of_tag}
@@ -17,7 +19,8 @@ use Rattle.gw_tags.specs.Tag.{Tag, is_tag}
 use Rattle.gw_tags.specs.Object.{object_of}
 use Rattle.gw_tags.specs.Number.{twos_complement}
 use Rattle.gw_tags.specs.Strings.{is_unused}
-use Rattle.gw_tags.specs.Value.{Value, null, boolean, unsigned, signed, real, double, octet_string, character_string, bit_string, enumerated, date, time, object_id, is_text}
+use Rattle.gw_tags.specs.Value.{Value, null, boolean, unsigned, signed, real, double, octet_string, character_string}
+use Rattle.gw_tags.specs.Value.{bit_string, enumerated, date, time, object_id, is_text}
 
 -- ---- tags
 

@@ -1,9 +1,12 @@
 -- Application values (ISO 16484-5, clause 20.2): the encodings of each of the thirteen kinds.
-use Rattle.std.specs.Prelude.{◌≡◌, ◌≢◌, ℕ, ◌<◌, ◌^◌, Bool, true, false, List, [], ◌∷◌, ◌++◌, length, nat_lt, ◌==◌, ◌&&◌, ◌||◌, not, ◌⊎◌, ℤ}
+use Rattle.std.specs.Prelude.{◌≡◌, ◌≢◌, ℕ, ◌<◌, ◌^◌, Bool, true, false, List, [], ◌∷◌, ◌++◌, length, nat_lt, ◌==◌, ◌&&◌}
+use Rattle.std.specs.Prelude.{◌||◌, not, ◌⊎◌, ℤ}
 use Rattle.std.specs.Str.{is_utf8}
 use Rattle.gw_tags.specs.declared.tag.Kind.TheVariants.{Length}
 use Rattle.gw_tags.specs.declared.value.AppValue.{AppValue}
-use Rattle.gw_tags.specs.declared.value.AppValue.TheVariants.{Null, Boolean, Unsigned, Signed, Real, Double, Octets, Text, Bits, Enumerated, Date, Time, Object as ObjectVariant}
+use Rattle.gw_tags.specs.declared.value.AppValue.TheVariants.{Null, Boolean, Unsigned, Signed, Real, Double, Octets}
+use Rattle.gw_tags.specs.declared.value.AppValue.TheVariants.{Text, Bits, Enumerated, Date, Time}
+use Rattle.gw_tags.specs.declared.value.AppValue.TheVariants.{Object as ObjectVariant}
 use Rattle.gw_tags.specs.Tag.{Tag, EncodesTag, EncodesInLowBits, BeginsWith, IsShortTag, canonical, is_tag}
 use Rattle.gw_tags.specs.Object.{Object, IsObject, object_view, object_octets}
 use Rattle.gw_tags.specs.Strings.{is_unused}

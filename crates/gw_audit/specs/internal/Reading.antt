@@ -1,5 +1,6 @@
 -- What is read of a line, piece by piece from its front.
-use Rattle.std.specs.Prelude.{◌≡◌, ℕ, ◌+◌, ◌^◌, ◌==◌, ◌&&◌, Bool, nat_eq, nat_le, nat_lt, is_some, if◌then◌else◌, List, length, take, drop, find, position, codes, Option, Some, None, Result, Ok, Err}
+use Rattle.std.specs.Prelude.{◌≡◌, ℕ, ◌+◌, ◌^◌, ◌==◌, ◌&&◌, Bool, nat_eq, nat_le, nat_lt, is_some, if◌then◌else◌, List}
+use Rattle.std.specs.Prelude.{length, take, drop, find, position, codes, Option, Some, None, Result, Ok, Err}
 use Rattle.std.specs.Cmp.Lexicographic.{pointwise}
 use Rattle.std.specs.Fmt.{decimal}
 use Rattle.std.specs.List.{list_any}

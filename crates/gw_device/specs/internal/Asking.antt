@@ -1,6 +1,7 @@
 -- The two ways by which the code finds what an APDU asks: a ReadPropertyMultiple by its references, and any other as
 -- what is denied where there are no rules.
-use Rattle.std.specs.Prelude.{ℕ, Bool, not, ◌==◌, ◌&&◌, is_some, if◌then◌else◌, List, [], map, Option, Some, None, Result, Ok, Err}
+use Rattle.std.specs.Prelude.{ℕ, Bool, not, ◌==◌, ◌&&◌, is_some, if◌then◌else◌, List, [], map, Option, Some, None}
+use Rattle.std.specs.Prelude.{Result, Ok, Err}
 use Rattle.gw_apdu.specs.declared.fault.ApduFault.{ApduFault}
 use Rattle.gw_apdu.specs.declared.header.ConfirmedRequest.{ConfirmedRequest}
 use Rattle.gw_apdu.specs.declared.header.Header.{Header}

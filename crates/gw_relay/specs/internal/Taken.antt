@@ -14,6 +14,7 @@ pub record AreTaken {J : Type 0} (rules : List Rule) (steps : List Step) (old ne
   pub denied : new.authorizer.denied ≡ old.authorizer.denied ++ denied_of rules (asks_of steps)
 
 -- behind what was denied before stands what is denied of these asks; and whether all are allowed is told
-pub record AreAsked {J : Type 0} (rules : List Rule) (asks : List Ask) (old new : AuthorizerState J) (allowed : Bool) : Type 0 where
+pub record AreAsked {J : Type 0} (rules : List Rule) (asks : List Ask) (old new : AuthorizerState J) (allowed : Bool)
+  : Type 0 where
   pub answer : allowed ≡ list_all (allows rules) asks
   pub denied : new.denied ≡ old.denied ++ denied_of rules asks
