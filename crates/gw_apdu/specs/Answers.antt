@@ -40,6 +40,6 @@ pub record AnswersAreRead : Type 0 where
   pub complex_acks : (invoke service : ℕ) (body : List ℕ) →
       ReadAs (complex_ack invoke service ++ body) (ComplexAck None invoke service) body
   pub errors : (invoke service : ℕ) (why : ServiceError) →
-    ReadAs (error invoke service why) (Error invoke service) (class_and_code why)
+      ReadAs (error invoke service why) (Error invoke service) (class_and_code why)
   pub rejects : (invoke reason : ℕ) → ReadAs (reject invoke reason) (Reject invoke reason) []
   pub aborts : (invoke reason : ℕ) → ReadAs (abort invoke reason) (Abort invoke reason) []

@@ -98,7 +98,7 @@ unfoldable pub deed_text : ShownAsk → List ℕ
 deed_text ask =
     option_map_or
     (λ number. option_map_or (λ operation. deed_of operation ask) (operation_of number)
-      (codes "does operation " ++ decimal number))
+    (codes "does operation " ++ decimal number))
     ask.operation (codes "does something")
 
 -- ---- the whole

@@ -148,8 +148,8 @@ tables_or (Err fault) = no_members
 
 -- The line of a fault that was found in these tables: its place, what is told first of it, and further words of what
 -- is wanted there.
-pub record IsExplanation (found : Find Configuration) (top : Members) (fault : ConfigFault) (line : List ℕ) : Type 0
-  where
+pub record IsExplanation (found : Find Configuration) (top : Members) (fault : ConfigFault) (line : List ℕ)
+    : Type 0 where
   pub located : Located
   pub first : found ≡ Err located
   pub same : located.fault ≡ fault

@@ -26,7 +26,7 @@ split_at separator (c ∷ text) =
 abbrev pub octet_written : ℕ → List ℕ → Option (ℕ × List ℕ)
 octet_written separator text =
     option_and_then (λ parts. option_map (λ octet. (octet, parts.1)) (number_written 256 parts.0))
-      (split_at separator text)
+    (split_at separator text)
 
 -- the address that is written `a.b.c.d:port`
 unfoldable pub address_written : List ℕ → Option BipAddr

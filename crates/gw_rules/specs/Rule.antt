@@ -40,7 +40,7 @@ Names rule field = 0 < length (ranges_of field rule)
 abbrev pub Meets : Ask → Rule → FieldName → Type 0
 Meets ask rule field =
     IsSomeAnd (value_of field ask)
-      (λ value. Any (λ range. (range.low ≤ value) × (value ≤ range.high)) (ranges_of field rule))
+    (λ value. Any (λ range. (range.low ≤ value) × (value ≤ range.high)) (ranges_of field rule))
 
 -- every field that the rule names is met by the ask: what `matches` says, in words
 abbrev pub Matches : Rule → Ask → Type 0

@@ -193,7 +193,7 @@ pub record AsksNothing (call : Call) : Type 0 where
   pub replay : call.name ≢ codes "replay"
   pub check : (file : Text) → call.name ≡ codes "check" → call.config ≢ Some file
   pub run : (file : Text) (n : ℕ) (period : Option ℕ) →
-    call.name ≡ codes "run" → call.config ≡ Some file → IsTurns call.turns n →
+      call.name ≡ codes "run" → call.config ≡ Some file → IsTurns call.turns n →
       ¬ (IsPeriod call.stats period)
   pub why : (file : Text) → call.name ≡ codes "why" → call.config ≢ Some file
   pub log : call.name ≢ codes "log"

@@ -23,5 +23,5 @@ pub kept_again : (m : Inside) → IsKept m → kept (take m.len m.octets) ≡ m
 unfolding inside_of
 kept_again m h =
     let e : take m.len m.octets ++ replicate (255 - length (take m.len m.octets)) 0 ≡ m.octets =
-      ap (λ (n : ℕ). take m.len m.octets ++ replicate (255 - n) 0) h.front ∙ sym h.zeros in
+    ap (λ (n : ℕ). take m.len m.octets ++ replicate (255 - n) 0) h.front ∙ sym h.zeros in
     ap (λ (p : List ℕ). inside_of (p, length (take m.len m.octets))) e ∙ ap (λ (n : ℕ). inside_of (m.octets, n)) h.front

@@ -15,6 +15,6 @@ pub record AreTaken {J : Type 0} (rules : List Rule) (steps : List Step) (old ne
 
 -- behind what was denied before stands what is denied of these asks; and whether all are allowed is told
 pub record AreAsked {J : Type 0} (rules : List Rule) (asks : List Ask) (old new : AuthorizerState J) (allowed : Bool)
-  : Type 0 where
+    : Type 0 where
   pub answer : allowed ≡ list_all (allows rules) asks
   pub denied : new.denied ≡ old.denied ++ denied_of rules asks
