@@ -33,7 +33,7 @@ reads = tt
 
 -- all that an event runs through
 unfoldable steps : ⊤
-unfolding matches first allows asks denials_at reply_sends sends change_at move_at effects_at passes_end acts_of written moved_by run_after
+unfolding matches first allows asks denials_at sends change_at move_at effects_at passes_end acts_of written moved_by run_after
 steps = tt
 
 -- all that is passed on runs through

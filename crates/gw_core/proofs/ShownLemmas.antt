@@ -19,13 +19,12 @@ use Rattle.gw_script.specs.Text.{end_line}
 
 -- what needs no memory has `end` alone as its text
 pub few_octets : (w : State) (e : Event) → NeedsNoMemory w e → length (effects_text (effects_at w e)) ≡ 4
-unfolding effects_text effects_at denials_at sends
+unfolding effects_at denials_at sends
 few_octets w e none =
     ap₂ (λ (d : List Denial) (s : List Sending). length (denials_text d ++ sends_text s ++ end_line)) (no_denials w e none.0) none.1
 
 -- the text of a tick is `end` alone
 pub tick_text : (w : State) → end_line ≡ event_text w Tick
-unfolding effects_text
 tick_text w = sym (ap effects_text (effects_at-tick w))
 
 text_length : {A : Type 0} (text : A → List ℕ) (x : A) (xs : List A)

@@ -194,7 +194,6 @@ unicast_sent port to f le none =
 
 alone_sent : (network : ℕ) (m : Message) (x : List ℕ) → length x ≤ 3
     → length (npdu.header (reply_npdu network m.npdu (alone_answer []))) ≤ 522 → reply_sends network m (alone_answer x) ≡ [] → ⊥
-unfolding reply_sends
 alone_sent network m x few room none =
     let f : Fields = reply_npdu network m.npdu (alone_answer x) in
     let len = length-append (npdu.header f) x in

@@ -22,11 +22,11 @@ by_text rules (Some number) = codes " rule " ++ decimal number ++ codes " " ++ n
 
 -- what the policy says of an ask, and by which rule: `allow rule <number> <name>`, `deny rule
 -- <number> <name>` or `deny default`
-unfoldable pub verdict_text : List Rule → Ask → List ℕ
+abbrev pub verdict_text : List Rule → Ask → List ℕ
 verdict_text rules ask = (if allows rules ask then codes "allow" else codes "deny") ++ by_text rules (first rules ask)
 
 -- the line of one ask: `ask `, what was asked as a line of the log shows it, and the verdict
-unfoldable pub ask_line : List Rule → Source → Ask → List ℕ
+abbrev pub ask_line : List Rule → Source → Ask → List ℕ
 ask_line rules source ask = codes "ask " ++ ask_text source ask ++ codes " " ++ verdict_text rules ask ++ 10 ∷ []
 
 -- a line for each ask of a datagram that claims to come from there

@@ -100,7 +100,7 @@ is_local_broadcast request answer = answer.broadcast && not (is_some request.sou
 
 -- An answer, where its NPDU is within its length: back to where the message came from; or as a broadcast
 -- by the gateway on the port's network, which its peers and foreign devices get too.
-unfoldable pub reply_sends : ℕ → Message → Answer → List Sending
+abbrev pub reply_sends : ℕ → Message → Answer → List Sending
 reply_sends network m answer =
     if is_local_broadcast m.npdu answer then broadcast (reply_npdu network m.npdu answer) m.here
     else unicast m.here.port.number m.link (reply_npdu network m.npdu answer)

@@ -47,25 +47,25 @@ abbrev pub field : List ℕ → ℕ → List ℕ
 field name number = name ++ decimal number
 
 -- in how many seconds how many datagrams were taken, events dropped for want of memory, and asks denied
-unfoldable pub events_text : Report → List ℕ
+abbrev pub events_text : Report → List ℕ
 events_text r =
     field (codes "stats seconds=") r.seconds ++ field (codes " datagrams=") r.datagrams
     ++ field (codes " memory_drops=") r.memory_drops ++ field (codes " denials=") r.denials
 
 -- how many sends succeeded and failed, and how many receives failed
-unfoldable pub calls_text : Report → List ℕ
+abbrev pub calls_text : Report → List ℕ
 calls_text r =
     field (codes " sends=") r.sends ++ field (codes " send_failures=") r.send_failures
     ++ field (codes " receive_failures=") r.receive_failures
 
 -- what the tables hold then
-unfoldable pub tables_text : Report → List ℕ
+abbrev pub tables_text : Report → List ℕ
 tables_text r =
     field (codes " registrations=") r.registrations ++ field (codes " peers=") r.peers
     ++ field (codes " learned_routes=") r.learned_routes
 
 -- the line of a report: its fields in this order, and a line feed
-unfoldable pub report_line : Report → List ℕ
+abbrev pub report_line : Report → List ℕ
 report_line r = events_text r ++ calls_text r ++ tables_text r ++ 10 ∷ []
 
 -- ---- the reports of a run

@@ -31,7 +31,7 @@ abbrev pub sends_text : List Sending → List ℕ
 sends_text sends = flat_map sending_line sends
 
 -- the lines of what one event does
-unfoldable pub effects_text : Effects → List ℕ
+abbrev pub effects_text : Effects → List ℕ
 effects_text e = denials_text e.denials ++ sends_text e.sends ++ end_line
 
 -- the lines of what an event does in this state

@@ -138,9 +138,9 @@ fn put_by(out: &mut Vec<u8>, rules: &RuleList, by: Option<u16>) -> Result<(), Al
     put_slice(out, name_at(rules, number).as_bytes())
 }
 
-/// Appends what the policy says of an ask, and by which rule.
-#[tactic(auto, unfolding(crate::specs::Explained::verdict_text))]
-fn put_verdict(out: &mut Vec<u8>, rules: &RuleList, ask: &Ask) -> Result<(), AllocError>
+/// Appends what the policy says of an ask, and by which rule: `allow rule 3 all`, `deny rule 1 hide`
+/// or `deny default`. `AllocError` where a growth was refused; a front of it may then stand there.
+pub fn put_verdict(out: &mut Vec<u8>, rules: &RuleList, ask: &Ask) -> Result<(), AllocError>
     ensures { IsAppended (verdict_text rules.now ask.now) out.old out.new result }
 {
     if rules.allows(ask) {
@@ -152,7 +152,6 @@ fn put_verdict(out: &mut Vec<u8>, rules: &RuleList, ask: &Ask) -> Result<(), All
 }
 
 /// Appends the line of an ask of a datagram that claims to come from there.
-#[tactic(auto, unfolding(crate::specs::Explained::ask_line))]
 fn put_line(
     out: &mut Vec<u8>,
     rules: &RuleList,

@@ -25,6 +25,7 @@ mod wire;
 
 pub use effects::Effects;
 pub use event::Counts;
+pub use explaining::put_verdict;
 pub use fault::StepFault;
 pub use gateway::Gateway;
 pub use gw_audit::{Denial, Denials};

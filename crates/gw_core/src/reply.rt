@@ -246,7 +246,6 @@ fn is_local_broadcast(message: &Message<'_>, answer: &Answer) -> bool
 }
 
 /// The sends of an answer to a message.
-#[tactic(auto, unfolding(crate::specs::Reply::reply_sends))]
 fn reply_sends(
     alloc: Global,
     network: NetNum,

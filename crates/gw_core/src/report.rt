@@ -102,93 +102,56 @@ fn write_field<S: OctetSink>(name: &str, number: u128, sink: &mut S) -> Result<(
     ensures sure { S.NeverFails sink.old → IsOk result }
     ensures lasts { S.NeverFails sink.old → S.NeverFails sink.new }
 {
-    match write_whole(sink, name.as_bytes()) {
-        Ok(()) => {}
-        Err(failed) => return Err(failed),
-    }
+    write_whole(sink, name.as_bytes())?;
     write_whole(sink, Buffer::new().format(number).as_bytes())
 }
 
 /// Writes in how many seconds how many datagrams were taken, events dropped and asks denied.
-#[tactic(auto, unfolding(crate::specs::Reports::events_text))]
 fn write_events<S: OctetSink>(report: &Report, sink: &mut S) -> Result<(), WriteFailed>
     ensures ok { OnOk result
         (Appends (S.held sink.old) (S.held sink.new) (events_text report.now)) }
     ensures sure { S.NeverFails sink.old → IsOk result }
     ensures lasts { S.NeverFails sink.old → S.NeverFails sink.new }
 {
-    match write_field("stats seconds=", report.seconds as u128, sink) {
-        Ok(()) => {}
-        Err(failed) => return Err(failed),
-    }
-    match write_field(" datagrams=", report.datagrams as u128, sink) {
-        Ok(()) => {}
-        Err(failed) => return Err(failed),
-    }
-    match write_field(" memory_drops=", report.memory_drops as u128, sink) {
-        Ok(()) => {}
-        Err(failed) => return Err(failed),
-    }
+    write_field("stats seconds=", report.seconds as u128, sink)?;
+    write_field(" datagrams=", report.datagrams as u128, sink)?;
+    write_field(" memory_drops=", report.memory_drops as u128, sink)?;
     write_field(" denials=", report.denials as u128, sink)
 }
 
 /// Writes how many sends succeeded and failed, and how many receives failed.
-#[tactic(auto, unfolding(crate::specs::Reports::calls_text))]
 fn write_calls<S: OctetSink>(report: &Report, sink: &mut S) -> Result<(), WriteFailed>
     ensures ok { OnOk result (Appends (S.held sink.old) (S.held sink.new) (calls_text report.now)) }
     ensures sure { S.NeverFails sink.old → IsOk result }
     ensures lasts { S.NeverFails sink.old → S.NeverFails sink.new }
 {
-    match write_field(" sends=", report.sends, sink) {
-        Ok(()) => {}
-        Err(failed) => return Err(failed),
-    }
-    match write_field(" send_failures=", report.send_failures, sink) {
-        Ok(()) => {}
-        Err(failed) => return Err(failed),
-    }
+    write_field(" sends=", report.sends, sink)?;
+    write_field(" send_failures=", report.send_failures, sink)?;
     write_field(" receive_failures=", report.receive_failures as u128, sink)
 }
 
 /// Writes what the tables hold.
-#[tactic(auto, unfolding(crate::specs::Reports::tables_text))]
 fn write_tables<S: OctetSink>(report: &Report, sink: &mut S) -> Result<(), WriteFailed>
     ensures ok { OnOk result
         (Appends (S.held sink.old) (S.held sink.new) (tables_text report.now)) }
     ensures sure { S.NeverFails sink.old → IsOk result }
     ensures lasts { S.NeverFails sink.old → S.NeverFails sink.new }
 {
-    match write_field(" registrations=", report.registrations as u128, sink) {
-        Ok(()) => {}
-        Err(failed) => return Err(failed),
-    }
-    match write_field(" peers=", report.peers as u128, sink) {
-        Ok(()) => {}
-        Err(failed) => return Err(failed),
-    }
+    write_field(" registrations=", report.registrations as u128, sink)?;
+    write_field(" peers=", report.peers as u128, sink)?;
     write_field(" learned_routes=", report.learned_routes as u128, sink)
 }
 
 /// Writes the line of a report.
-#[tactic(auto, unfolding(crate::specs::Reports::report_line))]
 fn write_report<S: OctetSink>(report: &Report, sink: &mut S) -> Result<(), WriteFailed>
     ensures ok { OnOk result
         (Appends (S.held sink.old) (S.held sink.new) (report_line report.now)) }
     ensures sure { S.NeverFails sink.old → IsOk result }
     ensures lasts { S.NeverFails sink.old → S.NeverFails sink.new }
 {
-    match write_events(report, sink) {
-        Ok(()) => {}
-        Err(failed) => return Err(failed),
-    }
-    match write_calls(report, sink) {
-        Ok(()) => {}
-        Err(failed) => return Err(failed),
-    }
-    match write_tables(report, sink) {
-        Ok(()) => {}
-        Err(failed) => return Err(failed),
-    }
+    write_events(report, sink)?;
+    write_calls(report, sink)?;
+    write_tables(report, sink)?;
     write_whole(sink, b"\n")
 }
 

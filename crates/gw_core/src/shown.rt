@@ -13,7 +13,6 @@ use std::alloc::AllocError;
 
 /// Appends the lines of what one event does. Refused only where the buffer had no room for them. The text of an address that is at
 /// hand is not made again.
-#[tactic(auto, unfolding(crate::specs::Shown::effects_text))]
 pub(crate) fn append_effects(
     out: &mut Vec<u8>,
     effects: &Effects,

@@ -101,7 +101,6 @@ either_true false b t e = absurd cc
 
 taken : (shape : Shape) (earlier later : Rule) (ask : Ask) → takes_shape earlier later shape ≡ true → LiesIn shape ask → Matches later ask
     → Matches earlier ask
-unfolding takes_shape
 taken shape earlier later ask t lies matching field =
     let test : FieldName → Bool = λ f. takes_side (value_of f shape) (ranges_of f earlier) (ranges_of f later) in
     let fields = either_true (meets shape later) _ t (met shape later ask lies matching) in

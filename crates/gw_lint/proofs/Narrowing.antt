@@ -114,7 +114,6 @@ met_side side (range ∷ ranges) (Some number) is admitted =
     (list_any-from_Any (overlaps side.range) all (some.0, some.1, some.2, some.3, over)))
 
 pub met : (shape : Shape) (rule : Rule) (ask : Ask) → LiesIn shape ask → Matches rule ask → meets shape rule ≡ true
-unfolding meets
 met shape rule ask lies matching =
     each_field_from (λ field. meets_side (value_of field shape) (ranges_of field rule))
     (λ field. met_side (value_of field shape) (ranges_of field rule) (value_of field ask) (lies field) (matching field))

@@ -85,7 +85,6 @@ at_field field shape cut ask lies =
 -- an ask of the shape lies in one of the pieces, or is inside in each of the fields
 pub pieced : (fields : List FieldName) (shape cut : Shape) (ask : Ask) → LiesIn shape ask
     → LiesInOne (pieces fields shape cut) ask ⊎ AllByRecursion (λ field. IsWithin (value_of field cut) (value_of field ask)) fields
-unfolding pieces
 pieced [] shape cut ask lies = inr tt
 pieced (field ∷ fields) shape cut ask lies =
     let rest = inside_at field shape cut in
@@ -101,7 +100,6 @@ pieced (field ∷ fields) shape cut ask lies =
 pub stepped : (fields : List FieldName) (i : ℕ) (d : FieldName) (out new all : List Shape) (rest cut : Shape) → i < length fields
     → new ≡ out ++ pieces_at (get_or fields i d) rest cut → out ++ pieces (drop i fields) rest cut ≡ all
     → new ++ pieces (drop (i + 1) fields) (inside_at (get_or fields i d) rest cut) cut ≡ all
-unfolding pieces
 stepped fields i d out new all rest cut within grown is =
     let field = get_or fields i d in
     let inside = inside_at field rest cut in

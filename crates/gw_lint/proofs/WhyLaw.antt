@@ -47,7 +47,8 @@ use Rattle.gw_core.specs.Reply.{apdu_for, context_of}
 use Rattle.gw_core.specs.State.{State, device_network}
 use Rattle.gw_core.specs.declared.event.Counts.{Counts}
 use Rattle.gw_lint.specs.Laws.{IsSent, NamesTheRule, WhyNamesTheRule, denied_by}
-use Rattle.gw_lint.specs.Why.{answer, answer_by, answer_to, rule_answer}
+use Rattle.gw_core.specs.Explained.{by_text}
+use Rattle.gw_lint.specs.Why.{answer, answer_to}
 use Rattle.gw_lint.proofs.DeviceAsks.{DeviceCases, each_device}
 use Rattle.gw_lint.proofs.RelayAsks.{NamedCases, NetworkCases, RouteCases, each_network, each_route}
 
@@ -287,12 +288,11 @@ not_zero number counted = by (number == 0) refl
     by true e = absurd (omega (arith, counted, eqb-true number 0 e))
     by false e = e
 
-rule_there : (rules : List Rule) (number : ℕ) (rule : Rule) → 1 ≤ number → slice_get rules (number - 1) ≡ Some rule → rule.allow ≡ false
-    → answer_by rules (Some number) ≡ denied_by number (name_at rules number)
-unfolding rule_answer
-rule_there rules number rule counted there denies =
+rule_there : (rules : List Rule) (number : ℕ) (rule : Rule) → 1 ≤ number → slice_get rules (number - 1) ≡ Some rule
+    → (codes "deny" ++ by_text rules (Some number)) ++ 10 ∷ [] ≡ denied_by number (name_at rules number)
+rule_there rules number rule counted there =
     let some_number : (number == 0) ≡ false = not_zero number counted in
-    rw (there, denies, some_number) refl
+    rw (there, some_number) refl
 
 -- what the first rule says decides
 first_denies : (rules : List Rule) (ask : Ask) (number : ℕ) (rule : Rule) → first rules ask ≡ Some number → slice_get rules (number - 1) ≡ Some rule
@@ -301,19 +301,19 @@ unfolding allows
 first_denies rules ask number rule e there = rw (e, there) refl
 
 names_so : (rules : List Rule) (ask : Ask) (found : Option ℕ) → first rules ask ≡ found → allows rules ask ≡ false
-    → ((found ≡ None) × (rule_name rules found ≡ default_name) × (answer_by rules found ≡ codes "deny default" ++ 10 ∷ []))
-    ⊎ ((number : ℕ) × (found ≡ Some number) × (answer_by rules found ≡ denied_by number (rule_name rules found)))
+    → let answer = (codes "deny" ++ by_text rules found) ++ 10 ∷ [] in
+    ((found ≡ None) × (rule_name rules found ≡ default_name) × (answer ≡ codes "deny default" ++ 10 ∷ []))
+    ⊎ ((number : ℕ) × (found ≡ Some number) × (answer ≡ denied_by number (rule_name rules found)))
 names_so rules ask None e denied = inl (refl, refl, refl)
 names_so rules ask (Some number) e denied =
     let is = (first_iff rules ask number).0 e in
-    let denies = sym (first_denies rules ask number is.rule e is.numbered.there) ∙ denied in
-    inr (number, refl, rule_there rules number is.rule is.numbered.counted is.numbered.there denies)
+    inr (number, refl, rule_there rules number is.rule is.numbered.counted is.numbered.there)
 
 named_so_by : (rules : List Rule) (d : Denial) (shown : ShownAsk) → IsDeniedSo rules d → shown ≡ shown_ask d → NamesTheRule rules d shown
-unfolding answer
 named_so_by rules d shown denied is =
-    let same : answer_to rules shown ≡ answer_by rules (first rules d.ask) =
-    ap (answer_to rules) is ∙ ap (answer rules) denied.ask in
+    let says : answer rules d.ask ≡ (codes "deny" ++ by_text rules (first rules d.ask)) ++ 10 ∷ [] = rw denied.denied refl in
+    let same : answer_to rules shown ≡ (codes "deny" ++ by_text rules (first rules d.ask)) ++ 10 ∷ [] =
+    ap (answer_to rules) is ∙ ap (answer rules) denied.ask ∙ says in
     elim (names_so rules d.ask (first rules d.ask) refl denied.denied) [
       | inl none ↦ inl (none.0, denied.rule ∙ none.1, same ∙ none.2)
       | inr rule ↦ inr (rule.0, rule.1, same ∙ rule.2 ∙ ap (denied_by rule.0) (sym denied.rule))

@@ -41,7 +41,7 @@ takes_side side earlier later =
     else if length later == 0 then not side.absent && lies_in_any earlier side.range
     else list_all (takes_range side earlier) later
 
-unfoldable pub takes_shape : Rule → Rule → Shape → Bool
+abbrev pub takes_shape : Rule → Rule → Shape → Bool
 takes_shape earlier later shape =
     not (meets shape later)
     || each_field (λ field. takes_side (value_of field shape) (ranges_of field earlier) (ranges_of field later))

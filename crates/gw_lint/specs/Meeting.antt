@@ -26,7 +26,7 @@ meets_side side ranges =
     else has_number side && list_any (overlaps side.range) ranges
 
 -- each of them may
-unfoldable pub meets : Shape → Rule → Bool
+abbrev pub meets : Shape → Rule → Bool
 meets shape rule = each_field (λ field. meets_side (value_of field shape) (ranges_of field rule))
 
 -- ---- an ask of both

@@ -64,7 +64,7 @@ abbrev pub inside_at : FieldName → Shape → Shape → Shape
 inside_at field shape cut = with_value field (shared (value_of field shape) (value_of field cut)) shape
 
 -- field by field: the pieces outside in one, and then those of what is inside in it
-unfoldable pub pieces : List FieldName → Shape → Shape → List Shape
+abbrev pub pieces : List FieldName → Shape → Shape → List Shape
 pieces [] shape cut = []
 pieces (field ∷ fields) shape cut =
     pieces_at field shape cut ++ pieces fields (inside_at field shape cut) cut

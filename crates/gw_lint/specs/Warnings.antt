@@ -141,12 +141,12 @@ abbrev pub name_words : List ℕ → List ℕ
 name_words name = codes " \"" ++ name ++ codes "\": "
 
 -- an item of a rule's field, by their positions and the name of the rule
-unfoldable pub item_words : ℕ → List ℕ → List ℕ → ℕ → List ℕ
+abbrev pub item_words : ℕ → List ℕ → List ℕ → ℕ → List ℕ
 item_words index name field item =
     numbered (codes "warning: rule ") index ++ name_words name ++ field ++ numbered (codes ": item ") item ++ codes ": "
 
 -- two addresses as a range has them
-unfoldable pub ends_words : BipAddr → BipAddr → List ℕ
+abbrev pub ends_words : BipAddr → BipAddr → List ℕ
 ends_words low high = codes "[\"" ++ text_of low ++ codes "\", \"" ++ text_of high ++ codes "\"]"
 
 -- the address with another UDP port
@@ -171,7 +171,7 @@ abbrev pub is_missing : ℕ → Range → Bool
 is_missing ports range = (range.low == 0) || nat_lt ports range.high
 
 -- a number, or a list of two
-unfoldable pub range_words : Range → List ℕ
+abbrev pub range_words : Range → List ℕ
 range_words range =
     if range.low == range.high then decimal range.low
     else codes "[" ++ decimal range.low ++ codes ", " ++ decimal range.high ++ codes "]"

@@ -1,37 +1,21 @@
 -- Which rule would decide the asks that a text tells, line by line.
-use Rattle.std.specs.Prelude.{◌≡◌, ℕ, ◌+◌, ◌-◌, ◌≤◌, Bool, true, false, List, [], ◌∷◌, ◌++◌, length, take, drop, codes}
-use Rattle.std.specs.Prelude.{Option, Some, None, Result, Ok, Err, slice_get, ⊤}
-use Rattle.std.specs.Fmt.{decimal}
+use Rattle.std.specs.Prelude.{◌≡◌, ℕ, ◌+◌, ◌≤◌, Bool, true, false, List, [], ◌∷◌, ◌++◌, length, take, drop}
+use Rattle.std.specs.Prelude.{Option, Some, Result, Ok, Err, ⊤}
 use Rattle.std.specs.List.{flat_map}
-use Rattle.std.specs.Option.{option_map_or}
 use Rattle.gw_audit.specs.Entry.{TellsAsk, ask_shown}
 use Rattle.gw_audit.specs.declared.entry.ShownAsk.{ShownAsk}
 use Rattle.gw_rules.specs.Ask.{Ask}
-use Rattle.gw_rules.specs.RuleList.{first}
 use Rattle.gw_rules.specs.declared.rule.Rule.{Rule}
 use Rattle.gw_script.specs.Script.{lines_of}
+use Rattle.gw_core.specs.Explained.{verdict_text}
 use Rattle.gw_lint.specs.declared.asking.WhyFault.{WhyFault}
 use Rattle.gw_lint.specs.declared.asking.WhyFault.TheVariants.{Read, Line, Write, Memory}
 
 -- ---- an answer
 
--- what a rule says
-abbrev pub verdict : Bool → List ℕ
-verdict true = codes "allow"
-verdict false = codes "deny"
-
--- the answer by a rule of this number: `<allow or deny> rule <number> <name>`
-unfoldable pub rule_answer : ℕ → Rule → List ℕ
-rule_answer number rule =
-    verdict rule.allow ++ codes " rule " ++ decimal number ++ codes " " ++ rule.name ++ 10 ∷ []
-
-abbrev pub answer_by : List Rule → Option ℕ → List ℕ
-answer_by rules None = codes "deny default" ++ 10 ∷ []
-answer_by rules (Some number) = option_map_or (rule_answer number) (slice_get rules (number - 1)) []
-
--- the answer to an ask: by the first rule that matches it, or by none
-unfoldable pub answer : List Rule → Ask → List ℕ
-answer rules ask = answer_by rules (first rules ask)
+-- the answer to an ask: what the policy says of it, and by which rule
+abbrev pub answer : List Rule → Ask → List ℕ
+answer rules ask = verdict_text rules ask ++ 10 ∷ []
 
 -- and to an ask that is shown
 abbrev pub answer_to : List Rule → ShownAsk → List ℕ

@@ -4,15 +4,14 @@ ghost use Rattle.std.specs.Prelude.{◌≡◌, ◌+◌, ◌*◌, ◌<◌, ◌⊎
 ghost use Rattle.std.specs.Io.KnownBytes.{prepend_known};
 ghost use Rattle.gw_addr.specs.Appending.{IsAppended};
 ghost use Rattle.gw_audit.specs.Entry.{ask_shown};
-ghost use Rattle.gw_script.specs.Known.{IsShorter};
-ghost use Rattle.gw_script.specs.Known.{OnKnown};
-ghost use Rattle.gw_rules.specs.RuleList.{IsNumberOf};
+ghost use Rattle.gw_script.specs.Known.{IsShorter, OnKnown};
 ghost use Rattle.gw_script.specs.Reader.{IsPaid};
-ghost use Rattle.gw_lint.specs.Why.{AnswersFront, AnswersPart, AnswersToLine, AnswersWhole, OnKnownAnswer, answer, answer_by, answer_to, rule_answer, verdict};
+ghost use Rattle.gw_lint.specs.Why.{AnswersFront, AnswersPart, AnswersToLine, AnswersWhole, OnKnownAnswer, answer, answer_to};
 
-use gw_addr::{put_decimal, put_octet, put_slice};
+use gw_addr::put_octet;
 use gw_audit::{ShownAsk, read_ask};
-use gw_rules::{Ask, Rule, RuleList};
+use gw_core::put_verdict;
+use gw_rules::{Ask, RuleList};
 use gw_script::{LineReader, NextLine, OctetSink, OctetSource, write_whole};
 use std::alloc::{AllocError, Global};
 use thiserror::Error;
@@ -189,40 +188,9 @@ fn make_answer(rules: &RuleList, shown: &ShownAsk, text: &mut Vec<u8>) -> Result
 }
 
 /// Appends the answer to an ask.
-#[tactic(auto, unfolding(crate::specs::Why::answer))]
 fn put_answer(out: &mut Vec<u8>, rules: &RuleList, ask: &Ask) -> Result<(), AllocError>
     ensures { IsAppended (answer rules.now ask.now) out.old out.new result }
 {
-    match rules.first(ask) {
-        Some(number) => put_answer_by(out, rules, number),
-        None => put_slice(out, b"deny default\n"),
-    }
-}
-
-/// Appends the answer by the rule of a number.
-fn put_answer_by(out: &mut Vec<u8>, rules: &RuleList, number: u16) -> Result<(), AllocError>
-    requires { IsNumberOf rules.now number }
-    ensures { IsAppended (answer_by rules.now (Some number)) out.old out.new result }
-{
-    put_rule_answer(out, number, &rules.rules()[usize::from(number) - 1])
-}
-
-/// Appends the answer by a rule, whose number is this.
-#[tactic(auto, unfolding(crate::specs::Why::rule_answer))]
-fn put_rule_answer(out: &mut Vec<u8>, number: u16, rule: &Rule) -> Result<(), AllocError>
-    ensures { IsAppended (rule_answer number rule.now) out.old out.new result }
-{
-    put_slice(out, verdict(rule.allow))?;
-    put_slice(out, b" rule ")?;
-    put_decimal(out, number)?;
-    put_octet(out, b' ')?;
-    put_slice(out, rule.name.as_str().as_bytes())?;
+    put_verdict(out, rules, ask)?;
     put_octet(out, b'\n')
-}
-
-/// What a rule says, in a word.
-fn verdict(allow: bool) -> &'static [u8]
-    ensures { result.now ≡ verdict allow }
-{
-    if allow { b"allow" } else { b"deny" }
 }

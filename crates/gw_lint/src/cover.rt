@@ -61,7 +61,6 @@ pub(crate) fn takes_side(side: &Side, earlier: &[Range], later: &[Range]) -> boo
     takes_each(side, earlier, later)
 }
 
-#[tactic(auto, unfolding(crate::specs::Cover::takes_shape))]
 fn takes_shape(earlier: &Rule, later: &Rule, shape: &Shape) -> bool
     ensures { result ≡ takes_shape earlier.now later.now shape.now }
 {

@@ -167,7 +167,6 @@ fn inside_at(field: FieldName, shape: &Shape, cut: &Shape) -> Shape
 
 /// Puts what of the shape is outside the other one behind the pieces that are there, field by field:
 /// what is outside in one, and then of what is inside in it what is outside in the next.
-#[tactic(auto, unfolding(crate::specs::Pieces::pieces))]
 pub(crate) fn push_pieces(
     out: &mut Vec<Shape>,
     shape: &Shape,

@@ -90,7 +90,6 @@ fn is_missing(ports: u64, range: &Range) -> bool
 }
 
 /// Appends a number, or a list of two.
-#[tactic(auto, unfolding(crate::specs::Warnings::range_words))]
 fn put_range(out: &mut Vec<u8>, range: &Range) -> Result<(), AllocError>
     ensures { IsAppended (range_words range.now) out.old out.new result }
 {
@@ -183,7 +182,6 @@ fn with_udp(udp: u16, address: BipAddr) -> BipAddr
 }
 
 /// Appends two addresses as a range has them.
-#[tactic(auto, unfolding(crate::specs::Warnings::ends_words))]
 fn put_ends(out: &mut Vec<u8>, low: BipAddr, high: BipAddr) -> Result<(), AllocError>
     ensures { IsAppended (ends_words low high) out.old out.new result }
 {
@@ -204,7 +202,6 @@ fn put_name(out: &mut Vec<u8>, name: &RuleName) -> Result<(), AllocError>
 }
 
 /// Appends the place of an item of a rule's field.
-#[tactic(auto, unfolding(crate::specs::Warnings::item_words))]
 fn put_item(
     out: &mut Vec<u8>,
     index: usize,

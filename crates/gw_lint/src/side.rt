@@ -49,7 +49,6 @@ fn any_overlaps(range: &Range, ranges: &[Range]) -> bool
 
 /// Whether a rule matches an ask that lies in the shape, as far as none of the shape's sides and of
 /// the rule's ranges is the wrong way round.
-#[tactic(auto, unfolding(crate::specs::Meeting::meets))]
 pub(crate) fn meets(shape: &Shape, rule: &Rule) -> bool
     ensures { result ≡ meets shape.now rule.now }
 {

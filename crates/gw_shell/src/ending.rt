@@ -25,14 +25,8 @@ fn write_number<E: OctetSink>(
     ensures sure { E.NeverFails errors.old → IsOk result }
     ensures lasts { E.NeverFails errors.old → E.NeverFails errors.new }
 {
-    match write_whole(errors, text.as_bytes()) {
-        Ok(()) => {}
-        Err(failed) => return Err(failed),
-    }
-    match write_whole(errors, Buffer::new().format(number).as_bytes()) {
-        Ok(()) => {}
-        Err(failed) => return Err(failed),
-    }
+    write_whole(errors, text.as_bytes())?;
+    write_whole(errors, Buffer::new().format(number).as_bytes())?;
     write_whole(errors, behind.as_bytes())
 }
 
@@ -46,14 +40,8 @@ fn write_configuration_fault<E: OctetSink>(
     ensures sure { E.NeverFails errors.old → IsOk result }
     ensures lasts { E.NeverFails errors.old → E.NeverFails errors.new }
 {
-    match write_whole(errors, b"bacgw: configuration: ") {
-        Ok(()) => {}
-        Err(failed) => return Err(failed),
-    }
-    match write_whole(errors, name_of(fault).as_bytes()) {
-        Ok(()) => {}
-        Err(failed) => return Err(failed),
-    }
+    write_whole(errors, b"bacgw: configuration: ")?;
+    write_whole(errors, name_of(fault).as_bytes())?;
     write_whole(errors, b"\n")
 }
 
@@ -64,14 +52,8 @@ fn write_flaw<E: OctetSink>(number: u64, flaw: LineFlaw, errors: &mut E) -> Resu
     ensures sure { E.NeverFails errors.old → IsOk result }
     ensures lasts { E.NeverFails errors.old → E.NeverFails errors.new }
 {
-    match write_number("bacgw: line ", number, ": ", errors) {
-        Ok(()) => {}
-        Err(failed) => return Err(failed),
-    }
-    match write_whole(errors, words_of(flaw).as_bytes()) {
-        Ok(()) => {}
-        Err(failed) => return Err(failed),
-    }
+    write_number("bacgw: line ", number, ": ", errors)?;
+    write_whole(errors, words_of(flaw).as_bytes())?;
     write_whole(errors, b"\n")
 }
 

@@ -5,7 +5,6 @@ use Rattle.gw_core.specs.Reports.{events_text, field}
 use Rattle.gw_core.proofs.report.write_events.Goals as goal
 
 pub returns-clause-ok : goal.returns-clause-ok
-unfolding events_text
 returns-clause-ok g c =
     let held = g.S.OctetSink.held in
     let r = c.args.report.now in
