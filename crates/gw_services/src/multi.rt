@@ -127,10 +127,7 @@ fn references(
         → references_at left (option_map object_view current) octets.now ≡ Err fault }
     ensures nothing { octets.now ≡ [] → result ≡ Err BodyFault.Missing }
 {
-    let (reference, behind) = match reference(current, octets) {
-        Ok(found) => found,
-        Err(fault) => return Err(fault),
-    };
+    let (reference, behind) = reference(current, octets)?;
     if left == 0 {
         return Err(BodyFault::TooMany);
     }
@@ -156,10 +153,8 @@ fn read(alloc: Global, octets: &[u8]) -> Result<MultiReq, BodyFault>
     let Ok(mut list) = Vec::with_capacity(alloc, most_of(octets.len())) else {
         return Err(BodyFault::Memory);
     };
-    match references(MAX_REFERENCES, None, octets, &mut list) {
-        Ok(()) => Ok(MultiReq { references: list }),
-        Err(fault) => Err(fault),
-    }
+    references(MAX_REFERENCES, None, octets, &mut list)?;
+    Ok(MultiReq { references: list })
 }
 
 /// The most references that so many octets can have.
