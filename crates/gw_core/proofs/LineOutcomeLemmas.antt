@@ -18,7 +18,7 @@ pub same_flaw : (p q : ℕ) (a b : List ℕ) (flaw : LineFlaw) → p ≡ q → a
 same_flaw p q a b flaw ports lines is =
     subst (λ (l : List ℕ). IsFlaw q l flaw) lines (subst (λ (n : ℕ). IsFlaw n a flaw) ports is)
 
--- an event that isn't history_after leaves what was written as it was
+-- an event that isn't taken leaves what was written as it was
 pub not_taken : (told : Telling) (n : ℕ) (w moved : State) (text : List ℕ) (left : Option (List ℕ)) (before : List ℕ) (after : Option (List ℕ))
     (fault : RunFault) (wants passes : Type 0)
     → ((fault ≡ Memory) × wants) ⊎ ((fault ≡ CountEnd) × passes) → (wants → MemoryWant w text) → (passes → PassesEnd w text)

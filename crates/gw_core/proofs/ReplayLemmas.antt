@@ -1,6 +1,6 @@
 -- A run goes on by one event, line by line.
 use Rattle.std.proofs.Common.{◌≡◌, ◌⊎◌, inl, inr, ℕ, suc, ◌+◌, List, [], ◌∷◌, ◌++◌, length, take, drop, Option, Some, None, Result, Ok, Err, Bool, true, false, refl, sym, ap, subst, ◌∙◌, arith, append_assoc}
-use Rattle.std.specs.Prelude.{IsSomeAnd, IsErrOf}
+use Rattle.std.specs.Prelude.{IsSomeAnd}
 use Rattle.std.proofs.lemmas.List.{append-nil, take_at, drop_at, length-append}
 use Rattle.std.proofs.lemmas.List.Concat.{flat_map-cons}
 use Rattle.gw_script.specs.Event.{Event}
@@ -13,10 +13,12 @@ use Rattle.gw_core.specs.History.{run_after, history_after, effects, IsStateAfte
 use Rattle.gw_core.specs.Laws.{RunsAreTold}
 use Rattle.gw_script.specs.Script.{lines_of, IsLine, AreLines}
 use Rattle.gw_core.specs.Shown.{event_text, text_of_run, effects_text}
-use Rattle.gw_core.specs.Replay.{Telling, no_counts, run_text, text_after, FirstLines, RunsWhole, RunsToLine, RunsToEnd, RunsToMemory, RunsPart, RunsFront}
+use Rattle.gw_core.specs.Replay.{Telling, no_counts, run_text, text_after, FirstLines, Replays, RunsWhole, RunsToLine, RunsToEnd, RunsToMemory, RunsPart, RunsFront}
 use Rattle.gw_core.specs.LineOutcome.{LineOutcome}
 use Rattle.gw_core.specs.Flawed.{HasFlaw, IsFirstFlaw}
 use Rattle.gw_script.specs.Flaw.{IsFlaw}
+use Rattle.gw_script.proofs.KnownTexts.{holds_known}
+use Rattle.gw_script.proofs.Passing.{Passes, passes_on}
 use Rattle.gw_script.specs.declared.flaw.LineFlaw.{LineFlaw}
 use Rattle.gw_core.proofs.HistoryLemmas.{after_next, ports_stay}
 
@@ -144,60 +146,36 @@ goes_on told c script before n w moved text left written after p turns =
       number = omega (arith, p.number, length-append p.events (step.event ∷ []));
     }
 
-known : (P : List ℕ → Type 0) (o : Option (List ℕ)) (t : List ℕ) → o ≡ Some t → P t → IsSomeAnd o P
-known P None t e h = absurd cc
-known P (Some x) t e h =
-    let same : t ≡ x = cc in
-    subst P same h
-
 pub ends_whole : (told : Telling) (c : Configuration) (script before : List ℕ) (n : ℕ) (w moved : State) (text left written after : Option (List ℕ))
     → Progress told c script before n w text written → Turns told n w moved text left written after (Ok false)
     → IsSomeAnd after (RunsWhole told c script before)
 ends_whole told c script before n w moved text left written after p turns =
     let said = turns p.left (before ++ run_text told c p.events) p.text_is p.written_is in
     let all : lines_of script ≡ p.done = p.lines ∙ ap (λ (l : List (List ℕ)). p.done ++ l) said.0 ∙ append-nil p.done in
-    known (RunsWhole told c script before) after (before ++ run_text told c p.events) said.1
+    holds_known (RunsWhole told c script before) after (before ++ run_text told c p.events) said.1
     (record { events = p.events; lines = subst (λ (l : List (List ℕ)). AreLines (length c.ports) l p.events) (sym all) p.are; text = refl })
 
 pub ends_part : (told : Telling) (c : Configuration) (script before : List ℕ) (n : ℕ) (w : State) (text written : Option (List ℕ))
     → Progress told c script before n w text written → IsSomeAnd written (RunsPart told c script before)
 ends_part told c script before n w text written p =
-    known (RunsPart told c script before) written (before ++ run_text told c p.events) p.written_is
+    holds_known (RunsPart told c script before) written (before ++ run_text told c p.events) p.written_is
     (record { events = p.events; lines = first_lines c script p.done (lines_of p.left) p.events p.are p.lines; text = refl })
 
--- a fault that leaves what was written as it was
-abbrev pub Stops : RunFault → Type 0
-Stops Read = Unit {0}
-Stops Memory = Unit {0}
-Stops CountEnd = ⊥
-Stops Write = ⊥
-Stops (Line m) = ⊥
-
-same_text : (told : Telling) (n : ℕ) (w moved : State) (t : List ℕ) (left : Option (List ℕ)) (b : List ℕ) (after : Option (List ℕ)) (fault : RunFault)
-    → Stops fault → LineOutcome told n w moved t left b after (Err fault) → after ≡ Some b
-same_text told n w moved t left b after Read stops said = said
-same_text told n w moved t left b after Memory stops said = said.1
-same_text told n w moved t left b after CountEnd stops said = absurd stops
-same_text told n w moved t left b after Write stops said = absurd stops
-same_text told n w moved t left b after (Line m) stops said = absurd stops
-
-pub stops_part : (told : Telling) (c : Configuration) (script before : List ℕ) (n : ℕ) (w moved : State) (text left written after : Option (List ℕ))
-    (fault : RunFault)
-    → Stops fault → Progress told c script before n w text written → Turns told n w moved text left written after (Err fault)
+ends_at_read : (told : Telling) (c : Configuration) (script before : List ℕ) (n : ℕ) (w moved : State) (text left written after : Option (List ℕ))
+    → Progress told c script before n w text written → Turns told n w moved text left written after (Err Read)
     → IsSomeAnd after (RunsPart told c script before)
-stops_part told c script before n w moved text left written after fault stops p turns =
-    let said = turns p.left (before ++ run_text told c p.events) p.text_is p.written_is in
-    known (RunsPart told c script before) after (before ++ run_text told c p.events)
-    (same_text told n w moved p.left left (before ++ run_text told c p.events) after fault stops said)
+ends_at_read told c script before n w moved text left written after p turns =
+    holds_known (RunsPart told c script before) after (before ++ run_text told c p.events)
+    (turns p.left (before ++ run_text told c p.events) p.text_is p.written_is)
     (record { events = p.events; lines = first_lines c script p.done (lines_of p.left) p.events p.are p.lines; text = refl })
 
-pub ends_at_memory : (told : Telling) (c : Configuration) (script before : List ℕ) (n : ℕ) (w moved : State) (text left written after : Option (List ℕ))
+ends_at_memory : (told : Telling) (c : Configuration) (script before : List ℕ) (n : ℕ) (w moved : State) (text left written after : Option (List ℕ))
     → Progress told c script before n w text written → Turns told n w moved text left written after (Err Memory)
     → IsSomeAnd after (RunsToMemory told c script before)
 ends_at_memory told c script before n w moved text left written after p turns =
     let said = turns p.left (before ++ run_text told c p.events) p.text_is p.written_is in
     let want = said.0 in
-    known (RunsToMemory told c script before) after (before ++ run_text told c p.events) said.1 (record {
+    holds_known (RunsToMemory told c script before) after (before ++ run_text told c p.events) said.1 (record {
       events = p.events;
       lines = first_lines c script p.done (lines_of p.left) p.events p.are p.lines;
       cause = inr (record {
@@ -215,24 +193,17 @@ ends_at_memory told c script before n w moved text left written after p turns =
 pub ends_before : (told : Telling) (c : Configuration) (script before : List ℕ) (written : Option (List ℕ)) → written ≡ Some before
     → IsSomeAnd written (RunsToMemory told c script before)
 unfolding text_after
-ends_before told c script before written is = known (RunsToMemory told c script before) written before is
+ends_before told c script before written is = holds_known (RunsToMemory told c script before) written before is
     (record { events = []; lines = tt; cause = inl refl; text = sym (append-nil before) })
 
--- and what was written is then the text of no line
-pub part_before : (told : Telling) (c : Configuration) (script before : List ℕ) (written : Option (List ℕ)) → written ≡ Some before
-    → IsSomeAnd written (RunsPart told c script before)
-unfolding text_after
-part_before told c script before written is = known (RunsPart told c script before) written before is
-    (record { events = []; lines = tt; text = sym (append-nil before) })
-
-pub ends_at_line : (told : Telling) (c : Configuration) (script before : List ℕ) (n : ℕ) (w moved : State) (text left written after : Option (List ℕ))
+ends_at_line : (told : Telling) (c : Configuration) (script before : List ℕ) (n : ℕ) (w moved : State) (text left written after : Option (List ℕ))
     (m : ℕ)
     → Progress told c script before n w text written → Turns told n w moved text left written after (Err (Line m))
     → IsSomeAnd after (RunsToLine told m c script before)
 ends_at_line told c script before n w moved text left written after m p turns =
     let said = turns p.left (before ++ run_text told c p.events) p.text_is p.written_is in
     let none = said.1 in
-    known (RunsToLine told m c script before) after (before ++ run_text told c p.events) said.2 (record {
+    holds_known (RunsToLine told m c script before) after (before ++ run_text told c p.events) said.2 (record {
       events = p.events;
       number = said.0 ∙ p.number;
       lines = first_lines c script p.done (lines_of p.left) p.events p.are p.lines;
@@ -252,7 +223,7 @@ pub flaw_at_line : (told : Telling) (c : Configuration) (script before : List �
 flaw_at_line told c script before n w moved text left written after m flaw p turns first =
     let said = turns p.left (before ++ run_text told c p.events) p.text_is p.written_is in
     let one = first p.left p.text_is in
-    known (λ (a : List ℕ). HasFlaw (length c.ports) m script flaw) after (before ++ run_text told c p.events) said.2 (record {
+    holds_known (λ (a : List ℕ). HasFlaw (length c.ports) m script flaw) after (before ++ run_text told c p.events) said.2 (record {
       before = p.done;
       line = one.line;
       others = one.others;
@@ -261,13 +232,13 @@ flaw_at_line told c script before n w moved text left written after m flaw p tur
       is = subst (λ (q : ℕ). IsFlaw q one.line flaw) (same_ports c w (history_after [] p.events) p.stands) one.is;
     })
 
-pub ends_at_end : (told : Telling) (c : Configuration) (script before : List ℕ) (n : ℕ) (w moved : State) (text left written after : Option (List ℕ))
+ends_at_end : (told : Telling) (c : Configuration) (script before : List ℕ) (n : ℕ) (w moved : State) (text left written after : Option (List ℕ))
     → Progress told c script before n w text written → Turns told n w moved text left written after (Err CountEnd)
     → IsSomeAnd after (RunsToEnd told c script before)
 ends_at_end told c script before n w moved text left written after p turns =
     let said = turns p.left (before ++ run_text told c p.events) p.text_is p.written_is in
     let past = said.0 in
-    known (RunsToEnd told c script before) after (before ++ run_text told c p.events) said.1 (record {
+    holds_known (RunsToEnd told c script before) after (before ++ run_text told c p.events) said.1 (record {
       events = p.events;
       lines = first_lines c script p.done (lines_of p.left) p.events p.are p.lines;
       line = past.line;
@@ -279,7 +250,7 @@ ends_at_end told c script before n w moved text left written after p turns =
       text = refl;
     })
 
-pub ends_at_write : (told : Telling) (c : Configuration) (script before : List ℕ) (n : ℕ) (w moved : State) (text left written after : Option (List ℕ))
+ends_at_write : (told : Telling) (c : Configuration) (script before : List ℕ) (n : ℕ) (w moved : State) (text left written after : Option (List ℕ))
     → Progress told c script before n w text written → Turns told n w moved text left written after (Err Write)
     → IsSomeAnd after (RunsFront told c script before)
 ends_at_write told c script before n w moved text left written after p turns =
@@ -288,7 +259,7 @@ ends_at_write told c script before n w moved text left written after p turns =
     let is = on_ports c w (history_after [] p.events) cut_step.line cut_step.event p.stands cut_step.writes in
     let lines : lines_of script ≡ (p.done ++ cut_step.line ∷ []) ++ cut_step.others =
     p.lines ∙ ap (λ (l : List (List ℕ)). p.done ++ l) cut_step.lines ∙ sym (append_assoc p.done (cut_step.line ∷ []) cut_step.others) in
-    known (RunsFront told c script before) after (so_far ++ cut_step.front) cut_step.appended (record {
+    holds_known (RunsFront told c script before) after (so_far ++ cut_step.front) cut_step.appended (record {
       events = p.events ++ cut_step.event ∷ [];
       lines = first_lines c script (p.done ++ cut_step.line ∷ []) cut_step.others (p.events ++ cut_step.event ∷ [])
           (are_more (length c.ports) p.done p.events cut_step.line cut_step.event p.are is) lines;
@@ -299,15 +270,20 @@ ends_at_write told c script before n w moved text left written after p turns =
       text = append_assoc before (run_text told c p.events) cut_step.front;
     })
 
-pub fault_is : {T : Type 0} (fault other : RunFault) → IsErrOf {T = T} {E = RunFault} (Err fault) other → fault ≡ other
-fault_is fault other e = cc
+ends_at_fault : (told : Telling) (c : Configuration) (script before : List ℕ) (n : ℕ) (w moved : State) (text left written after : Option (List ℕ))
+    (fault : RunFault)
+    → Progress told c script before n w text written → Turns told n w moved text left written after (Err fault)
+    → IsSomeAnd after (Replays told c (Err fault) script before)
+ends_at_fault told c script before n w moved text left written after (Line m) = ends_at_line told c script before n w moved text left written after m
+ends_at_fault told c script before n w moved text left written after CountEnd = ends_at_end told c script before n w moved text left written after
+ends_at_fault told c script before n w moved text left written after Read = ends_at_read told c script before n w moved text left written after
+ends_at_fault told c script before n w moved text left written after Write = ends_at_write told c script before n w moved text left written after
+ends_at_fault told c script before n w moved text left written after Memory = ends_at_memory told c script before n w moved text left written after
 
-pub stops : {T : Type 0} (fault : RunFault)
-    → IsErrOf {T = T} {E = RunFault} (Err fault) Read ⊎ IsErrOf {T = T} {E = RunFault} (Err fault) Memory → Stops fault
-stops {T} fault (inl e) = subst Stops (sym (fault_is {T = T} fault Read e)) tt
-stops {T} fault (inr e) = subst Stops (sym (fault_is {T = T} fault Memory e)) tt
-
--- a fault of one call as that of another
-pub err_as : {S T : Type 0} (fault other : RunFault) → IsErrOf {T = S} {E = RunFault} (Err fault) other
-    → IsErrOf {T = T} {E = RunFault} (Err fault) other
-err_as {S} {T} fault other e = ap Err (fault_is {T = S} fault other e)
+pub ends_passed : (told : Telling) (c : Configuration) (script before : List ℕ) (n : ℕ) (w moved : State) (text left written after : Option (List ℕ))
+    (fault : RunFault) (r : Result (Unit {0}) RunFault)
+    → Passes fault r → Progress told c script before n w text written → Turns told n w moved text left written after (Err fault)
+    → IsSomeAnd after (Replays told c r script before)
+ends_passed told c script before n w moved text left written after fault r passes p turns =
+    passes_on (λ (q : Result (Unit {0}) RunFault). IsSomeAnd after (Replays told c q script before)) fault r passes
+    (ends_at_fault told c script before n w moved text left written after fault p turns)

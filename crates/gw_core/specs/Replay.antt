@@ -1,11 +1,13 @@
 -- What a replay writes: the text of the run of a script's events, as far as the script and its run go.
-use Rattle.std.specs.Prelude.{◌≡◌, ◌⊎◌, ℕ, ◌+◌, List, [], ◌∷◌, ◌++◌, length, take, drop, true, Option, Some, IsSomeAnd}
+use Rattle.std.specs.Prelude.{◌≡◌, ◌⊎◌, ℕ, ◌+◌, List, [], ◌∷◌, ◌++◌, length, take, drop, true, Result, Ok, Err}
 use Rattle.gw_core.specs.declared.event.Counts.{Counts}
 use Rattle.gw_script.specs.Event.{Event}
 use Rattle.gw_policy_text.specs.Configuration.{Configuration}
 use Rattle.gw_core.specs.Effects.{passes_end, NeedsNoMemory}
 use Rattle.gw_core.specs.History.{state_after, history_after}
 use Rattle.gw_core.specs.State.{State}
+use Rattle.gw_core.specs.declared.replaying.RunFault.{RunFault}
+use Rattle.gw_core.specs.declared.replaying.RunFault.TheVariants.{Read, Line, Write, Memory, CountEnd}
 use Rattle.gw_script.specs.Script.{lines_of, IsLine, AreLines}
 
 -- a gateway that nothing came to
@@ -92,3 +94,12 @@ pub record RunsFront (told : Telling) (c : Configuration) (script before after :
   pub unwritten : List ℕ
   pub parts : run_text told c events ≡ front ++ unwritten
   pub text : after ≡ before ++ front
+
+-- what a replay leaves written, by its outcome
+abbrev pub Replays : Telling → Configuration → Result (Unit {0}) RunFault → (script before after : List ℕ) → Type 0
+Replays told c (Ok done) script before after = RunsWhole told c script before after
+Replays told c (Err (Line n)) script before after = RunsToLine told n c script before after
+Replays told c (Err CountEnd) script before after = RunsToEnd told c script before after
+Replays told c (Err Read) script before after = RunsPart told c script before after
+Replays told c (Err Write) script before after = RunsFront told c script before after
+Replays told c (Err Memory) script before after = RunsToMemory told c script before after

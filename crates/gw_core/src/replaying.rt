@@ -1,17 +1,16 @@
 //! The replay of a script: its events one by one through a fresh gateway, and the text of what
 //! they do.
 
-ghost use Rattle.std.specs.Prelude.{◌≡◌, ◌+◌, ◌*◌, ◌<◌, ◌≤◌, ℕ, List, [], length, ◌⊎◌, Ok, Some, OnOk, IsErrOf, true, vec_capacity};
+ghost use Rattle.std.specs.Prelude.{◌≡◌, ◌+◌, ◌*◌, ◌<◌, ◌≤◌, ℕ, List, [], length, Ok, Some, IsErrOf, true, vec_capacity};
 ghost use Rattle.std.specs.Io.KnownBytes.{prepend_known};
 ghost use Rattle.gw_script.specs.Reader.{IsPaid};
 ghost use Rattle.gw_policy_text.specs.Configuration.{Configuration};
 ghost use Rattle.gw_core.specs.History.{IsStateAfter};
 ghost use Rattle.gw_core.specs.Explained.{explained_text};
 ghost use Rattle.gw_core.specs.Shown.{event_text};
-ghost use Rattle.gw_core.specs.Replay.{no_counts, RunsWhole, RunsToLine, RunsToEnd, RunsToMemory, RunsPart, RunsFront};
-ghost use Rattle.gw_script.specs.Known.{OnKnown};
+ghost use Rattle.gw_core.specs.Replay.{Replays, no_counts};
+ghost use Rattle.gw_script.specs.Known.{IsShorter, OnKnown};
 ghost use Rattle.gw_core.specs.LineOutcome.{OnKnownLine};
-ghost use Rattle.gw_script.specs.Known.{IsShorter};
 ghost use Rattle.gw_core.specs.Flawed.{HasFlaw, IsFirstFlaw};
 
 use crate::event::Counts;
@@ -92,30 +91,9 @@ pub fn replay<R: OctetSource, W: OctetSink>(
     reader: &mut R,
     writer: &mut W,
 ) -> Result<(), RunFault>
-    // What is written then, where the octets of the reader and the writer are known: the text of the
-    // run of the whole script,
-    ensures whole { OnOk result
-        (OnKnown (R.left reader.old) (W.held writer.old) (W.held writer.new)
-        (RunsWhole event_text config)) }
-    // of the lines before one that writes no event,
-    ensures line { (n : ℕ) → IsErrOf result (RunFault.Line n) →
-        OnKnown (R.left reader.old) (W.held writer.old) (W.held writer.new)
-        (RunsToLine event_text n config) }
-    // of the lines before one whose event would pass the end of a count,
-    ensures count_end { IsErrOf result RunFault.CountEnd →
-        OnKnown (R.left reader.old) (W.held writer.old) (W.held writer.new)
-        (RunsToEnd event_text config) }
-    // or of some first lines, of which a failed write may leave a front.
-    ensures front { IsErrOf result RunFault.Write →
-        OnKnown (R.left reader.old) (W.held writer.old) (W.held writer.new)
-        (RunsFront event_text config) }
-    ensures part { (IsErrOf result RunFault.Read ⊎ IsErrOf result RunFault.Memory) →
-        OnKnown (R.left reader.old) (W.held writer.old) (W.held writer.new)
-        (RunsPart event_text config) }
-    // Memory is wanted before the first line, or for an event that brings a message.
-    ensures memory { IsErrOf result RunFault.Memory →
-        OnKnown (R.left reader.old) (W.held writer.old) (W.held writer.new)
-        (RunsToMemory event_text config) }
+    // What is written then, where the octets of the reader and the writer are known.
+    ensures run { OnKnown (R.left reader.old) (W.held writer.old) (W.held writer.new)
+        (Replays event_text config result) }
     // What never fails doesn't end the replay: a reader, of a script of less than 2 GiB, and a
     // writer.
     ensures sure_reader { R.NeverFails reader.old → (script : List ℕ) →
@@ -147,28 +125,12 @@ pub fn replay_explaining<R: OctetSource, W: OctetSink>(
     writer: &mut W,
     flaw: &mut LineFlaw,
 ) -> Result<(), RunFault>
-    // What is written then, as of `replay`.
-    ensures whole { OnOk result
-        (OnKnown (R.left reader.old) (W.held writer.old) (W.held writer.new)
-        (RunsWhole explained_text config)) }
-    ensures line { (n : ℕ) → IsErrOf result (RunFault.Line n) →
-        OnKnown (R.left reader.old) (W.held writer.old) (W.held writer.new)
-        (RunsToLine explained_text n config) }
+    // What is written then, as of `replay`, and what is wrong with the line that ends it.
+    ensures run { OnKnown (R.left reader.old) (W.held writer.old) (W.held writer.new)
+        (Replays explained_text config result) }
     ensures flaw { (n : ℕ) → IsErrOf result (RunFault.Line n) →
         OnKnown (R.left reader.old) (W.held writer.old) (W.held writer.new)
         (λ script before after. HasFlaw (length config.ports) n script flaw.new) }
-    ensures count_end { IsErrOf result RunFault.CountEnd →
-        OnKnown (R.left reader.old) (W.held writer.old) (W.held writer.new)
-        (RunsToEnd explained_text config) }
-    ensures front { IsErrOf result RunFault.Write →
-        OnKnown (R.left reader.old) (W.held writer.old) (W.held writer.new)
-        (RunsFront explained_text config) }
-    ensures part { (IsErrOf result RunFault.Read ⊎ IsErrOf result RunFault.Memory) →
-        OnKnown (R.left reader.old) (W.held writer.old) (W.held writer.new)
-        (RunsPart explained_text config) }
-    ensures memory { IsErrOf result RunFault.Memory →
-        OnKnown (R.left reader.old) (W.held writer.old) (W.held writer.new)
-        (RunsToMemory explained_text config) }
     ensures sure_reader { R.NeverFails reader.old → (script : List ℕ) →
         R.left reader.old ≡ Some script → 2 * length script + 1 < 4294967295 →
         ¬ (IsErrOf result RunFault.Read) }
@@ -186,27 +148,11 @@ fn replay_telling<T: Telling, R: OctetSource, W: OctetSink>(
     writer: &mut W,
     flaw: &mut LineFlaw,
 ) -> Result<(), RunFault>
-    ensures whole { OnOk result
-        (OnKnown (R.left reader.old) (W.held writer.old) (W.held writer.new)
-        (RunsWhole T.told config)) }
-    ensures line { (n : ℕ) → IsErrOf result (RunFault.Line n) →
-        OnKnown (R.left reader.old) (W.held writer.old) (W.held writer.new)
-        (RunsToLine T.told n config) }
+    ensures run { OnKnown (R.left reader.old) (W.held writer.old) (W.held writer.new)
+        (Replays T.told config result) }
     ensures flaw { (n : ℕ) → IsErrOf result (RunFault.Line n) →
         OnKnown (R.left reader.old) (W.held writer.old) (W.held writer.new)
         (λ script before after. HasFlaw (length config.ports) n script flaw.new) }
-    ensures count_end { IsErrOf result RunFault.CountEnd →
-        OnKnown (R.left reader.old) (W.held writer.old) (W.held writer.new)
-        (RunsToEnd T.told config) }
-    ensures front { IsErrOf result RunFault.Write →
-        OnKnown (R.left reader.old) (W.held writer.old) (W.held writer.new)
-        (RunsFront T.told config) }
-    ensures part { (IsErrOf result RunFault.Read ⊎ IsErrOf result RunFault.Memory) →
-        OnKnown (R.left reader.old) (W.held writer.old) (W.held writer.new)
-        (RunsPart T.told config) }
-    ensures memory { IsErrOf result RunFault.Memory →
-        OnKnown (R.left reader.old) (W.held writer.old) (W.held writer.new)
-        (RunsToMemory T.told config) }
     ensures sure_reader { R.NeverFails reader.old → (script : List ℕ) →
         R.left reader.old ≡ Some script → 2 * length script + 1 < 4294967295 →
         ¬ (IsErrOf result RunFault.Read) }
@@ -245,38 +191,21 @@ impl ScriptRun {
     ) -> Result<(), RunFault>
         requires unread { self.old.lines.unread ≡ [] }
         requires calls { self.old.lines.calls ≡ 0 }
-        ensures whole { (c : Configuration) → IsStateAfter self.old.gateway c no_counts [] → OnOk result
-            (OnKnown (R.left reader.old) (W.held writer.old) (W.held writer.new)
-            (RunsWhole T.told c)) }
-        ensures line { (c : Configuration) (n : ℕ) → IsStateAfter self.old.gateway c no_counts [] → IsErrOf result (RunFault.Line n) →
+        ensures run { (c : Configuration) → IsStateAfter self.old.gateway c no_counts [] →
             OnKnown (R.left reader.old) (W.held writer.old) (W.held writer.new)
-            (RunsToLine T.told n c) }
-        ensures flaw { (c : Configuration) (n : ℕ) → IsStateAfter self.old.gateway c no_counts [] → IsErrOf result (RunFault.Line n) →
+            (Replays T.told c result) }
+        ensures flaw { (c : Configuration) (n : ℕ) → IsStateAfter self.old.gateway c no_counts [] →
+            IsErrOf result (RunFault.Line n) →
             OnKnown (R.left reader.old) (W.held writer.old) (W.held writer.new)
             (λ script before after. HasFlaw (length c.ports) n script self.new.flaw) }
-        ensures count_end { (c : Configuration) → IsStateAfter self.old.gateway c no_counts [] → IsErrOf result RunFault.CountEnd →
-            OnKnown (R.left reader.old) (W.held writer.old) (W.held writer.new)
-            (RunsToEnd T.told c) }
-        ensures front { (c : Configuration) → IsStateAfter self.old.gateway c no_counts [] → IsErrOf result RunFault.Write →
-            OnKnown (R.left reader.old) (W.held writer.old) (W.held writer.new)
-            (RunsFront T.told c) }
-        ensures part { (c : Configuration) → IsStateAfter self.old.gateway c no_counts [] →
-            (IsErrOf result RunFault.Read ⊎ IsErrOf result RunFault.Memory) →
-            OnKnown (R.left reader.old) (W.held writer.old) (W.held writer.new)
-            (RunsPart T.told c) }
-        ensures memory { (c : Configuration) → IsStateAfter self.old.gateway c no_counts [] → IsErrOf result RunFault.Memory →
-            OnKnown (R.left reader.old) (W.held writer.old) (W.held writer.new)
-            (RunsToMemory T.told c) }
         ensures sure_reader { R.NeverFails reader.old → (script : List ℕ) →
             R.left reader.old ≡ Some script → 2 * length script + 1 < 4294967295 →
             ¬ (IsErrOf result RunFault.Read) }
         ensures sure_writer { W.NeverFails writer.old → ¬ (IsErrOf result RunFault.Write) }
     {
         for number in 1..u64::MAX {
-            match self.replay_line(alloc, telling, number, reader, writer) {
-                Ok(true) => {}
-                Ok(false) => return Ok(()),
-                Err(fault) => return Err(fault),
+            if !self.replay_line(alloc, telling, number, reader, writer)? {
+                return Ok(());
             }
         }
         Err(RunFault::Read)
@@ -324,10 +253,7 @@ impl ScriptRun {
             self.flaw = flaw_of(ports, line);
             return Err(RunFault::Line(number));
         };
-        match telling.make_text(alloc, &mut self.gateway, &event, &sender, &mut self.text) {
-            Ok(()) => {}
-            Err(fault) => return Err(fault),
-        }
+        telling.make_text(alloc, &mut self.gateway, &event, &sender, &mut self.text)?;
         let Ok(()) = write_whole(writer, &self.text) else {
             return Err(RunFault::Write);
         };

@@ -1,15 +1,17 @@
 -- The answers go on by one ask, line by line.
 use Rattle.std.proofs.Common.{◌≡◌, ◌⊎◌, inl, inr, ℕ, suc, ◌+◌, List, [], ◌∷◌, ◌++◌, length, take, drop, Option, Some, None, Result, Ok, Err, Bool, true, false, refl, sym, ap, subst, ◌∙◌, arith, append_assoc}
-use Rattle.std.specs.Prelude.{IsSomeAnd, IsErrOf}
+use Rattle.std.specs.Prelude.{IsSomeAnd}
 use Rattle.std.proofs.lemmas.List.{append-nil, take_at, drop_at, length-append}
 use Rattle.std.proofs.lemmas.List.Concat.{flat_map-cons}
 use Rattle.std.proofs.lemmas.Grind.{flat_map-append}
 use Rattle.gw_audit.specs.declared.entry.ShownAsk.{ShownAsk}
 use Rattle.gw_rules.specs.declared.rule.Rule.{Rule}
 use Rattle.gw_script.specs.Script.{lines_of}
+use Rattle.gw_script.proofs.KnownTexts.{holds_known}
+use Rattle.gw_script.proofs.Passing.{Passes, passes_on}
 use Rattle.gw_lint.specs.declared.asking.WhyFault.{WhyFault}
 use Rattle.gw_lint.specs.declared.asking.WhyFault.TheVariants.{Read, Line, Write, Memory}
-use Rattle.gw_lint.specs.Why.{AnswerOutcome, AnswersFront, AnswersPart, AnswersToLine, AnswersWhole, AreAskLines, FirstAsks, IsAskLine, answer_to, answers}
+use Rattle.gw_lint.specs.Why.{AnswerOutcome, AnswersFront, AnswersPart, AnswersToLine, AnswersWhole, AreAskLines, FirstAsks, IsAskLine, LeavesAnswers, answer_to, answers}
 
 -- ---- lines and answers
 
@@ -101,63 +103,44 @@ goes_on rules script before n text left written after p turns =
 
 -- ---- how they end
 
-known : (P : List ℕ → Type 0) (o : Option (List ℕ)) (t : List ℕ) → o ≡ Some t → P t → IsSomeAnd o P
-known P None t e h = absurd cc
-known P (Some x) t e h =
-    let same : t ≡ x = cc in
-    subst P same h
-
 pub ends_whole : (rules : List Rule) (script before : List ℕ) (n : ℕ) (text left written after : Option (List ℕ))
     → Progress rules script before n text written → Turns n rules text left written after (Ok false)
     → IsSomeAnd after (AnswersWhole rules script before)
 ends_whole rules script before n text left written after p turns =
     let said = turns p.left (before ++ answers rules p.asks) p.text_is p.written_is in
     let all : lines_of script ≡ p.done = p.lines ∙ ap (λ (l : List (List ℕ)). p.done ++ l) said.0 ∙ append-nil p.done in
-    known (AnswersWhole rules script before) after (before ++ answers rules p.asks) said.1
+    holds_known (AnswersWhole rules script before) after (before ++ answers rules p.asks) said.1
     (record { asks = p.asks; lines = subst (λ (l : List (List ℕ)). AreAskLines l p.asks) (sym all) p.are; written = refl })
 
 pub ends_part : (rules : List Rule) (script before : List ℕ) (n : ℕ) (text written : Option (List ℕ)) → Progress rules script before n text written
     → IsSomeAnd written (AnswersPart rules script before)
 ends_part rules script before n text written p =
-    known (AnswersPart rules script before) written (before ++ answers rules p.asks) p.written_is
+    holds_known (AnswersPart rules script before) written (before ++ answers rules p.asks) p.written_is
     (record { asks = p.asks; lines = first_lines script p.done (lines_of p.left) p.asks p.are p.lines; written = refl })
 
 -- a fault that leaves what was written as it was
-abbrev pub Stops : WhyFault → Type 0
-Stops Read = Unit {0}
-Stops Memory = Unit {0}
-Stops Write = ⊥
-Stops (Line m) = ⊥
-
-same_text : (n : ℕ) (rules : List Rule) (t : List ℕ) (left : Option (List ℕ)) (b : List ℕ) (after : Option (List ℕ)) (fault : WhyFault)
-    → Stops fault → AnswerOutcome n rules t left b after (Err fault) → after ≡ Some b
-same_text n rules t left b after Read stops said = said
-same_text n rules t left b after Memory stops said = said
-same_text n rules t left b after Write stops said = absurd stops
-same_text n rules t left b after (Line m) stops said = absurd stops
-
-pub stops_part : (rules : List Rule) (script before : List ℕ) (n : ℕ) (text left written after : Option (List ℕ)) (fault : WhyFault)
-    → Stops fault → Progress rules script before n text written → Turns n rules text left written after (Err fault)
+stops_part : (rules : List Rule) (script before : List ℕ) (n : ℕ) (text left written after : Option (List ℕ))
+    → Progress rules script before n text written
+    → ((t b : List ℕ) → text ≡ Some t → written ≡ Some b → after ≡ Some b)
     → IsSomeAnd after (AnswersPart rules script before)
-stops_part rules script before n text left written after fault stops p turns =
-    let said = turns p.left (before ++ answers rules p.asks) p.text_is p.written_is in
-    known (AnswersPart rules script before) after (before ++ answers rules p.asks)
-    (same_text n rules p.left left (before ++ answers rules p.asks) after fault stops said)
+stops_part rules script before n text left written after p same =
+    holds_known (AnswersPart rules script before) after (before ++ answers rules p.asks)
+    (same p.left (before ++ answers rules p.asks) p.text_is p.written_is)
     (record { asks = p.asks; lines = first_lines script p.done (lines_of p.left) p.asks p.are p.lines; written = refl })
 
 -- where memory is wanted before the first line
 pub part_before : (rules : List Rule) (script before : List ℕ) (written : Option (List ℕ)) → written ≡ Some before
     → IsSomeAnd written (AnswersPart rules script before)
 part_before rules script before written is =
-    known (AnswersPart rules script before) written before is (record { asks = []; lines = tt; written = sym (append-nil before) })
+    holds_known (AnswersPart rules script before) written before is (record { asks = []; lines = tt; written = sym (append-nil before) })
 
-pub ends_at_line : (rules : List Rule) (script before : List ℕ) (n : ℕ) (text left written after : Option (List ℕ)) (m : ℕ)
+ends_at_line : (rules : List Rule) (script before : List ℕ) (n : ℕ) (text left written after : Option (List ℕ)) (m : ℕ)
     → Progress rules script before n text written → Turns n rules text left written after (Err (Line m))
     → IsSomeAnd after (AnswersToLine m rules script before)
 ends_at_line rules script before n text left written after m p turns =
     let said = turns p.left (before ++ answers rules p.asks) p.text_is p.written_is in
     let none = said.1 in
-    known (AnswersToLine m rules script before) after (before ++ answers rules p.asks) said.2 (record {
+    holds_known (AnswersToLine m rules script before) after (before ++ answers rules p.asks) said.2 (record {
       asks = p.asks;
       number = said.0 ∙ p.number;
       lines = first_lines script p.done (lines_of p.left) p.asks p.are p.lines;
@@ -168,7 +151,7 @@ ends_at_line rules script before n text left written after m p turns =
       written = refl;
     })
 
-pub ends_at_write : (rules : List Rule) (script before : List ℕ) (n : ℕ) (text left written after : Option (List ℕ))
+ends_at_write : (rules : List Rule) (script before : List ℕ) (n : ℕ) (text left written after : Option (List ℕ))
     → Progress rules script before n text written → Turns n rules text left written after (Err Write)
     → IsSomeAnd after (AnswersFront rules script before)
 ends_at_write rules script before n text left written after p turns =
@@ -176,7 +159,7 @@ ends_at_write rules script before n text left written after p turns =
     let so_far = before ++ answers rules p.asks in
     let lines : lines_of script ≡ (p.done ++ cut_step.line ∷ []) ++ cut_step.others =
     p.lines ∙ ap (λ (l : List (List ℕ)). p.done ++ l) cut_step.lines ∙ sym (append_assoc p.done (cut_step.line ∷ []) cut_step.others) in
-    known (AnswersFront rules script before) after (so_far ++ cut_step.front) cut_step.appended (record {
+    holds_known (AnswersFront rules script before) after (so_far ++ cut_step.front) cut_step.appended (record {
       asks = p.asks ++ cut_step.ask ∷ [];
       lines = first_lines script (p.done ++ cut_step.line ∷ []) cut_step.others (p.asks ++ cut_step.ask ∷ [])
           (are_more p.done p.asks cut_step.line cut_step.ask p.are cut_step.tells) lines;
@@ -187,17 +170,18 @@ ends_at_write rules script before n text left written after p turns =
       written = append_assoc before (answers rules p.asks) cut_step.front;
     })
 
--- ---- faults
+ends_at_fault : (rules : List Rule) (script before : List ℕ) (n : ℕ) (text left written after : Option (List ℕ)) (fault : WhyFault)
+    → Progress rules script before n text written → Turns n rules text left written after (Err fault)
+    → IsSomeAnd after (LeavesAnswers rules (Err fault) script before)
+ends_at_fault rules script before n text left written after (Line m) = ends_at_line rules script before n text left written after m
+ends_at_fault rules script before n text left written after Read = stops_part rules script before n text left written after
+ends_at_fault rules script before n text left written after Write = ends_at_write rules script before n text left written after
+ends_at_fault rules script before n text left written after Memory = stops_part rules script before n text left written after
 
-pub fault_is : {T : Type 0} (fault other : WhyFault) → IsErrOf {T = T} {E = WhyFault} (Err fault) other → fault ≡ other
-fault_is fault other e = cc
-
-pub stops : {T : Type 0} (fault : WhyFault)
-    → IsErrOf {T = T} {E = WhyFault} (Err fault) Read ⊎ IsErrOf {T = T} {E = WhyFault} (Err fault) Memory → Stops fault
-stops {T} fault (inl e) = subst Stops (sym (fault_is {T = T} fault Read e)) tt
-stops {T} fault (inr e) = subst Stops (sym (fault_is {T = T} fault Memory e)) tt
-
--- a fault of one call as that of another
-pub err_as : {S T : Type 0} (fault other : WhyFault) → IsErrOf {T = S} {E = WhyFault} (Err fault) other
-    → IsErrOf {T = T} {E = WhyFault} (Err fault) other
-err_as {S} {T} fault other e = ap Err (fault_is {T = S} fault other e)
+pub ends_passed : (rules : List Rule) (script before : List ℕ) (n : ℕ) (text left written after : Option (List ℕ))
+    (fault : WhyFault) (r : Result (Unit {0}) WhyFault)
+    → Passes fault r → Progress rules script before n text written → Turns n rules text left written after (Err fault)
+    → IsSomeAnd after (LeavesAnswers rules r script before)
+ends_passed rules script before n text left written after fault r passes p turns =
+    passes_on (λ (q : Result (Unit {0}) WhyFault). IsSomeAnd after (LeavesAnswers rules q script before)) fault r passes
+    (ends_at_fault rules script before n text left written after fault p turns)

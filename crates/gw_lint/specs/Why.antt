@@ -75,6 +75,14 @@ pub record AnswersFront (rules : List Rule) (text before after : List ℕ) : Typ
   pub parts : answers rules asks ≡ front ++ unwritten
   pub written : after ≡ before ++ front
 
+-- what the answers by these rules leave written, by their outcome
+abbrev pub LeavesAnswers : List Rule → Result (Unit {0}) WhyFault → (text before after : List ℕ) → Type 0
+LeavesAnswers rules (Ok done) text before after = AnswersWhole rules text before after
+LeavesAnswers rules (Err (Line n)) text before after = AnswersToLine n rules text before after
+LeavesAnswers rules (Err Read) text before after = AnswersPart rules text before after
+LeavesAnswers rules (Err Write) text before after = AnswersFront rules text before after
+LeavesAnswers rules (Err Memory) text before after = AnswersPart rules text before after
+
 -- ---- one line
 
 -- the first line tells an ask, whose answer was appended

@@ -6,7 +6,7 @@ ghost use Rattle.gw_addr.specs.Appending.{IsAppended};
 ghost use Rattle.gw_audit.specs.Entry.{ask_shown};
 ghost use Rattle.gw_script.specs.Known.{IsShorter, OnKnown};
 ghost use Rattle.gw_script.specs.Reader.{IsPaid};
-ghost use Rattle.gw_lint.specs.Why.{AnswersFront, AnswersPart, AnswersToLine, AnswersWhole, OnKnownAnswer, answer, answer_to};
+ghost use Rattle.gw_lint.specs.Why.{LeavesAnswers, OnKnownAnswer, answer, answer_to};
 
 use gw_addr::put_octet;
 use gw_audit::{ShownAsk, read_ask};
@@ -61,21 +61,9 @@ pub fn why<R: OctetSource, W: OctetSink>(
     reader: &mut R,
     writer: &mut W,
 ) -> Result<(), WhyFault>
-    // What is written then, where the octets of the reader and the writer are known: the answers to
-    // the asks of all lines,
-    ensures whole { OnOk result
-        (OnKnown (R.left reader.old) (W.held writer.old) (W.held writer.new) (AnswersWhole rules.now)) }
-    // of the lines before one that tells no ask,
-    ensures line { (n : ℕ) → IsErrOf result (WhyFault.Line n) →
-        OnKnown (R.left reader.old) (W.held writer.old) (W.held writer.new)
-        (AnswersToLine n rules.now) }
-    // or of some first lines, of which a failed write may leave a front.
-    ensures front { IsErrOf result WhyFault.Write →
-        OnKnown (R.left reader.old) (W.held writer.old) (W.held writer.new)
-        (AnswersFront rules.now) }
-    ensures part { (IsErrOf result WhyFault.Read ⊎ IsErrOf result WhyFault.Memory) →
-        OnKnown (R.left reader.old) (W.held writer.old) (W.held writer.new)
-        (AnswersPart rules.now) }
+    // What is written then, where the octets of the reader and the writer are known.
+    ensures answers { OnKnown (R.left reader.old) (W.held writer.old) (W.held writer.new)
+        (LeavesAnswers rules.now result) }
     // What never fails doesn't end the answers: a reader, of a text of less than 2 GiB, and a writer.
     ensures sure_reader { R.NeverFails reader.old → (text : List ℕ) →
         R.left reader.old ≡ Some text → 2 * length text + 1 < 4294967295 →
@@ -109,27 +97,16 @@ impl Answering {
     ) -> Result<(), WhyFault>
         requires unread { self.old.lines.unread ≡ [] }
         requires calls { self.old.lines.calls ≡ 0 }
-        ensures whole { OnOk result
-            (OnKnown (R.left reader.old) (W.held writer.old) (W.held writer.new) (AnswersWhole rules.now)) }
-        ensures line { (n : ℕ) → IsErrOf result (WhyFault.Line n) →
-            OnKnown (R.left reader.old) (W.held writer.old) (W.held writer.new)
-            (AnswersToLine n rules.now) }
-        ensures front { IsErrOf result WhyFault.Write →
-            OnKnown (R.left reader.old) (W.held writer.old) (W.held writer.new)
-            (AnswersFront rules.now) }
-        ensures part { (IsErrOf result WhyFault.Read ⊎ IsErrOf result WhyFault.Memory) →
-            OnKnown (R.left reader.old) (W.held writer.old) (W.held writer.new)
-            (AnswersPart rules.now) }
+        ensures answers { OnKnown (R.left reader.old) (W.held writer.old) (W.held writer.new)
+            (LeavesAnswers rules.now result) }
         ensures sure_reader { R.NeverFails reader.old → (text : List ℕ) →
             R.left reader.old ≡ Some text → 2 * length text + 1 < 4294967295 →
             ¬ (IsErrOf result WhyFault.Read) }
         ensures sure_writer { W.NeverFails writer.old → ¬ (IsErrOf result WhyFault.Write) }
     {
         for number in 1..u64::MAX {
-            match self.answer_line(rules, number, reader, writer) {
-                Ok(true) => {}
-                Ok(false) => return Ok(()),
-                Err(fault) => return Err(fault),
+            if !self.answer_line(rules, number, reader, writer)? {
+                return Ok(());
             }
         }
         Err(WhyFault::Read)

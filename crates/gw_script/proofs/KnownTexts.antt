@@ -1,6 +1,6 @@
 -- What is known of the text that is left and of what was written.
 use Rattle.std.proofs.Common.{◌≡◌, ℕ, List, [], ◌++◌, Option, Some, None, refl, sym, ap, subst, ◌∙◌}
-use Rattle.std.specs.Prelude.{IfSome}
+use Rattle.std.specs.Prelude.{IfSome, IsSomeAnd}
 use Rattle.std.specs.Io.KnownBytes.{Appends, Keeps, prepend_known}
 
 -- text that is known stays known: what the reader has left stands behind what is held
@@ -33,3 +33,10 @@ appended (Some xs) (Some ys) before more e h =
 pub nothing_held : (held : List ℕ) (known : Option (List ℕ)) (script : List ℕ) → held ≡ [] → known ≡ Some script
     → prepend_known held known ≡ Some script
 nothing_held held known script none e = ap (λ (h : List ℕ). prepend_known h known) none ∙ ap (prepend_known []) e
+
+-- what holds of octets holds where they are known
+pub holds_known : (P : List ℕ → Type 0) (known : Option (List ℕ)) (text : List ℕ) → known ≡ Some text → P text → IsSomeAnd known P
+holds_known P None text e h = absurd cc
+holds_known P (Some xs) text e h =
+    let same : text ≡ xs = cc in
+    subst P same h

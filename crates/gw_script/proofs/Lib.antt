@@ -8,3 +8,4 @@ pub mod FlawLemmas
 pub mod Order
 pub mod KnownTexts
 pub mod Calls
+pub mod Passing

@@ -1,34 +1,12 @@
 -- What the answers to asks leave written, from what they and the flush behind them leave.
-use Rattle.std.proofs.Common.{◌≡◌, ◌⊎◌, inl, inr, refl, sym, rules, true, false, Bool, ℕ, ◌++◌, List, Result, Ok, Err, Option, [], ◌∷◌, length, take, OnOk, IsErrOf}
+use Rattle.std.proofs.Common.{◌≡◌, sym, rules, true, false, Bool, ℕ, ◌++◌, List, Result, Ok, Err, [], ◌∷◌, length, take}
 use Rattle.gw_audit.specs.declared.entry.ShownAsk.{ShownAsk}
-use Rattle.gw_script.specs.Known.{OnKnown}
-use Rattle.gw_lint.specs.Why.{AnswersFront, AnswersPart, AnswersToLine, AnswersWhole, AreAskLines, answers}
+use Rattle.gw_lint.specs.Why.{AnswersFront, AnswersWhole, AreAskLines, LeavesAnswers, answers}
 use Rattle.gw_lint.specs.declared.asking.WhyFault.{WhyFault}
 use Rattle.gw_lint.specs.declared.asking.WhyFault.TheVariants as asking
 use Rattle.gw_rules.specs.declared.rule.Rule.{Rule}
 use Rattle.gw_script.specs.Script.{lines_of}
 use Rattle.gw_shell.specs.Asking.{Answers, first_asking_fault}
-
--- what the answers by these rules alone leave written
-abbrev pub LeavesAnswers : List Rule → List ℕ → List ℕ → Result (Unit {0}) WhyFault → List ℕ → Type 0
-LeavesAnswers list text before (Ok done) after = AnswersWhole list text before after
-LeavesAnswers list text before (Err (asking.Line n)) after = AnswersToLine n list text before after
-LeavesAnswers list text before (Err asking.Read) after = AnswersPart list text before after
-LeavesAnswers list text before (Err asking.Write) after = AnswersFront list text before after
-LeavesAnswers list text before (Err asking.Memory) after = AnswersPart list text before after
-
--- the clauses of the answers as one
-pub answers_leave : (list : List Rule) (read held holds : Option (List ℕ)) (r : Result (Unit {0}) WhyFault)
-    → OnOk r (OnKnown read held holds (AnswersWhole list))
-    → ((n : ℕ) → IsErrOf r (asking.Line n) → OnKnown read held holds (AnswersToLine n list))
-    → (IsErrOf r asking.Write → OnKnown read held holds (AnswersFront list))
-    → ((IsErrOf r asking.Read ⊎ IsErrOf r asking.Memory) → OnKnown read held holds (AnswersPart list))
-    → OnKnown read held holds (λ text before. LeavesAnswers list text before r)
-answers_leave list read held holds (Ok done) whole line front part = whole
-answers_leave list read held holds (Err (asking.Line n)) whole line front part = line n refl
-answers_leave list read held holds (Err asking.Read) whole line front part = part (inl refl)
-answers_leave list read held holds (Err asking.Write) whole line front part = front refl
-answers_leave list read held holds (Err asking.Memory) whole line front part = part (inr refl)
 
 -- all the lines are the first lines
 all_are_first : (lines : List (List ℕ)) (asks : List ShownAsk) → AreAskLines lines asks → AreAskLines (take (length asks) lines) asks
@@ -52,7 +30,8 @@ whole_is_front list text before after whole = record {
 }
 
 -- the flush changes nothing of what is left written, and its failure is told behind answers without a fault
-pub flushed_answers : (list : List Rule) (text before after : List ℕ) (r : Result (Unit {0}) WhyFault) (is_flushed : Bool) → LeavesAnswers list text before r after → Answers list text before (first_asking_fault r is_flushed) after
+pub flushed_answers : (list : List Rule) (text before after : List ℕ) (r : Result (Unit {0}) WhyFault) (is_flushed : Bool)
+    → LeavesAnswers list r text before after → Answers list text before (first_asking_fault r is_flushed) after
 flushed_answers list text before after (Ok done) true leaves = leaves
 flushed_answers list text before after (Ok done) false leaves = whole_is_front list text before after leaves
 flushed_answers list text before after (Err (asking.Line n)) flushed leaves = leaves

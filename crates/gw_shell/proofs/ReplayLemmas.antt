@@ -1,10 +1,10 @@
 -- What a replay leaves written, from what the run and the flush behind it leave.
-use Rattle.std.proofs.Common.{◌≡◌, ◌⊎◌, inl, refl, sym, subst, rules, true, false, Bool, ℕ, ◌++◌, List, Result, Ok, Err, Option, Some, None, [], ◌∷◌, length, take, IsSomeAnd, OnOk, IsErrOf}
+use Rattle.std.proofs.Common.{◌≡◌, refl, sym, subst, rules, true, false, Bool, ℕ, ◌++◌, List, Result, Ok, Err, Option, Some, None, [], ◌∷◌, length, take, IsSomeAnd, IsErrOf}
 use Rattle.std.specs.Io.KnownBytes.{Keeps}
 use Rattle.gw_core.specs.declared.replaying.RunFault.{RunFault}
 use Rattle.gw_core.specs.declared.replaying.RunFault.TheVariants as run
 use Rattle.gw_script.specs.Event.{Event}
-use Rattle.gw_core.specs.Replay.{RunsFront, RunsPart, RunsToEnd, RunsToLine, RunsToMemory, RunsWhole, Telling, run_text}
+use Rattle.gw_core.specs.Replay.{Replays, RunsFront, RunsToLine, RunsWhole, Telling, run_text}
 use Rattle.gw_script.specs.Known.{OnKnown}
 use Rattle.gw_script.specs.Script.{AreLines, lines_of}
 use Rattle.gw_policy_text.specs.Configuration.{Configuration}
@@ -29,41 +29,31 @@ three : (P Q : List ℕ → Type 0) (held : Option (List ℕ)) → IsSomeAnd hel
 three P Q None holds also = absurd holds
 three P Q (Some bytes) holds also = (refl, holds, also)
 
--- the clauses of a run as one
+-- what a run leaves, as the program tells its outcome
 pub run_plays : (c : Configuration) (read held holds : Option (List ℕ)) (r : Result (Unit {0}) RunFault)
-    → OnOk r (OnKnown read held holds (RunsWhole event_text c))
-    → ((n : ℕ) → IsErrOf r (run.Line n) → OnKnown read held holds (RunsToLine event_text n c))
-    → (IsErrOf r run.Write → OnKnown read held holds (RunsFront event_text c))
-    → (IsErrOf r run.CountEnd → OnKnown read held holds (RunsToEnd event_text c))
-    → (IsErrOf r run.Memory → OnKnown read held holds (RunsToMemory event_text c))
-    → ((IsErrOf r run.Read ⊎ IsErrOf r run.Memory) → OnKnown read held holds (RunsPart event_text c))
+    → OnKnown read held holds (Replays event_text c r)
     → OnKnown read held holds (λ script before. Plays false c script before (outcome_of None r))
-run_plays c read held holds (Ok done) whole line front count_end memory part = whole
-run_plays c read held holds (Err (run.Line n)) whole line front count_end memory part = λ script before known written.
-    both (λ (after : List ℕ). false ≡ false) (RunsToLine event_text n c script before) holds (λ bytes. refl) (line n refl script before known written)
-run_plays c read held holds (Err run.Read) whole line front count_end memory part = part (inl refl)
-run_plays c read held holds (Err run.Write) whole line front count_end memory part = front refl
-run_plays c read held holds (Err run.Memory) whole line front count_end memory part = memory refl
-run_plays c read held holds (Err run.CountEnd) whole line front count_end memory part = count_end refl
+run_plays c read held holds (Ok done) replays = replays
+run_plays c read held holds (Err (run.Line n)) replays = λ script before known written.
+    both (λ (after : List ℕ). false ≡ false) (RunsToLine event_text n c script before) holds (λ bytes. refl) (replays script before known written)
+run_plays c read held holds (Err run.Read) replays = replays
+run_plays c read held holds (Err run.Write) replays = replays
+run_plays c read held holds (Err run.Memory) replays = replays
+run_plays c read held holds (Err run.CountEnd) replays = replays
 
--- and those of one that explains
+-- and one that explains
 pub explained_plays : (c : Configuration) (read held holds : Option (List ℕ)) (r : Result (Unit {0}) RunFault) (flaw : LineFlaw)
-    → OnOk r (OnKnown read held holds (RunsWhole explained_text c))
-    → ((n : ℕ) → IsErrOf r (run.Line n) → OnKnown read held holds (RunsToLine explained_text n c))
+    → OnKnown read held holds (Replays explained_text c r)
     → ((n : ℕ) → IsErrOf r (run.Line n) → OnKnown read held holds (λ script before after. HasFlaw (length c.ports) n script flaw))
-    → (IsErrOf r run.Write → OnKnown read held holds (RunsFront explained_text c))
-    → (IsErrOf r run.CountEnd → OnKnown read held holds (RunsToEnd explained_text c))
-    → (IsErrOf r run.Memory → OnKnown read held holds (RunsToMemory explained_text c))
-    → ((IsErrOf r run.Read ⊎ IsErrOf r run.Memory) → OnKnown read held holds (RunsPart explained_text c))
     → OnKnown read held holds (λ script before. Plays true c script before (outcome_of (Some flaw) r))
-explained_plays c read held holds (Ok done) flaw whole line is front count_end memory part = whole
-explained_plays c read held holds (Err (run.Line n)) flaw whole line is front count_end memory part = λ script before known written.
+explained_plays c read held holds (Ok done) flaw replays is = replays
+explained_plays c read held holds (Err (run.Line n)) flaw replays is = λ script before known written.
     three (RunsToLine explained_text n c script before) (λ (after : List ℕ). HasFlaw (length c.ports) n script flaw) holds
-    (line n refl script before known written) (is n refl script before known written)
-explained_plays c read held holds (Err run.Read) flaw whole line is front count_end memory part = part (inl refl)
-explained_plays c read held holds (Err run.Write) flaw whole line is front count_end memory part = front refl
-explained_plays c read held holds (Err run.Memory) flaw whole line is front count_end memory part = memory refl
-explained_plays c read held holds (Err run.CountEnd) flaw whole line is front count_end memory part = count_end refl
+    (replays script before known written) (is n refl script before known written)
+explained_plays c read held holds (Err run.Read) flaw replays is = replays
+explained_plays c read held holds (Err run.Write) flaw replays is = replays
+explained_plays c read held holds (Err run.Memory) flaw replays is = replays
+explained_plays c read held holds (Err run.CountEnd) flaw replays is = replays
 
 -- what holds of known bytes holds where they are kept
 pub kept : (P : List ℕ → Type 0) (held now : Option (List ℕ)) → Keeps held now → IsSomeAnd held P → IsSomeAnd now P

@@ -2,7 +2,8 @@ use Rattle.std.proofs.Common.{sym, subst, Result, IsSomeAnd}
 use Rattle.std.specs.Io.Buffered.{writer_contents}
 use Rattle.gw_shell.specs.declared.fault.Fault.{Fault}
 use Rattle.gw_shell.specs.Asking.{Answers, first_asking_fault}
-use Rattle.gw_shell.proofs.AskingLemmas.{LeavesAnswers, answers_leave, flushed_answers}
+use Rattle.gw_lint.specs.Why.{LeavesAnswers}
+use Rattle.gw_shell.proofs.AskingLemmas.{flushed_answers}
 use Rattle.gw_shell.proofs.ReplayLemmas.{kept, weaker}
 use Rattle.gw_shell.proofs.asking.why.Goals as goal
 
@@ -12,11 +13,9 @@ returns-clause-answers g c = λ text before reads holds.
     let list = c.args.rules.now in
     let done = c.why-answers in
     let ends = first_asking_fault done.result c.is_ok-is_flushed.result in
-    let leaves : IsSomeAnd (contents done.new.writer) (LeavesAnswers list text before done.result) =
-    answers_leave list (g.R.OctetSource.left c.args.reader.now) (contents c.args.writer.now) (contents done.new.writer) done.result
-    done.ensures.whole done.ensures.line done.ensures.front done.ensures.part text before reads holds in
+    let leaves : IsSomeAnd (contents done.new.writer) (LeavesAnswers list done.result text before) = done.ensures.answers text before reads holds in
     let answered : IsSomeAnd (contents done.new.writer) (Answers list text before ends) =
-    weaker (LeavesAnswers list text before done.result) (Answers list text before ends) (contents done.new.writer)
+    weaker (LeavesAnswers list done.result text before) (Answers list text before ends) (contents done.new.writer)
     (λ bytes is. flushed_answers list text before bytes done.result c.is_ok-is_flushed.result is) leaves in
     subst (λ (r : Result (Unit {0}) Fault). IsSomeAnd (contents c.flush.new.self) (Answers list text before r)) (sym c.first_asking_fault.ensures)
     (kept (Answers list text before ends) (contents done.new.writer) (contents c.flush.new.self) c.flush.ensures.bytes answered)

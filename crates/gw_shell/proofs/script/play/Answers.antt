@@ -17,8 +17,7 @@ returns-then-explains g c =
     subst (λ (r : Result (Unit {0}) Fault). OnKnown read held holds (λ script before. Plays c.args.explains c.args.config script before r))
     (sym c.outcome_of.ensures)
     (subst (λ (b : Bool). OnKnown read held holds (λ script before. Plays b c.args.config script before (outcome_of (Some run.new.flaw) run.result))) (sym c.if-explains.true)
-    (explained_plays c.args.config read held holds run.result run.new.flaw
-    run.ensures.whole run.ensures.line run.ensures.flaw run.ensures.front run.ensures.count_end run.ensures.memory run.ensures.part))
+    (explained_plays c.args.config read held holds run.result run.new.flaw run.ensures.run run.ensures.flaw))
 
 pub returns-else-explains : goal.returns-else-explains
 returns-else-explains g c =
@@ -30,5 +29,4 @@ returns-else-explains g c =
     subst (λ (r : Result (Unit {0}) Fault). OnKnown read held holds (λ script before. Plays c.args.explains c.args.config script before r))
     (sym c.outcome_of-else-explains.ensures)
     (subst (λ (b : Bool). OnKnown read held holds (λ script before. Plays b c.args.config script before (outcome_of None run.result))) (sym c.if-explains.false)
-    (run_plays c.args.config read held holds run.result
-    run.ensures.whole run.ensures.line run.ensures.front run.ensures.count_end run.ensures.memory run.ensures.part))
+    (run_plays c.args.config read held holds run.result run.ensures.run))

@@ -5,7 +5,9 @@ use Rattle.gw_script.specs.declared.reader.NextLine.{NextLine}
 use Rattle.gw_script.specs.Reader.{IsNextLine, IsWithin}
 use Rattle.gw_script.specs.Script.{lines_of}
 use Rattle.gw_script.specs.Event.{event_view}
+use Rattle.gw_core.specs.LineOutcome.{LineOutcome}
 use Rattle.gw_core.proofs.LineOutcomeLemmas.{same_flaw, same_line, not_taken}
+use Rattle.gw_script.proofs.Passing.{passes_on}
 use Rattle.gw_script.proofs.KnownTexts.{left_known, if_known, appended}
 use Rattle.gw_core.proofs.replaying.ScriptRun.replay_line.Goals as goal
 
@@ -47,8 +49,8 @@ returns-in_default-clause-flaw g c = λ n e text known.
       is = same_flaw _ _ _ _ _ c.ports-ports.ensures.count c.front-line.ensures c.flaw_of-self.ensures;
     }
 
-pub returns-in-Err-make_text-clause-outcome : goal.returns-in-Err-make_text-clause-outcome
-returns-in-Err-make_text-clause-outcome g c = λ text before known written.
+pub returns-in_err-make_text-clause-outcome : goal.returns-in_err-make_text-clause-outcome
+returns-in_err-make_text-clause-outcome g c = λ text before known written.
     let front = c.find_line.new.self.unread in
     let len = c.in-Ok-Line.len in
     let span = c.in-Ok-Line.span in
@@ -58,9 +60,13 @@ returns-in-Err-make_text-clause-outcome g c = λ text before known written.
     let lines : lines_of (front ++ left.rest) ≡ take len front ∷ lines_of (drop span front ++ left.rest) = subst
     (λ (p : NextLine). IsNextLine front left.rest p) c.in-Ok-Line.field-0-is piece in
     let event = event_view c.in-Some.event in
-    not_taken g.T.Telling.told c.args.number c.args.self.now.gateway c.make_text.new.gateway text
-    (prepend_known front (g.R.OctetSource.left c.find_line.new.source)) before
-    (g.W.OctetSink.held c.args.writer.now) c.in-Err-make_text.fault _ _ c.in-Err-make_text.ensures.fault
+    let moved = c.make_text.new.gateway in
+    let unread = prepend_known front (g.R.OctetSource.left c.find_line.new.source) in
+    let after = g.W.OctetSink.held c.args.writer.now in
+    passes_on (LineOutcome g.T.Telling.told c.args.number c.args.self.now.gateway moved text unread before after)
+    c.in_err-make_text.field-0.0 c.from_residual.result c.from_residual.ensures
+    (not_taken g.T.Telling.told c.args.number c.args.self.now.gateway moved text unread before after
+    c.in_err-make_text.field-0.0 _ _ c.in_err-make_text.ensures.fault
     (λ wants. record {
       line = take len front;
       event = event;
@@ -76,7 +82,7 @@ returns-in-Err-make_text-clause-outcome g c = λ text before known written.
       writes = same_line _ _ _ _ event (sym c.ports-ports.ensures.count) (sym c.front-line.ensures) c.in-Some.ensures.found;
       lines = ap lines_of left.text_is ∙ lines;
       passes = passes;
-    }) written
+    }) written)
 
 pub returns-in_default-write_whole-clause-outcome : goal.returns-in_default-write_whole-clause-outcome
 returns-in_default-write_whole-clause-outcome g c = λ text before known written.
@@ -98,7 +104,7 @@ returns-in_default-write_whole-clause-outcome g c = λ text before known written
       lines = ap lines_of left.text_is ∙ lines;
       front = cut.0;
       unwritten = cut.1;
-      parts = sym c.in-Ok.ensures.text ∙ sym c.deref.ensures.value ∙ cut.2;
+      parts = sym c.in_ok-make_text.ensures.text ∙ sym c.deref.ensures.value ∙ cut.2;
       appended = appended _ _ before cut.0 written cut.3;
     }
 

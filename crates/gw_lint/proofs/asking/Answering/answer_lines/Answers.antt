@@ -1,10 +1,10 @@
-use Rattle.std.proofs.Common.{Bool, Ok, Err, subst, ap, arith}
+use Rattle.std.proofs.Common.{Bool, Ok, subst, ap, arith}
 use Rattle.std.specs.Io.KnownBytes.{prepend_known}
 use Rattle.gw_script.proofs.KnownTexts.{nothing_held}
 use Rattle.gw_script.proofs.Calls.{bound_at_first, bound_goes_on, calls_left, lines_left}
-use Rattle.gw_lint.specs.declared.asking.WhyFault.{WhyFault}
-use Rattle.gw_lint.specs.declared.asking.WhyFault.TheVariants.{Read, Line, Write}
-use Rattle.gw_lint.proofs.WhyLemmas.{Turns, begins, ends_at_line, ends_at_write, ends_part, ends_whole, err_as, fault_is, goes_on, stops, stops_part}
+use Rattle.gw_lint.specs.declared.asking.WhyFault.TheVariants.{Read, Write}
+use Rattle.gw_script.proofs.Passing.{passed_as}
+use Rattle.gw_lint.proofs.WhyLemmas.{Turns, begins, ends_part, ends_passed, ends_whole, goes_on}
 use Rattle.gw_lint.proofs.asking.Answering.answer_lines.Goals as goal
 
 pub loop-number-init : goal.loop-number-init
@@ -34,71 +34,45 @@ loop-number-preserved g c =
       lasting_writer = λ never. c.in-Ok-true.ensures.lasting_writer (c.loop-number.invariant.lasting_writer never);
     }
 
-pub returns-in-Ok-false-clause-whole : goal.returns-in-Ok-false-clause-whole
-returns-in-Ok-false-clause-whole g c = λ script before known written.
-    let progress = c.loop-number.invariant.progress script before known written in
+pub returns-in-Ok-false-clause-answers : goal.returns-in-Ok-false-clause-answers
+returns-in-Ok-false-clause-answers g c = λ script before known written.
     let n = c.loop-number.number in
     let rules = c.args.rules.now in
     let text = prepend_known c.loop-number.self.lines.unread (g.R.OctetSource.left c.loop-number.reader) in
     let left = prepend_known c.answer_line.new.self.lines.unread (g.R.OctetSource.left c.answer_line.new.reader) in
     let so_far = g.W.OctetSink.held c.loop-number.writer in
     let after = g.W.OctetSink.held c.answer_line.new.writer in
-    ends_whole rules script before n text left so_far after progress
+    ends_whole rules script before n text left so_far after (c.loop-number.invariant.progress script before known written)
     (subst (λ (b : Bool). Turns n rules text left so_far after (Ok b)) c.in-Ok-false.field-0-test c.in-Ok-false.ensures.outcome)
 
-pub returns-in-Err-clause-line : goal.returns-in-Err-clause-line
-returns-in-Err-clause-line g c = λ m e script before known written.
-    let progress = c.loop-number.invariant.progress script before known written in
+pub returns-in_err-answer_line-clause-answers : goal.returns-in_err-answer_line-clause-answers
+returns-in_err-answer_line-clause-answers g c = λ script before known written.
     let n = c.loop-number.number in
     let rules = c.args.rules.now in
     let text = prepend_known c.loop-number.self.lines.unread (g.R.OctetSource.left c.loop-number.reader) in
     let left = prepend_known c.answer_line.new.self.lines.unread (g.R.OctetSource.left c.answer_line.new.reader) in
     let so_far = g.W.OctetSink.held c.loop-number.writer in
     let after = g.W.OctetSink.held c.answer_line.new.writer in
-    ends_at_line rules script before n text left so_far after m progress
-    (subst (λ (f : WhyFault). Turns n rules text left so_far after (Err f))
-    (fault_is {T = Unit {0}} c.in-Err.fault (Line m) e) c.in-Err.ensures.outcome)
+    ends_passed rules script before n text left so_far after c.in_err-answer_line.field-0.0 c.from_residual.result c.from_residual.ensures
+    (c.loop-number.invariant.progress script before known written) c.in_err-answer_line.ensures.outcome
 
-pub returns-in-Err-clause-front : goal.returns-in-Err-clause-front
-returns-in-Err-clause-front g c = λ e script before known written.
-    let progress = c.loop-number.invariant.progress script before known written in
-    let n = c.loop-number.number in
-    let rules = c.args.rules.now in
-    let text = prepend_known c.loop-number.self.lines.unread (g.R.OctetSource.left c.loop-number.reader) in
-    let left = prepend_known c.answer_line.new.self.lines.unread (g.R.OctetSource.left c.answer_line.new.reader) in
-    let so_far = g.W.OctetSink.held c.loop-number.writer in
-    let after = g.W.OctetSink.held c.answer_line.new.writer in
-    ends_at_write rules script before n text left so_far after progress
-    (subst (λ (f : WhyFault). Turns n rules text left so_far after (Err f))
-    (fault_is {T = Unit {0}} c.in-Err.fault Write e) c.in-Err.ensures.outcome)
-
-pub returns-in-Err-clause-part : goal.returns-in-Err-clause-part
-returns-in-Err-clause-part g c = λ which script before known written.
-    let progress = c.loop-number.invariant.progress script before known written in
-    let n = c.loop-number.number in
-    let rules = c.args.rules.now in
-    let text = prepend_known c.loop-number.self.lines.unread (g.R.OctetSource.left c.loop-number.reader) in
-    let left = prepend_known c.answer_line.new.self.lines.unread (g.R.OctetSource.left c.answer_line.new.reader) in
-    let so_far = g.W.OctetSink.held c.loop-number.writer in
-    let after = g.W.OctetSink.held c.answer_line.new.writer in
-    stops_part rules script before n text left so_far after c.in-Err.fault (stops {T = Unit {0}} c.in-Err.fault which) progress
-    c.in-Err.ensures.outcome
-
-pub returns-clause-part : goal.returns-clause-part
-returns-clause-part g c = λ which script before known written.
+pub returns-clause-answers : goal.returns-clause-answers
+returns-clause-answers g c = λ script before known written.
     let n = c.loop-number.number in
     let text = prepend_known c.loop-number.self.lines.unread (g.R.OctetSource.left c.loop-number.reader) in
     ends_part c.args.rules.now script before n text (g.W.OctetSink.held c.loop-number.writer)
     (c.loop-number.invariant.progress script before known written)
 
-pub returns-in-Err-clause-sure_reader : goal.returns-in-Err-clause-sure_reader
-returns-in-Err-clause-sure_reader g c = λ never script known short e.
-    calls_left script c.loop-number.number _ _ _ _ _ (c.loop-number.invariant.calls script known) c.in-Err.ensures.paid short
-    (c.in-Err.ensures.sure_reader (c.loop-number.invariant.lasting_reader never) (err_as {S = Unit {0}} {T = Bool} c.in-Err.fault Read e))
+pub returns-in_err-answer_line-clause-sure_reader : goal.returns-in_err-answer_line-clause-sure_reader
+returns-in_err-answer_line-clause-sure_reader g c = λ never script known short e.
+    calls_left script c.loop-number.number _ _ _ _ _ (c.loop-number.invariant.calls script known) c.in_err-answer_line.ensures.paid short
+    (c.in_err-answer_line.ensures.sure_reader (c.loop-number.invariant.lasting_reader never)
+    (passed_as c.in_err-answer_line.field-0.0 Read c.from_residual.result c.from_residual.ensures e))
 
-pub returns-in-Err-clause-sure_writer : goal.returns-in-Err-clause-sure_writer
-returns-in-Err-clause-sure_writer g c = λ never e. c.in-Err.ensures.sure_writer (c.loop-number.invariant.lasting_writer never)
-    (err_as {S = Unit {0}} {T = Bool} c.in-Err.fault Write e)
+pub returns-in_err-answer_line-clause-sure_writer : goal.returns-in_err-answer_line-clause-sure_writer
+returns-in_err-answer_line-clause-sure_writer g c = λ never e.
+    c.in_err-answer_line.ensures.sure_writer (c.loop-number.invariant.lasting_writer never)
+    (passed_as c.in_err-answer_line.field-0.0 Write c.from_residual.result c.from_residual.ensures e)
 
 pub returns-clause-sure_reader : goal.returns-clause-sure_reader
 returns-clause-sure_reader g c = λ never script known short e.
