@@ -27,7 +27,7 @@ returns-in_default-write_whole-clause-outcome g c = λ text before known written
       others = lines_of (drop span front ++ left.rest);
       told = record {
         most = omega (arith, length-take len front, bounds.0);
-        told = subst (λ (l : List ℕ). IsToldAs l c.tell_line.new.text.items) c.front.ensures c.in-Ok.ensures;
+        told = subst (λ (l : List ℕ). IsToldAs c.args.start l c.tell_line.new.text.items) c.front.ensures c.in-Ok.ensures;
       };
       lines = ap lines_of left.text_is ∙ lines;
       front = cut.0;
