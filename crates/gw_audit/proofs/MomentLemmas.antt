@@ -1,6 +1,6 @@
 -- Moments by a clock: one comes so much later, and none past the last year.
-use Rattle.std.proofs.Common.{◌≡◌, ℕ, ◌*◌, ◌++◌, inl, List, Option, Some, None, codes, refl, sym, ap, subst, ◌∙◌, arith, ℤ, pos, ◌+ℤ◌, ◌≤ℤ◌, negsuc}
-use Rattle.std.specs.Prelude.{unsigned_abs}
+use Rattle.std.proofs.Common.{◌≡◌, ℕ, ◌*◌, ◌++◌, inl, List, [], ◌∷◌, Result, Ok, Err, append_assoc, Option, Some, None, codes, refl, sym, ap, subst, ◌∙◌, arith, ℤ, pos, ◌+ℤ◌, ◌≤ℤ◌, negsuc}
+use Rattle.std.specs.Prelude.{OnOk, unsigned_abs}
 use Rattle.std.proofs.lemmas.Int.{by_lt_z}
 use Rattle.jiff_core.specs.Calendar.{IsDate}
 use Rattle.jiff_core.specs.declared.civil.date.Date.{Date as Day}
@@ -10,6 +10,10 @@ use Rattle.jiff_core.proofs.SignedLemmas.{signed_arith}
 use Rattle.jiff_core.proofs.DateLemmas.{epoch_day-lt, epoch_day_injective}
 use Rattle.jiff_core.proofs.DateTimeLemmas.{civil_nanos-lt, civil_nanos_injective, civil_nanos_range, time_nanos_injective}
 use Rattle.gw_audit.specs.Moment.{ComesLater, IsLater, IsMomentOf, IsTextOf, day_of, fraction_of, front_text, moment_text, time_with, written_with}
+use Rattle.gw_audit.specs.Entry.{IsLineOf, IsShowable, denial_of}
+use Rattle.gw_audit.specs.Told.{IsToldAs}
+use Rattle.gw_audit.specs.Words.{words_of}
+use Rattle.gw_audit.specs.declared.entry.Shown.{Shown}
 use Rattle.gw_audit.specs.internal.Written.{IsClock}
 use Rattle.gw_audit.specs.declared.moment.Moment.{Moment}
 use Rattle.toml_datetime.specs.Parse.{parse_datetime}
@@ -91,3 +95,20 @@ no_clock text read time is has none m told =
     let written : read ≡ written_with m told.fraction = cc in
     let clock : Some time ≡ Some (time_with m.local.time told.fraction) = sym has ∙ ap (λ (d : Datetime). d.time) written in
     none m.local.time told.fraction told.nanosecond cc
+
+-- what is told of a line that shows a denial: the moment of its tick, and its words
+pub tells_shown : {T F : Type 0} (r : Result T F) (start : Option Moment) (line : List ℕ) (shown : Shown) (at : Option Moment) (a b text : List ℕ)
+    → IsLineOf line (denial_of shown) → IsShowable (denial_of shown) → IsMomentOf start shown.tick at → a ≡ [] → b ≡ a ++ front_text at
+    → OnOk r (text ≡ b ++ (words_of shown.ask shown.rule.now ++ 10 ∷ [])) → OnOk r (IsToldAs start line text)
+tells_shown (Ok x) start line shown at a b text spelled is moment none front then = inl (record {
+  denial = denial_of shown;
+  showable = is;
+  spelled = spelled;
+  told = record {
+    at = at;
+    moment = moment;
+    told = then ∙ ap (λ (t : List ℕ). t ++ (words_of shown.ask shown.rule.now ++ 10 ∷ [])) (front ∙ ap (λ (t : List ℕ). t ++ front_text at) none)
+        ∙ sym (append_assoc (front_text at) (words_of shown.ask shown.rule.now) (10 ∷ []));
+  };
+})
+tells_shown (Err e) start line shown at a b text spelled is moment none front then = then

@@ -7,7 +7,7 @@ use Rattle.gw_audit.specs.declared.denial.Denial.{Denial}
 use Rattle.gw_audit.specs.declared.moment.Moment.{Moment}
 use Rattle.gw_audit.proofs.MomentLemmas.{one_front}
 use Rattle.gw_audit.proofs.LineLemmas.{names_one_denial}
-use Rattle.gw_audit.specs.Told.{IsTelling, IsToldAs, TellsEach, TellsOnce, TellsWords}
+use Rattle.gw_audit.specs.Told.{IsTelling, TellsEach, TellsOnce, TellsWords}
 use Rattle.gw_audit.specs.Words.{words, words_of}
 
 -- what is shown of two denials that are shown alike is the same

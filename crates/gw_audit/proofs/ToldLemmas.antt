@@ -8,7 +8,7 @@ use Rattle.gw_script.specs.Script.{lines_of}
 use Rattle.gw_audit.specs.declared.moment.Moment.{Moment}
 use Rattle.gw_audit.specs.declared.telling.TellFault.{TellFault}
 use Rattle.gw_audit.specs.declared.telling.TellFault.TheVariants.{Read, Line, Write, Memory}
-use Rattle.gw_audit.specs.Told.{AreTold, FirstTold, IsToldAs, IsToldLine, LineOutcome, TellsFront, TellsPart, TellsToLine, TellsWhole, joined}
+use Rattle.gw_audit.specs.Told.{AreTold, FirstTold, IsToldLine, LineOutcome, TellsFront, TellsPart, TellsToLine, TellsWhole, joined}
 
 -- ---- lines, and what becomes of them
 

@@ -67,11 +67,7 @@ fn moment_of(start: Option<Moment>, tick: u64) -> Option<Moment>
 }
 
 /// Appends a moment and a space, where there is one.
-fn put_front(
-    alloc: Global,
-    out: &mut Vec<u8>,
-    moment: Option<Moment>,
-) -> Result<(), AllocError>
+fn put_front(alloc: Global, out: &mut Vec<u8>, moment: Option<Moment>) -> Result<(), AllocError>
     ensures { OnOk result (out.new.items ≡ out.old.items ++ front_text moment) }
 {
     let Some(moment) = moment else {

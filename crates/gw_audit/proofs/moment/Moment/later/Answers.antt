@@ -16,7 +16,7 @@ pub returns-in-Err : goal.returns-in-Err
 returns-in-Err c = λ m later.
     let added : to_z w128 (of_z w128 c.nanoseconds_of.result) ≡ pos (c.args.ticks * 1000000000) = search rules in
     let bad : false ≡ true = c.in-Err.ensures.succeeds.1 (
-      subst (λ (z : ℤ). IsCivilNanos (civil_nanos c.args.self.local +ℤ z)) (sym added)
-      (none_later c.args.self c.args.ticks m later)
+    subst (λ (z : ℤ). IsCivilNanos (civil_nanos c.args.self.local +ℤ z)) (sym added)
+    (none_later c.args.self c.args.ticks m later)
     ) in
     absurd cc

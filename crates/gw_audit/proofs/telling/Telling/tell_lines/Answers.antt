@@ -27,7 +27,7 @@ loop-number-preserved g c =
           (subst (λ (b : Bool). Turns c.args.start n text left so_far after (Ok b)) c.in-Ok-true.field-0-test c.in-Ok-true.ensures.outcome);
       calls = λ script known.
           let bound = c.loop-number.invariant.calls script known in
-          bound_goes_on c.args.start script n _ _ _ _ _ _ bound
+          bound_goes_on script n _ _ _ _ _ _ bound
           (c.in-Ok-true.ensures.shorter bound.remains bound.text_is (ap Ok c.in-Ok-true.field-0-test)) c.in-Ok-true.ensures.paid;
       lasting_reader = λ never. c.in-Ok-true.ensures.lasting_reader (c.loop-number.invariant.lasting_reader never);
       lasting_writer = λ never. c.in-Ok-true.ensures.lasting_writer (c.loop-number.invariant.lasting_writer never);
