@@ -6,6 +6,7 @@ pub mod MacLemmas
 pub mod AskLemmas
 pub mod TellingLemmas
 pub mod Appended
+pub mod MomentExamples
 pub mod MomentLemmas
 pub mod OnceLemmas
 pub mod Tables

@@ -26,5 +26,8 @@ pub(crate) fn civil_time(time: Time) -> Option<civil::Time>
     let minute = i8::try_from(time.minute).ok()?;
     let second = i8::try_from(time.second?).ok()?;
     let nanosecond = i32::try_from(time.nanosecond.unwrap_or(0)).ok()?;
-    civil::Time::new(hour, minute, second, nanosecond).ok()
+    match civil::Time::new(hour, minute, second, nanosecond) {
+        Ok(time) => Some(time),
+        Err(_) => None,
+    }
 }
