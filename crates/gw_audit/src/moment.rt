@@ -4,6 +4,7 @@ ghost use Rattle.std.specs.Prelude.{◌≡◌, ◌*◌, pos, ◌≤ℤ◌};
 
 use crate::calendar::{civil_date, civil_time};
 use jiff_core::civil;
+use std::fmt;
 use toml_datetime::{Date, Datetime, Offset, Time};
 
 /// The nanoseconds of a tick.
@@ -57,7 +58,7 @@ impl Moment {
     }
 
     /// What RFC 3339 writes of the moment.
-    pub(crate) fn written(self) -> Datetime
+    fn written(self) -> Datetime
         ensures { result ≡ written self }
     {
         let date = self.local.date;
@@ -76,6 +77,17 @@ impl Moment {
             }),
             offset: Some(self.offset),
         }
+    }
+}
+
+impl fmt::Display for Moment {
+    ghost use Rattle.std.specs.Prelude.{Some};
+    ghost use Rattle.gw_audit.specs.Moment.{moment_text};
+
+    ghost output = { λ m. Some (moment_text m) };
+
+    fn fmt<W: fmt::Write>(&self, f: &mut fmt::Formatter<W>) -> fmt::Result {
+        write!(f, "{}", self.written())
     }
 }
 

@@ -73,7 +73,7 @@ fn put_front(alloc: Global, out: &mut Vec<u8>, moment: Option<Moment>) -> Result
     let Some(moment) = moment else {
         return Ok(());
     };
-    let text = moment.written().to_string(alloc)?;
+    let text = moment.to_string(alloc)?;
     put_slice(out, text.as_bytes())?;
     put_octet(out, b' ')
 }
