@@ -92,6 +92,12 @@ agrees 'a line that is no ask' 2 "$work/line" "$work/told"
 status=$?
 agrees 'a log in words' 0 "$here/refusals.log.out" /dev/null
 
+# And with the moments, where the run began at eight.
+{ head -2 "$work/denials"; echo 'no line of a log'; tail -3 "$work/denials"; } | "$program" log --start 2026-11-25T08:00:00+01:00 \
+    > "$work/out" 2> "$work/err"
+status=$?
+agrees 'a log in words with its moments' 0 "$here/refusals.since.out" /dev/null
+
 echo 'bacgw: bad command line' > "$work/refusal"
 
 # flawed LINE WORDS: a replay that explains says what is wrong with the third line
@@ -138,6 +144,10 @@ refused check --lint
 refused why
 refused why --config a --explain
 refused log site.log
+refused log --start
+refused_alone log --start 2026-11-25T08:00:00
+refused_alone log --start 2026-11-25T08:00:60Z
+refused_alone log --start now
 refused_alone run --config a --turns 0
 refused_alone run --config a --turns 9223372036854775808
 refused run --config a --explain

@@ -7,14 +7,14 @@ _bacgw() {
     else
         case $before in
             --config | --log) compopt -o default; return ;;
-            --turns | --stats) return ;;
+            --turns | --stats | --start) return ;;
         esac
         case ${COMP_WORDS[1]} in
             check) options='--config --explain --lint --help' ;;
             replay) options='--config --explain --help' ;;
             run) options='--config --log --turns --stats --verbose --help' ;;
             why) options='--config --help' ;;
-            log) options='--help' ;;
+            log) options='--start --help' ;;
             help) options='check replay run why log' ;;
             *) return ;;
         esac

@@ -18,4 +18,5 @@ complete -c bacgw -n '__fish_seen_subcommand_from run' -l log -r -F -d 'What the
 complete -c bacgw -n '__fish_seen_subcommand_from run' -l turns -x -d 'How many turns are served'
 complete -c bacgw -n '__fish_seen_subcommand_from run' -l stats -x -d 'Tells what was done each so many seconds'
 complete -c bacgw -n '__fish_seen_subcommand_from run' -l verbose -d 'Tells what is served, or where a fault is'
+complete -c bacgw -n '__fish_seen_subcommand_from log' -l start -x -d 'Also tells when each denial was, if the log began then'
 complete -c bacgw -n '__fish_seen_subcommand_from help' -a 'check replay run why log'

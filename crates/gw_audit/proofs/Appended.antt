@@ -1,5 +1,5 @@
 -- Texts that are appended one after the other.
-use Rattle.std.proofs.Common.{◌≡◌, ◌∙◌, ◌+◌, ◌≤◌, ◌++◌, ℕ, List, Result, Ok, Err, ap, arith, append_assoc, length, subst}
+use Rattle.std.proofs.Common.{◌≡◌, ◌∙◌, ◌≤◌, ◌++◌, ℕ, List, Result, Ok, Err, ap, arith, append_assoc, length, subst}
 use Rattle.std.proofs.lemmas.List.{length-append}
 use Rattle.std.specs.Prelude.{OnOk, vec_capacity, vec_items}
 use Rattle.std.specs.Global.{Vec}

@@ -6,6 +6,8 @@ pub mod MacLemmas
 pub mod AskLemmas
 pub mod TellingLemmas
 pub mod Appended
+pub mod MomentExamples
+pub mod MomentLemmas
 pub mod OnceLemmas
 pub mod Tables
 pub mod ToldLemmas

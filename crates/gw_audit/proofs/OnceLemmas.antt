@@ -1,10 +1,13 @@
 -- A line has one telling.
-use Rattle.std.proofs.Common.{◌≡◌, inl, inr, ℕ, List, [], ◌∷◌, ◌++◌, refl, sym, ap, ◌∙◌}
+use Rattle.std.proofs.Common.{◌≡◌, inl, inr, ℕ, List, [], ◌∷◌, ◌++◌, Option, refl, sym, ap, subst, ◌∙◌}
 use Rattle.gw_audit.specs.Entry.{IsLineOf, IsShowable, shown_ask}
 use Rattle.gw_audit.specs.Laws.{AreShownAlike}
+use Rattle.gw_audit.specs.Moment.{IsMomentOf, front_text}
 use Rattle.gw_audit.specs.declared.denial.Denial.{Denial}
+use Rattle.gw_audit.specs.declared.moment.Moment.{Moment}
+use Rattle.gw_audit.proofs.MomentLemmas.{one_front}
 use Rattle.gw_audit.proofs.LineLemmas.{names_one_denial}
-use Rattle.gw_audit.specs.Told.{IsToldAs, TellsEach, TellsOnce}
+use Rattle.gw_audit.specs.Told.{IsTelling, TellsEach, TellsOnce, TellsWords}
 use Rattle.gw_audit.specs.Words.{words, words_of}
 
 -- what is shown of two denials that are shown alike is the same
@@ -19,12 +22,43 @@ same_words a b line shown_a shown_b of_a of_b =
     let same = names_one_denial a b shown_a.numbers shown_b.numbers (sym of_a ∙ of_b) in
     ap (λ ask. words_of ask a.rule) (same_ask a b same) ∙ ap (words_of (shown_ask b)) same.rule
 
+-- one moment is told for a tick
+same_front : (start : Option Moment) (tick other : ℕ) (a b : Option Moment) → tick ≡ other → IsMomentOf start tick a → IsMomentOf start other b
+    → front_text a ≡ front_text b
+same_front start tick other a b same of_a of_b =
+    one_front start other a b (subst (λ (t : ℕ). IsMomentOf start t a) same of_a) of_b
+
+-- so two tellings of denials that are shown alike are the same
+same_telling : (start : Option Moment) (a b : Denial) (line x y : List ℕ) → IsShowable a → IsShowable b → IsLineOf line a → IsLineOf line b
+    → IsTelling start a x → IsTelling start b y → x ≡ y
+same_telling start a b line x y shown_a shown_b of_a of_b told_x told_y =
+    let same = names_one_denial a b shown_a.numbers shown_b.numbers (sym of_a ∙ of_b) in
+    let front = same_front start a.tick b.tick told_x.at told_y.at same.tick told_x.moment told_y.moment in
+    let spelled = same_words a b line shown_a shown_b of_a of_b in
+    told_x.told ∙ ap (λ (t : List ℕ). t ++ words a ++ 10 ∷ []) front
+    ∙ ap (λ (t : List ℕ). front_text told_y.at ++ t ++ 10 ∷ []) spelled ∙ sym told_y.told
+
+-- a telling of a denial is one of each that is shown alike
+alike : (start : Option Moment) (a b : Denial) (line text : List ℕ) → IsShowable a → IsShowable b → IsLineOf line a → IsLineOf line b
+    → IsTelling start a text → IsTelling start b text
+alike start a b line text shown_a shown_b of_a of_b told =
+    let same = names_one_denial a b shown_a.numbers shown_b.numbers (sym of_a ∙ of_b) in
+    record {
+      at = told.at;
+      moment = subst (λ (t : ℕ). IsMomentOf start t told.at) same.tick told.moment;
+      told = told.told ∙ ap (λ (t : List ℕ). front_text told.at ++ t ++ 10 ∷ []) (same_words a b line shown_a shown_b of_a of_b);
+    }
+
 pub each : TellsEach
-each d line text shown of_d (inl told) =
-    told.told ∙ ap (λ (t : List ℕ). t ++ 10 ∷ []) (same_words told.denial d line told.showable shown told.spelled of_d)
-each d line text shown of_d (inr passed) = absurd (passed.is_none d shown of_d)
+each start d line text shown of_d (inl told) = alike start told.denial d line text told.showable shown told.spelled of_d told.told
+each start d line text shown of_d (inr passed) = absurd (passed.is_none d shown of_d)
 
 pub once : TellsOnce
-once line a b (inl told) other = told.told ∙ sym (each told.denial line b told.showable told.spelled other)
-once line a b (inr passed) (inl told) = absurd (passed.is_none told.denial told.showable told.spelled)
-once line a b (inr passed) (inr other) = passed.same ∙ sym other.same
+once start line a b (inl told) (inl other) =
+    same_telling start told.denial other.denial line a b told.showable other.showable told.spelled other.spelled told.told other.told
+once start line a b (inl told) (inr passed) = absurd (passed.is_none told.denial told.showable told.spelled)
+once start line a b (inr passed) (inl told) = absurd (passed.is_none told.denial told.showable told.spelled)
+once start line a b (inr passed) (inr other) = passed.same ∙ sym other.same
+
+pub words_alone : TellsWords
+words_alone d text told = told.told ∙ ap (λ (at : Option Moment). front_text at ++ words d ++ 10 ∷ []) told.moment

@@ -41,16 +41,16 @@ all_behind front first (piece ∷ pieces) =
     ap (λ (t : List ℕ). append_all t pieces) (append_assoc front first piece) ∙ all_behind front (first ++ piece) pieces
 
 source_behind : (front : List ℕ) (source : Source) → front ++ decimal source.net ++ codes ":" ++ flat_map two_digits source.mac ≡ front ++ source_text source
-unfolding append_all source_text
+unfolding append_all
 source_behind front source = all_behind front (decimal source.net) (codes ":" ∷ flat_map two_digits source.mac ∷ [])
 
 request_behind : (front : List ℕ) (ask : Ask) → front ++ codes " " ++ operation_text ask.operation ++ codes " dst=" ++ field_text ask.destination_network ++ codes " svc=" ++ field_text ask.service ≡ front ++ request_text ask
-unfolding append_all request_text
+unfolding append_all
 request_behind front ask =
     all_behind front (codes " ") (operation_text ask.operation ∷ codes " dst=" ∷ field_text ask.destination_network ∷ codes " svc=" ∷ field_text ask.service ∷ [])
 
 object_behind : (front : List ℕ) (ask : Ask) → front ++ codes " obj=" ++ field_text ask.object_type ++ codes "," ++ field_text ask.instance ++ codes " prop=" ++ field_text ask.property ++ codes " prio=" ++ field_text ask.priority ≡ front ++ object_text ask
-unfolding append_all object_text
+unfolding append_all
 object_behind front ask =
     all_behind front (codes " obj=") (field_text ask.object_type ∷ codes "," ∷ field_text ask.instance ∷ codes " prop=" ∷ field_text ask.property ∷ codes " prio=" ∷ field_text ask.priority ∷ [])
 
@@ -70,11 +70,11 @@ with_rule : Denial → List ℕ → List ℕ
 with_rule d front = front ++ codes " rule=" ++ d.rule ++ 10 ∷ []
 
 rule_behind : (front name : List ℕ) → front ++ codes " rule=" ++ name ++ 10 ∷ [] ≡ front ++ rule_text name
-unfolding append_all rule_text
+unfolding append_all
 rule_behind front name = all_behind front (codes " rule=") (name ∷ (10 ∷ []) ∷ [])
 
 line_by_pieces : (d : Denial) → line_text d ≡ with_rule d (with_object d (with_request d (with_source d)))
-unfolding line_text counts_text with_source with_request with_object with_rule
+unfolding line_text with_source with_request with_object with_rule
 line_by_pieces d = refl
 
 pub line_pieces : (d : Denial) → line_text d ≡ counts_text d ++ source_text d.source ++ request_text d.ask ++ object_text d.ask ++ rule_text d.rule
@@ -100,7 +100,7 @@ asked_object ask front =
     front ++ codes " obj=" ++ field_text ask.object_type ++ codes "," ++ field_text ask.instance ++ codes " prop=" ++ field_text ask.property ++ codes " prio=" ++ field_text ask.priority
 
 ask_by_pieces : (source : Source) (ask : Ask) → ask_text source ask ≡ asked_object ask (asked_request ask (source_text source))
-unfolding ask_text source_text asked_request asked_object
+unfolding ask_text asked_request asked_object
 ask_by_pieces source ask = refl
 
 pub ask_pieces : (source : Source) (ask : Ask) → ask_text source ask ≡ source_text source ++ request_text ask ++ object_text ask

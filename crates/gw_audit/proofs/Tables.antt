@@ -1,5 +1,5 @@
 -- A name is found in a table as it is in its plain rows.
-use Rattle.std.proofs.Common.{◌≡◌, ℕ, Bool, true, false, cond, List, [], ◌∷◌, map, Option, Some, None, option_map, refl, sym, ap, ◌∙◌, Bor, nat_eq}
+use Rattle.std.proofs.Common.{◌≡◌, ℕ, Bool, true, false, cond, List, [], ◌∷◌, map, Option, Some, option_map, refl, Bor}
 use Rattle.std.specs.Prelude.{◌==◌, find}
 use Rattle.gw_audit.specs.Names.{name_in, plain}
 

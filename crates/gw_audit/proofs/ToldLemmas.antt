@@ -5,27 +5,28 @@ use Rattle.std.proofs.lemmas.List.{append-nil, take_at, drop_at, length-append}
 use Rattle.std.proofs.lemmas.List.Concat.{flat_map-cons}
 use Rattle.std.proofs.lemmas.Grind.{flat_map-append}
 use Rattle.gw_script.specs.Script.{lines_of}
+use Rattle.gw_audit.specs.declared.moment.Moment.{Moment}
 use Rattle.gw_audit.specs.declared.telling.TellFault.{TellFault}
 use Rattle.gw_audit.specs.declared.telling.TellFault.TheVariants.{Read, Line, Write, Memory}
-use Rattle.gw_audit.specs.Told.{AreTold, FirstTold, IsToldAs, IsToldLine, LineOutcome, TellsFront, TellsPart, TellsToLine, TellsWhole, joined}
+use Rattle.gw_audit.specs.Told.{AreTold, FirstTold, IsToldLine, LineOutcome, TellsFront, TellsPart, TellsToLine, TellsWhole, joined}
 
 -- ---- lines, and what becomes of them
 
-pub same_line : (a b : List ℕ) (told : List ℕ) → a ≡ b → IsToldLine b told → IsToldLine a told
-same_line a b told same is = subst (λ (l : List ℕ). IsToldLine l told) (sym same) is
+pub same_line : (start : Option Moment) (a b : List ℕ) (told : List ℕ) → a ≡ b → IsToldLine start b told → IsToldLine start a told
+same_line start a b told same is = subst (λ (l : List ℕ). IsToldLine start l told) (sym same) is
 
-are_more : (lines : List (List ℕ)) (texts : List (List ℕ)) (line told : List ℕ) → AreTold lines texts → IsToldLine line told
-    → AreTold (lines ++ line ∷ []) (texts ++ told ∷ [])
-are_more [] [] line told are is = (is, tt)
-are_more [] (x ∷ texts) line told are is = absurd are
-are_more (l ∷ lines) [] line told are is = absurd are
-are_more (l ∷ lines) (x ∷ texts) line told are is = (are.0, are_more lines texts line told are.1 is)
+are_more : (start : Option Moment) (lines : List (List ℕ)) (texts : List (List ℕ)) (line told : List ℕ) → AreTold start lines texts → IsToldLine start line told
+    → AreTold start (lines ++ line ∷ []) (texts ++ told ∷ [])
+are_more start [] [] line told are is = (is, tt)
+are_more start [] (x ∷ texts) line told are is = absurd are
+are_more start (l ∷ lines) [] line told are is = absurd are
+are_more start (l ∷ lines) (x ∷ texts) line told are is = (are.0, are_more start lines texts line told are.1 is)
 
-are_length : (lines : List (List ℕ)) (texts : List (List ℕ)) → AreTold lines texts → length lines ≡ length texts
-are_length [] [] are = refl
-are_length [] (x ∷ texts) are = absurd are
-are_length (l ∷ lines) [] are = absurd are
-are_length (l ∷ lines) (x ∷ texts) are = ap suc (are_length lines texts are.1)
+are_length : (start : Option Moment) (lines : List (List ℕ)) (texts : List (List ℕ)) → AreTold start lines texts → length lines ≡ length texts
+are_length start [] [] are = refl
+are_length start [] (x ∷ texts) are = absurd are
+are_length start (l ∷ lines) [] are = absurd are
+are_length start (l ∷ lines) (x ∷ texts) are = ap suc (are_length start lines texts are.1)
 
 one_more : (texts : List (List ℕ)) (told : List ℕ) → joined (texts ++ told ∷ []) ≡ joined texts ++ told
 one_more texts told =
@@ -40,35 +41,35 @@ text_after before texts told =
 -- ---- how far they have come
 
 -- these lines are done, which became these texts, and this text is left
-pub record Progress (script before : List ℕ) (n : ℕ) (text written : Option (List ℕ)) : Type 0 where
+pub record Progress (start : Option Moment) (script before : List ℕ) (n : ℕ) (text written : Option (List ℕ)) : Type 0 where
   pub texts : List (List ℕ)
   pub done : List (List ℕ)
   pub left : List ℕ
-  pub are : AreTold done texts
+  pub are : AreTold start done texts
   pub lines : lines_of script ≡ done ++ lines_of left
   pub text_is : text ≡ Some left
   pub written_is : written ≡ Some (before ++ joined texts)
   pub number : n ≡ length texts + 1
 
 -- what a turn says of what it began with
-abbrev pub Turns : ℕ → Option (List ℕ) → Option (List ℕ) → Option (List ℕ) → Option (List ℕ) → Result Bool TellFault → Type 0
-Turns n text left written after r = (t b : List ℕ) → text ≡ Some t → written ≡ Some b → LineOutcome n t left b after r
+abbrev pub Turns : Option Moment → ℕ → Option (List ℕ) → Option (List ℕ) → Option (List ℕ) → Option (List ℕ) → Result Bool TellFault → Type 0
+Turns start n text left written after r = (t b : List ℕ) → text ≡ Some t → written ≡ Some b → LineOutcome start n t left b after r
 
-first_lines : (script : List ℕ) (done others : List (List ℕ)) (texts : List (List ℕ)) → AreTold done texts → lines_of script ≡ done ++ others
-    → FirstTold script texts
-first_lines script done others texts are lines =
+first_lines : (start : Option Moment) (script : List ℕ) (done others : List (List ℕ)) (texts : List (List ℕ)) → AreTold start done texts → lines_of script ≡ done ++ others
+    → FirstTold start script texts
+first_lines start script done others texts are lines =
     let front : take (length texts) (lines_of script) ≡ done =
-    ap (take (length texts)) lines ∙ take_at done others (length texts) (are_length done texts are) in
-    subst (λ (l : List (List ℕ)). AreTold l texts) (sym front) are
+    ap (take (length texts)) lines ∙ take_at done others (length texts) (are_length start done texts are) in
+    subst (λ (l : List (List ℕ)). AreTold start l texts) (sym front) are
 
-other_lines : (script : List ℕ) (done others : List (List ℕ)) (texts : List (List ℕ)) → AreTold done texts → lines_of script ≡ done ++ others
+other_lines : (start : Option Moment) (script : List ℕ) (done others : List (List ℕ)) (texts : List (List ℕ)) → AreTold start done texts → lines_of script ≡ done ++ others
     → drop (length texts) (lines_of script) ≡ others
-other_lines script done others texts are lines =
-    ap (drop (length texts)) lines ∙ drop_at done others (length texts) (are_length done texts are)
+other_lines start script done others texts are lines =
+    ap (drop (length texts)) lines ∙ drop_at done others (length texts) (are_length start done texts are)
 
-pub begins : (script before : List ℕ) (text written : Option (List ℕ)) → text ≡ Some script → written ≡ Some before
-    → Progress script before 1 text written
-begins script before text written known held = record {
+pub begins : (start : Option Moment) (script before : List ℕ) (text written : Option (List ℕ)) → text ≡ Some script → written ≡ Some before
+    → Progress start script before 1 text written
+begins start script before text written known held = record {
   texts = [];
   done = [];
   left = script;
@@ -79,10 +80,10 @@ begins script before text written known held = record {
   number = refl;
 }
 
-pub goes_on : (script before : List ℕ) (n : ℕ) (text left written after : Option (List ℕ))
-    → Progress script before n text written → Turns n text left written after (Ok true)
-    → Progress script before (n + 1) left after
-goes_on script before n text left written after p turns =
+pub goes_on : (start : Option Moment) (script before : List ℕ) (n : ℕ) (text left written after : Option (List ℕ))
+    → Progress start script before n text written → Turns start n text left written after (Ok true)
+    → Progress start script before (n + 1) left after
+goes_on start script before n text left written after p turns =
     let step = turns p.left (before ++ joined p.texts) p.text_is p.written_is in
     let done_lines : lines_of script ≡ (p.done ++ step.line ∷ []) ++ lines_of step.rest =
     p.lines ∙ ap (λ (l : List (List ℕ)). p.done ++ l) step.lines ∙ sym (append_assoc p.done (step.line ∷ []) (lines_of step.rest)) in
@@ -90,7 +91,7 @@ goes_on script before n text left written after p turns =
       texts = p.texts ++ step.text ∷ [];
       done = p.done ++ step.line ∷ [];
       left = step.rest;
-      are = are_more p.done p.texts step.line step.text p.are step.told;
+      are = are_more start p.done p.texts step.line step.text p.are step.told;
       lines = done_lines;
       text_is = step.remains;
       written_is = step.appended ∙ ap (λ (t : List ℕ). Some t) (text_after before p.texts step.text);
@@ -105,20 +106,20 @@ known P (Some x) t e h =
     let same : t ≡ x = cc in
     subst P same h
 
-pub ends_whole : (script before : List ℕ) (n : ℕ) (text left written after : Option (List ℕ))
-    → Progress script before n text written → Turns n text left written after (Ok false)
-    → IsSomeAnd after (TellsWhole script before)
-ends_whole script before n text left written after p turns =
+pub ends_whole : (start : Option Moment) (script before : List ℕ) (n : ℕ) (text left written after : Option (List ℕ))
+    → Progress start script before n text written → Turns start n text left written after (Ok false)
+    → IsSomeAnd after (TellsWhole start script before)
+ends_whole start script before n text left written after p turns =
     let said = turns p.left (before ++ joined p.texts) p.text_is p.written_is in
     let all : lines_of script ≡ p.done = p.lines ∙ ap (λ (l : List (List ℕ)). p.done ++ l) said.0 ∙ append-nil p.done in
-    known (TellsWhole script before) after (before ++ joined p.texts) said.1
-    (record { texts = p.texts; lines = subst (λ (l : List (List ℕ)). AreTold l p.texts) (sym all) p.are; written = refl })
+    known (TellsWhole start script before) after (before ++ joined p.texts) said.1
+    (record { texts = p.texts; lines = subst (λ (l : List (List ℕ)). AreTold start l p.texts) (sym all) p.are; written = refl })
 
-pub ends_part : (script before : List ℕ) (n : ℕ) (text written : Option (List ℕ)) → Progress script before n text written
-    → IsSomeAnd written (TellsPart script before)
-ends_part script before n text written p =
-    known (TellsPart script before) written (before ++ joined p.texts) p.written_is
-    (record { texts = p.texts; lines = first_lines script p.done (lines_of p.left) p.texts p.are p.lines; written = refl })
+pub ends_part : (start : Option Moment) (script before : List ℕ) (n : ℕ) (text written : Option (List ℕ)) → Progress start script before n text written
+    → IsSomeAnd written (TellsPart start script before)
+ends_part start script before n text written p =
+    known (TellsPart start script before) written (before ++ joined p.texts) p.written_is
+    (record { texts = p.texts; lines = first_lines start script p.done (lines_of p.left) p.texts p.are p.lines; written = refl })
 
 -- a fault that leaves what was written as it was
 abbrev pub Stops : TellFault → Type 0
@@ -127,57 +128,57 @@ Stops Memory = Unit {0}
 Stops Write = ⊥
 Stops (Line m) = ⊥
 
-same_text : (n : ℕ) (t : List ℕ) (left : Option (List ℕ)) (b : List ℕ) (after : Option (List ℕ)) (fault : TellFault)
-    → Stops fault → LineOutcome n t left b after (Err fault) → after ≡ Some b
-same_text n t left b after Read stops said = said
-same_text n t left b after Memory stops said = said
-same_text n t left b after Write stops said = absurd stops
-same_text n t left b after (Line m) stops said = absurd stops
+same_text : (start : Option Moment) (n : ℕ) (t : List ℕ) (left : Option (List ℕ)) (b : List ℕ) (after : Option (List ℕ)) (fault : TellFault)
+    → Stops fault → LineOutcome start n t left b after (Err fault) → after ≡ Some b
+same_text start n t left b after Read stops said = said
+same_text start n t left b after Memory stops said = said
+same_text start n t left b after Write stops said = absurd stops
+same_text start n t left b after (Line m) stops said = absurd stops
 
-pub stops_part : (script before : List ℕ) (n : ℕ) (text left written after : Option (List ℕ)) (fault : TellFault)
-    → Stops fault → Progress script before n text written → Turns n text left written after (Err fault)
-    → IsSomeAnd after (TellsPart script before)
-stops_part script before n text left written after fault stops p turns =
+pub stops_part : (start : Option Moment) (script before : List ℕ) (n : ℕ) (text left written after : Option (List ℕ)) (fault : TellFault)
+    → Stops fault → Progress start script before n text written → Turns start n text left written after (Err fault)
+    → IsSomeAnd after (TellsPart start script before)
+stops_part start script before n text left written after fault stops p turns =
     let said = turns p.left (before ++ joined p.texts) p.text_is p.written_is in
-    known (TellsPart script before) after (before ++ joined p.texts)
-    (same_text n p.left left (before ++ joined p.texts) after fault stops said)
-    (record { texts = p.texts; lines = first_lines script p.done (lines_of p.left) p.texts p.are p.lines; written = refl })
+    known (TellsPart start script before) after (before ++ joined p.texts)
+    (same_text start n p.left left (before ++ joined p.texts) after fault stops said)
+    (record { texts = p.texts; lines = first_lines start script p.done (lines_of p.left) p.texts p.are p.lines; written = refl })
 
 -- where memory is wanted before the first line
-pub part_before : (script before : List ℕ) (written : Option (List ℕ)) → written ≡ Some before
-    → IsSomeAnd written (TellsPart script before)
-part_before script before written is =
-    known (TellsPart script before) written before is (record { texts = []; lines = tt; written = sym (append-nil before) })
+pub part_before : (start : Option Moment) (script before : List ℕ) (written : Option (List ℕ)) → written ≡ Some before
+    → IsSomeAnd written (TellsPart start script before)
+part_before start script before written is =
+    known (TellsPart start script before) written before is (record { texts = []; lines = tt; written = sym (append-nil before) })
 
-pub ends_at_line : (script before : List ℕ) (n : ℕ) (text left written after : Option (List ℕ)) (m : ℕ)
-    → Progress script before n text written → Turns n text left written after (Err (Line m))
-    → IsSomeAnd after (TellsToLine m script before)
-ends_at_line script before n text left written after m p turns =
+pub ends_at_line : (start : Option Moment) (script before : List ℕ) (n : ℕ) (text left written after : Option (List ℕ)) (m : ℕ)
+    → Progress start script before n text written → Turns start n text left written after (Err (Line m))
+    → IsSomeAnd after (TellsToLine start m script before)
+ends_at_line start script before n text left written after m p turns =
     let said = turns p.left (before ++ joined p.texts) p.text_is p.written_is in
     let none = said.1 in
-    known (TellsToLine m script before) after (before ++ joined p.texts) said.2 (record {
+    known (TellsToLine start m script before) after (before ++ joined p.texts) said.2 (record {
       texts = p.texts;
       number = said.0 ∙ p.number;
-      lines = first_lines script p.done (lines_of p.left) p.texts p.are p.lines;
+      lines = first_lines start script p.done (lines_of p.left) p.texts p.are p.lines;
       line = none.line;
       rest = none.others;
-      stands = other_lines script p.done (lines_of p.left) p.texts p.are p.lines ∙ none.lines;
+      stands = other_lines start script p.done (lines_of p.left) p.texts p.are p.lines ∙ none.lines;
       long = none.over;
       written = refl;
     })
 
-pub ends_at_write : (script before : List ℕ) (n : ℕ) (text left written after : Option (List ℕ))
-    → Progress script before n text written → Turns n text left written after (Err Write)
-    → IsSomeAnd after (TellsFront script before)
-ends_at_write script before n text left written after p turns =
+pub ends_at_write : (start : Option Moment) (script before : List ℕ) (n : ℕ) (text left written after : Option (List ℕ))
+    → Progress start script before n text written → Turns start n text left written after (Err Write)
+    → IsSomeAnd after (TellsFront start script before)
+ends_at_write start script before n text left written after p turns =
     let cut_step = turns p.left (before ++ joined p.texts) p.text_is p.written_is in
     let so_far = before ++ joined p.texts in
     let lines : lines_of script ≡ (p.done ++ cut_step.line ∷ []) ++ cut_step.others =
     p.lines ∙ ap (λ (l : List (List ℕ)). p.done ++ l) cut_step.lines ∙ sym (append_assoc p.done (cut_step.line ∷ []) cut_step.others) in
-    known (TellsFront script before) after (so_far ++ cut_step.front) cut_step.appended (record {
+    known (TellsFront start script before) after (so_far ++ cut_step.front) cut_step.appended (record {
       texts = p.texts ++ cut_step.text ∷ [];
-      lines = first_lines script (p.done ++ cut_step.line ∷ []) cut_step.others (p.texts ++ cut_step.text ∷ [])
-          (are_more p.done p.texts cut_step.line cut_step.text p.are cut_step.told) lines;
+      lines = first_lines start script (p.done ++ cut_step.line ∷ []) cut_step.others (p.texts ++ cut_step.text ∷ [])
+          (are_more start p.done p.texts cut_step.line cut_step.text p.are cut_step.told) lines;
       front = joined p.texts ++ cut_step.front;
       unwritten = cut_step.unwritten;
       parts = one_more p.texts cut_step.text ∙ ap (λ (t : List ℕ). joined p.texts ++ t) cut_step.parts

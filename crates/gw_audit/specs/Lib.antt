@@ -3,5 +3,6 @@ pub mod Laws
 pub mod Entry
 pub mod internal
 pub mod Names
+pub mod Moment
 pub mod Told
 pub mod Words

@@ -1,5 +1,5 @@
 -- The words that tell what a line of the log shows. They are this project's own, the names in them the standard's.
-use Rattle.std.specs.Prelude.{ℕ, ◌==◌, Bool, false, if◌then◌else◌, List, [], ◌++◌, length, codes, Option, Some, None}
+use Rattle.std.specs.Prelude.{ℕ, ◌==◌, Bool, false, if◌then◌else◌, List, [], ◌++◌, length, codes, Option, None}
 use Rattle.std.specs.Fmt.{decimal}
 use Rattle.std.specs.List.{flat_map}
 use Rattle.std.specs.Option.{option_map_or}
@@ -19,12 +19,12 @@ use Rattle.gw_audit.specs.Names.{object_type_name, property_name, service_name}
 -- ---- who asks
 
 -- a station: six octets as an address of BACnet/IP, others as digits
-unfoldable pub station_text : List ℕ → List ℕ
+abbrev pub station_text : List ℕ → List ℕ
 station_text mac =
     if length mac == 6 then text_of (address_in mac) else codes "station " ++ flat_map two_digits mac
 
 -- `<station> on network <net>`
-unfoldable pub source_text : Source → List ℕ
+abbrev pub source_text : Source → List ℕ
 source_text source = station_text source.mac ++ codes " on network " ++ decimal source.net
 
 -- ---- what is asked for
@@ -77,7 +77,7 @@ priority_text priority = option_map_or (λ p. codes " at priority " ++ decimal p
 
 -- ---- what is done
 
-unfoldable pub deed_of : Operation → ShownAsk → List ℕ
+abbrev pub deed_of : Operation → ShownAsk → List ℕ
 deed_of Cast ask = codes "casts " ++ service_text ask.service ++ network_text (codes " to ") ask.destination_network
 deed_of Route ask = codes "sends " ++ service_text ask.service ++ network_text (codes " on to ") ask.destination_network
 deed_of Register ask = codes "registers as a foreign device" ++ by_other_text 773 ask.service
@@ -94,7 +94,7 @@ deed_of Write ask =
 deed_of Listing ask = codes "looks for " ++ object_text ask.object_type ask.instance ++ by_text ask.service
 
 -- an operation that the project has no name for
-unfoldable pub deed_text : ShownAsk → List ℕ
+abbrev pub deed_text : ShownAsk → List ℕ
 deed_text ask =
     option_map_or
     (λ number. option_map_or (λ operation. deed_of operation ask) (operation_of number)

@@ -4,7 +4,7 @@ ghost use Rattle.std.specs.Prelude.{◌<◌, ◌^◌, IfSome};
 ghost use Rattle.gw_addr.specs.Reading.{AreOctets};
 ghost use Rattle.gw_audit.specs.Entry.{IsShowable};
 ghost use Rattle.gw_audit.specs.Laws.{EndsOnce, IsDenial, NamesOneDenial};
-ghost use Rattle.gw_audit.specs.Told.{TellsEach, TellsOnce};
+ghost use Rattle.gw_audit.specs.Told.{TellsEach, TellsOnce, TellsWords};
 
 use crate::denial::Denial;
 
@@ -17,10 +17,11 @@ pub fn lines()
 {}
 
 /// Nothing is lost, and nothing is made up: a line has one telling; and what a denial's line is told as
-/// are the words of that denial.
+/// are the words of that denial, behind the moment of its tick where it is known when the log began.
 pub fn telling()
     ensures once { TellsOnce }
     ensures each { TellsEach }
+    ensures words { TellsWords }
 {}
 
 /// The numbers of each denial fit their types, so those laws hold of every one; and its line is read.

@@ -3,9 +3,11 @@
 //! The line is this project's own. `docs/spec/log.md` says it for whoever reads a log.
 #![tactic(auto)]
 
+mod calendar;
 mod denial;
 mod entry;
 pub mod laws;
+mod moment;
 mod names;
 mod reading;
 mod telling;
@@ -14,6 +16,7 @@ mod words;
 
 pub use denial::{Denial, Denials};
 pub use entry::{Shown, ShownAsk};
+pub use moment::Moment;
 pub use names::{object_type_name, property_name, service_name};
 pub use reading::{read_ask, read_line};
 pub use telling::{TellFault, tell_log};

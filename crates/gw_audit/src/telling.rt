@@ -6,6 +6,7 @@ ghost use Rattle.gw_script.specs.Known.{IsShorter, OnKnown};
 ghost use Rattle.gw_script.specs.Reader.{IsPaid};
 ghost use Rattle.gw_audit.specs.Told.{OnKnownLine, TellsFront, TellsPart, TellsToLine, TellsWhole};
 
+use crate::moment::Moment;
 use crate::words::tell_line;
 use gw_script::{LineReader, NextLine, OctetSink, OctetSource, write_whole};
 use std::alloc::Global;
@@ -32,7 +33,8 @@ pub enum TellFault {
 }
 
 /// Tells each line of a log in words, in order, before it takes up the next line: a line that a denial
-/// has by the words of what it shows, another as it is. The writer isn't flushed.
+/// has by the words of what it shows, another as it is. Where it is known when the log began, the moment
+/// of its tick stands in front of a denial's words, in a year up to 9999. The writer isn't flushed.
 ///
 /// A line ends with a line feed, which the last may lack. It has at most 4096 octets without it.
 ///
@@ -49,21 +51,22 @@ pub enum TellFault {
 /// ```
 pub fn tell_log<R: OctetSource, W: OctetSink>(
     alloc: Global,
+    start: Option<Moment>,
     reader: &mut R,
     writer: &mut W,
 ) -> Result<(), TellFault>
     // What is written then, where the octets of the reader and the writer are known: the telling of all
     // lines,
     ensures whole { OnOk result
-        (OnKnown (R.left reader.old) (W.held writer.old) (W.held writer.new) TellsWhole) }
+        (OnKnown (R.left reader.old) (W.held writer.old) (W.held writer.new) (TellsWhole start)) }
     // of the lines before one that is too long,
     ensures line { (n : ℕ) → IsErrOf result (TellFault.Line n) →
-        OnKnown (R.left reader.old) (W.held writer.old) (W.held writer.new) (TellsToLine n) }
+        OnKnown (R.left reader.old) (W.held writer.old) (W.held writer.new) (TellsToLine start n) }
     // or of some first lines, of which a failed write may leave a front.
     ensures front { IsErrOf result TellFault.Write →
-        OnKnown (R.left reader.old) (W.held writer.old) (W.held writer.new) TellsFront }
+        OnKnown (R.left reader.old) (W.held writer.old) (W.held writer.new) (TellsFront start) }
     ensures part { (IsErrOf result TellFault.Read ⊎ IsErrOf result TellFault.Memory) →
-        OnKnown (R.left reader.old) (W.held writer.old) (W.held writer.new) TellsPart }
+        OnKnown (R.left reader.old) (W.held writer.old) (W.held writer.new) (TellsPart start) }
     // What never fails doesn't end the telling: a reader, of a text of less than 2 GiB, and a writer.
     ensures sure_reader { R.NeverFails reader.old → (text : List ℕ) →
         R.left reader.old ≡ Some text → 2 * length text + 1 < 4294967295 →
@@ -77,7 +80,7 @@ pub fn tell_log<R: OctetSource, W: OctetSink>(
         lines: LineReader::new(),
         text,
     };
-    telling.tell_lines(reader, writer)
+    telling.tell_lines(alloc, start, reader, writer)
 }
 
 /// What is kept from line to line.
@@ -91,26 +94,28 @@ impl Telling {
     /// Tells each line, in order.
     fn tell_lines<R: OctetSource, W: OctetSink>(
         &mut self,
+        alloc: Global,
+        start: Option<Moment>,
         reader: &mut R,
         writer: &mut W,
     ) -> Result<(), TellFault>
         requires unread { self.old.lines.unread ≡ [] }
         requires calls { self.old.lines.calls ≡ 0 }
         ensures whole { OnOk result
-            (OnKnown (R.left reader.old) (W.held writer.old) (W.held writer.new) TellsWhole) }
+            (OnKnown (R.left reader.old) (W.held writer.old) (W.held writer.new) (TellsWhole start)) }
         ensures line { (n : ℕ) → IsErrOf result (TellFault.Line n) →
-            OnKnown (R.left reader.old) (W.held writer.old) (W.held writer.new) (TellsToLine n) }
+            OnKnown (R.left reader.old) (W.held writer.old) (W.held writer.new) (TellsToLine start n) }
         ensures front { IsErrOf result TellFault.Write →
-            OnKnown (R.left reader.old) (W.held writer.old) (W.held writer.new) TellsFront }
+            OnKnown (R.left reader.old) (W.held writer.old) (W.held writer.new) (TellsFront start) }
         ensures part { (IsErrOf result TellFault.Read ⊎ IsErrOf result TellFault.Memory) →
-            OnKnown (R.left reader.old) (W.held writer.old) (W.held writer.new) TellsPart }
+            OnKnown (R.left reader.old) (W.held writer.old) (W.held writer.new) (TellsPart start) }
         ensures sure_reader { R.NeverFails reader.old → (text : List ℕ) →
             R.left reader.old ≡ Some text → 2 * length text + 1 < 4294967295 →
             ¬ (IsErrOf result TellFault.Read) }
         ensures sure_writer { W.NeverFails writer.old → ¬ (IsErrOf result TellFault.Write) }
     {
         for number in 1..u64::MAX {
-            match self.tell_next(number, reader, writer) {
+            match self.tell_next(alloc, start, number, reader, writer) {
                 Ok(true) => {}
                 Ok(false) => return Ok(()),
                 Err(fault) => return Err(fault),
@@ -122,11 +127,13 @@ impl Telling {
     /// Tells the line of this number. It answers whether there was one.
     fn tell_next<R: OctetSource, W: OctetSink>(
         &mut self,
+        alloc: Global,
+        start: Option<Moment>,
         number: u64,
         reader: &mut R,
         writer: &mut W,
     ) -> Result<bool, TellFault>
-        ensures outcome { OnKnownLine number
+        ensures outcome { OnKnownLine start number
             (prepend_known self.old.lines.unread (R.left reader.old))
             (prepend_known self.new.lines.unread (R.left reader.new))
             (W.held writer.old) (W.held writer.new) result }
@@ -147,7 +154,7 @@ impl Telling {
             Ok(NextLine::End) => return Ok(false),
             Err(_) => return Err(TellFault::Read),
         };
-        let Ok(()) = tell_line(self.lines.front(len), &mut self.text) else {
+        let Ok(()) = tell_line(alloc, start, self.lines.front(len), &mut self.text) else {
             return Err(TellFault::Memory);
         };
         let Ok(()) = write_whole(writer, &self.text) else {

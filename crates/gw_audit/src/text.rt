@@ -64,7 +64,6 @@ fn put_line(out: &mut Vec<u8>, denial: &Denial) -> Result<(), AllocError>
 }
 
 /// Appends the three counts, each with a space behind it.
-#[tactic(auto, unfolding(crate::specs::internal::Parts::counts_text))]
 fn put_counts(out: &mut Vec<u8>, denial: &Denial) -> Result<(), AllocError>
     ensures { IsAppended (counts_text denial.now) out.old out.new result }
 {
@@ -77,7 +76,6 @@ fn put_counts(out: &mut Vec<u8>, denial: &Denial) -> Result<(), AllocError>
 }
 
 /// Appends a station: its network and its octets, with a colon between.
-#[tactic(auto, unfolding(crate::specs::internal::Parts::source_text))]
 fn put_source(out: &mut Vec<u8>, source: &Source) -> Result<(), AllocError>
     ensures { IsAppended (source_text source.now) out.old out.new result }
 {
@@ -87,7 +85,6 @@ fn put_source(out: &mut Vec<u8>, source: &Source) -> Result<(), AllocError>
 }
 
 /// Appends what was asked, and to which network: the operation, the destination and the service.
-#[tactic(auto, unfolding(crate::specs::internal::Parts::request_text))]
 fn put_request(out: &mut Vec<u8>, ask: &Ask) -> Result<(), AllocError>
     ensures { IsAppended (request_text ask.now) out.old out.new result }
 {
@@ -98,7 +95,6 @@ fn put_request(out: &mut Vec<u8>, ask: &Ask) -> Result<(), AllocError>
 }
 
 /// Appends what it was asked of: the object, the property and the priority.
-#[tactic(auto, unfolding(crate::specs::internal::Parts::object_text))]
 fn put_object(out: &mut Vec<u8>, ask: &Ask) -> Result<(), AllocError>
     ensures { IsAppended (object_text ask.now) out.old out.new result }
 {
@@ -109,7 +105,6 @@ fn put_object(out: &mut Vec<u8>, ask: &Ask) -> Result<(), AllocError>
 }
 
 /// Appends the name of a rule, and the line's end.
-#[tactic(auto, unfolding(crate::specs::internal::Parts::rule_text))]
 fn put_rule(out: &mut Vec<u8>, rule: &RuleName) -> Result<(), AllocError>
     ensures { IsAppended (rule_text rule.now) out.old out.new result }
 {

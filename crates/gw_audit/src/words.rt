@@ -3,15 +3,17 @@
 ghost use Rattle.std.specs.Prelude.{◌≡◌, ◌++◌, ◌∷◌, [], decimal, option_map, OnOk};
 ghost use Rattle.gw_addr.specs.Appending.{IsAppended};
 ghost use Rattle.gw_audit.specs.Line.{field_text, operation_of};
+ghost use Rattle.gw_audit.specs.Moment.{IsMomentOf, front_text};
 ghost use Rattle.gw_audit.specs.Told.{IsToldAs};
 ghost use Rattle.gw_audit.specs.Words.{by_other_text, by_text, deed_of, deed_text, is_one, kind_text, name_text, network_name, network_text, object_text, priority_text, property_text, service_text, source_text, station_text, target_text, words_of};
 
 use crate::entry::{Shown, ShownAsk};
+use crate::moment::Moment;
 use crate::names::{object_type_name, property_name, service_name};
 use crate::reading::read_line;
 use gw_addr::{Mac, Source, bip_from_slice, put_decimal, put_octet, put_slice};
 use gw_rules::Operation;
-use std::alloc::AllocError;
+use std::alloc::{AllocError, Global};
 
 /// The network number that stands for every network (clause 6.2.2).
 const EVERY_NETWORK: u64 = 65535;
@@ -27,21 +29,53 @@ const WRITE_PROPERTY: u64 = 15;
 
 /// Makes what a line of a log is told as, with a line feed behind it, in the place of what the buffer
 /// holds: the words of the denial whose line it is, or the line itself where it is none. The line is
-/// taken without its line feed.
+/// taken without its line feed. Where it is known when the log began, the moment of its tick stands in
+/// front of a denial's words, in a year up to 9999.
 ///
 /// ```text
 /// 192.168.1.5:47808 on network 1 reads 85 present-value of 5,2 binary-value of the device: denied by hide
 /// ```
 ///
 /// 1 Memory: a growth of the buffer was refused; it then holds no more than a front of the text.
-pub fn tell_line(line: &[u8], text: &mut Vec<u8>) -> Result<(), AllocError>
-    ensures { OnOk result (IsToldAs line.now text.new.items) }
+pub fn tell_line(
+    alloc: Global,
+    start: Option<Moment>,
+    line: &[u8],
+    text: &mut Vec<u8>,
+) -> Result<(), AllocError>
+    ensures { OnOk result (IsToldAs start line.now text.new.items) }
 {
     text.clear();
     match read_line(line) {
-        Some(shown) => put_words_line(text, &shown),
+        Some(shown) => {
+            put_front(alloc, text, moment_of(start, shown.tick))?;
+            put_words_line(text, &shown)
+        }
         None => put_line(text, line),
     }
+}
+
+/// The moment of a tick of a log that began then. `None` where it isn't known when, and past the year
+/// 9999.
+fn moment_of(start: Option<Moment>, tick: u64) -> Option<Moment>
+    ensures { IsMomentOf start tick result }
+{
+    match start {
+        Some(start) => start.later(tick),
+        None => None,
+    }
+}
+
+/// Appends a moment and a space, where there is one.
+fn put_front(alloc: Global, out: &mut Vec<u8>, moment: Option<Moment>) -> Result<(), AllocError>
+    ensures { OnOk result (out.new.items ≡ out.old.items ++ front_text moment) }
+{
+    let Some(moment) = moment else {
+        return Ok(());
+    };
+    let text = moment.to_string(alloc)?;
+    put_slice(out, text.as_bytes())?;
+    put_octet(out, b' ')
 }
 
 /// Appends a line, and its line feed.
@@ -80,7 +114,6 @@ fn put_text(out: &mut Vec<u8>, text: &str) -> Result<(), AllocError>
 }
 
 /// Appends a station, and the network that it is on.
-#[tactic(auto, unfolding(crate::specs::Words::source_text))]
 fn put_source(out: &mut Vec<u8>, source: &Source) -> Result<(), AllocError>
     ensures { IsAppended (source_text source.now) out.old out.new result }
 {
@@ -90,7 +123,6 @@ fn put_source(out: &mut Vec<u8>, source: &Source) -> Result<(), AllocError>
 }
 
 /// Appends a station: six octets as an address of BACnet/IP, others as digits.
-#[tactic(auto, unfolding(crate::specs::Words::station_text))]
 fn put_station(out: &mut Vec<u8>, mac: &Mac) -> Result<(), AllocError>
     ensures { IsAppended (station_text mac.now) out.old out.new result }
 {
@@ -102,7 +134,6 @@ fn put_station(out: &mut Vec<u8>, mac: &Mac) -> Result<(), AllocError>
 }
 
 /// Appends what is asked for.
-#[tactic(auto, unfolding(crate::specs::Words::deed_text))]
 fn put_deed(out: &mut Vec<u8>, ask: &ShownAsk) -> Result<(), AllocError>
     ensures { IsAppended (deed_text ask.now) out.old out.new result }
 {
@@ -131,7 +162,6 @@ fn put_number(out: &mut Vec<u8>, word: &[u8], number: u64) -> Result<(), AllocEr
 }
 
 /// Appends what is asked for by an operation.
-#[tactic(auto, unfolding(crate::specs::Words::deed_of))]
 fn put_deed_of(out: &mut Vec<u8>, operation: Operation, ask: &ShownAsk) -> Result<(), AllocError>
     ensures { IsAppended (deed_of operation ask.now) out.old out.new result }
 {
@@ -172,7 +202,6 @@ fn put_deed_of(out: &mut Vec<u8>, operation: Operation, ask: &ShownAsk) -> Resul
 }
 
 /// Appends that a registration is deleted.
-#[tactic(auto, unfolding(crate::specs::Words::deed_of))]
 fn put_delete(out: &mut Vec<u8>, ask: &ShownAsk) -> Result<(), AllocError>
     ensures { IsAppended (deed_of Operation.Delete ask.now) out.old out.new result }
 {
@@ -181,7 +210,6 @@ fn put_delete(out: &mut Vec<u8>, ask: &ShownAsk) -> Result<(), AllocError>
 }
 
 /// Appends that the way to a network is told.
-#[tactic(auto, unfolding(crate::specs::Words::deed_of))]
 fn put_learn(out: &mut Vec<u8>, ask: &ShownAsk) -> Result<(), AllocError>
     ensures { IsAppended (deed_of Operation.Learn ask.now) out.old out.new result }
 {
@@ -191,7 +219,6 @@ fn put_learn(out: &mut Vec<u8>, ask: &ShownAsk) -> Result<(), AllocError>
 }
 
 /// Appends that a question about networks is asked.
-#[tactic(auto, unfolding(crate::specs::Words::deed_of))]
 fn put_question(out: &mut Vec<u8>, ask: &ShownAsk) -> Result<(), AllocError>
     ensures { IsAppended (deed_of Operation.Network ask.now) out.old out.new result }
 {
@@ -201,7 +228,6 @@ fn put_question(out: &mut Vec<u8>, ask: &ShownAsk) -> Result<(), AllocError>
 }
 
 /// Appends what is read.
-#[tactic(auto, unfolding(crate::specs::Words::deed_of))]
 fn put_read(out: &mut Vec<u8>, ask: &ShownAsk) -> Result<(), AllocError>
     ensures { IsAppended (deed_of Operation.Read ask.now) out.old out.new result }
 {
@@ -212,7 +238,6 @@ fn put_read(out: &mut Vec<u8>, ask: &ShownAsk) -> Result<(), AllocError>
 }
 
 /// Appends what is written.
-#[tactic(auto, unfolding(crate::specs::Words::deed_of))]
 fn put_write(out: &mut Vec<u8>, ask: &ShownAsk) -> Result<(), AllocError>
     ensures { IsAppended (deed_of Operation.Write ask.now) out.old out.new result }
 {

@@ -11,7 +11,9 @@ use Rattle.clap.specs.declared.error.kind.ErrorKind.TheVariants as parse
 use Rattle.clap.proofs.OnLiterals.{clap_on_literals}
 use Rattle.clap.proofs.ValueTestLemmas.{accepts-Accepts}
 use Rattle.clap.specs.declared.builder.value_parser.ValueParser.TheVariants.{Unsigned}
-use Rattle.gw_shell.specs.CommandLine.{AreNoOptions, Asks, AsksNothing, Call, call_by, called, commands, most_seconds, most_turns, CallsCheck, CallsExplain, CallsLint, CallsLog, CallsReplay, CallsReplayExplained, CallsRun, CallsRunWhole, CallsWhy, IsAnswer, IsCheck, IsChosen, IsLog, IsRefusal, IsReplay, IsPeriod, IsServing, IsShown, IsTurns, IsWhy}
+use Rattle.gw_shell.specs.CommandLine.{AreNoOptions, Asks, AsksNothing, Call, call_by, called, commands, most_seconds, most_turns, CallsCheck, CallsExplain, CallsLint, CallsLog, CallsLogSince, CallsReplay, CallsReplayExplained, CallsRun, CallsRunWhole, CallsWhy, IsAnswer, IsCheck, IsChosen, IsLog, IsLogSince, IsNoStart, IsRefusal, IsReplay, IsPeriod, IsServing, IsShown, IsStart, IsTurns, IsWhy}
+use Rattle.gw_audit.specs.declared.moment.Moment.{Moment}
+use Rattle.gw_audit.proofs.MomentExamples.{morning, morning_is_read, morning_is_told, morning_text}
 use Rattle.gw_shell.specs.declared.command_line.Choice.{Choice}
 use Rattle.gw_shell.specs.declared.command_line.Choice.TheVariants as choice
 use Rattle.gw_shell.specs.declared.fault.Fault.{Fault}
@@ -42,7 +44,7 @@ refusal_answers words k (Ok (choice.Check file explains lints)) among is = absur
 refusal_answers words k (Ok (choice.Replay file explains)) among is = absurd is
 refusal_answers words k (Ok (choice.Run options)) among is = absurd is
 refusal_answers words k (Ok (choice.Why file)) among is = absurd is
-refusal_answers words k (Ok choice.Log) among is = absurd is
+refusal_answers words k (Ok (choice.Log start)) among is = absurd is
 refusal_answers words k (Ok (choice.Help text)) among is =
     (k, mistake_among (fault_of commands words) k among (λ memory. memory_shows_nothing k memory is), is)
 refusal_answers words k (Ok (choice.Usage text)) among is = (k, mistake_among (fault_of commands words) k among is.2, is)
@@ -69,7 +71,7 @@ taken_answers words (Ok (choice.Check file explains lints)) none is = (none, is)
 taken_answers words (Ok (choice.Replay file explains)) none is = (none, is)
 taken_answers words (Ok (choice.Run options)) none is = (none, is)
 taken_answers words (Ok (choice.Why file)) none is = (none, is)
-taken_answers words (Ok choice.Log) none is = (none, is)
+taken_answers words (Ok (choice.Log start)) none is = (none, is)
 taken_answers words (Ok (choice.Help text)) none is = in_nothing (called words) is
 taken_answers words (Ok (choice.Usage text)) none is = in_nothing (called words) is
 taken_answers words (Err fault.CommandLine) none is = inr (none, is)
@@ -90,7 +92,7 @@ some_same x y e = cc
 -- the call of a command rests on the values of its options alone
 pub same_call : (name : Text) (one other : Text → Option Text) → ((id : Text) → one id ≡ other id) → call_by name one ≡ call_by name other
 same_call name one other same =
-    rw (same (codes "config"), same (codes "log"), same (codes "turns"), same (codes "stats"), same (codes "explain"), same (codes "lint"), same (codes "verbose")) refl
+    rw (same (codes "config"), same (codes "log"), same (codes "turns"), same (codes "stats"), same (codes "start"), same (codes "explain"), same (codes "lint"), same (codes "verbose")) refl
 
 -- the call that a parse entered, by its name and its rows
 pub entered_call : {Z : Type 0} (s : Option (Box SubCommand Z)) (name : Text) (rows : List Row)
@@ -144,7 +146,7 @@ run_asks_nothing name value fault.CommandLine named nothing = record {
   check = λ file e has. run_check (sym named ∙ e);
   run = λ file n period e has turns. nothing n period turns;
   why = λ file e has. why_run (sym e ∙ named);
-  log = λ e. log_run (sym e ∙ named);
+  log = λ start e began. log_run (sym e ∙ named);
 }
 run_asks_nothing name value fault.Memory named nothing = tt
 run_asks_nothing name value fault.Unreadable named nothing = absurd nothing
@@ -156,6 +158,18 @@ run_asks_nothing name value fault.Write named nothing = absurd nothing
 run_asks_nothing name value fault.Log named nothing = absurd nothing
 run_asks_nothing name value (fault.Socket port) named nothing = absurd nothing
 run_asks_nothing name value fault.CountEnd named nothing = absurd nothing
+
+-- a call of `log` whose text of the start tells no moment asks for nothing
+pub log_asks_nothing : (name : Text) (value : Text → Option Text) (f : Fault) → name ≡ codes "log" → IsNoStart (value (codes "start")) f
+    → IsChosen (Some (call_by name value)) (Err f)
+log_asks_nothing name value f named nothing =
+    subst (λ (g : Fault). IsChosen (Some (call_by name value)) (Err g)) (sym nothing.0) (record {
+      replay = λ e. log_replay (sym named ∙ e);
+      check = λ file e has. log_check (sym named ∙ e);
+      run = λ file n period e has turns seconds. log_run (sym named ∙ e);
+      why = λ file e has. log_why (sym named ∙ e);
+      log = λ start e began. nothing.1 start began;
+    })
 
 -- what is said of the call that words make is said of the call that it is known to be
 asked : (words : List Text) (c : Call) (choice : Choice) → called words ≡ Some c → IsSomeAnd (called words) (Asks choice) → Asks choice c
@@ -177,7 +191,7 @@ of_call words c (Ok (choice.Check file explains lints)) none calls is = asked wo
 of_call words c (Ok (choice.Replay file explains)) none calls is = asked words c (choice.Replay file explains) calls is.1
 of_call words c (Ok (choice.Run options)) none calls is = asked words c (choice.Run options) calls is.1
 of_call words c (Ok (choice.Why file)) none calls is = asked words c (choice.Why file) calls is.1
-of_call words c (Ok choice.Log) none calls is = asked words c choice.Log calls is.1
+of_call words c (Ok (choice.Log start)) none calls is = asked words c (choice.Log start) calls is.1
 of_call words c (Ok (choice.Help text)) none calls is = absurd (no_kind (fault_of commands words) is.0 none is.1)
 of_call words c (Ok (choice.Usage text)) none calls is = absurd (no_kind (fault_of commands words) is.0 none is.1)
 of_call words c (Err fault.CommandLine) none calls (inl is) = absurd (no_kind (fault_of commands words) is.0 none is.1)
@@ -202,6 +216,7 @@ replay_call explains = record {
   log = None;
   turns = None;
   stats = None;
+  start = None;
   explains = explains;
   lints = false;
   verbose = false;
@@ -234,7 +249,7 @@ replay_or_memory c (Ok (choice.Check file explains lints)) named is = absurd (ch
 replay_or_memory c (Ok (choice.Replay file explains)) named is = (is.1, is.2)
 replay_or_memory c (Ok (choice.Run options)) named is = absurd (run_replay (sym is.0 ∙ named))
 replay_or_memory c (Ok (choice.Why file)) named is = absurd (why_replay (sym is.0 ∙ named))
-replay_or_memory c (Ok choice.Log) named is = absurd (log_replay (sym is ∙ named))
+replay_or_memory c (Ok (choice.Log start)) named is = absurd (log_replay (sym is.0 ∙ named))
 replay_or_memory c (Ok (choice.Help text)) named is = absurd is
 replay_or_memory c (Ok (choice.Usage text)) named is = absurd is
 replay_or_memory c (Err fault.CommandLine) named is = absurd (is.replay named)
@@ -270,6 +285,7 @@ check_call explains lints = record {
   log = None;
   turns = None;
   stats = None;
+  start = None;
   explains = explains;
   lints = lints;
   verbose = false;
@@ -313,7 +329,7 @@ check_or_memory c file (Ok (choice.Check name explains lints)) named has is = (s
 check_or_memory c file (Ok (choice.Replay name explains)) named has is = absurd (check_replay (sym named ∙ is.0))
 check_or_memory c file (Ok (choice.Run options)) named has is = absurd (run_check (sym is.0 ∙ named))
 check_or_memory c file (Ok (choice.Why name)) named has is = absurd (why_check (sym is.0 ∙ named))
-check_or_memory c file (Ok choice.Log) named has is = absurd (log_check (sym is ∙ named))
+check_or_memory c file (Ok (choice.Log start)) named has is = absurd (log_check (sym is.0 ∙ named))
 check_or_memory c file (Ok (choice.Help text)) named has is = absurd is
 check_or_memory c file (Ok (choice.Usage text)) named has is = absurd is
 check_or_memory c file (Err fault.CommandLine) named has is = absurd (is.check file named has)
@@ -355,6 +371,7 @@ run_call log turns verbose stats = record {
   log = log;
   turns = turns;
   stats = stats;
+  start = None;
   explains = false;
   lints = false;
   verbose = verbose;
@@ -407,7 +424,7 @@ run_or_memory c file n period (Ok (choice.Replay name explains)) named has turns
 run_or_memory c file n period (Ok (choice.Run options)) named has turns seconds is =
     (some_same _ _ (sym is.1 ∙ has), is.2, turns_same c.turns options.turns n is.3 turns, is.4, period_same c.stats options.stats period is.5 seconds)
 run_or_memory c file n period (Ok (choice.Why name)) named has turns seconds is = absurd (why_run (sym is.0 ∙ named))
-run_or_memory c file n period (Ok choice.Log) named has turns seconds is = absurd (log_run (sym is ∙ named))
+run_or_memory c file n period (Ok (choice.Log start)) named has turns seconds is = absurd (log_run (sym is.0 ∙ named))
 run_or_memory c file n period (Ok (choice.Help text)) named has turns seconds is = absurd is
 run_or_memory c file n period (Ok (choice.Usage text)) named has turns seconds is = absurd is
 run_or_memory c file n period (Err fault.CommandLine) named has turns seconds is = absurd (is.run file n period named has turns seconds)
@@ -444,6 +461,7 @@ why_call = record {
   log = None;
   turns = None;
   stats = None;
+  start = None;
   explains = false;
   lints = false;
   verbose = false;
@@ -465,7 +483,7 @@ why_or_memory c file (Ok (choice.Check name explains lints)) named has is = absu
 why_or_memory c file (Ok (choice.Replay name explains)) named has is = absurd (why_replay (sym named ∙ is.0))
 why_or_memory c file (Ok (choice.Run options)) named has is = absurd (why_run (sym named ∙ is.0))
 why_or_memory c file (Ok (choice.Why name)) named has is = some_same _ _ (sym is.1 ∙ has)
-why_or_memory c file (Ok choice.Log) named has is = absurd (log_why (sym is ∙ named))
+why_or_memory c file (Ok (choice.Log start)) named has is = absurd (log_why (sym is.0 ∙ named))
 why_or_memory c file (Ok (choice.Help text)) named has is = absurd is
 why_or_memory c file (Ok (choice.Usage text)) named has is = absurd is
 why_or_memory c file (Err fault.CommandLine) named has is = absurd (is.why file named has)
@@ -488,13 +506,14 @@ why_is_taken words r is call =
 
 -- ---- a call that tells a log in words
 
-abbrev log_call : Call
-log_call = record {
+abbrev log_call : Option Text → Call
+log_call start = record {
   name = codes "log";
   config = None;
   log = None;
   turns = None;
   stats = None;
+  start = start;
   explains = false;
   lints = false;
   verbose = false;
@@ -503,36 +522,103 @@ log_call = record {
 abbrev log_words : Text → List Text
 log_words program = program ∷ codes "log" ∷ []
 
+abbrev log_since_words : Text → List Text
+log_since_words program = program ∷ codes "log" ∷ codes "--start" ∷ codes "2026-11-25T08:00:00+01:00" ∷ []
+
 log_no_fault : (program : Text) → fault_of commands (log_words program) ≡ []
 unfolding clap_on_literals
 log_no_fault program = refl
 
-calls_log : (program : Text) → called (log_words program) ≡ Some log_call
+calls_log : (program : Text) → called (log_words program) ≡ Some (log_call None)
 unfolding clap_on_literals
 calls_log program = refl
 
-log_or_memory : (c : Call) (r : Result Choice Fault) → c.name ≡ codes "log" → IsOfCall c r → IsLog r
-log_or_memory c (Ok (choice.Check name explains lints)) named is = absurd (log_check (sym named ∙ is.0))
-log_or_memory c (Ok (choice.Replay name explains)) named is = absurd (log_replay (sym named ∙ is.0))
-log_or_memory c (Ok (choice.Run options)) named is = absurd (log_run (sym named ∙ is.0))
-log_or_memory c (Ok (choice.Why name)) named is = absurd (log_why (sym named ∙ is.0))
-log_or_memory c (Ok choice.Log) named is = tt
-log_or_memory c (Err fault.CommandLine) named is = absurd (is.log named)
-log_or_memory c (Ok (choice.Help text)) named is = absurd is
-log_or_memory c (Ok (choice.Usage text)) named is = absurd is
-log_or_memory c (Err fault.Memory) named is = tt
-log_or_memory c (Err fault.Unreadable) named is = absurd is
-log_or_memory c (Err (fault.Configuration f)) named is = absurd is
-log_or_memory c (Err (fault.Line n)) named is = absurd is
-log_or_memory c (Err (fault.FlawedLine n flaw)) named is = absurd is
-log_or_memory c (Err fault.Read) named is = absurd is
-log_or_memory c (Err fault.Write) named is = absurd is
-log_or_memory c (Err fault.Log) named is = absurd is
-log_or_memory c (Err (fault.Socket port)) named is = absurd is
-log_or_memory c (Err fault.CountEnd) named is = absurd is
+log_since_no_fault : (program : Text) → fault_of commands (log_since_words program) ≡ []
+unfolding clap_on_literals
+log_since_no_fault program = refl
+
+calls_log_since : (program : Text) → called (log_since_words program) ≡ Some (log_call (Some (codes "2026-11-25T08:00:00+01:00")))
+unfolding clap_on_literals
+calls_log_since program = refl
+
+-- what tells a log, where its text of the start tells a moment
+abbrev pub IsTold : Option Text → Result Choice Fault → Type 0
+IsTold given (Ok (choice.Log start)) = IsStart given start
+IsTold given (Err fault.Memory) = ⊤
+IsTold given _ = ⊥
+
+log_or_memory : (c : Call) (start : Option Moment) (r : Result Choice Fault) → c.name ≡ codes "log" → IsStart c.start start → IsOfCall c r
+    → IsTold c.start r
+log_or_memory c start (Ok (choice.Check name explains lints)) named began is = absurd (log_check (sym named ∙ is.0))
+log_or_memory c start (Ok (choice.Replay name explains)) named began is = absurd (log_replay (sym named ∙ is.0))
+log_or_memory c start (Ok (choice.Run options)) named began is = absurd (log_run (sym named ∙ is.0))
+log_or_memory c start (Ok (choice.Why name)) named began is = absurd (log_why (sym named ∙ is.0))
+log_or_memory c start (Ok (choice.Log told)) named began is = is.1
+log_or_memory c start (Ok (choice.Help text)) named began is = absurd is
+log_or_memory c start (Ok (choice.Usage text)) named began is = absurd is
+log_or_memory c start (Err fault.CommandLine) named began is = absurd (is.log start named began)
+log_or_memory c start (Err fault.Memory) named began is = tt
+log_or_memory c start (Err fault.Unreadable) named began is = absurd is
+log_or_memory c start (Err (fault.Configuration f)) named began is = absurd is
+log_or_memory c start (Err (fault.Line n)) named began is = absurd is
+log_or_memory c start (Err (fault.FlawedLine n flaw)) named began is = absurd is
+log_or_memory c start (Err fault.Read) named began is = absurd is
+log_or_memory c start (Err fault.Write) named began is = absurd is
+log_or_memory c start (Err fault.Log) named began is = absurd is
+log_or_memory c start (Err (fault.Socket port)) named began is = absurd is
+log_or_memory c start (Err fault.CountEnd) named began is = absurd is
+
+-- told so without a start, it is told alone
+told_alone : (r : Result Choice Fault) → IsTold None r → IsLog r
+told_alone (Ok (choice.Log start)) is = is
+told_alone (Ok (choice.Check name explains lints)) is = absurd is
+told_alone (Ok (choice.Replay name explains)) is = absurd is
+told_alone (Ok (choice.Run options)) is = absurd is
+told_alone (Ok (choice.Why name)) is = absurd is
+told_alone (Ok (choice.Help text)) is = absurd is
+told_alone (Ok (choice.Usage text)) is = absurd is
+told_alone (Err fault.Memory) is = tt
+told_alone (Err fault.CommandLine) is = absurd is
+told_alone (Err fault.Unreadable) is = absurd is
+told_alone (Err (fault.Configuration f)) is = absurd is
+told_alone (Err (fault.Line n)) is = absurd is
+told_alone (Err (fault.FlawedLine n flaw)) is = absurd is
+told_alone (Err fault.Read) is = absurd is
+told_alone (Err fault.Write) is = absurd is
+told_alone (Err fault.Log) is = absurd is
+told_alone (Err (fault.Socket port)) is = absurd is
+told_alone (Err fault.CountEnd) is = absurd is
 
 pub log_is_taken : (words : List Text) (r : Result Choice Fault) → IsAnswer words r → CallsLog words → IsLog r
 log_is_taken words r is call =
-    log_or_memory log_call r refl
-    (of_call words log_call r (ap (λ (w : List Text). fault_of commands w) call.1 ∙ log_no_fault call.0)
-    (ap called call.1 ∙ calls_log call.0) is)
+    told_alone r (log_or_memory (log_call None) None r refl refl
+    (of_call words (log_call None) r (ap (λ (w : List Text). fault_of commands w) call.1 ∙ log_no_fault call.0)
+    (ap called call.1 ∙ calls_log call.0) is))
+
+-- told so since this moment, it is told with the moments from then on
+told_since : (r : Result Choice Fault) → IsTold (Some morning_text) r → IsLogSince morning_text r
+told_since (Ok (choice.Log None)) is = absurd is
+told_since (Ok (choice.Log (Some m))) is = (morning_is_told m is, λ none. search rules)
+told_since (Ok (choice.Check name explains lints)) is = absurd is
+told_since (Ok (choice.Replay name explains)) is = absurd is
+told_since (Ok (choice.Run options)) is = absurd is
+told_since (Ok (choice.Why name)) is = absurd is
+told_since (Ok (choice.Help text)) is = absurd is
+told_since (Ok (choice.Usage text)) is = absurd is
+told_since (Err fault.Memory) is = tt
+told_since (Err fault.CommandLine) is = absurd is
+told_since (Err fault.Unreadable) is = absurd is
+told_since (Err (fault.Configuration f)) is = absurd is
+told_since (Err (fault.Line n)) is = absurd is
+told_since (Err (fault.FlawedLine n flaw)) is = absurd is
+told_since (Err fault.Read) is = absurd is
+told_since (Err fault.Write) is = absurd is
+told_since (Err fault.Log) is = absurd is
+told_since (Err (fault.Socket port)) is = absurd is
+told_since (Err fault.CountEnd) is = absurd is
+
+pub log_since_is_taken : (words : List Text) (r : Result Choice Fault) → IsAnswer words r → CallsLogSince words → IsLogSince morning_text r
+log_since_is_taken words r is call =
+    told_since r (log_or_memory (log_call (Some morning_text)) (Some morning) r refl morning_is_read
+    (of_call words (log_call (Some morning_text)) r (ap (λ (w : List Text). fault_of commands w) call.1 ∙ log_since_no_fault call.0)
+    (ap called call.1 ∙ calls_log_since call.0) is))

@@ -11,6 +11,8 @@ use Rattle.clap.specs.Simple.{on_top}
 use Rattle.clap.specs.declared.builder.action.ArgAction.TheVariants.{SetTrue}
 use Rattle.clap.specs.declared.error.kind.ErrorKind.{ErrorKind}
 use Rattle.clap.specs.declared.error.kind.ErrorKind.TheVariants as parse
+use Rattle.gw_audit.specs.Moment.{IsTextOf, moment_text}
+use Rattle.gw_audit.specs.declared.moment.Moment.{Moment}
 use Rattle.gw_shell.specs.declared.command_line.Choice.{Choice}
 use Rattle.gw_shell.specs.declared.options.RunOptions.{RunOptions}
 use Rattle.gw_shell.specs.declared.command_line.Choice.TheVariants as choice
@@ -74,9 +76,13 @@ run = with_rule run_of_turns stats
 abbrev pub why : App
 why = with_rule (new_app (codes "why")) needed_config
 
--- `log`, which needs nothing
+-- `--start TIME`
+abbrev pub start : Rule
+start = record (new_rule (codes "start")) { long = Some (codes "start"); value_names = 1 }
+
+-- `log`, which needs nothing, and may have the moment at which the log began
 abbrev pub log_in_words : App
-log_in_words = new_app (codes "log")
+log_in_words = with_rule (new_app (codes "log")) start
 
 -- the commands of the program, of which the call has to name one
 abbrev pub commands : App
@@ -99,6 +105,7 @@ pub record Call : Type 0 where
   pub log : Option Text
   pub turns : Option Text
   pub stats : Option Text
+  pub start : Option Text
   pub explains : Bool
   pub lints : Bool
   pub verbose : Bool
@@ -116,6 +123,7 @@ call_by name value = record {
   log = value (codes "log");
   turns = value (codes "turns");
   stats = value (codes "stats");
+  start = value (codes "start");
   explains = is_given (value (codes "explain"));
   lints = is_given (value (codes "lint"));
   verbose = is_given (value (codes "verbose"));
@@ -155,6 +163,16 @@ IsPeriod (Some text) period =
 abbrev pub IsNoPeriod : Option Text → Fault → Type 0
 IsNoPeriod given f = (f ≡ fault.CommandLine) × ((period : Option ℕ) → ¬ (IsPeriod given period))
 
+-- the moment at which a log began: what the text tells, and none where none is given
+abbrev pub IsStart : Option Text → Option Moment → Type 0
+IsStart None start = start ≡ None
+IsStart (Some text) (Some m) = IsTextOf text m
+IsStart (Some text) None = ⊥
+
+-- The text tells no moment, which makes a bad command line.
+abbrev pub IsNoStart : Option Text → Fault → Type 0
+IsNoStart given f = (f ≡ fault.CommandLine) × ((start : Option Moment) → ¬ (IsStart given start))
+
 -- what `run` is asked for by the values of its options
 pub record AreOptions (file : Text) (value : Text → Option Text) (options : RunOptions) : Type 0 where
   pub config : string_bytes options.config ≡ file
@@ -182,13 +200,13 @@ Asks (choice.Run options) call =
     × (option_map string_bytes options.log ≡ call.log)
     × IsTurns call.turns options.turns × (options.verbose ≡ call.verbose) × IsPeriod call.stats options.stats
 Asks (choice.Why file) call = (call.name ≡ codes "why") × (call.config ≡ Some (string_bytes file))
-Asks choice.Log call = call.name ≡ codes "log"
+Asks (choice.Log start) call = (call.name ≡ codes "log") × IsStart call.start start
 Asks (choice.Help text) call = ⊥
 Asks (choice.Usage text) call = ⊥
 
--- A call of `replay` or `log` asks for something, one of `check` or `why` where a file is named, and one of `run`
--- where a file is named and the texts of the turns and of the seconds between two reports are such numbers; other
--- calls ask for nothing.
+-- A call of `replay` asks for something, one of `check` or `why` where a file is named, one of `run` where a file is
+-- named and the texts of the turns and of the seconds between two reports are such numbers, and one of `log` where
+-- the text of its start tells a moment; other calls ask for nothing.
 pub record AsksNothing (call : Call) : Type 0 where
   pub replay : call.name ≢ codes "replay"
   pub check : (file : Text) → call.name ≡ codes "check" → call.config ≢ Some file
@@ -196,7 +214,7 @@ pub record AsksNothing (call : Call) : Type 0 where
       call.name ≡ codes "run" → call.config ≡ Some file → IsTurns call.turns n →
       ¬ (IsPeriod call.stats period)
   pub why : (file : Text) → call.name ≡ codes "why" → call.config ≢ Some file
-  pub log : call.name ≢ codes "log"
+  pub log : (start : Option Moment) → call.name ≡ codes "log" → ¬ (IsStart call.start start)
 
 -- a choice is what the call asks for, and a bad command line is a call that asks for nothing; memory may run out at any
 abbrev pub IsChosen : Option Call → Result Choice Fault → Type 0
@@ -243,7 +261,7 @@ IsAnswer words (Ok (choice.Check file explains lints)) = IsTaken words (Ok (choi
 IsAnswer words (Ok (choice.Replay file explains)) = IsTaken words (Ok (choice.Replay file explains))
 IsAnswer words (Ok (choice.Run options)) = IsTaken words (Ok (choice.Run options))
 IsAnswer words (Ok (choice.Why file)) = IsTaken words (Ok (choice.Why file))
-IsAnswer words (Ok choice.Log) = IsTaken words (Ok choice.Log)
+IsAnswer words (Ok (choice.Log start)) = IsTaken words (Ok (choice.Log start))
 IsAnswer words (Ok (choice.Help text)) = AsksToShow words
 IsAnswer words (Ok (choice.Usage text)) = IsMistake words
 IsAnswer words (Err fault.CommandLine) = IsMistake words ⊎ IsTaken words (Err fault.CommandLine)
@@ -281,6 +299,11 @@ CallsWhy words = (program : Text) × (words ≡ program ∷ codes "why" ∷ code
 abbrev pub CallsLog : List Text → Type 0
 CallsLog words = (program : Text) × (words ≡ program ∷ codes "log" ∷ [])
 
+-- the words of a call that tells one that began then
+abbrev pub CallsLogSince : List Text → Type 0
+CallsLogSince words = (program : Text)
+    × (words ≡ program ∷ codes "log" ∷ codes "--start" ∷ codes "2026-11-25T08:00:00+01:00" ∷ [])
+
 -- the words of a call that serves the ports of the file `site.toml`, and of one with all options
 abbrev pub CallsRun : List Text → Type 0
 CallsRun words = (program : Text) × (words ≡ program ∷ codes "run" ∷ codes "--config" ∷ codes "site.toml" ∷ [])
@@ -310,11 +333,17 @@ IsWhy file (Ok (choice.Why chosen)) = string_bytes chosen ≡ file
 IsWhy file (Err fault.Memory) = ⊤
 IsWhy file _ = ⊥
 
--- the log is told in words, or memory ran out
+-- the log is told in words alone, or memory ran out
 abbrev pub IsLog : Result Choice Fault → Type 0
-IsLog (Ok choice.Log) = ⊤
+IsLog (Ok (choice.Log start)) = start ≡ None
 IsLog (Err fault.Memory) = ⊤
 IsLog _ = ⊥
+
+-- it is told with the moments from that of this text on, or memory ran out
+abbrev pub IsLogSince : Text → Result Choice Fault → Type 0
+IsLogSince text (Ok (choice.Log start)) = IfSome start (λ m. moment_text m ≡ text) × (start ≢ None)
+IsLogSince text (Err fault.Memory) = ⊤
+IsLogSince text _ = ⊥
 
 -- The ports of that file are served with that log for so many turns, it is told what is served or not, and reports
 -- are told with so many seconds between two, where they are; or memory ran out.

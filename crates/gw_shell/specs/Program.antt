@@ -88,8 +88,8 @@ LeavesOutput Reads machine input held holds told (Ok (choice.Run options)) outco
 LeavesOutput Reads machine input held holds told (Ok (choice.Why file)) outcome =
     (c : Result Configuration Fault) × IsConfigured Reads (Some (string_bytes file)) c
     × LeavesAnswered input held holds c outcome
-LeavesOutput Reads machine input held holds told (Ok choice.Log) outcome =
-    OnKnown input held holds (λ log before. Tells log before outcome)
+LeavesOutput Reads machine input held holds told (Ok (choice.Log start)) outcome =
+    OnKnown input held holds (λ log before. Tells start log before outcome)
 LeavesOutput Reads machine input held holds told (Ok (choice.Help text)) (Ok done) =
     Appends held holds (string_bytes text)
 LeavesOutput Reads machine input held holds told (Ok (choice.Help text)) (Err f) =

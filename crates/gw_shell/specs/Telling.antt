@@ -1,19 +1,21 @@
 -- What `log` leaves written, at each outcome: over the definitions of `gw_audit`.
-use Rattle.std.specs.Prelude.{ℕ, Bool, true, false, List, Result, Ok, Err}
+use Rattle.std.specs.Prelude.{ℕ, Bool, true, false, List, Option, Result, Ok, Err}
 use Rattle.gw_audit.specs.Told.{TellsFront, TellsPart, TellsToLine, TellsWhole}
+use Rattle.gw_audit.specs.declared.moment.Moment.{Moment}
 use Rattle.gw_audit.specs.declared.telling.TellFault.{TellFault}
 use Rattle.gw_audit.specs.declared.telling.TellFault.TheVariants as telling
 use Rattle.gw_shell.specs.declared.fault.Fault.{Fault}
 use Rattle.gw_shell.specs.declared.fault.Fault.TheVariants as fault
 
--- `before` was written before this log was told in words with this outcome, and `after` when that ended
-abbrev pub Tells : List ℕ → List ℕ → Result (Unit {0}) Fault → List ℕ → Type 0
-Tells log before (Ok done) after = TellsWhole log before after
-Tells log before (Err (fault.Line n)) after = TellsToLine n log before after
-Tells log before (Err fault.Read) after = TellsPart log before after
-Tells log before (Err fault.Write) after = TellsFront log before after
-Tells log before (Err fault.Memory) after = TellsPart log before after
-Tells log before (Err _) after = ⊥
+-- `before` was written before this log, which began at a moment that may be known, was told in words with this
+-- outcome, and `after` when that ended
+abbrev pub Tells : Option Moment → List ℕ → List ℕ → Result (Unit {0}) Fault → List ℕ → Type 0
+Tells start log before (Ok done) after = TellsWhole start log before after
+Tells start log before (Err (fault.Line n)) after = TellsToLine start n log before after
+Tells start log before (Err fault.Read) after = TellsPart start log before after
+Tells start log before (Err fault.Write) after = TellsFront start log before after
+Tells start log before (Err fault.Memory) after = TellsPart start log before after
+Tells start log before (Err _) after = ⊥
 
 -- the fault of the telling, as the program tells it
 abbrev pub fault_of_telling : TellFault → Fault

@@ -3,12 +3,13 @@
 ghost use Rattle.std.specs.Prelude.{◌≡◌, ◌<◌, Some, None, true, false, IfOk, IfSome, MatchResult, map, codes, option_map, string_bytes};
 ghost use Rattle.clap.specs.Words.{app_of, first_value, found_of, kind_of, rule_of, subcommand_rows_of};
 ghost use Rattle.clap.specs.declared.builder.command.Command.TheViews.{out-Command};
-ghost use Rattle.gw_shell.specs.CommandLine.{call_by, call_of, check, check_of_file, commands, explain, is_given, log_in_words, replay, run, run_of_files, run_of_turns, needed_config, why, AreOptions, CallsCheck, CallsExplain, CallsLint, CallsLog, CallsReplay, CallsReplayExplained, CallsRun, CallsRunWhole, CallsWhy, IsAnswer, IsCheck, IsChosen, IsLog, IsNoPeriod, IsNoTurns, AreNoOptions, IsPeriod, IsRefusal, IsReplay, IsServing, IsTurns, IsWhy};
+ghost use Rattle.gw_shell.specs.CommandLine.{call_by, call_of, check, check_of_file, commands, explain, is_given, log_in_words, replay, run, run_of_files, run_of_turns, needed_config, why, AreOptions, CallsCheck, CallsExplain, CallsLint, CallsLog, CallsLogSince, CallsReplay, CallsReplayExplained, CallsRun, CallsRunWhole, CallsWhy, IsAnswer, IsCheck, IsChosen, IsLog, IsLogSince, IsNoPeriod, IsNoStart, IsNoTurns, AreNoOptions, IsPeriod, IsRefusal, IsReplay, IsServing, IsStart, IsTurns, IsWhy};
 
 use crate::fault::Fault;
 use crate::options::RunOptions;
 use clap::error::ErrorKind;
 use clap::{Arg, ArgAction, ArgMatches, Command, Error};
+use gw_audit::Moment;
 use std::alloc::{AllocError, Global};
 
 /// How many turns are served at most, and where no number of them is given.
@@ -59,8 +60,9 @@ pub enum Choice {
     /// Say of each ask on standard input which rule of the configuration in the file of this name
     /// decides it.
     Why(String),
-    /// Tell the log on standard input in words.
-    Log,
+    /// Tell the log on standard input in words, and when each denial was where this is the moment at
+    /// which the log began.
+    Log(Option<Moment>),
     /// Print this text, which is help or the version.
     Help(String),
     /// Tell that the words are no command line, and this text behind it, which says how the program is
@@ -177,13 +179,18 @@ fn make_why<'a>(alloc: Global) -> Result<Command<'a>, AllocError>
         .arg(make_config(alloc))
 }
 
-fn make_log<'a>(alloc: Global) -> Command<'a>
-    ensures app { app_of result ≡ log_in_words }
-    ensures local { (out-Command result).has_globals ≡ false }
+fn make_log<'a>(alloc: Global) -> Result<Command<'a>, AllocError>
+    ensures app { IfOk result (λ command. app_of command ≡ log_in_words) }
+    ensures local { IfOk result (λ command. (out-Command command).has_globals ≡ false) }
 {
+    let start = Arg::new(alloc, "start")
+        .long("start")
+        .value_name("TIME")
+        .help("Also tells when each denial was, if the log began then: 2026-11-25T08:00:00+01:00");
     Command::new(alloc, "log")
         .about("Tells each line of a log on standard input in words")
         .after_help(LOG_EXAMPLE)
+        .arg(start)
 }
 
 /// The commands of the program.
@@ -194,6 +201,7 @@ fn make_commands<'a>(alloc: Global) -> Result<Command<'a>, AllocError>
     let replay = make_replay(alloc)?;
     let run = make_run(alloc)?;
     let why = make_why(alloc)?;
+    let log = make_log(alloc)?;
     Command::new(alloc, "bacgw")
         .about("A gateway of BACnet/IP")
         .version(VERSION)
@@ -202,7 +210,7 @@ fn make_commands<'a>(alloc: Global) -> Result<Command<'a>, AllocError>
         .subcommand(replay)?
         .subcommand(run)?
         .subcommand(why)?
-        .subcommand(make_log(alloc))
+        .subcommand(log)
 }
 
 /// What is made of a parse that gave no matches.
@@ -275,6 +283,20 @@ fn period_of(text: Option<&str>) -> Result<Option<u64>, Fault>
     }
 }
 
+/// The moment that this text tells, or none where there is none.
+fn start_of(text: Option<&str>) -> Result<Option<Moment>, Fault>
+    ensures { let given = option_map (λ t. t.now) text.entry in
+        MatchResult result (IsStart given) (IsNoStart given) }
+{
+    let Some(text) = text else {
+        return Ok(None);
+    };
+    match Moment::parse(text) {
+        Some(start) => Ok(Some(start)),
+        None => Err(Fault::CommandLine),
+    }
+}
+
 /// What `run` is asked for under the configuration in this file.
 fn run_options(alloc: Global, matches: &ArgMatches<'_>, config: String) -> Result<RunOptions, Fault>
     ensures { let value = first_value (found_of matches.now) in
@@ -296,7 +318,10 @@ fn choice_for(alloc: Global, name: &str, matches: &ArgMatches<'_>) -> Result<Cho
     ensures { IsChosen (Some (call_by name.now (first_value (found_of matches.now)))) result }
 {
     if name == "log" {
-        return Ok(Choice::Log);
+        return match start_of(matches.get_str("start")) {
+            Ok(start) => Ok(Choice::Log(start)),
+            Err(fault) => Err(fault),
+        };
     }
     let config = file_of(alloc, matches, "config")?;
     if name == "replay" {
@@ -349,6 +374,8 @@ pub fn choice_of(alloc: Global, words: &[String]) -> Result<Choice, Fault>
     ensures lint { CallsLint (map string_bytes words.now) → IsCheck (codes "site.toml") false true result }
     ensures why { CallsWhy (map string_bytes words.now) → IsWhy (codes "site.toml") result }
     ensures log { CallsLog (map string_bytes words.now) → IsLog result }
+    ensures log_since { CallsLogSince (map string_bytes words.now) →
+        IsLogSince (codes "2026-11-25T08:00:00+01:00") result }
     ensures run { CallsRun (map string_bytes words.now) →
         IsServing (codes "site.toml") None 9223372036854775807 false None result }
     ensures run_whole { CallsRunWhole (map string_bytes words.now) →

@@ -6,7 +6,7 @@ ghost use Rattle.gw_script.specs.Known.{OnKnown};
 ghost use Rattle.gw_shell.specs.Telling.{Tells, first_telling_fault};
 
 use crate::fault::Fault;
-use gw_audit::{TellFault, tell_log};
+use gw_audit::{Moment, TellFault, tell_log};
 use gw_script::OctetSource;
 use std::alloc::Global;
 use std::io::{BufWriter, Write};
@@ -23,18 +23,20 @@ fn first_telling_fault(telling: Result<(), TellFault>, is_flushed: bool) -> Resu
     }
 }
 
-/// Tells in words each line of the log that `reader` has left. What was written is flushed at every
+/// Tells in words each line of the log that `reader` has left, with the moments of the denials where it
+/// is known when the log began. What was written is flushed at every
 /// outcome. Faults: those of the telling, and `Write` also where the flush alone fails.
 pub fn tell<R: OctetSource, W: Write + Drop>(
     alloc: Global,
+    start: Option<Moment>,
     reader: &mut R,
     writer: &mut BufWriter<W>,
 ) -> Result<(), Fault>
     ensures tells { OnKnown (R.left reader.old) (writer_contents W.contents writer.old)
-        (writer_contents W.contents writer.new) (λ log before. Tells log before result) }
+        (writer_contents W.contents writer.new) (λ log before. Tells start log before result) }
     ensures flushed { OnOk result (writer_buffer writer.new ≡ []) }
 {
-    let telling = tell_log(alloc, reader, writer);
+    let telling = tell_log(alloc, start, reader, writer);
     let is_flushed = writer.flush().is_ok();
     first_telling_fault(telling, is_flushed)
 }

@@ -57,6 +57,7 @@ fn answer_case(
         "lines" => replays::line(alloc, line, out),
         "streams" => streams::stream(alloc, config, line, out),
         "told" => streams::told(alloc, line, out),
+        "since" => streams::since(alloc, line, out),
         "serve" => serving::call(alloc, config, line, out),
         "reports" => serving::reports(alloc, config, line, out),
         "words" => words::words(alloc, line, out),

@@ -4,7 +4,7 @@ ghost use Rattle.std.specs.Prelude.{Some};
 
 use crate::case::{number, number_or_none, put_word, unfolded};
 use crate::replays::{end_of, put_end};
-use gw_audit::tell_log;
+use gw_audit::{Moment, tell_log};
 use std::alloc::{AllocError, Global};
 use std::io;
 use std::io::{ErrorKind, Read, Write};
@@ -96,6 +96,25 @@ pub fn stream(alloc: Global, config: &str, line: &str, out: &mut Vec<u8>) -> io:
 
 /// What a log is told as in words, and how the telling ends. A case is as one of a replay, with the log in the script's place.
 pub fn told(alloc: Global, line: &str, out: &mut Vec<u8>) -> io::Result<()> {
+    tell(alloc, None, line, out)
+}
+
+/// The same of a log that began at the moment that stands in front of the case.
+pub fn since(alloc: Global, line: &str, out: &mut Vec<u8>) -> io::Result<()> {
+    let (start, line) = line.split_once(' ').unwrap_or((line, ""));
+    match Moment::parse(start) {
+        Some(start) => tell(alloc, Some(start), line, out),
+        None => write!(out, "no moment"),
+    }
+}
+
+/// Tells the log of a case.
+fn tell(
+    alloc: Global,
+    start: Option<Moment>,
+    line: &str,
+    out: &mut Vec<u8>,
+) -> io::Result<()> {
     let mut words = line.splitn(4, ' ');
     let fails = number_or_none(words.next())?;
     let write = number_or_none(words.next())?;
@@ -106,7 +125,7 @@ pub fn told(alloc: Global, line: &str, out: &mut Vec<u8>) -> io::Result<()> {
         fails,
     };
     let mut writer = Narrow::new(alloc, write, octets)?;
-    match tell_log(alloc, &mut reader, &mut writer) {
+    match tell_log(alloc, start, &mut reader, &mut writer) {
         Ok(()) => write!(out, "ok")?,
         Err(fault) => write!(out, "{fault}")?,
     }

@@ -1,5 +1,6 @@
 //! Words of a command line, and what they choose; and how the program ends at each fault.
 
+use gw_audit::Moment;
 use gw_policy_text::ConfigFault;
 use gw_script::LineFlaw;
 use gw_shell::{Choice, Fault, RunOptions, choice_of, end};
@@ -26,11 +27,15 @@ pub fn call(alloc: Global, line: &str) -> Result<Vec<String>, AllocError> {
 /// or the fault.
 pub fn words(alloc: Global, line: &str, out: &mut Vec<u8>) -> io::Result<()> {
     let call = call(alloc, line)?;
-    Ok(put_choice(&choice_of(alloc, call.as_slice()), out)?)
+    Ok(put_choice(alloc, &choice_of(alloc, call.as_slice()), out)?)
 }
 
 /// What is chosen.
-fn put_choice(choice: &Result<Choice, Fault>, out: &mut Vec<u8>) -> Result<(), AllocError> {
+fn put_choice(
+    alloc: Global,
+    choice: &Result<Choice, Fault>,
+    out: &mut Vec<u8>,
+) -> Result<(), AllocError> {
     match choice {
         Ok(
             Choice::Check {
@@ -53,11 +58,20 @@ fn put_choice(choice: &Result<Choice, Fault>, out: &mut Vec<u8>) -> Result<(), A
         }
         Ok(Choice::Run(options)) => put_options(options, out),
         Ok(Choice::Why(file)) => put(out, &["why ", file.as_str()]),
-        Ok(Choice::Log) => put(out, &["log"]),
+        Ok(Choice::Log(start)) => put_log(alloc, *start, out),
         Ok(Choice::Help(_)) => put(out, &["help"]),
         Ok(Choice::Usage(_)) | Err(Fault::CommandLine) => put(out, &["refused"]),
         Err(Fault::Memory) => put(out, &["out of memory"]),
         Err(_) => put(out, &["another fault"]),
+    }
+}
+
+/// What `log` is asked for.
+fn put_log(alloc: Global, start: Option<Moment>, out: &mut Vec<u8>) -> Result<(), AllocError> {
+    put(out, &["log"])?;
+    match start {
+        Some(start) => put(out, &[" start=", start.to_string(alloc)?.as_str()]),
+        None => Ok(()),
     }
 }
 

@@ -9,29 +9,29 @@ use Rattle.gw_audit.specs.declared.denial.Denial.{Denial}
 use Rattle.gw_audit.specs.Line.{field_text, operation_text}
 
 -- `<number> <tick> <port> `
-unfoldable pub counts_text : Denial → List ℕ
+abbrev pub counts_text : Denial → List ℕ
 counts_text d = decimal d.number ++ codes " " ++ decimal d.tick ++ codes " " ++ decimal d.port ++ codes " "
 
 -- `<net>:<MAC>`
-unfoldable pub source_text : Source → List ℕ
+abbrev pub source_text : Source → List ℕ
 source_text source = decimal source.net ++ codes ":" ++ flat_map two_digits source.mac
 
 -- ` <operation> dst=<n> svc=<n>`
-unfoldable pub request_text : Ask → List ℕ
+abbrev pub request_text : Ask → List ℕ
 request_text ask =
     codes " " ++ operation_text ask.operation
     ++ codes " dst=" ++ field_text ask.destination_network
     ++ codes " svc=" ++ field_text ask.service
 
 -- ` obj=<type>,<instance> prop=<n> prio=<n>`
-unfoldable pub object_text : Ask → List ℕ
+abbrev pub object_text : Ask → List ℕ
 object_text ask =
     codes " obj=" ++ field_text ask.object_type ++ codes "," ++ field_text ask.instance
     ++ codes " prop=" ++ field_text ask.property
     ++ codes " prio=" ++ field_text ask.priority
 
 -- ` rule=<name>` and a line feed
-unfoldable pub rule_text : List ℕ → List ℕ
+abbrev pub rule_text : List ℕ → List ℕ
 rule_text name = codes " rule=" ++ name ++ 10 ∷ []
 
 -- the pieces of a line, one behind the other

@@ -1,4 +1,4 @@
-use Rattle.gw_audit.proofs.OnceLemmas.{each, once}
+use Rattle.gw_audit.proofs.OnceLemmas.{each, once, words_alone}
 use Rattle.gw_audit.proofs.laws.telling.Goals as goal
 
 pub returns-clause-once : goal.returns-clause-once
@@ -6,3 +6,6 @@ returns-clause-once c = once
 
 pub returns-clause-each : goal.returns-clause-each
 returns-clause-each c = each
+
+pub returns-clause-words : goal.returns-clause-words
+returns-clause-words c = words_alone

@@ -1,8 +1,6 @@
-use Rattle.gw_audit.specs.Words.{source_text}
 use Rattle.gw_audit.proofs.Appended.{then_put}
 use Rattle.gw_audit.proofs.words.put_source.Goals as goal
 
 pub returns : goal.returns
-unfolding source_text
 returns c =
     then_put (then_put c.in_ok-put_station.ensures c.in_ok-put_slice.ensures) c.put_text.ensures

@@ -12,4 +12,4 @@ returns c =
     let three = c.in_ok-subcommand-3.ensures.shape c.in_ok-run.ensures.local ∙ ap₂ with_subcommand two (ap (λ (a : App). a.top) c.in_ok-run.ensures.app) in
     let four = c.in_ok-subcommand-4.ensures.shape c.in_ok-why.ensures.local ∙ ap₂ with_subcommand three (ap (λ (a : App). a.top) c.in_ok-why.ensures.app) in
     IfOk-weaker c.subcommand-5.result _ _
-    (λ m h. h.shape c.make_log.ensures.local ∙ ap₂ with_subcommand four (ap (λ (a : App). a.top) c.make_log.ensures.app)) c.subcommand-5.ensures
+    (λ m h. h.shape c.in_ok-log.ensures.local ∙ ap₂ with_subcommand four (ap (λ (a : App). a.top) c.in_ok-log.ensures.app)) c.subcommand-5.ensures

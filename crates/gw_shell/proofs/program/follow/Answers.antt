@@ -34,6 +34,6 @@ returns-in-Ok-Why-clause-followed g c =
 
 pub returns-in-Ok-Log-clause-followed : goal.returns-in-Ok-Log-clause-followed
 returns-in-Ok-Log-clause-followed g c =
-    let is : c.args.choice.now ≡ Ok choice.Log = search rules in
-    followed _ _ c.args.choice.now (Ok choice.Log) c.tell.result is refl c.tell.ensures.tells
+    let is : c.args.choice.now ≡ Ok (choice.Log c.in-Ok-Log.start) = search rules in
+    followed _ _ c.args.choice.now (Ok (choice.Log c.in-Ok-Log.start)) c.tell.result is refl c.tell.ensures.tells
     (λ never. appends_nothing (g.E.OctetSink.held c.args.errors.now))

@@ -9,7 +9,7 @@ use Rattle.gw_audit.proofs.telling.Telling.tell_lines.Goals as goal
 
 pub loop-number-init : goal.loop-number-init
 loop-number-init g c = record {
-  progress = λ script before known written. begins _ _ _ _ (nothing_held _ _ script c.requires.unread known) written;
+  progress = λ script before known written. begins c.args.start _ _ _ _ (nothing_held _ _ script c.requires.unread known) written;
   calls = λ script known. bound_at_first script _ _ _ c.requires.calls known (nothing_held _ _ script c.requires.unread known);
   lasting_reader = λ never. never;
   lasting_writer = λ never. never;
@@ -23,8 +23,8 @@ loop-number-preserved g c =
     let so_far = g.W.OctetSink.held c.loop-number.writer in
     let after = g.W.OctetSink.held c.tell_next.new.writer in record {
       progress = λ script before known written.
-          goes_on script before n text left so_far after (c.loop-number.invariant.progress script before known written)
-          (subst (λ (b : Bool). Turns n text left so_far after (Ok b)) c.in-Ok-true.field-0-test c.in-Ok-true.ensures.outcome);
+          goes_on c.args.start script before n text left so_far after (c.loop-number.invariant.progress script before known written)
+          (subst (λ (b : Bool). Turns c.args.start n text left so_far after (Ok b)) c.in-Ok-true.field-0-test c.in-Ok-true.ensures.outcome);
       calls = λ script known.
           let bound = c.loop-number.invariant.calls script known in
           bound_goes_on script n _ _ _ _ _ _ bound
@@ -41,8 +41,8 @@ returns-in-Ok-false-clause-whole g c = λ script before known written.
     let left = prepend_known c.tell_next.new.self.lines.unread (g.R.OctetSource.left c.tell_next.new.reader) in
     let so_far = g.W.OctetSink.held c.loop-number.writer in
     let after = g.W.OctetSink.held c.tell_next.new.writer in
-    ends_whole script before n text left so_far after progress
-    (subst (λ (b : Bool). Turns n text left so_far after (Ok b)) c.in-Ok-false.field-0-test c.in-Ok-false.ensures.outcome)
+    ends_whole c.args.start script before n text left so_far after progress
+    (subst (λ (b : Bool). Turns c.args.start n text left so_far after (Ok b)) c.in-Ok-false.field-0-test c.in-Ok-false.ensures.outcome)
 
 pub returns-in-Err-clause-line : goal.returns-in-Err-clause-line
 returns-in-Err-clause-line g c = λ m e script before known written.
@@ -52,8 +52,8 @@ returns-in-Err-clause-line g c = λ m e script before known written.
     let left = prepend_known c.tell_next.new.self.lines.unread (g.R.OctetSource.left c.tell_next.new.reader) in
     let so_far = g.W.OctetSink.held c.loop-number.writer in
     let after = g.W.OctetSink.held c.tell_next.new.writer in
-    ends_at_line script before n text left so_far after m progress
-    (subst (λ (f : TellFault). Turns n text left so_far after (Err f))
+    ends_at_line c.args.start script before n text left so_far after m progress
+    (subst (λ (f : TellFault). Turns c.args.start n text left so_far after (Err f))
     (fault_is {T = Unit {0}} c.in-Err.fault (Line m) e) c.in-Err.ensures.outcome)
 
 pub returns-in-Err-clause-front : goal.returns-in-Err-clause-front
@@ -64,8 +64,8 @@ returns-in-Err-clause-front g c = λ e script before known written.
     let left = prepend_known c.tell_next.new.self.lines.unread (g.R.OctetSource.left c.tell_next.new.reader) in
     let so_far = g.W.OctetSink.held c.loop-number.writer in
     let after = g.W.OctetSink.held c.tell_next.new.writer in
-    ends_at_write script before n text left so_far after progress
-    (subst (λ (f : TellFault). Turns n text left so_far after (Err f))
+    ends_at_write c.args.start script before n text left so_far after progress
+    (subst (λ (f : TellFault). Turns c.args.start n text left so_far after (Err f))
     (fault_is {T = Unit {0}} c.in-Err.fault Write e) c.in-Err.ensures.outcome)
 
 pub returns-in-Err-clause-part : goal.returns-in-Err-clause-part
@@ -76,14 +76,14 @@ returns-in-Err-clause-part g c = λ which script before known written.
     let left = prepend_known c.tell_next.new.self.lines.unread (g.R.OctetSource.left c.tell_next.new.reader) in
     let so_far = g.W.OctetSink.held c.loop-number.writer in
     let after = g.W.OctetSink.held c.tell_next.new.writer in
-    stops_part script before n text left so_far after c.in-Err.fault (stops {T = Unit {0}} c.in-Err.fault which) progress
+    stops_part c.args.start script before n text left so_far after c.in-Err.fault (stops {T = Unit {0}} c.in-Err.fault which) progress
     c.in-Err.ensures.outcome
 
 pub returns-clause-part : goal.returns-clause-part
 returns-clause-part g c = λ which script before known written.
     let n = c.loop-number.number in
     let text = prepend_known c.loop-number.self.lines.unread (g.R.OctetSource.left c.loop-number.reader) in
-    ends_part script before n text (g.W.OctetSink.held c.loop-number.writer)
+    ends_part c.args.start script before n text (g.W.OctetSink.held c.loop-number.writer)
     (c.loop-number.invariant.progress script before known written)
 
 pub returns-in-Err-clause-sure_reader : goal.returns-in-Err-clause-sure_reader

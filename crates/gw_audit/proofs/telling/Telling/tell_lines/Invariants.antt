@@ -9,7 +9,7 @@ invariant-loop-number g l =
     let left = g.R.OctetSource.left in
     let held = g.W.OctetSink.held in record {
       progress : (script before : List ℕ) → left l.fn.reader ≡ Some script → held l.fn.writer ≡ Some before
-          → Progress script before l.number (prepend_known l.self.lines.unread (left l.reader)) (held l.writer);
+          → Progress l.fn.start script before l.number (prepend_known l.self.lines.unread (left l.reader)) (held l.writer);
       calls : (script : List ℕ) → left l.fn.reader ≡ Some script
           → CallBound script l.number l.self.lines.calls (left l.reader) (prepend_known l.self.lines.unread (left l.reader));
       lasting_reader : g.R.OctetSource.NeverFails l.fn.reader → g.R.OctetSource.NeverFails l.reader;

@@ -1,0 +1,6 @@
+use Rattle.gw_audit.proofs.Appended.{then_put}
+use Rattle.gw_audit.proofs.text.put_line.Goals as goal
+
+pub returns : goal.returns
+returns c =
+    then_put (then_put (then_put (then_put c.in_ok-put_counts.ensures c.in_ok-put_source.ensures) c.in_ok-put_request.ensures) c.in_ok-put_object.ensures) c.put_rule.ensures
