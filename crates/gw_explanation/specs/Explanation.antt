@@ -9,10 +9,9 @@ use Rattle.gw_configuration.specs.declared.fault.ConfigFault.TheVariants.{Unknow
 use Rattle.gw_configuration.specs.declared.located.Place.{Place}
 use Rattle.gw_configuration.specs.declared.located.Place.TheVariants.{Text, Top, Device, Port, Peer, Route, Object, Rule}
 use Rattle.gw_configuration.specs.Configuration.{Configuration}
-use Rattle.gw_policy_text.specs.Document.{document, located_configuration}
-use Rattle.gw_configuration.specs.Located.{Find, Located, without_place}
-use Rattle.gw_configuration.specs.Located.{Read}
+use Rattle.gw_configuration.specs.Located.{Find, Located, Read, numbered, without_place}
 use Rattle.gw_config_tables.specs.Value.{values_of}
+use Rattle.gw_policy_text.specs.Document.{document, located_configuration}
 
 -- the octets
 

@@ -8,14 +8,13 @@ ghost use Rattle.gw_explanation.specs.Explanation.{Explains, ExplainsText};
 ghost use Rattle.gw_configuration.specs.Located.{Find, located_view, of_text};
 ghost use Rattle.gw_configuration.specs.declared.fault.ConfigFault.TheVariants.{Memory};
 
-use crate::ConfigFault;
 use crate::explanation::Explanation;
-use crate::located::Located;
-use crate::read::{MAX_OCTETS, config_of, document};
 use crate::reason::put_wanted;
 use crate::told::{put_told, value_at};
 use crate::words::put_place;
 use gw_addr::put_decimal;
+use gw_configuration::{ConfigFault, Located};
+use gw_policy_text::{MAX_OCTETS, config_of, document};
 use std::alloc::{AllocError, Global};
 use toml::Table;
 use toml::de::Error;
@@ -23,7 +22,7 @@ use toml::de::Error;
 /// The line that says where this fault of a text is, the one that `read_config` answered for it: the
 /// table, its number from 1 and its name, the key, of a list the item, and what is wrong there, as in
 /// `port 2: network: 1 is named twice`. `None` where the first fault of the text isn't this one.
-#[tactic(auto, unfolding(crate::specs::Document::located_configuration))]
+#[tactic(auto, unfolding(gw_policy_text::specs::Document::located_configuration))]
 pub fn explain(
     alloc: Global,
     text: &[u8],

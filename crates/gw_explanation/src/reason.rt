@@ -1,14 +1,11 @@
 //! What is wanted at the place of a fault, in words.
 
-use crate::ConfigFault;
-use crate::located::Located;
-use crate::range::between;
-use crate::shape::{Scalar, Shape};
-use crate::text::MAX_TEXT;
 use crate::told::put_value;
-use crate::value::member;
 use crate::words::table_at;
 use gw_addr::{Mask, put_decimal};
+use gw_config_tables::range::between;
+use gw_config_tables::value::member;
+use gw_configuration::{ConfigFault, Located, MAX_TEXT, Scalar, Shape};
 use gw_rules::{MAX_RANGES, Operation};
 use std::alloc::AllocError;
 use toml::{Table, Value};

@@ -4,11 +4,10 @@ ghost use Rattle.toml.specs.View.{table_view, view};
 ghost use Rattle.gw_explanation.specs.Explanation.{fault_words, item_or, list_words, single_words, text_words, value_at, value_words};
 ghost use Rattle.gw_configuration.specs.Located.{located_view};
 
-use crate::ConfigFault;
-use crate::located::Located;
-use crate::value::{self, member};
 use crate::words::table_at;
 use gw_addr::put_decimal;
+use gw_config_tables::value::{self, member};
+use gw_configuration::{ConfigFault, Located};
 use std::alloc::AllocError;
 use toml::{Table, Value};
 

@@ -5,9 +5,9 @@ ghost use Rattle.gw_explanation.specs.Explanation.{item_part, key_part, listed_t
 ghost use Rattle.gw_configuration.specs.Located.{numbered};
 ghost use Rattle.gw_configuration.specs.Located.{located_view};
 
-use crate::located::{Located, Place};
-use crate::value::{member, string};
 use gw_addr::put_decimal;
+use gw_config_tables::value::{member, string};
+use gw_configuration::{Located, Place};
 use std::alloc::AllocError;
 use toml::Table;
 

@@ -1,3 +1,4 @@
 pub mod Documents
 pub mod Each
 pub mod EachAt
+pub mod Limits

@@ -14,8 +14,8 @@ mod rules;
 mod setting;
 
 pub use gw_configuration::{
-    Config, ConfigFault, Device, Format, Instance, MultiState, Object, ObjectKind, ObjectValue, Peers,
-    Port, Route, Text,
+    Config, ConfigFault, Device, Format, Instance, MultiState, Object, ObjectKind, ObjectValue,
+    Peers, Port, Route, Text,
 };
 pub use read::{MAX_OCTETS, config_of, document, read_config};
 pub use setting::SETTING;
