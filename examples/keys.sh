@@ -1,6 +1,6 @@
 #!/usr/bin/env bash
 # Makes the section CONFIGURATION KEYS of man/bacgw.1 from the tables by which the program reads a configuration
-# (crates/gw_policy_text/src/tables.rt), and compares it with what stands there; with --print it prints it. It wants python3 and no
+# (crates/gw_config_tables/src/tables.rt), and compares it with what stands there; with --print it prints it. It wants python3 and no
 # built program. The last line says whether they agree.
 set -euo pipefail
 exec python3 - "$(cd "$(dirname "$0")/.." && pwd)" "${1:-}" <<'END'
@@ -8,16 +8,17 @@ import difflib, glob, os, re, sys
 
 os.chdir(sys.argv[1])
 PAGE, SECTION = "man/bacgw.1", ".SH CONFIGURATION KEYS"
-TABLES = open("crates/gw_policy_text/src/tables.rt").read()
-READING = open("crates/gw_policy_text/specs/Configuration.antt").read()
+TABLES = open("crates/gw_config_tables/src/tables.rt").read()
+READING = open("crates/gw_policy_text/specs/Parts.antt").read()
 LIMITS = {}
-for file in glob.glob("crates/gw_policy_text/src/*.rt") + glob.glob("crates/gw_rules/src/*.rt") + ["crates/gw_addr/src/lib.rt"]:
+LIMITED = ("gw_configuration", "gw_config_tables", "gw_rules")
+for file in [file for crate in LIMITED for file in glob.glob(f"crates/{crate}/src/*.rt")] + ["crates/gw_addr/src/lib.rt"]:
     for name, value in re.findall(r"const (MAX_\w+): \w+ = ([\d_]+);", open(file).read()):
         LIMITS[name] = value
 SHAPES = dict(re.findall(r"const (\w+): (?:Shape|Scalar) = (.*?);", TABLES, re.S))
 # What a text that may be missing is then.
 DEFAULTS = {key: default for default, key in re.findall(r'optional_text (?:\[\]|\(codes "(\w+)"\)) \(codes "(\w+)"\)', READING)}
-TYPES = re.findall(r"(\d+) ([A-Z][\w -]+?)(?:,|\")", re.search(r"const TYPES: &str =(.*?);", open("crates/gw_policy_text/src/reason.rt").read(), re.S)[1])
+TYPES = re.findall(r"(\d+) ([A-Z][\w -]+?)(?:,|\")", re.search(r"const TYPES: &str =(.*?);", open("crates/gw_explanation/src/reason.rt").read(), re.S)[1])
 # The types in the order of their tables.
 OBJECTS = dict(zip(("binary", "multi_state", "character_string", "integer", "positive_integer"), TYPES, strict=True))
 

@@ -10,12 +10,12 @@ use Rattle.gw_core.specs.declared.effects.Effects.{Effects}
 use Rattle.gw_core.specs.declared.event.Counts.{Counts}
 use Rattle.gw_script.specs.declared.event.Event.{Event as LentEvent}
 use Rattle.gw_script.specs.Event.{Event, Datagram, Tick, event_view}
-use Rattle.gw_policy_text.specs.Configuration.{Configuration}
+use Rattle.gw_configuration.specs.Configuration.{Configuration}
 use Rattle.gw_objects.specs.Objects.{Database, database_of}
 use Rattle.gw_objects.specs.Write.{Write}
 use Rattle.gw_relay.specs.History.{acts_moved, learned_moved}
 use Rattle.gw_relay.specs.History.{Acts as PortActs}
-use Rattle.gw_policy_text.specs.declared.port.Port.{Port}
+use Rattle.gw_configuration.specs.declared.port.Port.{Port}
 use Rattle.gw_relay.specs.declared.change.Change.{Change}
 use Rattle.gw_relay.specs.Initial.{initial, links_from}
 use Rattle.gw_relay.specs.internal.Ticks.{AreAlike}

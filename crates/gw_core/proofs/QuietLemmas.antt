@@ -4,7 +4,7 @@ use Rattle.std.specs.Option.{option_map}
 use Rattle.gw_audit.specs.declared.denial.Denial.{Denial}
 use Rattle.gw_device.specs.declared.context.Context.{Context}
 use Rattle.gw_objects.specs.Objects.{Database}
-use Rattle.gw_policy_text.specs.Configuration.{Configuration}
+use Rattle.gw_configuration.specs.Configuration.{Configuration}
 use Rattle.gw_device.proofs.Changes.{changes_are_allowed}
 use Rattle.gw_relay.specs.State.{Commit, Relay, moved}
 use Rattle.gw_relay.proofs.Claims.{routes_are_kept, tables_are_kept}

@@ -6,7 +6,7 @@ use Rattle.std.proofs.lemmas.List.Concat.{flat_map-cons}
 use Rattle.gw_script.specs.Event.{Event}
 use Rattle.gw_core.specs.declared.replaying.RunFault.{RunFault}
 use Rattle.gw_core.specs.declared.replaying.RunFault.TheVariants.{Read, Line, Write, Memory, CountEnd}
-use Rattle.gw_policy_text.specs.Configuration.{Configuration}
+use Rattle.gw_configuration.specs.Configuration.{Configuration}
 use Rattle.gw_core.specs.State.{State}
 use Rattle.gw_core.specs.Effects.{passes_end, NeedsNoMemory}
 use Rattle.gw_core.specs.History.{run_after, history_after, effects, IsStateAfter, state_after}

@@ -7,9 +7,9 @@ use Rattle.gw_objects.proofs.Histories.{put_next, start_states}
 use Rattle.gw_objects.specs.Objects.{Database, default_of, defaults_of}
 use Rattle.gw_objects.specs.History.{IsStateAfter as SlotsStand}
 use Rattle.gw_objects.specs.Write.{CanAct, Write}
-use Rattle.gw_policy_text.specs.declared.object.Object.{Object}
+use Rattle.gw_configuration.specs.declared.object.Object.{Object}
 use Rattle.gw_rules.specs.declared.rule.Rule.{Rule}
-use Rattle.gw_policy_text.specs.Configuration.{Configuration}
+use Rattle.gw_configuration.specs.Configuration.{Configuration}
 use Rattle.gw_relay.proofs.Histories.{changes_extend, configured_stand, ticks_extend}
 use Rattle.gw_relay.specs.History.{AreStatesAfter, acts_moved, learned_moved, ports_from}
 use Rattle.gw_relay.specs.History.{Acts as PortActs}

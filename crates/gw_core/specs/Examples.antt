@@ -17,7 +17,7 @@ use Rattle.gw_core.specs.NoLeak.{IsWriteOf, LeavesOut, kept}
 use Rattle.gw_rules.specs.declared.field.FieldName.TheVariants.{Instance, ObjectType, Operation, SourceKey}
 use Rattle.gw_rules.specs.declared.field.FieldName.TheVariants.{SourceNetwork}
 use Rattle.gw_rules.specs.Rule.{rule_without_fields, with_range}
-use Rattle.gw_policy_text.specs.Configuration.{Configuration}
+use Rattle.gw_configuration.specs.Configuration.{Configuration}
 use Rattle.gw_relay.specs.Sends.{Sending}
 use Rattle.gw_core.specs.Setting.{node, only, setting}
 

@@ -14,8 +14,8 @@ use Rattle.gw_core.specs.declared.effects.Effects.{Effects}
 use Rattle.gw_core.specs.declared.event.Counts.{Counts}
 use Rattle.gw_script.specs.Event.{Event}
 use Rattle.gw_script.specs.Event.{Datagram, Tick}
-use Rattle.gw_policy_text.specs.Configuration.{Configuration}
-use Rattle.gw_policy_text.specs.declared.format.Format.TheVariants.{One}
+use Rattle.gw_configuration.specs.Configuration.{Configuration}
+use Rattle.gw_configuration.specs.declared.format.Format.TheVariants.{One}
 use Rattle.gw_core.specs.History.{RoutesStand, TablesStand, WritesStand, learnings, port_acts, writes, state_after, run}
 use Rattle.gw_core.specs.History.{history_after, IsStep, IsStateAfter, effects, run_after, run_from, state_from, next}
 use Rattle.gw_rules.specs.Ask.{Ask}

@@ -8,7 +8,7 @@ use Rattle.gw_addr.specs.Station.{key_of}
 use Rattle.gw_audit.specs.declared.denial.Denial.{Denial}
 use Rattle.gw_device.specs.Laws.{NoReadAllowed, object_written}
 use Rattle.gw_objects.specs.Objects.{Database}
-use Rattle.gw_policy_text.specs.Configuration.{Configuration}
+use Rattle.gw_configuration.specs.Configuration.{Configuration}
 use Rattle.gw_relay.specs.Claim.{claimed, link_source, local_source}
 use Rattle.gw_relay.specs.Laws.{AreFrom}
 use Rattle.gw_rules.specs.Allowed.{NoChangeAllowed}

@@ -5,15 +5,15 @@ use Rattle.gw_rules.specs.declared.field.FieldName.TheVariants.{Operation, Objec
 use Rattle.gw_rules.specs.declared.range.Range.{Range}
 use Rattle.gw_rules.specs.declared.rule.Rule.{Rule}
 use Rattle.gw_rules.specs.Rule.{rule_without_fields, with_range}
-use Rattle.gw_policy_text.specs.declared.device.Device.{Device}
-use Rattle.gw_policy_text.specs.declared.format.Format.TheVariants.{One}
-use Rattle.gw_policy_text.specs.declared.object.Object.{Object}
-use Rattle.gw_policy_text.specs.declared.object.ObjectValue.{ObjectValue}
-use Rattle.gw_policy_text.specs.declared.object.ObjectValue.TheVariants.{BinaryValue, MultiStateValue}
-use Rattle.gw_policy_text.specs.declared.object.ObjectValue.TheVariants.{CharacterStringValue, IntegerValue}
-use Rattle.gw_policy_text.specs.declared.object.ObjectValue.TheVariants.{PositiveIntegerValue}
-use Rattle.gw_policy_text.specs.declared.port.Port.{Port}
-use Rattle.gw_policy_text.specs.Configuration.{Configuration}
+use Rattle.gw_configuration.specs.declared.device.Device.{Device}
+use Rattle.gw_configuration.specs.declared.format.Format.TheVariants.{One}
+use Rattle.gw_configuration.specs.declared.object.Object.{Object}
+use Rattle.gw_configuration.specs.declared.object.ObjectValue.{ObjectValue}
+use Rattle.gw_configuration.specs.declared.object.ObjectValue.TheVariants.{BinaryValue, MultiStateValue}
+use Rattle.gw_configuration.specs.declared.object.ObjectValue.TheVariants.{CharacterStringValue, IntegerValue}
+use Rattle.gw_configuration.specs.declared.object.ObjectValue.TheVariants.{PositiveIntegerValue}
+use Rattle.gw_configuration.specs.declared.port.Port.{Port}
+use Rattle.gw_configuration.specs.Configuration.{Configuration}
 
 -- 192.168.net.host, at the UDP port of BACnet/IP
 abbrev pub node : ℕ → ℕ → BipAddr

@@ -4,7 +4,7 @@
 ghost use Rattle.std.specs.Prelude.{◌≡◌, ◌+◌, ◌*◌, ◌<◌, ◌≤◌, ℕ, List, [], length, Ok, Some, IsErrOf, true, vec_capacity};
 ghost use Rattle.std.specs.Io.KnownBytes.{prepend_known};
 ghost use Rattle.gw_script.specs.Reader.{IsPaid};
-ghost use Rattle.gw_policy_text.specs.Configuration.{Configuration};
+ghost use Rattle.gw_configuration.specs.Configuration.{Configuration};
 ghost use Rattle.gw_core.specs.History.{IsStateAfter};
 ghost use Rattle.gw_core.specs.Explained.{explained_text};
 ghost use Rattle.gw_core.specs.Shown.{event_text};
@@ -16,7 +16,7 @@ ghost use Rattle.gw_core.specs.Flawed.{HasFlaw, IsFirstFlaw};
 use crate::event::Counts;
 use crate::gateway::Gateway;
 use crate::telling::{Explaining, Plain, Telling};
-use gw_policy_text::Config;
+use gw_configuration::Config;
 use gw_script::{
     LineFlaw, LineReader, MAX_DATAGRAM, NextLine, OctetSink, OctetSource, flaw_of, parse_spelled,
     write_whole,

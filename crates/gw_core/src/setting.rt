@@ -1,10 +1,11 @@
 //! The built-in configuration.
 
 ghost use Rattle.gw_policy_text.specs.Document.{configuration};
-ghost use Rattle.gw_policy_text.specs.Reading.{Gives};
+ghost use Rattle.gw_configuration.specs.Reading.{Gives};
 ghost use Rattle.gw_policy_text.specs.declared.setting.TheConstants.{SETTING};
 
-use gw_policy_text::{Config, ConfigFault, SETTING, read_config};
+use gw_configuration::{Config, ConfigFault};
+use gw_policy_text::{SETTING, read_config};
 use std::alloc::Global;
 
 /// The built-in configuration: what its text says, of ports 192.168.1.10 on network 1 and

@@ -21,8 +21,8 @@ ghost use Rattle.gw_device.specs.Write.{write_response};
 
 use crate::{Asks, Change, Context, Reply, asking, dispatch, read, who_has, who_is, write};
 use gw_apdu::ConfirmedRequest;
+use gw_configuration::Config;
 use gw_objects::{Configured, ObjectDb};
-use gw_policy_text::Config;
 use gw_rules::Judge;
 use gw_services::{ReadReq, WhoHas, WhoIs, WriteReq};
 use std::alloc::{AllocError, Global};

@@ -1,9 +1,9 @@
 -- How the lists of shapes grow.
 use Rattle.std.proofs.Common.{◌≡◌, ◌∙◌, ap, sym, ℕ, ◌+◌, ◌<◌, add-one, append_assoc, arith, drop, drop-cons, get_or, length, suc, List, ◌∷◌, ◌++◌}
 use Rattle.std.specs.List.{flat_map}
-use Rattle.gw_policy_text.specs.declared.format.Format.{Format}
-use Rattle.gw_policy_text.specs.declared.format.Format.TheVariants.{Two}
-use Rattle.gw_policy_text.specs.declared.port.Port.{Port}
+use Rattle.gw_configuration.specs.declared.format.Format.{Format}
+use Rattle.gw_configuration.specs.declared.format.Format.TheVariants.{Two}
+use Rattle.gw_configuration.specs.declared.port.Port.{Port}
 use Rattle.gw_lint.specs.Shape.{Shape}
 use Rattle.gw_lint.specs.Shapes.{foreign_shapes, message_shapes, own, own_shapes, request_shapes, shapes_from, table_shapes}
 use Rattle.gw_lint.specs.declared.shapes.Origin.{Origin}

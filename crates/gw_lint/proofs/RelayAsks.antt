@@ -17,8 +17,8 @@ use Rattle.gw_npdu.specs.declared.kind.MessageKind.{MessageKind}
 use Rattle.gw_npdu.specs.declared.kind.MessageKind.TheVariants.{IAmRouterToNetwork, WhatIsNetworkNumber, WhoIsRouterToNetwork}
 use Rattle.gw_npdu.specs.Kind.{kind_number}
 use Rattle.gw_npdu.specs.Npdu.{Destination, Payload, apdu, message, payload_octets}
-use Rattle.gw_policy_text.specs.declared.format.Format.{Format}
-use Rattle.gw_policy_text.specs.declared.format.Format.TheVariants.{One, Two}
+use Rattle.gw_configuration.specs.declared.format.Format.{Format}
+use Rattle.gw_configuration.specs.declared.format.Format.TheVariants.{One, Two}
 use Rattle.gw_routes.specs.Table.{way}
 use Rattle.gw_routes.specs.declared.route.Way.{Way}
 use Rattle.gw_routes.specs.declared.route.Way.TheVariants as ways

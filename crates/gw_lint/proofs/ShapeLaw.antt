@@ -7,9 +7,9 @@ use Rattle.gw_addr.specs.declared.bip.BipAddr.{BipAddr}
 use Rattle.gw_addr.specs.Station.{key_of}
 use Rattle.gw_bvll.specs.Bvll.{Message as Frame}
 use Rattle.gw_objects.specs.declared.configured.Configured.{Configured}
-use Rattle.gw_policy_text.specs.Configuration.{Configuration}
-use Rattle.gw_policy_text.specs.declared.format.Format.{Format}
-use Rattle.gw_policy_text.specs.declared.port.Port.{Port as ConfiguredPort}
+use Rattle.gw_configuration.specs.Configuration.{Configuration}
+use Rattle.gw_configuration.specs.declared.format.Format.{Format}
+use Rattle.gw_configuration.specs.declared.port.Port.{Port as ConfiguredPort}
 use Rattle.gw_relay.specs.Asks as table
 use Rattle.gw_relay.specs.History.{all_after, ports_from}
 use Rattle.gw_relay.specs.Message.{Message}

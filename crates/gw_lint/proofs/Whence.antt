@@ -13,7 +13,7 @@ use Rattle.gw_bvll.specs.Reading.{bvll_at}
 use Rattle.gw_npdu.specs.declared.fault.NpduFault.{NpduFault}
 use Rattle.gw_npdu.specs.Npdu.{Address, Fields}
 use Rattle.gw_npdu.specs.Reading.{npdu_at}
-use Rattle.gw_policy_text.specs.declared.port.Port.{Port as ConfiguredPort}
+use Rattle.gw_configuration.specs.declared.port.Port.{Port as ConfiguredPort}
 use Rattle.gw_relay.specs.Cast.{accepts, is_unregistered}
 use Rattle.gw_relay.specs.Claim.{claimed, link_source}
 use Rattle.gw_relay.specs.History.{Acts as PortActs}

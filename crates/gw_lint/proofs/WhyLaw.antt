@@ -21,8 +21,8 @@ use Rattle.gw_bvll.specs.Bvll as bvll
 use Rattle.gw_bvll.specs.Reading.{bvll_at}
 use Rattle.gw_npdu.specs.Npdu.{Fields}
 use Rattle.gw_objects.specs.Objects.{Database}
-use Rattle.gw_policy_text.specs.Configuration.{Configuration}
-use Rattle.gw_policy_text.specs.declared.format.Format.{Format}
+use Rattle.gw_configuration.specs.Configuration.{Configuration}
+use Rattle.gw_configuration.specs.declared.format.Format.{Format}
 use Rattle.gw_relay.specs.Cast.{accepts, cast_ask, cast_asks, goes_on, is_broadcast, is_unregistered}
 use Rattle.gw_relay.specs.Asks as table
 use Rattle.gw_relay.specs.Message.{Message, message_of}

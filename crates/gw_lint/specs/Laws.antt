@@ -12,7 +12,7 @@ use Rattle.gw_rules.specs.Ask.{Ask}
 use Rattle.gw_rules.specs.Fields.{value_of}
 use Rattle.gw_rules.specs.RuleList.{first}
 use Rattle.gw_rules.specs.declared.field.FieldName.{FieldName}
-use Rattle.gw_policy_text.specs.Configuration.{Configuration}
+use Rattle.gw_configuration.specs.Configuration.{Configuration}
 use Rattle.gw_script.specs.Event.{Event, Datagram, Tick}
 use Rattle.gw_rules.specs.declared.rule.Rule.{Rule}
 use Rattle.gw_core.specs.Asks.{asks}

@@ -1,6 +1,6 @@
 -- What `check --lint` says of a configuration, and what its lines say of the gateway.
 use Rattle.std.specs.Prelude.{◌≡◌, ℕ, Bool, true, false, List, ◌++◌}
-use Rattle.gw_policy_text.specs.Configuration.{Configuration}
+use Rattle.gw_configuration.specs.Configuration.{Configuration}
 use Rattle.gw_rules.specs.RuleList.{HasNumber}
 use Rattle.gw_rules.specs.declared.rule.Rule.{Rule}
 use Rattle.gw_lint.specs.Finding.{AreTrue, Tells}

@@ -2,7 +2,7 @@
 use Rattle.std.specs.Prelude.{ℕ, ◌+◌, ◌-◌, Bool, false, not, ◌&&◌, ◌||◌, ◌==◌, if◌then◌else◌, List, [], Option, Some}
 use Rattle.std.specs.Prelude.{None, position}
 use Rattle.std.specs.Option.{option_map, option_map_or}
-use Rattle.gw_policy_text.specs.declared.port.Port.{Port}
+use Rattle.gw_configuration.specs.declared.port.Port.{Port}
 use Rattle.gw_rules.specs.Fields.{value_of}
 use Rattle.gw_rules.specs.Operation.{operation_number}
 use Rattle.gw_rules.specs.Rule.{each_field, ranges_of}

@@ -8,11 +8,11 @@ use Rattle.gw_script.specs.Order.{in_order}
 use Rattle.gw_addr.specs.Text.{four_text}
 use Rattle.gw_addr.specs.declared.bip.BipAddr.{BipAddr}
 use Rattle.gw_addr.specs.declared.entry.BdtEntry.{BdtEntry}
-use Rattle.gw_policy_text.specs.Configuration.{Configuration}
-use Rattle.gw_policy_text.specs.Duplicates.{key}
-use Rattle.gw_policy_text.specs.Explanation.{numbered}
-use Rattle.gw_policy_text.specs.declared.port.Port.{Port}
-use Rattle.gw_policy_text.specs.declared.route.Route.{Route}
+use Rattle.gw_configuration.specs.Configuration.{Configuration}
+use Rattle.gw_configuration.specs.Duplicates.{key}
+use Rattle.gw_configuration.specs.Located.{numbered}
+use Rattle.gw_configuration.specs.declared.port.Port.{Port}
+use Rattle.gw_configuration.specs.declared.route.Route.{Route}
 use Rattle.gw_rules.specs.declared.range.Range.{Range}
 use Rattle.gw_rules.specs.declared.rule.Rule.{Rule}
 use Rattle.gw_lint.specs.Subnet.{has_holes, is_elsewhere, is_multicast, is_off_subnet, number_of}

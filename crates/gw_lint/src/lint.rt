@@ -7,7 +7,7 @@ use crate::note::put_notes;
 use crate::shapes::shapes_of;
 use crate::text::put_lines;
 use gw_addr::{keep_whole, put_slice};
-use gw_policy_text::Config;
+use gw_configuration::Config;
 use std::alloc::{AllocError, Global};
 
 /// Appends a line for each rule of which there is something to say, in order of the rules, and behind

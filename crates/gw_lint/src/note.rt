@@ -11,7 +11,7 @@ use crate::passage::{answers, is_routed, is_unnamed, opener, opens_beyond, reque
 use crate::side::overlaps;
 use crate::text::{key_of, put_rule};
 use gw_addr::{put_decimal, put_slice};
-use gw_policy_text::{Config, Port, Route};
+use gw_configuration::{Config, Port, Route};
 use gw_rules::{FieldName, Range, Rule, RuleList};
 use std::alloc::AllocError;
 

@@ -1,7 +1,7 @@
 //! Warnings of ports and their peers.
 ghost use Rattle.std.specs.Prelude.{◌≡◌, ◌==◌, position};
 ghost use Rattle.gw_addr.specs.Appending.{IsAppended};
-ghost use Rattle.gw_policy_text.specs.Duplicates.{key};
+ghost use Rattle.gw_configuration.specs.Duplicates.{key};
 ghost use Rattle.gw_script.specs.Order.{in_order};
 ghost use Rattle.gw_lint.specs.Warnings.{broadcast_lines, has_zero_port, other_than, own_lines, owner, peer_lines, port_lines};
 
@@ -9,7 +9,7 @@ use crate::oddity::{Oddity, put_mask, put_owned, put_where};
 use crate::spot::Spot;
 use crate::subnet::{is_multicast, is_off_subnet};
 use gw_addr::{BdtEntry, BipAddr};
-use gw_policy_text::Port;
+use gw_configuration::Port;
 use std::alloc::AllocError;
 
 /// Whether two addresses are one, with its UDP port.

@@ -8,7 +8,7 @@ use crate::port_warnings::{is_same, owner};
 use crate::spot::Spot;
 use crate::subnet::{is_elsewhere, is_multicast};
 use gw_addr::BipAddr;
-use gw_policy_text::{Port, Route};
+use gw_configuration::{Port, Route};
 use std::alloc::AllocError;
 
 /// Appends the lines of the routes by these ports in their order.

@@ -3,12 +3,12 @@
 ghost use Rattle.std.specs.Prelude.{◌≡◌, ◌≤◌, ◌++◌, [], ◌∷◌, IfOk, OnOk, length};
 ghost use Rattle.std.specs.List.{flat_map};
 ghost use Rattle.std.specs.Option.{option_to_list};
-ghost use Rattle.gw_policy_text.specs.declared.format.Format.{Format};
+ghost use Rattle.gw_configuration.specs.declared.format.Format.{Format};
 ghost use Rattle.gw_lint.specs.Shapes.{bound, foreign_shapes, gaps, gaps_between, message_shapes, named, only, own_shapes, plain, request_shapes, shapes, shapes_from, split, table_shapes};
 
-use crate::piece::{NO_RANGE, above, below, numbers};
 use crate::{Shape, Side};
-use gw_policy_text::{Config, Format, Port};
+use crate::piece::{NO_RANGE, above, below, numbers};
+use gw_configuration::{Config, Format, Port};
 use gw_rules::{Fields, Operation, Range};
 use std::alloc::{AllocError, Global};
 

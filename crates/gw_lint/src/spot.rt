@@ -1,7 +1,7 @@
 //! Places of addresses and masks in a configuration.
 ghost use Rattle.gw_addr.specs.Appending.{IsAppended};
 ghost use Rattle.gw_lint.specs.Warnings.{spot_words};
-ghost use Rattle.gw_policy_text.specs.Explanation.{numbered};
+ghost use Rattle.gw_configuration.specs.Located.{numbered};
 
 use gw_addr::{put_decimal, put_slice};
 use std::alloc::AllocError;

@@ -6,7 +6,7 @@ use crate::port_warnings::put_ports;
 use crate::route_warnings::put_routes;
 use crate::rule_warnings::put_rules;
 use gw_addr::keep_whole;
-use gw_policy_text::Config;
+use gw_configuration::Config;
 use std::alloc::AllocError;
 
 /// Appends a line for each thing in a configuration that is accepted and can't be meant: those of

@@ -1,7 +1,7 @@
 -- Which object is meant: by its type and instance, or by its name.
 use Rattle.std.specs.Prelude.{ℕ, ◌==◌, ◌&&◌, nat_eq, Bool, List}
 use Rattle.std.specs.Cmp.Lexicographic.{pointwise}
-use Rattle.gw_policy_text.specs.declared.device.Device.{Device}
+use Rattle.gw_configuration.specs.declared.device.Device.{Device}
 use Rattle.gw_tags.specs.Object.{Object}
 use Rattle.gw_objects.specs.declared.configured.ConfiguredObject.{ConfiguredObject}
 use Rattle.gw_objects.specs.declared.configured.Details.{Details}

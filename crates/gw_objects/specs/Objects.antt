@@ -3,10 +3,10 @@
 pub use Rattle.gw_objects.specs.Identifier.{type_of, id, device_id, object_id_of, same, is_name}
 use Rattle.std.specs.Prelude.{ℕ, if◌then◌else◌, List, ◌∷◌, map, find, position, slice_get, Option, Some}
 use Rattle.std.specs.Option.{option_and_then, option_map}
-use Rattle.gw_policy_text.specs.declared.object.Object.{Object as PolicyObject}
-use Rattle.gw_policy_text.specs.declared.object.ObjectValue.{ObjectValue}
-use Rattle.gw_policy_text.specs.declared.object.ObjectValue.TheVariants as policy
-use Rattle.gw_policy_text.specs.Configuration.{Configuration}
+use Rattle.gw_configuration.specs.declared.object.Object.{Object as PolicyObject}
+use Rattle.gw_configuration.specs.declared.object.ObjectValue.{ObjectValue}
+use Rattle.gw_configuration.specs.declared.object.ObjectValue.TheVariants as policy
+use Rattle.gw_configuration.specs.Configuration.{Configuration}
 use Rattle.gw_priority.specs.Commandable.{Commandable, no_command}
 use Rattle.gw_tags.specs.Object.{Object}
 use Rattle.gw_objects.specs.declared.configured.Configured.{Configured}

@@ -7,7 +7,7 @@ ghost use Rattle.gw_tags.specs.Object.{object_view};
 use crate::ObjectType;
 use crate::index::{places_by_id, places_by_name};
 use gw_addr::Sequence;
-use gw_policy_text::{Device, Instance, Text};
+use gw_configuration::{Device, Instance, Text};
 use gw_tags::ObjectId;
 use indexmap::IndexMap;
 use std::alloc::{AllocError, Global};

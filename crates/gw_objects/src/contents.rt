@@ -1,7 +1,7 @@
 //! What a property holds, lent from its object.
 
 use crate::{PropertyValue, States, ValueObjects};
-use gw_policy_text::Text;
+use gw_configuration::Text;
 use gw_priority::PriorityArray;
 use gw_tags::ObjectId;
 

@@ -5,7 +5,7 @@ ghost use Rattle.gw_priority.specs.Commandable.{no_command};
 
 use crate::{ConfiguredObject, Details, PropertyValue, States, ValueObjects};
 use gw_addr::Sequence;
-use gw_policy_text::{Device, Object, ObjectValue, Text};
+use gw_configuration::{Device, Object, ObjectValue, Text};
 use gw_priority::PriorityArray;
 use std::alloc::{AllocError, Global};
 

@@ -27,7 +27,7 @@ use crate::{
     Configured, ConfiguredObject, ObjectType, Property, PropertyValue, ReadFault, ValueObjects,
     WriteFault, copying,
 };
-use gw_policy_text::{Config, Text};
+use gw_configuration::{Config, Text};
 use gw_priority::PriorityArray;
 use gw_tags::ObjectId;
 use std::alloc::{AllocError, Global};

@@ -1,6 +1,6 @@
 //! The values of Present_Value and Relinquish_Default.
 
-use gw_policy_text::Text;
+use gw_configuration::Text;
 
 /// A value of Present_Value and Relinquish_Default, by the type of its object.
 #[derive(Drop)]

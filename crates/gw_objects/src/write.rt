@@ -16,7 +16,7 @@ use crate::property::property_of;
 use crate::{
     Configured, ConfiguredObject, Details, ObjectType, Property, PropertyValue, WriteFault,
 };
-use gw_policy_text::Text;
+use gw_configuration::Text;
 use gw_priority::RESERVED;
 use gw_tags::{AppValue, CharacterString, ObjectId, ValueFault, read_value};
 use std::alloc::Global;

@@ -4,7 +4,7 @@ use Rattle.std.specs.Str.{IsUtf8, is_utf8}
 use Rattle.std.proofs.lemmas.Str.{IsUtf8-from_is_utf8, is_utf8-from_IsUtf8}
 use Rattle.toml.specs.Data.{Members}
 use Rattle.toml.specs.Parse.{parse_document}
-use Rattle.gw_policy_text.specs.declared.fault.ConfigFault.TheVariants.{NotToml}
+use Rattle.gw_configuration.specs.declared.fault.ConfigFault.TheVariants.{NotToml}
 use Rattle.gw_policy_text.specs.Document.{document}
 
 not_utf8 : (text : List ℕ) → ¬ (IsUtf8 text) → is_utf8 text ≡ false

@@ -5,10 +5,10 @@ use Rattle.toml.specs.Data.{Data}
 use Rattle.toml.specs.View.{view}
 use Rattle.toml.specs.declared.value.Value.{Value}
 use Rattle.gw_addr.specs.Reading.{◌>>=◌}
-use Rattle.gw_policy_text.specs.declared.fault.ConfigFault.{ConfigFault}
-use Rattle.gw_policy_text.specs.declared.fault.ConfigFault.TheVariants.{Memory}
-use Rattle.gw_policy_text.specs.Configuration.{each}
-use Rattle.gw_policy_text.specs.Value.{Read}
+use Rattle.gw_configuration.specs.declared.fault.ConfigFault.{ConfigFault}
+use Rattle.gw_configuration.specs.declared.fault.ConfigFault.TheVariants.{Memory}
+use Rattle.gw_policy_text.specs.Parts.{each}
+use Rattle.gw_configuration.specs.Located.{Read}
 
 -- what was read before, and what is still read
 abbrev pub with_front : {A : Type 0} → List A → Read (List A) → Read (List A)

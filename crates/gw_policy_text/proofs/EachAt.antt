@@ -5,10 +5,10 @@ use Rattle.toml.specs.Data.{Data}
 use Rattle.toml.specs.View.{view}
 use Rattle.toml.specs.declared.value.Value.{Value}
 use Rattle.gw_addr.specs.Reading.{◌>>=◌}
-use Rattle.gw_policy_text.specs.declared.fault.ConfigFault.TheVariants.{Memory}
-use Rattle.gw_policy_text.specs.declared.located.Located.{Located as Lent}
-use Rattle.gw_policy_text.specs.Configuration.{each_at}
-use Rattle.gw_policy_text.specs.Located.{Find, located_view}
+use Rattle.gw_configuration.specs.declared.fault.ConfigFault.TheVariants.{Memory}
+use Rattle.gw_configuration.specs.declared.located.Located.{Located as Lent}
+use Rattle.gw_policy_text.specs.Parts.{each_at}
+use Rattle.gw_configuration.specs.Located.{Find, located_view}
 
 -- what was read before, and what is still read
 abbrev pub with_front : {A : Type 0} → List A → Find (List A) → Find (List A)

@@ -1,9 +1,4 @@
 pub mod Documents
 pub mod Each
 pub mod EachAt
-pub mod Explanations
-pub mod Named
-pub mod Repeats
-pub mod Twice
-pub mod Values
-pub mod Written
+pub mod Limits

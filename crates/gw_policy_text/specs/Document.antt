@@ -5,14 +5,14 @@ use Rattle.std.specs.Str.{is_utf8}
 use Rattle.toml.specs.Data.{Members}
 use Rattle.toml.specs.Parse.{parse_document}
 use Rattle.gw_addr.specs.Reading.{◌>>=◌}
-use Rattle.gw_policy_text.specs.declared.fault.ConfigFault.TheVariants.{NotToml, TooMany}
-use Rattle.gw_policy_text.specs.Configuration.{Configuration, parts_of, unless}
-use Rattle.gw_policy_text.specs.Duplicates.{unique}
-use Rattle.gw_policy_text.specs.declared.located.Place.TheVariants.{Top}
-use Rattle.gw_policy_text.specs.Field.{located_in}
-use Rattle.gw_policy_text.specs.Located.{Find, of_text, whole, without_place}
-use Rattle.gw_policy_text.specs.Tables.{top_fields}
-use Rattle.gw_policy_text.specs.Value.{Read}
+use Rattle.gw_configuration.specs.declared.fault.ConfigFault.TheVariants.{NotToml, TooMany}
+use Rattle.gw_configuration.specs.declared.located.Place.TheVariants.{Top}
+use Rattle.gw_configuration.specs.Configuration.{Configuration}
+use Rattle.gw_configuration.specs.Duplicates.{unique}
+use Rattle.gw_configuration.specs.Located.{Find, Read, of_text, unless, whole, without_place}
+use Rattle.gw_config_tables.specs.Field.{located_in}
+use Rattle.gw_config_tables.specs.Tables.{top_fields}
+use Rattle.gw_policy_text.specs.Parts.{parts_of}
 
 -- the configuration of a document: its tables in their order, and last of all what may not stand twice
 unfoldable pub configuration_of : Members → Find Configuration

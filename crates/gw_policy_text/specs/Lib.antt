@@ -1,11 +1,2 @@
-pub mod Configuration
 pub mod Document
-pub mod Duplicates
-pub mod Explanation
-pub mod Field
-pub mod Located
-pub mod Reading
-pub mod States
-pub mod Tables
-pub mod Value
-pub mod Written
+pub mod Parts

@@ -1,21 +1,12 @@
-//! The format of a policy.
+//! What the format of a policy is read to.
 
-ghost use Rattle.gw_policy_text.specs.Configuration.{format_at};
-ghost use Rattle.gw_policy_text.specs.Reading.{Gives};
+ghost use Rattle.gw_policy_text.specs.Parts.{format_at};
+ghost use Rattle.gw_configuration.specs.Reading.{Gives};
 ghost use Rattle.toml.specs.View.{table_view};
 
-use crate::ConfigFault;
 use crate::reading::number_at;
+use gw_configuration::{ConfigFault, Format};
 use toml::Table;
-
-/// The format of a policy: by what a request is judged that goes on to another network.
-#[derive(Clone, Copy, Debug, PartialEq, Eq)]
-pub enum Format {
-    /// 1: by its way alone.
-    One,
-    /// 2: by its way, and by each property that it reads or writes there.
-    Two,
-}
 
 /// The format at a key, by its number. `Missing`, `Kind` or `Range`.
 pub(crate) fn format_at(key: &str, table: &Table) -> Result<Format, ConfigFault>

@@ -1,44 +1,10 @@
-//! Laws of the limits, of the numbers that contracts cite, and of what stands twice. Each function does
-//! nothing: its contract is the laws.
+//! Laws of the limits. Each function does nothing: its contract is the laws.
 
 ghost use Rattle.std.specs.Prelude.{◌≡◌};
-ghost use Rattle.gw_policy_text.specs.Configuration.{format_of};
-ghost use Rattle.gw_policy_text.specs.Duplicates.{RepetitionsAreTold};
-ghost use Rattle.gw_policy_text.specs.declared.format.Format.TheVariants.{One, Two};
 
-use crate::instance::MAX_INSTANCE;
-use crate::object::MAX_STATES;
-use crate::parts::{MAX_OBJECTS, MAX_ROUTES};
-use crate::port::MAX_PEERS;
 use crate::read::MAX_OCTETS;
-use crate::text::MAX_TEXT;
-use crate::value::MAX_RULE_NAME;
-use gw_addr::MAX_PORTS;
 
-/// The limits are 1,048,576 octets of a configuration, 8 ports, 64 peers of each, 512 routes, 256
-/// objects, 64 states of each, 255 octets of a text, 32 of a rule's name, and the last instance,
-/// 4194302.
+/// The limit is 1,048,576 octets of a configuration.
 pub fn limits()
     ensures octets { MAX_OCTETS ≡ 1048576 }
-    ensures ports { MAX_PORTS ≡ 8 }
-    ensures peers { MAX_PEERS ≡ 64 }
-    ensures routes { MAX_ROUTES ≡ 512 }
-    ensures objects { MAX_OBJECTS ≡ 256 }
-    ensures states { MAX_STATES ≡ 64 }
-    ensures text { MAX_TEXT ≡ 255 }
-    ensures rule_name { MAX_RULE_NAME ≡ 32 }
-    ensures instance { MAX_INSTANCE ≡ 4194302 }
-{}
-
-/// The number 1 is the first format, 2 the second.
-pub fn formats()
-    ensures one { format_of 1 ≡ One }
-    ensures two { format_of 2 ≡ Two }
-{}
-
-/// A place where something stands for the second time is told exactly where something stands twice that
-/// may stand only once.
-#[tactic(auto, using(crate::proofs::Repeats::repetition_found))]
-pub fn repetitions()
-    ensures { RepetitionsAreTold }
 {}

@@ -2,27 +2,27 @@
 ghost use Rattle.std.specs.Prelude.{◌≡◌, ◌≤◌, codes, length, map, option_map, IfOk};
 ghost use Rattle.gw_addr.specs.Reading as plain;
 ghost use Rattle.toml.specs.View.{table_view, view};
-ghost use Rattle.gw_policy_text.specs.Configuration.{binary_value, character_string_value, count_at, each, each_at, integer_value, kind_at, multi_state_value, object_in, object_of, object_of_kind, object_parts, positive_integer_value, signed_at, states_with, type_located, value_of};
-ghost use Rattle.gw_policy_text.specs.Field.{located_in};
-ghost use Rattle.gw_policy_text.specs.Located.{located_view};
-ghost use Rattle.gw_policy_text.specs.Reading.{Finds, Gives, Tells, TellsFault};
-ghost use Rattle.gw_policy_text.specs.Tables.{object_fields};
-ghost use Rattle.gw_policy_text.specs.Value.{text_in};
-ghost use Rattle.gw_policy_text.specs.declared.located.Place.TheVariants as places;
+ghost use Rattle.gw_policy_text.specs.Parts.{binary_value, character_string_value, count_at, each, each_at, integer_value, kind_at, multi_state_value, object_in, object_of, object_of_kind, object_parts, positive_integer_value, signed_at, states_with, type_located, value_of};
+ghost use Rattle.gw_config_tables.specs.Field.{located_in};
+ghost use Rattle.gw_configuration.specs.Located.{located_view};
+ghost use Rattle.gw_configuration.specs.Reading.{Finds, Gives, Tells, TellsFault};
+ghost use Rattle.gw_config_tables.specs.Tables.{object_fields};
+ghost use Rattle.gw_config_tables.specs.Value.{text_in};
+ghost use Rattle.gw_configuration.specs.declared.located.Place.TheVariants as places;
 
-use crate::field::located_in;
-use crate::located::{Located, Place};
-use crate::object::MAX_STATES;
 use crate::reading::{
     any_list, at, instance_at, list_at, long_at, number_at, optional_text, short_at, text_at,
 };
-use crate::tables::{
+use gw_addr::Sequence;
+use gw_config_tables::located_in;
+use gw_config_tables::tables::{
     binary_fields, character_string_fields, integer_fields, multi_state_fields,
     positive_integer_fields, type_field,
 };
-use crate::value::{self, string, table};
-use crate::{ConfigFault, MultiState, Object, ObjectKind, ObjectValue, Text};
-use gw_addr::Sequence;
+use gw_config_tables::value::{self, string, table};
+use gw_configuration::{
+    ConfigFault, Located, MAX_STATES, MultiState, Object, ObjectKind, ObjectValue, Place, Text,
+};
 use std::alloc::Global;
 use toml::{Table, Value};
 
@@ -79,7 +79,7 @@ fn kind_at(table: &Table) -> Result<ObjectKind, ConfigFault>
     value::kind(at("type", table)?)
 }
 
-#[tactic(auto, unfolding(crate::specs::Configuration::object_of_kind))]
+#[tactic(auto, unfolding(crate::specs::Parts::object_of_kind))]
 fn object_of_kind<'a>(
     alloc: Global,
     object: usize,
@@ -177,7 +177,7 @@ fn multi_state(states: Sequence<Text>, table: &Table) -> Result<MultiState, Conf
     ensures { plain.Gives (λ m. m) result (states_with states (table_view table.now)) }
 {
     let default = number_at(1, states.len() as u64, "default", table)? as u8;
-    Ok(MultiState::new(default, states))
+    MultiState::new(default, states).ok_or(ConfigFault::Range)
 }
 
 fn texts(alloc: Global, values: &[Value]) -> Result<Sequence<Text>, ConfigFault>

@@ -1,151 +1,47 @@
-//! The parts of a configuration, before it is judged what stands twice.
+//! What the parts of a configuration are read to, before it is judged what stands twice.
 ghost use Rattle.std.specs.Prelude.{◌≡◌, ◌≤◌, codes, length, IfOk, IsTrue};
 ghost use Rattle.std.specs.List.{list_all};
 ghost use Rattle.toml.specs.View.{table_view};
-ghost use Rattle.gw_policy_text.specs.Configuration.{device_at, is_by, objects_at, parts_of, parts_of_format, policy_of, ports_at, routes_at, rules_at};
-ghost use Rattle.gw_policy_text.specs.Reading.{Finds, Gives};
+ghost use Rattle.gw_addr.specs.declared.TheConstants.{MAX_PORTS};
+ghost use Rattle.gw_policy_text.specs.Parts.{device_at, objects_at, parts_of, parts_of_format, policy_of, ports_at, routes_at, rules_at};
+ghost use Rattle.gw_configuration.specs.Configuration.{is_by};
+ghost use Rattle.gw_configuration.specs.Reading.{Finds, Gives};
 
 use crate::format::format_at;
-use crate::located::Located;
 use crate::reading::{at, list_at};
-use crate::{ConfigFault, Device, Format, Object, Port, Route, objects, port, route, rules, value};
+use crate::{device, objects, port, route, rules};
 use gw_addr::{MAX_PORTS, Sequence};
+use gw_config_tables::value;
+use gw_configuration::{
+    ConfigFault, Device, Format, Located, MAX_OBJECTS, MAX_ROUTES, Object, Parts, Port, Route,
+};
 use gw_rules::{MAX_RULES, Rule, RuleFault, RuleList};
 use std::alloc::Global;
-use std::marker::Model;
 use toml::Table;
 
-/// How many routes it starts with at most.
-pub const MAX_ROUTES: usize = 512;
-/// How many objects its device has at most, beside the Device object.
-pub const MAX_OBJECTS: usize = 256;
-
-/// The parts of a configuration, each in the order of the text. Contracts see them.
-#[derive(Debug)]
-pub(crate) struct Parts {
-    format: Format,
-    device: Device,
-    ports: Sequence<Port>,
-    routes: Sequence<Route>,
-    objects: Sequence<Object>,
-    rules: RuleList,
+/// The parts that the tables say, in their order, or the first fault with its place.
+pub(crate) fn parts<'a>(alloc: Global, top: &'a Table) -> Result<Parts, Located<'a>>
+    ensures { Finds (λ c. c) result (parts_of (table_view top.now)) }
+{
+    parts_of_format(alloc, format_at("format", top)?, top)
 }
 
-// By hand: a derived one is proved part by part wherever one is dropped (docs/GATE.md).
-impl Drop for Parts {
-    fn drop(self) {
-        let Parts {
-            format: _,
-            device: _,
-            ports: _,
-            routes: _,
-            objects: _,
-            rules: _,
-        } = self;
-    }
-}
-
-impl Model for Parts {
-    ghost use Rattle.std.specs.Prelude.{◌≤◌, length, IsTrue};
-    ghost use Rattle.std.specs.List.{list_all};
-    ghost use Rattle.gw_addr.specs.declared.TheConstants.{MAX_PORTS};
-    ghost use Rattle.gw_policy_text.specs.Configuration.{Configuration, is_by};
-
-    ghost Value = { Configuration };
-
-    ghost view = { λ c. record { format = c.format; device = c.device; ports = c.ports; routes = c.routes; objects = c.objects; rules = c.rules } };
-
-    ghost invariant = { λ c. (1 ≤ length c.ports) × ((length c.ports ≤ MAX_PORTS) × ((length c.routes ≤ 512)
-        × ((length c.objects ≤ 256) × IsTrue (list_all (is_by (length c.ports)) c.routes)))) };
-}
-
-impl Parts {
-    pub(crate) fn format(&self) -> Format
-        ensures { result ≡ self.now.format }
-    {
-        self.format
-    }
-
-    pub(crate) fn device(&self) -> &Device
-        ensures { result.now ≡ self.now.device }
-    {
-        &self.device
-    }
-
-    pub(crate) fn ports(&self) -> &[Port]
-        ensures ports { result.now ≡ self.now.ports }
-        ensures some { 1 ≤ length self.now.ports }
-        ensures most { length self.now.ports ≤ MAX_PORTS }
-    {
-        self.ports.as_slice()
-    }
-
-    pub(crate) fn routes(&self) -> &[Route]
-        ensures routes { result.now ≡ self.now.routes }
-        ensures most { length self.now.routes ≤ 512 }
-        ensures by { IsTrue (list_all (is_by (length self.now.ports)) self.now.routes) }
-    {
-        self.routes.as_slice()
-    }
-
-    pub(crate) fn objects(&self) -> &[Object]
-        ensures objects { result.now ≡ self.now.objects }
-        ensures most { length self.now.objects ≤ 256 }
-    {
-        self.objects.as_slice()
-    }
-
-    pub(crate) fn rules(&self) -> &RuleList
-        ensures { result.now ≡ self.now.rules }
-    {
-        &self.rules
-    }
-
-    pub(crate) fn into_rules(self) -> RuleList
-        ensures { result ≡ self.rules }
-    {
-        let Parts {
-            format: _,
-            device: _,
-            ports: _,
-            routes: _,
-            objects: _,
-            rules,
-        } = self;
-        rules
-    }
-
-    /// The parts that the tables say, in their order, or the first fault with its place.
-    pub(crate) fn read<'a>(alloc: Global, top: &'a Table) -> Result<Self, Located<'a>>
-        ensures { Finds (λ c. c) result (parts_of (table_view top.now)) }
-    {
-        Parts::of_format(alloc, format_at("format", top)?, top)
-    }
-
-    /// The parts of a configuration of this format.
-    fn of_format<'a>(alloc: Global, format: Format, top: &'a Table) -> Result<Self, Located<'a>>
-        ensures { Finds (λ c. c) result (parts_of_format format (table_view top.now)) }
-    {
-        let device = device_at(alloc, top)?;
-        let ports = ports_at(alloc, top)?;
-        let routes = routes_at(alloc, ports.len() as u8, top)?;
-        let objects = objects_at(alloc, top)?;
-        let rules = policy_of(rules_at(alloc, top)?)?;
-        Ok(Parts {
-            format,
-            device,
-            ports,
-            routes,
-            objects,
-            rules,
-        })
-    }
+/// The parts of a configuration of this format.
+fn parts_of_format<'a>(alloc: Global, format: Format, top: &'a Table) -> Result<Parts, Located<'a>>
+    ensures { Finds (λ c. c) result (parts_of_format format (table_view top.now)) }
+{
+    let device = device_at(alloc, top)?;
+    let ports = ports_at(alloc, top)?;
+    let routes = routes_at(alloc, ports.len() as u8, top)?;
+    let objects = objects_at(alloc, top)?;
+    let rules = policy_of(rules_at(alloc, top)?)?;
+    Ok(Parts::new(format, device, ports, routes, objects, rules).ok_or(ConfigFault::Range)?)
 }
 
 fn device_at<'a>(alloc: Global, top: &'a Table) -> Result<Device, Located<'a>>
     ensures { Finds (λ d. d) result (device_at (codes "device") (table_view top.now)) }
 {
-    Device::read(alloc, value::table(at("device", top)?)?)
+    device::device(alloc, value::table(at("device", top)?)?)
 }
 
 fn ports_at<'a>(alloc: Global, top: &'a Table) -> Result<Sequence<Port>, Located<'a>>

@@ -2,17 +2,16 @@
 ghost use Rattle.std.specs.Prelude.{◌≡◌, ◌<◌, Err, length};
 ghost use Rattle.toml.specs.View.{table_view};
 ghost use Rattle.gw_policy_text.specs.Document.{configuration, configuration_of, document};
-ghost use Rattle.gw_policy_text.specs.Field.{located_in};
-ghost use Rattle.gw_policy_text.specs.Reading.{Finds, Gives, TellsFault};
-ghost use Rattle.gw_policy_text.specs.Tables.{top_fields};
-ghost use Rattle.gw_policy_text.specs.declared.fault.ConfigFault.TheVariants.{TooMany};
-ghost use Rattle.gw_policy_text.specs.declared.located.Place.TheVariants as places;
+ghost use Rattle.gw_config_tables.specs.Field.{located_in};
+ghost use Rattle.gw_configuration.specs.Reading.{Finds, Gives, TellsFault};
+ghost use Rattle.gw_config_tables.specs.Tables.{top_fields};
+ghost use Rattle.gw_configuration.specs.declared.fault.ConfigFault.TheVariants.{TooMany};
+ghost use Rattle.gw_configuration.specs.declared.located.Place.TheVariants as places;
 
-use crate::field::located_in;
-use crate::located::{Located, Place};
-use crate::parts::Parts;
-use crate::tables::top_fields;
-use crate::{Config, ConfigFault};
+use crate::parts::parts;
+use gw_config_tables::located_in;
+use gw_config_tables::tables::top_fields;
+use gw_configuration::{Config, ConfigFault, Located, Place};
 use std::alloc::Global;
 use toml::Table;
 
@@ -42,8 +41,8 @@ pub fn read_config(alloc: Global, text: &[u8]) -> Result<Config, ConfigFault>
     }
 }
 
-/// The TOML document that a text is. `NotToml` where it is none, or `Memory`.
-pub(crate) fn document(alloc: Global, text: &[u8]) -> Result<Table, ConfigFault>
+/// The TOML document that a text is, of any length. `NotToml` where it is none, or `Memory`.
+pub fn document(alloc: Global, text: &[u8]) -> Result<Table, ConfigFault>
     ensures { Gives (λ t. table_view t) result (document text.now) }
 {
     let Ok(text) = str::from_utf8(text) else {
@@ -56,14 +55,15 @@ pub(crate) fn document(alloc: Global, text: &[u8]) -> Result<Table, ConfigFault>
     }
 }
 
-/// The configuration of a document, or its first fault with its place.
+/// The configuration of a document, or its first fault with its place. [`read_config`] says which is
+/// the first.
 #[tactic(auto, unfolding(crate::specs::Document::configuration_of))]
-pub(crate) fn config_of<'a>(alloc: Global, top: &'a Table) -> Result<Config, Located<'a>>
+pub fn config_of<'a>(alloc: Global, top: &'a Table) -> Result<Config, Located<'a>>
     ensures configuration { Finds (λ c. c) result (configuration_of (table_view top.now)) }
     ensures told { TellsFault result (located_in places.Top top_fields (table_view top.now)) }
 {
     match located_in(Place::Top, &top_fields(), top) {
         Some(located) => Err(located),
-        None => Config::of_parts(alloc, Parts::read(alloc, top)?),
+        None => Config::of_parts(alloc, parts(alloc, top)?),
     }
 }

@@ -3,12 +3,12 @@ ghost use Rattle.std.specs.Prelude.{◌≡◌, ◌≤◌, [], length, map, IfOk}
 ghost use Rattle.gw_addr.specs.Reading as plain;
 ghost use Rattle.toml.specs.Data.{get_member};
 ghost use Rattle.toml.specs.View.{table_view, view};
-ghost use Rattle.gw_policy_text.specs.Configuration.{address_at, at, list_at, list_or, mask_at, number_at, optional_text, text_at};
-ghost use Rattle.gw_policy_text.specs.Reading.{Gives, Tells};
+ghost use Rattle.gw_policy_text.specs.Parts.{address_at, at, list_at, list_or, mask_at, number_at, optional_text, text_at};
+ghost use Rattle.gw_configuration.specs.Reading.{Gives, Tells};
 
-use crate::value::{self, member, string};
-use crate::{ConfigFault, Instance, Text};
 use gw_addr::{BipAddr, Mask, NetNum};
+use gw_config_tables::value::{self, member, string};
+use gw_configuration::{ConfigFault, Instance, Text};
 use std::alloc::Global;
 use toml::{Table, Value};
 
@@ -93,8 +93,10 @@ pub(crate) fn text_at(
     ensures text { Gives (λ t. t) result (text_at least key.now (table_view table.now)) }
     ensures told { Tells result (text_at least key.now (table_view table.now)) }
 {
-    let text = value::text(least, at(key, table)?)?;
-    Ok(Text::copy(alloc, text)?)
+    match string(at(key, table)?) {
+        Some(text) => Text::new(alloc, least, text),
+        None => Err(ConfigFault::Kind),
+    }
 }
 
 /// The text at a key that may be missing. `Kind`, `Range` or `Memory`.
@@ -129,7 +131,7 @@ pub(crate) fn any_list<'a>(key: &str, table: &'a Table) -> Result<&'a [Value], C
 
 /// The values of the list at a key that may be missing, `least` to `most` of them. `Kind`, `Range`
 /// or `TooMany`.
-#[tactic(auto, using(crate::proofs::Values::length_view))]
+#[tactic(auto, using(gw_config_tables::proofs::Values::length_view))]
 pub(crate) fn list_at<'a>(
     least: usize,
     most: usize,

@@ -2,20 +2,18 @@
 ghost use Rattle.std.specs.Prelude.{◌≡◌, map};
 ghost use Rattle.gw_addr.specs.Reading as plain;
 ghost use Rattle.toml.specs.View.{table_view, view};
-ghost use Rattle.gw_policy_text.specs.Configuration.{boolean_at, each, each_at, fields_of, ranges_at, rule_in, rule_of, rule_parts};
-ghost use Rattle.gw_policy_text.specs.Field.{located_in, range_in};
-ghost use Rattle.gw_policy_text.specs.Reading.{Finds, Gives, TellsFault};
-ghost use Rattle.gw_policy_text.specs.Tables.{rule_fields};
-ghost use Rattle.gw_policy_text.specs.declared.located.Place.TheVariants as places;
+ghost use Rattle.gw_policy_text.specs.Parts.{boolean_at, each, each_at, fields_of, ranges_at, rule_in, rule_of, rule_parts};
+ghost use Rattle.gw_config_tables.specs.Field.{located_in, range_in};
+ghost use Rattle.gw_configuration.specs.Reading.{Finds, Gives, TellsFault};
+ghost use Rattle.gw_config_tables.specs.Tables.{rule_fields};
+ghost use Rattle.gw_configuration.specs.declared.located.Place.TheVariants as places;
 
-use crate::ConfigFault;
-use crate::field::located_in;
-use crate::located::{Located, Place};
-use crate::range::range;
 use crate::reading::{at, list_at};
-use crate::shape::Scalar;
-use crate::tables::{self, rule_fields};
-use crate::value::{self, table};
+use gw_config_tables::located_in;
+use gw_config_tables::range::range;
+use gw_config_tables::tables::{self, rule_fields};
+use gw_config_tables::value::{self, table};
+use gw_configuration::{ConfigFault, Located, Place, Scalar};
 use gw_rules::{Fields, MAX_RANGES, Ranges, Rule};
 use std::alloc::Global;
 use toml::{Table, Value};
@@ -38,7 +36,7 @@ fn rule<'a>(alloc: Global, rule: usize, value: &'a Value) -> Result<Rule, Locate
     rule_of_table(alloc, rule, table(value)?)
 }
 
-#[tactic(auto, unfolding(crate::specs::Configuration::rule_of))]
+#[tactic(auto, unfolding(crate::specs::Parts::rule_of))]
 fn rule_of_table<'a>(alloc: Global, rule: usize, table: &'a Table) -> Result<Rule, Located<'a>>
     ensures rule { Finds (λ r. r) result (rule_of rule (table_view table.now)) }
     ensures told { TellsFault result (located_in (places.Rule rule) rule_fields (table_view table.now)) }

@@ -2,9 +2,9 @@
 use Rattle.std.proofs.Common.{◌≡◌, ◌∙◌, ap, refl, ℕ, Bool, true, false, ◌&&◌, ◌||◌, not, nat_eq, List, [], ◌∷◌, ◌++◌, map, append_assoc}
 use Rattle.std.specs.List.{list_any}
 use Rattle.std.specs.Map.{keys_of}
-use Rattle.gw_policy_text.specs.Configuration.{Configuration}
-use Rattle.gw_policy_text.specs.Duplicates.{has_duplicates, has_twice, networks}
-use Rattle.gw_policy_text.specs.declared.route.Route.{Route as ConfiguredRoute}
+use Rattle.gw_configuration.specs.Configuration.{Configuration}
+use Rattle.gw_configuration.specs.Duplicates.{has_duplicates, has_twice, networks}
+use Rattle.gw_configuration.specs.declared.route.Route.{Route as ConfiguredRoute}
 use Rattle.gw_routes.specs.Table.{are_distinct}
 use Rattle.gw_routes.specs.History.{learned_after, networks_learned}
 use Rattle.gw_relay.specs.Initial.{direct_of, routed_of}

@@ -6,10 +6,10 @@ use Rattle.gw_addr.specs.declared.entry.BdtEntry.{BdtEntry}
 use Rattle.gw_bdt_fdt.specs.Peers.{has_twice, is_of}
 use Rattle.gw_bdt_fdt.specs.Registrations.{same}
 use Rattle.gw_bdt_fdt.proofs.Same.{equal_of}
-use Rattle.gw_policy_text.specs.Configuration.{Configuration}
-use Rattle.gw_policy_text.specs.Duplicates.{has_duplicates, key, peer_addresses}
-use Rattle.gw_policy_text.specs.Duplicates as text
-use Rattle.gw_policy_text.specs.declared.port.Port.{Port}
+use Rattle.gw_configuration.specs.Configuration.{Configuration}
+use Rattle.gw_configuration.specs.Duplicates.{has_duplicates, key, peer_addresses}
+use Rattle.gw_configuration.specs.Duplicates as text
+use Rattle.gw_configuration.specs.declared.port.Port.{Port}
 use Rattle.gw_relay.proofs.Configured.{or_left, or_right}
 
 -- no entry of an address has another key

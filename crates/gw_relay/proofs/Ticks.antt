@@ -4,7 +4,7 @@ use Rattle.std.specs.Prelude.{◌==◌, if◌then◌else◌}
 use Rattle.gw_addr.specs.declared.bip.BipAddr.{BipAddr}
 use Rattle.gw_addr.specs.declared.entry.BdtEntry.{BdtEntry}
 use Rattle.gw_bdt_fdt.specs.Registrations.{Registrations, contains, has_room, with_registration, without}
-use Rattle.gw_policy_text.specs.declared.port.Port.{Port as ConfiguredPort}
+use Rattle.gw_configuration.specs.declared.port.Port.{Port as ConfiguredPort}
 use Rattle.gw_relay.specs.Initial.{links_from}
 use Rattle.gw_relay.specs.State.{changed_at, changed_of, deleted, link_later, links_after, registered}
 use Rattle.gw_relay.specs.declared.change.Change.{Change}

@@ -6,7 +6,7 @@ use Rattle.std.specs.Prelude.{◌≡◌, ℕ, ◌+◌, Bool, if◌then◌else◌
 use Rattle.gw_addr.specs.declared.entry.BdtEntry.{BdtEntry}
 use Rattle.gw_bdt_fdt.specs.History.{Act, Register, Delete, Tick, History, table_after}
 use Rattle.gw_bdt_fdt.specs.Registrations.{contains, has_room}
-use Rattle.gw_policy_text.specs.declared.port.Port.{Port as ConfiguredPort}
+use Rattle.gw_configuration.specs.declared.port.Port.{Port as ConfiguredPort}
 use Rattle.gw_routes.specs.History.{history_with}
 use Rattle.gw_routes.specs.History.{History as Learned}
 use Rattle.gw_routes.specs.Table.{Table, route_by}

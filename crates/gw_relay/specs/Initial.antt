@@ -1,9 +1,9 @@
 -- A relay as it is configured.
 use Rattle.std.specs.Prelude.{ℕ, ◌+◌, List, [], ◌∷◌, ◌++◌, map}
 use Rattle.gw_bdt_fdt.specs.Registrations.{no_registration}
-use Rattle.gw_policy_text.specs.Configuration.{Configuration}
-use Rattle.gw_policy_text.specs.declared.port.Port.{Port as ConfiguredPort}
-use Rattle.gw_policy_text.specs.declared.route.Route.{Route as ConfiguredRoute}
+use Rattle.gw_configuration.specs.Configuration.{Configuration}
+use Rattle.gw_configuration.specs.declared.port.Port.{Port as ConfiguredPort}
+use Rattle.gw_configuration.specs.declared.route.Route.{Route as ConfiguredRoute}
 use Rattle.gw_routes.specs.declared.route.Route.{Route}
 use Rattle.gw_routes.specs.Table.{table_of, route_by}
 use Rattle.gw_relay.specs.State.{Relay}

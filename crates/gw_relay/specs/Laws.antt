@@ -10,7 +10,7 @@ use Rattle.gw_addr.specs.Station.{key_of}
 use Rattle.gw_bdt_fdt.specs.Peers.{all_ones, is_of, peers}
 use Rattle.gw_bdt_fdt.specs.Registrations.{same}
 use Rattle.gw_bvll.specs.Bvll.{Message as Frame}
-use Rattle.gw_policy_text.specs.declared.port.Port.{Port as ConfiguredPort}
+use Rattle.gw_configuration.specs.declared.port.Port.{Port as ConfiguredPort}
 use Rattle.gw_rules.specs.declared.operation.Operation.TheVariants.{Learn, Read}
 use Rattle.gw_rules.specs.declared.rule.Rule.{Rule}
 use Rattle.gw_rules.specs.Allowed.{NoChangeAllowed, NoneAllowed}

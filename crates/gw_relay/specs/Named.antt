@@ -9,8 +9,8 @@ use Rattle.gw_apdu.specs.declared.header.ConfirmedRequest.{ConfirmedRequest as R
 use Rattle.gw_apdu.specs.declared.header.Header.{Header}
 use Rattle.gw_apdu.specs.declared.header.Header.TheVariants.{ConfirmedRequest}
 use Rattle.gw_npdu.specs.Npdu.{Payload, apdu, message}
-use Rattle.gw_policy_text.specs.declared.format.Format.{Format}
-use Rattle.gw_policy_text.specs.declared.format.Format.TheVariants.{One, Two}
+use Rattle.gw_configuration.specs.declared.format.Format.{Format}
+use Rattle.gw_configuration.specs.declared.format.Format.TheVariants.{One, Two}
 use Rattle.gw_rules.specs.Ask.{Ask}
 use Rattle.gw_rules.specs.Operation.{operation_number}
 use Rattle.gw_rules.specs.declared.operation.Operation.{Operation}

@@ -14,7 +14,7 @@ use Rattle.gw_npdu.specs.Kind.{kind_number}
 use Rattle.gw_npdu.specs.Npdu.{Address, Destination, Fields, Payload, apdu, message}
 use Rattle.gw_npdu.specs.Onward.{onward}
 use Rattle.gw_routes.specs.Table.{way}
-use Rattle.gw_policy_text.specs.declared.format.Format.{Format}
+use Rattle.gw_configuration.specs.declared.format.Format.{Format}
 use Rattle.gw_routes.specs.declared.route.Route.{Route}
 use Rattle.gw_routes.specs.declared.route.Way.{Way}
 use Rattle.gw_routes.specs.declared.route.Way.TheVariants.{Port, Router, Everywhere, Unknown}

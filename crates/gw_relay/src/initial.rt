@@ -10,7 +10,7 @@ ghost use Rattle.gw_relay.specs.Initial.{direct_of, link_of, links_from, routed_
 use crate::port::{Port, PortState};
 use gw_addr::NetNum;
 use gw_bdt_fdt::{Bdt, Fdt};
-use gw_policy_text::{Config, Port as ConfiguredPort, Route as ConfiguredRoute};
+use gw_configuration::{Config, Port as ConfiguredPort, Route as ConfiguredRoute};
 use gw_routes::{Route, Routes};
 use std::alloc::{AllocError, Global};
 

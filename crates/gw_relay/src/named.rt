@@ -14,8 +14,8 @@ ghost use Rattle.gw_relay.specs.Named.{forward_asks, multi_asks, named_ask, name
 ghost use Rattle.gw_relay.specs.internal.Taken.{AreAsked};
 
 use gw_apdu::{Apdu, ConfirmedRequest, Header};
+use gw_configuration::Format;
 use gw_npdu::Payload;
-use gw_policy_text::Format;
 use gw_rules::{Ask, Authorizer, Judge, Operation};
 use gw_services::{
     MAX_REFERENCES, Next, READ_PROPERTY, READ_PROPERTY_MULTIPLE, Reference, WRITE_PROPERTY,

@@ -32,7 +32,7 @@ use crate::route::route;
 use crate::sends::Sends;
 use gw_addr::BipAddr;
 use gw_bvll::Bvll;
-use gw_policy_text::{Config, Format};
+use gw_configuration::{Config, Format};
 use gw_routes::Routes;
 use gw_rules::Judge;
 use std::alloc::{AllocError, Global};

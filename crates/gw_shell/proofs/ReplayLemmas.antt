@@ -7,7 +7,7 @@ use Rattle.gw_script.specs.Event.{Event}
 use Rattle.gw_core.specs.Replay.{Replays, RunsFront, RunsToLine, RunsWhole, Telling, run_text}
 use Rattle.gw_script.specs.Known.{OnKnown}
 use Rattle.gw_script.specs.Script.{AreLines, lines_of}
-use Rattle.gw_policy_text.specs.Configuration.{Configuration}
+use Rattle.gw_configuration.specs.Configuration.{Configuration}
 use Rattle.gw_core.specs.Explained.{explained_text}
 use Rattle.gw_core.specs.Flawed.{HasFlaw}
 use Rattle.gw_core.specs.Shown.{event_text}

@@ -2,10 +2,10 @@
 use Rattle.std.specs.Prelude.{ℕ, Bool, true, false, List, [], ◌∷◌, ◌++◌, length, map, if◌then◌else◌, Option, Some, None}
 use Rattle.std.specs.Prelude.{codes, decimal}
 use Rattle.gw_addr.specs.Address.{text_of}
-use Rattle.gw_policy_text.specs.Configuration.{Configuration}
-use Rattle.gw_policy_text.specs.Explanation.{is_printed}
-use Rattle.gw_policy_text.specs.declared.device.Device.{Device}
-use Rattle.gw_policy_text.specs.declared.port.Port.{Port}
+use Rattle.gw_configuration.specs.Configuration.{Configuration}
+use Rattle.gw_explanation.specs.Explanation.{is_printed}
+use Rattle.gw_configuration.specs.declared.device.Device.{Device}
+use Rattle.gw_configuration.specs.declared.port.Port.{Port}
 use Rattle.gw_script.specs.Order.{in_order}
 
 -- a port by its number, and its two addresses

@@ -1,8 +1,8 @@
 -- The configuration that a command runs under, and what `check` says of one.
 use Rattle.std.specs.Prelude.{◌≡◌, ◌≢◌, ⊤, ℕ, List, ◌++◌, length, Option, Some, None, Result, Ok, Err, codes, decimal}
-use Rattle.gw_policy_text.specs.Configuration.{Configuration}
+use Rattle.gw_configuration.specs.Configuration.{Configuration}
 use Rattle.gw_policy_text.specs.Document.{configuration}
-use Rattle.gw_policy_text.specs.declared.fault.ConfigFault.TheVariants.{Memory}
+use Rattle.gw_configuration.specs.declared.fault.ConfigFault.TheVariants.{Memory}
 use Rattle.gw_policy_text.specs.declared.setting.TheConstants.{SETTING}
 use Rattle.gw_shell.specs.declared.fault.Fault.{Fault}
 use Rattle.gw_shell.specs.declared.fault.Fault.TheVariants as fault

@@ -5,10 +5,10 @@ use Rattle.std.specs.Prelude.{◌≡◌, ℕ, Bool, true, false, List, [], ◌�
 use Rattle.std.specs.List.{flat_map}
 use Rattle.gw_lint.specs.Lint.{AppendsLint}
 use Rattle.gw_lint.specs.Warnings.{warnings_text}
-use Rattle.gw_policy_text.specs.Configuration.{Configuration}
-use Rattle.gw_policy_text.specs.Duplicates.{type_number}
-use Rattle.gw_policy_text.specs.declared.object.Object.{Object}
-use Rattle.gw_policy_text.specs.declared.port.Port.{Port}
+use Rattle.gw_configuration.specs.Configuration.{Configuration}
+use Rattle.gw_configuration.specs.Duplicates.{type_number}
+use Rattle.gw_configuration.specs.declared.object.Object.{Object}
+use Rattle.gw_configuration.specs.declared.port.Port.{Port}
 use Rattle.gw_rules.specs.Hides.{hides_from_network}
 use Rattle.gw_rules.specs.declared.rule.Rule.{Rule}
 use Rattle.gw_shell.specs.Announcement.{shown}

@@ -4,7 +4,7 @@ use Rattle.std.specs.Prelude.{◌≡◌, ⊤, Bool, ℕ, List, [], ◌++◌, Opt
 use Rattle.std.specs.Prelude.{string_bytes}
 use Rattle.std.specs.Io.KnownBytes.{Appends}
 use Rattle.gw_script.specs.Known.{OnKnown}
-use Rattle.gw_policy_text.specs.Configuration.{Configuration}
+use Rattle.gw_configuration.specs.Configuration.{Configuration}
 use Rattle.gw_shell.specs.declared.command_line.Choice.{Choice}
 use Rattle.gw_shell.specs.declared.command_line.Choice.TheVariants as choice
 use Rattle.gw_shell.specs.declared.fault.Fault.{Fault}

@@ -4,7 +4,7 @@ use Rattle.gw_core.specs.Explained.{explained_text}
 use Rattle.gw_core.specs.Replay.{RunsFront, RunsPart, RunsToEnd, RunsToLine, RunsToMemory, RunsWhole, Telling}
 use Rattle.gw_core.specs.Shown.{event_text}
 use Rattle.gw_core.specs.Flawed.{HasFlaw}
-use Rattle.gw_policy_text.specs.Configuration.{Configuration}
+use Rattle.gw_configuration.specs.Configuration.{Configuration}
 use Rattle.gw_shell.specs.declared.fault.Fault.{Fault}
 use Rattle.gw_shell.specs.declared.fault.Fault.TheVariants as fault
 

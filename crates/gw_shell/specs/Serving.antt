@@ -13,8 +13,8 @@ use Rattle.gw_core.specs.declared.serving.Served.{Served}
 use Rattle.gw_core.specs.declared.serving.ServeFault.{ServeFault}
 use Rattle.gw_core.specs.declared.serving.ServeFault.TheVariants as serving
 use Rattle.gw_core.specs.declared.serving.ServeStop.{ServeStop}
-use Rattle.gw_policy_text.specs.Configuration.{Configuration}
-use Rattle.gw_policy_text.specs.declared.port.Port.{Port}
+use Rattle.gw_configuration.specs.Configuration.{Configuration}
+use Rattle.gw_configuration.specs.declared.port.Port.{Port}
 use Rattle.gw_shell.specs.Announcement.{startup_line}
 use Rattle.gw_shell.specs.Ending.{FaultNote, fault_of_serving}
 use Rattle.gw_shell.specs.Host.{LogOpening}

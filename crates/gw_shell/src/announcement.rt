@@ -6,7 +6,7 @@ ghost use Rattle.gw_shell.specs.Announcement.{announcement, device_text, log_tex
 ghost use Rattle.gw_script.specs.Order.{in_order};
 
 use gw_addr::put_decimal;
-use gw_policy_text::{Config, Device, Port};
+use gw_configuration::{Config, Device, Port};
 use itoa::Integer;
 use std::alloc::{AllocError, Global};
 

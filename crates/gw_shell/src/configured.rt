@@ -6,8 +6,9 @@ ghost use Rattle.gw_shell.specs.Files.{result_map};
 
 use crate::fault::Fault;
 use crate::files::ConfigFiles;
+use gw_configuration::Config;
 use gw_core::setting_s;
-use gw_policy_text::{Config, read_config};
+use gw_policy_text::read_config;
 use itoa::Buffer;
 use std::alloc::{AllocError, Global};
 

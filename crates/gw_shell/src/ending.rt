@@ -8,7 +8,7 @@ ghost use Rattle.gw_shell.specs.Ending.{error_text, name_of, status_after, text_
 
 use crate::command_line::Choice;
 use crate::fault::{Fault, name_of, words_of};
-use gw_policy_text::ConfigFault;
+use gw_configuration::ConfigFault;
 use gw_script::{LineFlaw, OctetSink, WriteFailed, write_whole};
 use itoa::Buffer;
 use std::process::ExitCode;

@@ -7,9 +7,9 @@ ghost use Rattle.gw_shell.specs.Telling.{fault_of_telling};
 ghost use Rattle.gw_shell.specs.declared.fault.Fault.TheVariants.{CommandLine, Memory};
 
 use gw_audit::TellFault;
+use gw_configuration::ConfigFault;
 use gw_core::{RunFault, ServeFault};
 use gw_lint::WhyFault;
-use gw_policy_text::ConfigFault;
 use gw_script::LineFlaw;
 use std::alloc::AllocError;
 use std::io::ErrorKind;

@@ -2,15 +2,15 @@
 //! the policy hides each object, and what can't be meant; with `--lint` also which rules never decide.
 
 ghost use Rattle.std.specs.Prelude.{◌≡◌, ◌++◌, ◌≤◌, length, IfOk, OnOk};
-ghost use Rattle.gw_policy_text.specs.Duplicates.{type_number};
+ghost use Rattle.gw_configuration.specs.Duplicates.{type_number};
 ghost use Rattle.gw_rules.specs.Hides.{hides_from_network};
 ghost use Rattle.gw_shell.specs.Hidden.{IsChecked, explained_text, hidden_line, hidden_lines, network_line, object_lines, object_text};
 ghost use Rattle.gw_script.specs.Order.{in_order};
 
 use crate::announcement::{put_number, put_shown};
 use crate::configured::summary;
+use gw_configuration::{Config, Object, ObjectValue, Port};
 use gw_lint::{put_lint, put_warnings};
-use gw_policy_text::{Config, Object, ObjectValue, Port};
 use gw_rules::RuleList;
 use std::alloc::{AllocError, Global};
 

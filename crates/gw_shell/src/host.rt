@@ -2,7 +2,7 @@
 
 ghost use Rattle.std.specs.Prelude.{◌≡◌, ◌≤◌, ℕ, Bool, List, length, ⊤, Result, Option, IfOk, IfErr};
 ghost use Rattle.gw_addr.specs.declared.TheConstants.{MAX_PORTS};
-ghost use Rattle.gw_policy_text.specs.declared.port.Port.{Port};
+ghost use Rattle.gw_configuration.specs.declared.port.Port.{Port};
 ghost use Rattle.gw_shell.specs.declared.fault.Fault.{Fault};
 ghost use Rattle.gw_shell.specs.Host.{IsLogFault, IsSocketFailure};
 ghost use Rattle.gw_shell.specs.declared.opening.SocketFailure.{SocketFailure};
@@ -12,17 +12,17 @@ use crate::opening::{SocketFailure, Step};
 use crate::poll_waiter::PollWaiter;
 use crate::system_clock::SystemClock;
 use crate::udp::{UdpSock, open_pairs};
+use gw_configuration::Port;
 use gw_core::Wire;
-use gw_policy_text::Port;
 use gw_ports::{Ports, SockPair, TimedPorts};
 use gw_script::OctetSink;
 use std::alloc::Global;
+use std::{fs, io};
 use std::fs::File;
 use std::io::{ErrorKind, Read, Seek, SeekFrom};
 use std::net::Net;
 use std::rt::Files;
 use std::time::Clock;
-use std::{fs, io};
 
 /// What `run` takes of a machine.
 pub trait Host {

@@ -4,7 +4,7 @@ ghost use Rattle.std.specs.Prelude.{◌≡◌, ◌⊎◌, ◌++◌, ◌∷◌, [
 ghost use Rattle.std.specs.Io.Buffered.{writer_buffer, writer_contents};
 ghost use Rattle.std.specs.Io.KnownBytes.{Appends};
 ghost use Rattle.std.specs.Process.{exit_status};
-ghost use Rattle.gw_policy_text.specs.Configuration.{Configuration};
+ghost use Rattle.gw_configuration.specs.Configuration.{Configuration};
 ghost use Rattle.gw_shell.specs.CommandLine.{IsAnswer};
 ghost use Rattle.gw_shell.specs.Configured.{IsConfigurationOf};
 ghost use Rattle.gw_shell.specs.Ending.{FaultNote, IsExplainedBy};
@@ -27,7 +27,8 @@ use crate::options::RunOptions;
 use crate::script::replay;
 use crate::serving::serve_ports;
 use crate::telling;
-use gw_policy_text::{Config, ConfigFault, Explanation, explain};
+use gw_configuration::{Config, ConfigFault};
+use gw_explanation::{Explanation, explain};
 use gw_script::{OctetSink, OctetSource, write_whole};
 use std::alloc::{AllocError, Global};
 use std::io::{BufWriter, Write};

@@ -7,8 +7,8 @@ ghost use Rattle.gw_shell.specs.Replay.{Plays};
 ghost use Rattle.gw_shell.specs.Ending.{first_fault, outcome_of};
 
 use crate::fault::Fault;
+use gw_configuration::Config;
 use gw_core::RunFault;
-use gw_policy_text::Config;
 use gw_script::{LineFlaw, OctetSource};
 use std::alloc::Global;
 use std::io::{BufWriter, Write};

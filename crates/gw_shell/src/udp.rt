@@ -7,11 +7,11 @@ ghost use Rattle.gw_ports.specs.Socket.{FitsBuffer};
 
 use crate::opening::{SocketFailure, Step};
 use gw_addr::BipAddr;
+use gw_configuration::Port;
 use gw_core::RECEIVE_ROOM;
-use gw_policy_text::Port;
 use gw_ports::{Sock, SockFault, SockPair};
-use mio::net::UdpSocket;
 use mio::{Interest, Registry, Token};
+use mio::net::UdpSocket;
 use std::alloc::Global;
 use std::io;
 use std::io::ErrorKind;

@@ -1,7 +1,9 @@
 //! Configurations: what a text has or the line of its first fault, and texts that are made of another by an edit.
 
 use crate::case::{octets_of, unfolded, wanted};
-use gw_policy_text::{Config, ConfigFault, SETTING, explain, read_config};
+use gw_configuration::{Config, ConfigFault};
+use gw_explanation::explain;
+use gw_policy_text::{SETTING, read_config};
 use std::alloc::Global;
 use std::io;
 use std::io::{ErrorKind, Write};

@@ -8,8 +8,8 @@ ghost use Rattle.std.specs.Prelude.{◌≡◌, ⊤, None, Some};
 
 use crate::words::{call, put, status_text};
 use gw_addr::BipAddr;
+use gw_configuration::Port;
 use gw_core::{Got, RECEIVE_ROOM, Wire, WireFault};
-use gw_policy_text::Port;
 use gw_shell::{ConfigFiles, FailedStep, Fault, Host, Reason, SocketFailure, Step, run};
 use itoa::Buffer;
 use std::alloc::{AllocError, Global};

@@ -1,7 +1,7 @@
 //! Words of a command line, and what they choose; and how the program ends at each fault.
 
 use gw_audit::Moment;
-use gw_policy_text::ConfigFault;
+use gw_configuration::ConfigFault;
 use gw_script::LineFlaw;
 use gw_shell::{Choice, Fault, RunOptions, choice_of, end};
 use itoa::Buffer;

@@ -1,5 +1,5 @@
 use Rattle.std.proofs.Common.{rules, ◌≡◌, ◌++◌, ◌+◌, get_or, subst, sym}
-use Rattle.gw_policy_text.specs.declared.port.Port.{Port}
+use Rattle.gw_configuration.specs.declared.port.Port.{Port}
 use Rattle.gw_lint.specs.Notes.{answer_note}
 use Rattle.gw_script.proofs.Order.{in_order_none, in_order_step}
 use Rattle.gw_lint.proofs.note.put_answer_notes.Goals as goal

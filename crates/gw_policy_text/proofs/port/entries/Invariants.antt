@@ -1,5 +1,5 @@
 use Rattle.std.proofs.Common.{◌≡◌, length}
-use Rattle.gw_policy_text.specs.Configuration.{peer_in}
+use Rattle.gw_policy_text.specs.Parts.{peer_in}
 use Rattle.gw_policy_text.proofs.EachAt.{IsReadAt}
 use Rattle.gw_policy_text.proofs.port.entries.Given as goal
 

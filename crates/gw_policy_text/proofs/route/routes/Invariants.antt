@@ -1,6 +1,7 @@
 use Rattle.std.proofs.Common.{◌≡◌, length, true}
 use Rattle.std.specs.List.{list_all}
-use Rattle.gw_policy_text.specs.Configuration.{is_by, route_in}
+use Rattle.gw_configuration.specs.Configuration.{is_by}
+use Rattle.gw_policy_text.specs.Parts.{route_in}
 use Rattle.gw_policy_text.proofs.EachAt.{IsReadAt}
 use Rattle.gw_policy_text.proofs.route.routes.Given as goal
 

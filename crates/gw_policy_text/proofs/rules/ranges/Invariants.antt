@@ -1,4 +1,4 @@
-use Rattle.gw_policy_text.specs.Field.{range_in}
+use Rattle.gw_config_tables.specs.Field.{range_in}
 use Rattle.gw_policy_text.proofs.Each.{IsReadTo}
 use Rattle.gw_policy_text.proofs.rules.ranges.Given as goal
 

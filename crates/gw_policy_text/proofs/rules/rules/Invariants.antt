@@ -1,4 +1,4 @@
-use Rattle.gw_policy_text.specs.Configuration.{rule_in}
+use Rattle.gw_policy_text.specs.Parts.{rule_in}
 use Rattle.gw_policy_text.proofs.EachAt.{IsReadAt}
 use Rattle.gw_policy_text.proofs.rules.rules.Given as goal
 

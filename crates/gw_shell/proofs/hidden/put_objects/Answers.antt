@@ -1,5 +1,5 @@
 use Rattle.std.proofs.Common.{arith, length, rules, ◌≡◌, get_or, subst, ◌++◌, ◌+◌, sym}
-use Rattle.gw_policy_text.specs.declared.object.Object.{Object}
+use Rattle.gw_configuration.specs.declared.object.Object.{Object}
 use Rattle.gw_shell.specs.Hidden.{object_lines}
 use Rattle.gw_script.proofs.Order.{in_order_end, in_order_none, in_order_step}
 use Rattle.gw_shell.proofs.hidden.put_objects.Goals as goal

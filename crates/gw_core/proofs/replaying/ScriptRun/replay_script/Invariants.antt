@@ -1,6 +1,6 @@
 use Rattle.std.proofs.Common.{◌≡◌, ℕ, List, [], Some}
 use Rattle.std.specs.Io.KnownBytes.{prepend_known}
-use Rattle.gw_policy_text.specs.Configuration.{Configuration}
+use Rattle.gw_configuration.specs.Configuration.{Configuration}
 use Rattle.gw_core.specs.History.{IsStateAfter}
 use Rattle.gw_core.specs.Replay.{no_counts}
 use Rattle.gw_script.proofs.Calls.{CallBound}

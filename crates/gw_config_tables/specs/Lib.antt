@@ -1,0 +1,4 @@
+pub mod Field
+pub mod Tables
+pub mod Value
+pub mod Written

@@ -1,0 +1,11 @@
+//! The tables of a configuration, key by key: what each key's value may be, what a value is read to, and
+//! the fault of a table with its place.
+#![tactic(auto)]
+
+mod field;
+pub mod laws;
+pub mod range;
+pub mod tables;
+pub mod value;
+
+pub use field::{Field, located_in};

@@ -1,0 +1,237 @@
+//! Single values of a configuration.
+ghost use Rattle.std.specs.Prelude.{◌≡◌, ◌≤◌, IfOk, length, map, option_map, option_copied};
+ghost use Rattle.std.specs.List.{list_all};
+ghost use Rattle.gw_addr.specs.Address.{IsAddress};
+ghost use Rattle.gw_addr.specs.Mask.{IsMask};
+ghost use Rattle.gw_addr.specs.Reading.{Gives};
+ghost use Rattle.toml.specs.Data.{Data, as_array, as_str, get_member};
+ghost use Rattle.toml.specs.View.{table_view, view};
+ghost use Rattle.gw_config_tables.specs.Written.{address_written, mask_written};
+ghost use Rattle.gw_config_tables.specs.Value.{address_in, boolean_in, kind_in, kind_numbered, list_in, mask_in, number_in, operation_in, rule_name_in, is_rule_name, is_name_character, operation_named, signed_in, table_in, text_in};
+
+use gw_addr::{BipAddr, Mask};
+use gw_configuration::{ConfigFault, MAX_TEXT, ObjectKind};
+use gw_rules::Operation;
+use toml::{Table, Value};
+
+/// How many characters the name of a rule has at most.
+pub const MAX_RULE_NAME: usize = 32;
+
+/// The word that the log has where no rule matches.
+const NO_RULE: &str = "default";
+
+/// The value at a key.
+pub fn member<'a>(table: &'a Table, key: &str) -> Option<&'a Value>
+    ensures { option_map (λ v. view v.now) result ≡ get_member key.now (table_view table.now) }
+{
+    table.get(key)
+}
+
+/// A number from `low` to `high`. `Kind` where it is no number, `Range` where it is another.
+pub fn number(low: u64, high: u64, value: &Value) -> Result<u64, ConfigFault>
+    ensures number { Gives (λ n. n) result (number_in low high (view value.now)) }
+    ensures low { IfOk result (λ n. low ≤ n) }
+    ensures high { IfOk result (λ n. n ≤ high) }
+{
+    let Some(number) = value.as_integer() else {
+        return Err(ConfigFault::Kind);
+    };
+    match u64::try_from(number) {
+        Ok(number) if low <= number && number <= high => Ok(number),
+        _ => Err(ConfigFault::Range),
+    }
+}
+
+/// A number of 32 bits with its sign. `Kind` where it is no number, `Range` where it has more.
+pub fn signed(value: &Value) -> Result<i32, ConfigFault>
+    ensures { Gives (λ n. n) result (signed_in (view value.now)) }
+{
+    let Some(number) = value.as_integer() else {
+        return Err(ConfigFault::Kind);
+    };
+    match i32::try_from(number) {
+        Ok(number) => Ok(number),
+        Err(_) => Err(ConfigFault::Range),
+    }
+}
+
+/// The type of that number.
+fn kind_of_number(number: u64) -> Option<ObjectKind>
+    ensures { result ≡ kind_numbered number }
+{
+    match number {
+        5 => Some(ObjectKind::BinaryValue),
+        19 => Some(ObjectKind::MultiStateValue),
+        40 => Some(ObjectKind::CharacterStringValue),
+        45 => Some(ObjectKind::IntegerValue),
+        48 => Some(ObjectKind::PositiveIntegerValue),
+        _ => None,
+    }
+}
+
+/// The type of an object by its number. `Kind` where it is no number, `Range` where it is none of a
+/// type.
+pub fn kind(value: &Value) -> Result<ObjectKind, ConfigFault>
+    ensures { Gives (λ k. k) result (kind_in (view value.now)) }
+{
+    let Some(number) = value.as_integer() else {
+        return Err(ConfigFault::Kind);
+    };
+    match u64::try_from(number) {
+        Ok(number) => kind_of_number(number).ok_or(ConfigFault::Range),
+        Err(_) => Err(ConfigFault::Range),
+    }
+}
+
+/// The text of a value.
+pub fn string(value: &Value) -> Option<&str>
+    ensures { option_map (λ s. s.now) result ≡ as_str (view value.now) }
+{
+    value.as_str()
+}
+
+/// A text of at least so many octets, and at most 255. `Kind` where it is no text, `Range` for its
+/// length.
+pub fn text(least: usize, value: &Value) -> Result<&str, ConfigFault>
+    ensures text { Gives (λ t. t.now) result (text_in least (view value.now)) }
+    ensures short { IfOk result (λ t. length t.now ≤ 255) }
+{
+    let Some(text) = string(value) else {
+        return Err(ConfigFault::Kind);
+    };
+    if text.len() < least || MAX_TEXT < text.len() {
+        return Err(ConfigFault::Range);
+    }
+    Ok(text)
+}
+
+/// True or false. `Kind` where it is neither.
+pub fn boolean(value: &Value) -> Result<bool, ConfigFault>
+    ensures { Gives (λ b. b) result (boolean_in (view value.now)) }
+{
+    value.as_bool().ok_or(ConfigFault::Kind)
+}
+
+/// A table. `Kind` where it is none.
+pub fn table(value: &Value) -> Result<&Table, ConfigFault>
+    ensures { Gives (λ t. table_view t.now) result (table_in (view value.now)) }
+{
+    match value.as_table() {
+        Some(table) => Ok(table),
+        None => Err(ConfigFault::Kind),
+    }
+}
+
+/// The values of a list. `Kind` where it is none.
+pub fn list(value: &Value) -> Result<&[Value], ConfigFault>
+    ensures { Gives (λ vs. map view vs.now) result (list_in (view value.now)) }
+{
+    match value.as_array() {
+        Some(items) => Ok(items.as_slice()),
+        None => Err(ConfigFault::Kind),
+    }
+}
+
+/// The name of a rule. `Kind` where it is no text, `Range` where it is another.
+pub fn rule_name(value: &Value) -> Result<&str, ConfigFault>
+    ensures { Gives (λ t. t.now) result (rule_name_in (view value.now)) }
+{
+    let Some(text) = string(value) else {
+        return Err(ConfigFault::Kind);
+    };
+    if !is_rule_name(text) {
+        return Err(ConfigFault::Range);
+    }
+    Ok(text)
+}
+
+fn is_rule_name(text: &str) -> bool
+    ensures { result ≡ is_rule_name text.now }
+{
+    1 <= text.len()
+        && text.len() <= MAX_RULE_NAME
+        && are_name_characters(text.as_bytes())
+        && text != NO_RULE
+}
+
+fn are_name_characters(octets: &[u8]) -> bool
+    ensures { result ≡ list_all is_name_character octets.now }
+{
+    octets.iter().all(|octet| is_name_character(*octet))
+}
+
+fn is_name_character(octet: u8) -> bool
+    ensures { result ≡ is_name_character octet }
+{
+    matches!(octet, b'a'..=b'z' | b'0'..=b'9' | b'-')
+}
+
+/// An operation, by its name. `Kind` where it is no text, `Range` where it names none.
+pub fn operation(value: &Value) -> Result<Operation, ConfigFault>
+    ensures { Gives (λ o. o) result (operation_in (view value.now)) }
+{
+    let Some(text) = string(value) else {
+        return Err(ConfigFault::Kind);
+    };
+    operation_of(text).ok_or(ConfigFault::Range)
+}
+
+fn operation_of(text: &str) -> Option<Operation>
+    ensures { result ≡ operation_named text.now }
+{
+    Operation::from_name(text)
+}
+
+/// An address, `a.b.c.d:port`. `Kind` where it is no text, `Range` where it is another.
+pub fn address(value: &Value) -> Result<BipAddr, ConfigFault>
+    ensures { Gives (λ a. a) result (address_in (view value.now)) }
+{
+    let Some(text) = string(value) else {
+        return Err(ConfigFault::Kind);
+    };
+    address_of(text).ok_or(ConfigFault::Range)
+}
+
+fn address_of(text: &str) -> Option<BipAddr>
+    ensures { result ≡ address_written text.now }
+{
+    match BipAddr::parse(text) {
+        Ok(address) => Some(whole_address(address)),
+        Err(_) => None,
+    }
+}
+
+/// The address, which is four octets and a port.
+fn whole_address(address: BipAddr) -> BipAddr
+    ensures same { result ≡ address }
+    ensures whole { IsAddress address }
+{
+    address
+}
+
+/// A mask, `a.b.c.d`. `Kind` where it is no text, `Range` where it is another.
+pub fn mask(value: &Value) -> Result<Mask, ConfigFault>
+    ensures { Gives (λ m. m) result (mask_in (view value.now)) }
+{
+    let Some(text) = string(value) else {
+        return Err(ConfigFault::Kind);
+    };
+    mask_of(text).ok_or(ConfigFault::Range)
+}
+
+fn mask_of(text: &str) -> Option<Mask>
+    ensures { result ≡ mask_written text.now }
+{
+    match Mask::parse(text) {
+        Some(mask) => Some(whole_mask(mask)),
+        None => None,
+    }
+}
+
+/// The mask, which is four octets.
+fn whole_mask(mask: Mask) -> Mask
+    ensures same { result ≡ mask }
+    ensures whole { IsMask mask }
+{
+    mask
+}

@@ -1,0 +1,34 @@
+-- What a gateway is configured with.
+use Rattle.std.specs.Prelude.{ℕ, Bool, ◌&&◌, ◌==◌, nat_le, if◌then◌else◌, List, length}
+use Rattle.std.specs.List.{list_all}
+use Rattle.gw_addr.specs.declared.TheConstants.{MAX_PORTS}
+use Rattle.gw_rules.specs.declared.rule.Rule.{Rule}
+use Rattle.gw_configuration.specs.declared.device.Device.{Device}
+use Rattle.gw_configuration.specs.declared.format.Format.{Format}
+use Rattle.gw_configuration.specs.declared.format.Format.TheVariants as formats
+use Rattle.gw_configuration.specs.declared.object.Object.{Object}
+use Rattle.gw_configuration.specs.declared.port.Port.{Port}
+use Rattle.gw_configuration.specs.declared.route.Route.{Route}
+
+-- what contracts see of a configuration
+pub record Configuration : Type 0 where
+  pub format : Format
+  pub device : Device
+  pub ports : List Port
+  pub routes : List Route
+  pub objects : List Object
+  pub rules : List Rule
+
+-- the format of a number
+abbrev pub format_of : ℕ → Format
+format_of number = if number == 1 then formats.One else formats.Two
+
+-- a route by one of so many ports
+abbrev pub is_by : ℕ → Route → Bool
+is_by ports route = nat_le 1 route.port && nat_le route.port ports
+
+-- 1 to 8 ports, at most 512 routes, each by one of the ports, and at most 256 objects
+abbrev pub keeps_limits : Configuration → Bool
+keeps_limits c =
+    nat_le 1 (length c.ports) && (nat_le (length c.ports) MAX_PORTS && (nat_le (length c.routes) 512
+    && (nat_le (length c.objects) 256 && list_all (is_by (length c.ports)) c.routes)))

@@ -1,0 +1,6 @@
+pub mod Configuration
+pub mod Duplicates
+pub mod Located
+pub mod Reading
+pub mod States
+pub mod Text

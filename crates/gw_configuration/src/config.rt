@@ -1,0 +1,120 @@
+//! What a gateway is configured with.
+ghost use Rattle.std.specs.Prelude.{◌≡◌, ◌≤◌, length, IsFalse, IsTrue};
+ghost use Rattle.std.specs.List.{list_all};
+ghost use Rattle.gw_addr.specs.declared.TheConstants.{MAX_PORTS};
+ghost use Rattle.gw_configuration.specs.Configuration.{is_by};
+ghost use Rattle.gw_configuration.specs.Duplicates.{has_duplicates, unique};
+ghost use Rattle.gw_configuration.specs.Reading.{Finds};
+
+use crate::duplicates::repetition;
+use crate::{Device, Format, Located, Object, Parts, Port, Route};
+use gw_rules::RuleList;
+use std::alloc::Global;
+use std::marker::Model;
+
+/// What a gateway is configured with: its parts, each in the order of the text, in which nothing
+/// stands twice that may stand only once. Contracts see the parts.
+#[derive(Debug)]
+pub struct Config {
+    parts: Parts,
+}
+
+// By hand: a derived one is proved part by part wherever one is dropped (docs/GATE.md).
+impl Drop for Config {
+    fn drop(self) {
+        let Config { parts: _ } = self;
+    }
+}
+
+impl Model for Config {
+    ghost use Rattle.std.specs.Prelude.{IsFalse};
+    ghost use Rattle.gw_configuration.specs.Configuration.{Configuration};
+    ghost use Rattle.gw_configuration.specs.Duplicates.{has_duplicates};
+
+    ghost Value = { Configuration };
+
+    ghost view = { λ c. c.parts };
+
+    ghost invariant = { λ c. IsFalse (has_duplicates c.parts) };
+}
+
+impl Config {
+    /// The configuration of these parts. `Duplicate` where something stands twice that may stand only
+    /// once.
+    #[tactic(auto, using(crate::proofs::Repeats::none_stands_twice))]
+    pub fn of_parts<'a>(alloc: Global, parts: Parts) -> Result<Self, Located<'a>>
+        ensures { Finds (λ c. c) result (unique parts) }
+    {
+        let twice = repetition(
+            alloc,
+            parts.device(),
+            parts.ports(),
+            parts.routes(),
+            parts.objects(),
+            parts.rules().rules(),
+        )?;
+        match twice {
+            Some(located) => Err(located),
+            None => Ok(Config { parts }),
+        }
+    }
+
+    /// The format of the policy.
+    pub fn format(&self) -> Format
+        ensures { result ≡ self.now.format }
+    {
+        self.parts.format()
+    }
+
+    /// The gateway's own device.
+    pub fn device(&self) -> &Device
+        ensures device { result.now ≡ self.now.device }
+        // No network, address, identifier or name stands twice in the whole configuration.
+        ensures once { IsFalse (has_duplicates self.now) }
+    {
+        self.parts.device()
+    }
+
+    /// The ports in order, 1 to 8 of them: the first is port 1.
+    pub fn ports(&self) -> &[Port]
+        ensures ports { result.now ≡ self.now.ports }
+        ensures some { 1 ≤ length self.now.ports }
+        ensures most { length self.now.ports ≤ MAX_PORTS }
+        // No network, address, identifier or name stands twice in the whole configuration.
+        ensures once { IsFalse (has_duplicates self.now) }
+    {
+        self.parts.ports()
+    }
+
+    /// The routes in order, at most 512, each by one of the ports.
+    pub fn routes(&self) -> &[Route]
+        ensures routes { result.now ≡ self.now.routes }
+        ensures most { length self.now.routes ≤ 512 }
+        ensures by { IsTrue (list_all (is_by (length self.now.ports)) self.now.routes) }
+    {
+        self.parts.routes()
+    }
+
+    /// The objects in order, at most 256.
+    pub fn objects(&self) -> &[Object]
+        ensures objects { result.now ≡ self.now.objects }
+        ensures most { length self.now.objects ≤ 256 }
+    {
+        self.parts.objects()
+    }
+
+    /// The policy.
+    pub fn rules(&self) -> &RuleList
+        ensures { result.now ≡ self.now.rules }
+    {
+        self.parts.rules()
+    }
+
+    /// The policy, where the rest isn't wanted any more.
+    pub fn into_rules(self) -> RuleList
+        ensures { result ≡ self.rules }
+    {
+        let Config { parts } = self;
+        parts.into_rules()
+    }
+}

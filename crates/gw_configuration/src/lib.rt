@@ -1,0 +1,31 @@
+//! What a gateway is configured with: values that keep every range and limit, and in which nothing stands
+//! twice that may stand only once. Where a fault of a configuration is.
+#![tactic(auto)]
+
+mod config;
+mod device;
+mod duplicates;
+mod fault;
+mod format;
+mod instance;
+pub mod laws;
+mod located;
+mod object;
+mod parts;
+mod port;
+mod route;
+mod shape;
+mod text;
+
+pub use config::Config;
+pub use device::Device;
+pub use fault::ConfigFault;
+pub use format::Format;
+pub use instance::{Instance, MAX_INSTANCE};
+pub use located::{Located, Place};
+pub use object::{MAX_STATES, MultiState, Object, ObjectKind, ObjectValue};
+pub use parts::{MAX_OBJECTS, MAX_ROUTES, Parts};
+pub use port::{MAX_PEERS, Peers, Port};
+pub use route::Route;
+pub use shape::{Scalar, Shape};
+pub use text::{MAX_TEXT, Text};

@@ -1,0 +1,11 @@
+//! Where the fault of a configuration is and what is wrong there, in a line for an operator.
+#![tactic(auto)]
+
+mod diagnosis;
+mod explanation;
+mod reason;
+mod told;
+mod words;
+
+pub use diagnosis::explain;
+pub use explanation::Explanation;

@@ -1,6 +1,0 @@
-use Rattle.std.proofs.Common.{◌≡◌, take}
-use Rattle.gw_policy_text.specs.Duplicates.{port_addresses}
-use Rattle.gw_policy_text.proofs.duplicates.address_twice.Given as goal
-
-abbrev pub invariant-loop-port : goal.invariant-loop-port
-invariant-loop-port l = l.all.items ≡ port_addresses (take l.port-index l.ports)
