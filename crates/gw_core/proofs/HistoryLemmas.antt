@@ -159,13 +159,8 @@ pub next_event : (done : List Event) (e : Event) (later : List Event) → slice_
 next_event [] e later = refl
 next_event (d ∷ done) e later = next_event done e later
 
-pub fault_is : {T : Type 0} (fault other : StepFault) → IsErrOf {T = T} {E = StepFault} (Err fault) other → fault ≡ other
+fault_is : {T : Type 0} (fault other : StepFault) → IsErrOf {T = T} {E = StepFault} (Err fault) other → fault ≡ other
 fault_is fault other e = cc
-
--- a fault of one call as that of another
-pub fault_as : {S T : Type 0} (fault other : StepFault) → IsErrOf {T = S} {E = StepFault} (Err fault) other
-    → IsErrOf {T = T} {E = StepFault} (Err fault) other
-fault_as {S} {T} fault other e = ap Err (fault_is {T = S} fault other e)
 
 -- a fault that is passed on
 pub fault_of_call : {T : Type 0} (result : Result T StepFault) (fault other : StepFault) → IsErrAnd result (λ e. e ≡ fault)

@@ -166,10 +166,7 @@ impl ServeState {
             Err(StepFault::CountEnd) => return Err(ServeFault::CountEnd),
         };
         self.served.taken += 1;
-        match log_denials(&mut self.lines, log, &effects.denials) {
-            Ok(()) => {}
-            Err(fault) => return Err(fault),
-        }
+        log_denials(&mut self.lines, log, &effects.denials)?;
         try_sends(wire, &effects.sends, &mut self.served);
         Ok(())
     }

@@ -55,10 +55,7 @@ pub fn run(
     let mut given = Vec::new(alloc);
     let mut rest = events;
     while let [event, later @ ..] = rest {
-        let effects = match take_event(alloc, gateway, event) {
-            Ok(effects) => effects,
-            Err(fault) => return Err(fault),
-        };
+        let effects = take_event(alloc, gateway, event)?;
         if given.push(effects).is_err() {
             return Err(StepFault::Memory);
         }

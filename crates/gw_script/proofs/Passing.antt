@@ -1,6 +1,6 @@
 -- A fault of a call that its caller passes on by `?`.
 use Rattle.std.proofs.Common.{◌≡◌, ◌∙◌, Result, Ok, Err, sym, ap, subst}
-use Rattle.std.specs.Prelude.{IsErr, IsErrOf}
+use Rattle.std.specs.Prelude.{IsErr, IsErrOf, OnErr}
 use Rattle.std.specs.Result.{IsErrAnd}
 
 -- the result is this fault
@@ -19,3 +19,8 @@ passed_as fault other (Ok x) passes e = absurd passes.1
 passed_as fault other (Err f) passes e =
     let same : f ≡ other = cc in
     ap Err (sym passes.1 ∙ same)
+
+-- what holds at any fault
+pub on_err : {T E P : Type 0} (r : Result T E) → P → OnErr r P
+on_err (Ok x) h = tt
+on_err (Err f) h = h

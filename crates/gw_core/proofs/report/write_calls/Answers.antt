@@ -12,5 +12,5 @@ returns-clause-ok g c =
     let second = field (codes " send_failures=") r.send_failures in
     let third = field (codes " receive_failures=") r.receive_failures in
     behind_one c.write_field-3.result (held c.args.sink.now) (held c.write_field-2.new.sink) (held c.write_field-3.new.sink) (first ++ second)
-    third (Appends-trans (held c.args.sink.now) (held c.write_field.new.sink) (held c.write_field-2.new.sink) first second c.in-Ok.ensures.ok
-    c.in-Ok-write_field.ensures.ok) c.write_field-3.ensures.ok
+    third (Appends-trans (held c.args.sink.now) (held c.write_field.new.sink) (held c.write_field-2.new.sink) first second c.in_ok-write_field.ensures.ok
+    c.in_ok-write_field-2.ensures.ok) c.write_field-3.ensures.ok

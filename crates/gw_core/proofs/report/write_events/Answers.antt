@@ -13,8 +13,8 @@ returns-clause-ok g c =
     let third = field (codes " memory_drops=") r.memory_drops in
     let fourth = field (codes " denials=") r.denials in
     let two = Appends-trans (held c.args.sink.now) (held c.write_field.new.sink) (held c.write_field-2.new.sink) first second
-    c.in-Ok.ensures.ok c.in-Ok-write_field.ensures.ok in
+    c.in_ok-write_field.ensures.ok c.in_ok-write_field-2.ensures.ok in
     let three = Appends-trans (held c.args.sink.now) (held c.write_field-2.new.sink) (held c.write_field-3.new.sink) (first ++ second) third
-    two c.in-Ok-write_field-2.ensures.ok in
+    two c.in_ok-write_field-3.ensures.ok in
     behind_one c.write_field-4.result (held c.args.sink.now) (held c.write_field-3.new.sink) (held c.write_field-4.new.sink)
     (first ++ second ++ third) fourth three c.write_field-4.ensures.ok

@@ -2,27 +2,28 @@ use Rattle.std.proofs.Common.{◌++◌, [], ◌∷◌, List, length, map, sym, a
 use Rattle.std.proofs.lemmas.List.{append-nil}
 use Rattle.gw_script.specs.Event.{Event, event_view}
 use Rattle.gw_core.specs.History.{run_from, state_from}
-use Rattle.std.proofs.Common.{Vec, Global}
-use Rattle.gw_core.specs.declared.effects.Effects.{Effects}
 use Rattle.gw_core.specs.declared.fault.StepFault.TheVariants.{CountEnd}
-use Rattle.gw_core.proofs.HistoryLemmas.{fault_as, run_begins, run_goes_on, run_stops, first_events, first_split, none_left}
+use Rattle.gw_core.proofs.HistoryLemmas.{run_begins, run_goes_on, run_stops, first_events, first_split, none_left}
+use Rattle.gw_script.proofs.Passing.{on_err, passed_as}
 use Rattle.gw_core.proofs.whole_run.run.Goals as goal
 
 pub loop-rest-init : goal.loop-rest-init
 loop-rest-init c = run_begins c.args.gateway.now (map event_view c.args.events.now) _ c.new-given.ensures.items
 
-pub returns-in-Err-clause-count_end : goal.returns-in-Err-clause-count_end
-returns-in-Err-clause-count_end c = λ ended.
+pub returns-in_err-effects-clause-count_end : goal.returns-in_err-effects-clause-count_end
+returns-in_err-effects-clause-count_end c = λ ended.
     let split = first_split c.loop-rest.rest.now _ c.in-len1-up.len_at_least in
     run_stops c.args.gateway.now c.loop-rest.gateway c.take_event.new.gateway (map event_view c.args.events.now)
-    (map event_view c.loop-rest.rest.now) _ c.loop-rest.given.items _ c.loop-rest.invariant split c.in-Err.ensures.err
-    (c.in-Err.ensures.count_end (fault_as {S = Vec Effects Global} {T = Effects} c.in-Err.fault CountEnd ended))
+    (map event_view c.loop-rest.rest.now) _ c.loop-rest.given.items _ c.loop-rest.invariant split c.in_err-effects.ensures.err
+    (c.in_err-effects.ensures.count_end
+    (passed_as c.in_err-effects.field-0.0 CountEnd c.from_residual.result c.from_residual.ensures ended))
 
-pub returns-in-Err-clause-err : goal.returns-in-Err-clause-err
-returns-in-Err-clause-err c =
-    let p = c.loop-rest.invariant in (
+pub returns-in_err-effects-clause-err : goal.returns-in_err-effects-clause-err
+returns-in_err-effects-clause-err c =
+    let p = c.loop-rest.invariant in
+    on_err c.from_residual.result (
       length p.done,
-      c.in-Err.ensures.err ∙ p.state ∙ ap (state_from c.args.gateway.now)
+      c.in_err-effects.ensures.err ∙ p.state ∙ ap (state_from c.args.gateway.now)
           (sym (first_events (map event_view c.args.events.now) p.done (map event_view c.loop-rest.rest.now) p.parts)),
     )
 
@@ -31,8 +32,8 @@ returns-then-is_err-clause-err c =
     let split = first_split c.loop-rest.rest.now _ c.in-len1-up.len_at_least in
     let p = run_goes_on c.args.gateway.now c.loop-rest.gateway c.take_event.new.gateway (map event_view c.args.events.now)
     (map event_view c.loop-rest.rest.now) _ c.loop-rest.given.items
-    (c.loop-rest.given.items ++ c.in-Ok.effects ∷ []) _ c.in-Ok.effects c.loop-rest.invariant split c.in-Ok.ensures.moved
-    c.in-Ok.ensures.given refl in (
+    (c.loop-rest.given.items ++ c.in_ok-effects.effects ∷ []) _ c.in_ok-effects.effects c.loop-rest.invariant split c.in_ok-effects.ensures.moved
+    c.in_ok-effects.ensures.given refl in (
       length p.done,
       p.state ∙ ap (state_from c.args.gateway.now) (sym (first_events (map event_view c.args.events.now) p.done _ p.parts)),
     )
@@ -42,8 +43,8 @@ loop-rest-preserved c =
     let split = first_split c.loop-rest.rest.now _ c.in-len1-up.len_at_least in
     let pushed = rw c.if-is_err.ensures.negation at c.push.ensures.items in
     run_goes_on c.args.gateway.now c.loop-rest.gateway c.take_event.new.gateway (map event_view c.args.events.now)
-    (map event_view c.loop-rest.rest.now) _ c.loop-rest.given.items _ _ c.in-Ok.effects c.loop-rest.invariant split c.in-Ok.ensures.moved
-    c.in-Ok.ensures.given pushed
+    (map event_view c.loop-rest.rest.now) _ c.loop-rest.given.items _ _ c.in_ok-effects.effects c.loop-rest.invariant split c.in_ok-effects.ensures.moved
+    c.in_ok-effects.ensures.given pushed
 
 pub returns-clause-effects : goal.returns-clause-effects
 unfolding run_from

@@ -29,17 +29,17 @@ loop-number-preserved g c =
       progress = λ configuration stands script before known written.
           goes_on g.T.Telling.told configuration script before n w moved text left so_far after
           (c.loop-number.invariant.progress configuration stands script before known written)
-          (subst (λ (b : Bool). Turns g.T.Telling.told n w moved text left so_far after (Ok b)) c.in-Ok-true.field-0-test c.in-Ok-true.ensures.outcome);
+          (subst (λ (b : Bool). Turns g.T.Telling.told n w moved text left so_far after (Ok b)) c.if-not-branch.false c.in_ok-replay_line.ensures.outcome);
       calls = λ script known.
           let bound = c.loop-number.invariant.calls script known in
           bound_goes_on script n _ _ _ _ _ _ bound
-          (c.in-Ok-true.ensures.shorter bound.remains bound.text_is (ap Ok c.in-Ok-true.field-0-test)) c.in-Ok-true.ensures.paid;
-      lasting_reader = λ never. c.in-Ok-true.ensures.lasting_reader (c.loop-number.invariant.lasting_reader never);
-      lasting_writer = λ never. c.in-Ok-true.ensures.lasting_writer (c.loop-number.invariant.lasting_writer never);
+          (c.in_ok-replay_line.ensures.shorter bound.remains bound.text_is (ap Ok c.if-not-branch.false)) c.in_ok-replay_line.ensures.paid;
+      lasting_reader = λ never. c.in_ok-replay_line.ensures.lasting_reader (c.loop-number.invariant.lasting_reader never);
+      lasting_writer = λ never. c.in_ok-replay_line.ensures.lasting_writer (c.loop-number.invariant.lasting_writer never);
     }
 
-pub returns-in-Ok-false-clause-run : goal.returns-in-Ok-false-clause-run
-returns-in-Ok-false-clause-run g c = λ configuration stands script before known written.
+pub returns-then-not-branch-clause-run : goal.returns-then-not-branch-clause-run
+returns-then-not-branch-clause-run g c = λ configuration stands script before known written.
     let n = c.loop-number.number in
     let w = c.loop-number.self.gateway in
     let moved = c.replay_line.new.self.gateway in
@@ -49,7 +49,7 @@ returns-in-Ok-false-clause-run g c = λ configuration stands script before known
     let after = g.W.OctetSink.held c.replay_line.new.writer in
     ends_whole g.T.Telling.told configuration script before n w moved text left so_far after
     (c.loop-number.invariant.progress configuration stands script before known written)
-    (subst (λ (b : Bool). Turns g.T.Telling.told n w moved text left so_far after (Ok b)) c.in-Ok-false.field-0-test c.in-Ok-false.ensures.outcome)
+    (subst (λ (b : Bool). Turns g.T.Telling.told n w moved text left so_far after (Ok b)) c.if-not-branch.true c.in_ok-replay_line.ensures.outcome)
 
 pub returns-in_err-replay_line-clause-run : goal.returns-in_err-replay_line-clause-run
 returns-in_err-replay_line-clause-run g c = λ configuration stands script before known written.

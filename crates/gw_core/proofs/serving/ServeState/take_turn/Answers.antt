@@ -2,6 +2,8 @@ use Rattle.std.proofs.Common.{None, Some, Err, refl, ap, arith}
 use Rattle.gw_script.specs.Event.{event_view}
 use Rattle.gw_core.specs.Serve.{empty_turn, failed_turn, lost_event, taken_event, scene}
 use Rattle.gw_core.proofs.ServeLemmas.{arrives, ends_by, lead_with, lead_without, tried_counted}
+use Rattle.gw_core.specs.ServeTurn.{TurnEnd}
+use Rattle.gw_script.proofs.Passing.{passes_on}
 use Rattle.gw_core.proofs.serving.ServeState.take_turn.Goals as goal
 
 pub returns-in-Ok-None-clause-end : goal.returns-in-Ok-None-clause-end
@@ -23,8 +25,8 @@ returns-in-Err-Memory-clause-end g c =
     let wants = c.in-Err-Memory.ensures.memory (ap Err c.in-Err-Memory.field-0-is) in
     (lost_event event, lead_without _ _ (lost_event event) refl wants c.in-Err-Memory.ensures.err refl came_in, refl)
 
-pub returns-in-Err-log_denials-clause-end : goal.returns-in-Err-log_denials-clause-end
-returns-in-Err-log_denials-clause-end g c =
+pub returns-in_err-log_denials-clause-end : goal.returns-in_err-log_denials-clause-end
+returns-in_err-log_denials-clause-end g c =
     let event = event_view c.in-Ok-Some.event in
     let told = g.W.Wire.calls c.args.wire.now in
     let tells = g.W.Wire.calls c.receive.new.wire in
@@ -32,9 +34,10 @@ returns-in-Err-log_denials-clause-end g c =
     let within = c.in-Ok.ensures.within refl in
     let before = scene c.args.gateway.now (g.L.OctetSink.held c.args.log.now) told in
     let after = scene c.take_event.new.gateway (g.L.OctetSink.held c.log_denials.new.log) tells in
-    let last = ends_by c.in-Err-log_denials.fault before after event c.in-Ok.effects c.args.self.now.served
-    c.in-Ok.ensures.given c.in-Err-log_denials.ensures.end
+    let fault = c.in_err-log_denials.field-0.0 in
+    let last = ends_by fault before after event c.in-Ok.effects c.args.self.now.served c.in-Ok.ensures.given c.in_err-log_denials.ensures.end
     (record { counts = within; gateway = c.in-Ok.ensures.moved; calls = came_in }) in
+    passes_on (TurnEnd before c.args.self.now.served after _) fault c.from_residual.result c.from_residual.ensures
     (event, last.0, last.1)
 
 pub returns-clause-end : goal.returns-clause-end
@@ -47,7 +50,7 @@ returns-clause-end g c =
     let tried = c.try_sends.ensures.tried in (
       taken_event event tried.tries,
       lead_with _ _ tells event tried.tries c.in-Ok.effects c.in-Ok.ensures.given within tried.are c.in-Ok.ensures.moved
-          c.in-Ok-log_denials.ensures.end came_in tried.calls,
+          c.in_ok-log_denials.ensures.end came_in tried.calls,
       tried.counts,
     )
 
