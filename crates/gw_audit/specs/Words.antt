@@ -104,7 +104,7 @@ deed_text ask =
 -- ---- the whole
 
 -- `<station> on network <net> <deed>: denied by <rule>`
-unfoldable pub words_of : ShownAsk → List ℕ → List ℕ
+abbrev pub words_of : ShownAsk → List ℕ → List ℕ
 words_of ask rule = source_text ask.source ++ codes " " ++ deed_text ask ++ codes ": denied by " ++ rule
 
 -- the words that tell a denial

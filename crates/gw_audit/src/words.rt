@@ -95,7 +95,6 @@ fn put_words_line(out: &mut Vec<u8>, shown: &Shown<'_>) -> Result<(), AllocError
 }
 
 /// Appends the words of what a line shows.
-#[tactic(auto, unfolding(crate::specs::Words::words_of))]
 fn put_words(out: &mut Vec<u8>, shown: &Shown<'_>) -> Result<(), AllocError>
     ensures { IsAppended (words_of shown.now.ask shown.now.rule.now) out.old out.new result }
 {
