@@ -39,8 +39,8 @@ impl Model for Config {
 }
 
 impl Config {
-    /// The configuration of these parts. `Duplicate` where something stands twice that may stand only
-    /// once.
+    /// The configuration of these parts. `Duplicate` with its place where something stands twice that may
+    /// stand only once; `Memory` where there is none to look for that.
     #[tactic(auto, using(crate::proofs::Repeats::none_stands_twice))]
     pub fn of_parts<'a>(alloc: Global, parts: Parts) -> Result<Self, Located<'a>>
         ensures { Finds (λ c. c) result (unique parts) }

@@ -7,7 +7,8 @@ use Rattle.toml.specs.Data.{as_table, at, get_member}
 use Rattle.gw_configuration.specs.declared.fault.ConfigFault.{ConfigFault}
 use Rattle.gw_configuration.specs.declared.fault.ConfigFault.TheVariants.{UnknownKey, Missing}
 use Rattle.gw_configuration.specs.declared.located.Place.{Place}
-use Rattle.gw_configuration.specs.declared.located.Place.TheVariants.{Text, Top, Device, Port, Peer, Route, Object, Rule}
+use Rattle.gw_configuration.specs.declared.located.Place.TheVariants.{Text, Top, Device, Port, Peer, Route}
+use Rattle.gw_configuration.specs.declared.located.Place.TheVariants.{Object, Rule}
 use Rattle.gw_configuration.specs.Configuration.{Configuration}
 use Rattle.gw_configuration.specs.Located.{Find, Located, Read, numbered, without_place}
 use Rattle.gw_config_tables.specs.Value.{values_of}

@@ -6,8 +6,8 @@ ghost use Rattle.std.specs.Option.{option_to_list};
 ghost use Rattle.gw_configuration.specs.declared.format.Format.{Format};
 ghost use Rattle.gw_lint.specs.Shapes.{bound, foreign_shapes, gaps, gaps_between, message_shapes, named, only, own_shapes, plain, request_shapes, shapes, shapes_from, split, table_shapes};
 
-use crate::{Shape, Side};
 use crate::piece::{NO_RANGE, above, below, numbers};
+use crate::{Shape, Side};
 use gw_configuration::{Config, Format, Port};
 use gw_rules::{Fields, Operation, Range};
 use std::alloc::{AllocError, Global};

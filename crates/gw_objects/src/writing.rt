@@ -11,9 +11,9 @@ ghost use Rattle.gw_objects.specs.Table as table;
 ghost use Rattle.gw_objects.specs.Answer.{Answers, HasRoom};
 ghost use Rattle.gw_objects.specs.internal.View.{array_view, contents_view, flags_view, item_view};
 
-use crate::{PropertyValue, ReadFault, States, ValueObjects};
 use crate::contents::{Array, Contents, Flags, Item};
 use crate::table::item_of;
+use crate::{PropertyValue, ReadFault, States, ValueObjects};
 use gw_configuration::Text;
 use gw_priority::PriorityArray;
 use gw_tags::{AppValue, BitString, CharacterString, ObjectId, write_value};

@@ -17,12 +17,12 @@ use gw_core::Wire;
 use gw_ports::{Ports, SockPair, TimedPorts};
 use gw_script::OctetSink;
 use std::alloc::Global;
-use std::{fs, io};
 use std::fs::File;
 use std::io::{ErrorKind, Read, Seek, SeekFrom};
 use std::net::Net;
 use std::rt::Files;
 use std::time::Clock;
+use std::{fs, io};
 
 /// What `run` takes of a machine.
 pub trait Host {
