@@ -106,10 +106,8 @@ fn object_write(
         (object_write place object.now property index priority value.now) }
     ensures place { IfOk result (λ put. put.place ≡ place) }
 {
-    match object_act(alloc, object, property, index, priority, value) {
-        Ok(act) => Ok(Put { place, act }),
-        Err(fault) => Err(fault),
-    }
+    let act = object_act(alloc, object, property, index, priority, value)?;
+    Ok(Put { place, act })
 }
 
 /// Why a property of the Device object isn't written.
