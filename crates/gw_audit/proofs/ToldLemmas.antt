@@ -1,14 +1,16 @@
 -- The telling goes on line by line.
 use Rattle.std.proofs.Common.{◌≡◌, ◌⊎◌, inl, inr, ℕ, suc, ◌+◌, List, [], ◌∷◌, ◌++◌, length, take, drop, Option, Some, None, Result, Ok, Err, Bool, true, false, refl, sym, ap, subst, ◌∙◌, arith, append_assoc}
-use Rattle.std.specs.Prelude.{IsSomeAnd, IsErrOf}
+use Rattle.std.specs.Prelude.{IsSomeAnd}
 use Rattle.std.proofs.lemmas.List.{append-nil, take_at, drop_at, length-append}
 use Rattle.std.proofs.lemmas.List.Concat.{flat_map-cons}
 use Rattle.std.proofs.lemmas.Grind.{flat_map-append}
 use Rattle.gw_script.specs.Script.{lines_of}
+use Rattle.gw_script.proofs.KnownTexts.{holds_known}
+use Rattle.gw_script.proofs.Passing.{Passes, passes_on}
 use Rattle.gw_audit.specs.declared.moment.Moment.{Moment}
 use Rattle.gw_audit.specs.declared.telling.TellFault.{TellFault}
 use Rattle.gw_audit.specs.declared.telling.TellFault.TheVariants.{Read, Line, Write, Memory}
-use Rattle.gw_audit.specs.Told.{AreTold, FirstTold, IsToldLine, LineOutcome, TellsFront, TellsPart, TellsToLine, TellsWhole, joined}
+use Rattle.gw_audit.specs.Told.{AreTold, FirstTold, IsToldLine, LeavesTold, LineOutcome, TellsFront, TellsPart, TellsToLine, TellsWhole, joined}
 
 -- ---- lines, and what becomes of them
 
@@ -100,63 +102,44 @@ goes_on start script before n text left written after p turns =
 
 -- ---- how they end
 
-known : (P : List ℕ → Type 0) (o : Option (List ℕ)) (t : List ℕ) → o ≡ Some t → P t → IsSomeAnd o P
-known P None t e h = absurd cc
-known P (Some x) t e h =
-    let same : t ≡ x = cc in
-    subst P same h
-
 pub ends_whole : (start : Option Moment) (script before : List ℕ) (n : ℕ) (text left written after : Option (List ℕ))
     → Progress start script before n text written → Turns start n text left written after (Ok false)
     → IsSomeAnd after (TellsWhole start script before)
 ends_whole start script before n text left written after p turns =
     let said = turns p.left (before ++ joined p.texts) p.text_is p.written_is in
     let all : lines_of script ≡ p.done = p.lines ∙ ap (λ (l : List (List ℕ)). p.done ++ l) said.0 ∙ append-nil p.done in
-    known (TellsWhole start script before) after (before ++ joined p.texts) said.1
+    holds_known (TellsWhole start script before) after (before ++ joined p.texts) said.1
     (record { texts = p.texts; lines = subst (λ (l : List (List ℕ)). AreTold start l p.texts) (sym all) p.are; written = refl })
 
 pub ends_part : (start : Option Moment) (script before : List ℕ) (n : ℕ) (text written : Option (List ℕ)) → Progress start script before n text written
     → IsSomeAnd written (TellsPart start script before)
 ends_part start script before n text written p =
-    known (TellsPart start script before) written (before ++ joined p.texts) p.written_is
+    holds_known (TellsPart start script before) written (before ++ joined p.texts) p.written_is
     (record { texts = p.texts; lines = first_lines start script p.done (lines_of p.left) p.texts p.are p.lines; written = refl })
 
 -- a fault that leaves what was written as it was
-abbrev pub Stops : TellFault → Type 0
-Stops Read = Unit {0}
-Stops Memory = Unit {0}
-Stops Write = ⊥
-Stops (Line m) = ⊥
-
-same_text : (start : Option Moment) (n : ℕ) (t : List ℕ) (left : Option (List ℕ)) (b : List ℕ) (after : Option (List ℕ)) (fault : TellFault)
-    → Stops fault → LineOutcome start n t left b after (Err fault) → after ≡ Some b
-same_text start n t left b after Read stops said = said
-same_text start n t left b after Memory stops said = said
-same_text start n t left b after Write stops said = absurd stops
-same_text start n t left b after (Line m) stops said = absurd stops
-
-pub stops_part : (start : Option Moment) (script before : List ℕ) (n : ℕ) (text left written after : Option (List ℕ)) (fault : TellFault)
-    → Stops fault → Progress start script before n text written → Turns start n text left written after (Err fault)
+stops_part : (start : Option Moment) (script before : List ℕ) (n : ℕ) (text left written after : Option (List ℕ))
+    → Progress start script before n text written
+    → ((t b : List ℕ) → text ≡ Some t → written ≡ Some b → after ≡ Some b)
     → IsSomeAnd after (TellsPart start script before)
-stops_part start script before n text left written after fault stops p turns =
-    let said = turns p.left (before ++ joined p.texts) p.text_is p.written_is in
-    known (TellsPart start script before) after (before ++ joined p.texts)
-    (same_text start n p.left left (before ++ joined p.texts) after fault stops said)
+stops_part start script before n text left written after p same =
+    holds_known (TellsPart start script before) after (before ++ joined p.texts)
+    (same p.left (before ++ joined p.texts) p.text_is p.written_is)
     (record { texts = p.texts; lines = first_lines start script p.done (lines_of p.left) p.texts p.are p.lines; written = refl })
 
 -- where memory is wanted before the first line
 pub part_before : (start : Option Moment) (script before : List ℕ) (written : Option (List ℕ)) → written ≡ Some before
     → IsSomeAnd written (TellsPart start script before)
 part_before start script before written is =
-    known (TellsPart start script before) written before is (record { texts = []; lines = tt; written = sym (append-nil before) })
+    holds_known (TellsPart start script before) written before is (record { texts = []; lines = tt; written = sym (append-nil before) })
 
-pub ends_at_line : (start : Option Moment) (script before : List ℕ) (n : ℕ) (text left written after : Option (List ℕ)) (m : ℕ)
+ends_at_line : (start : Option Moment) (script before : List ℕ) (n : ℕ) (text left written after : Option (List ℕ)) (m : ℕ)
     → Progress start script before n text written → Turns start n text left written after (Err (Line m))
     → IsSomeAnd after (TellsToLine start m script before)
 ends_at_line start script before n text left written after m p turns =
     let said = turns p.left (before ++ joined p.texts) p.text_is p.written_is in
     let none = said.1 in
-    known (TellsToLine start m script before) after (before ++ joined p.texts) said.2 (record {
+    holds_known (TellsToLine start m script before) after (before ++ joined p.texts) said.2 (record {
       texts = p.texts;
       number = said.0 ∙ p.number;
       lines = first_lines start script p.done (lines_of p.left) p.texts p.are p.lines;
@@ -167,7 +150,7 @@ ends_at_line start script before n text left written after m p turns =
       written = refl;
     })
 
-pub ends_at_write : (start : Option Moment) (script before : List ℕ) (n : ℕ) (text left written after : Option (List ℕ))
+ends_at_write : (start : Option Moment) (script before : List ℕ) (n : ℕ) (text left written after : Option (List ℕ))
     → Progress start script before n text written → Turns start n text left written after (Err Write)
     → IsSomeAnd after (TellsFront start script before)
 ends_at_write start script before n text left written after p turns =
@@ -175,7 +158,7 @@ ends_at_write start script before n text left written after p turns =
     let so_far = before ++ joined p.texts in
     let lines : lines_of script ≡ (p.done ++ cut_step.line ∷ []) ++ cut_step.others =
     p.lines ∙ ap (λ (l : List (List ℕ)). p.done ++ l) cut_step.lines ∙ sym (append_assoc p.done (cut_step.line ∷ []) cut_step.others) in
-    known (TellsFront start script before) after (so_far ++ cut_step.front) cut_step.appended (record {
+    holds_known (TellsFront start script before) after (so_far ++ cut_step.front) cut_step.appended (record {
       texts = p.texts ++ cut_step.text ∷ [];
       lines = first_lines start script (p.done ++ cut_step.line ∷ []) cut_step.others (p.texts ++ cut_step.text ∷ [])
           (are_more start p.done p.texts cut_step.line cut_step.text p.are cut_step.told) lines;
@@ -186,17 +169,18 @@ ends_at_write start script before n text left written after p turns =
       written = append_assoc before (joined p.texts) cut_step.front;
     })
 
--- ---- faults
+ends_at_fault : (start : Option Moment) (script before : List ℕ) (n : ℕ) (text left written after : Option (List ℕ)) (fault : TellFault)
+    → Progress start script before n text written → Turns start n text left written after (Err fault)
+    → IsSomeAnd after (LeavesTold start (Err fault) script before)
+ends_at_fault start script before n text left written after (Line m) = ends_at_line start script before n text left written after m
+ends_at_fault start script before n text left written after Read = stops_part start script before n text left written after
+ends_at_fault start script before n text left written after Write = ends_at_write start script before n text left written after
+ends_at_fault start script before n text left written after Memory = stops_part start script before n text left written after
 
-pub fault_is : {T : Type 0} (fault other : TellFault) → IsErrOf {T = T} {E = TellFault} (Err fault) other → fault ≡ other
-fault_is fault other e = cc
-
-pub stops : {T : Type 0} (fault : TellFault)
-    → IsErrOf {T = T} {E = TellFault} (Err fault) Read ⊎ IsErrOf {T = T} {E = TellFault} (Err fault) Memory → Stops fault
-stops {T} fault (inl e) = subst Stops (sym (fault_is {T = T} fault Read e)) tt
-stops {T} fault (inr e) = subst Stops (sym (fault_is {T = T} fault Memory e)) tt
-
--- a fault of one call as that of another
-pub err_as : {S T : Type 0} (fault other : TellFault) → IsErrOf {T = S} {E = TellFault} (Err fault) other
-    → IsErrOf {T = T} {E = TellFault} (Err fault) other
-err_as {S} {T} fault other e = ap Err (fault_is {T = S} fault other e)
+pub ends_passed : (start : Option Moment) (script before : List ℕ) (n : ℕ) (text left written after : Option (List ℕ))
+    (fault : TellFault) (r : Result (Unit {0}) TellFault)
+    → Passes fault r → Progress start script before n text written → Turns start n text left written after (Err fault)
+    → IsSomeAnd after (LeavesTold start r script before)
+ends_passed start script before n text left written after fault r passes p turns =
+    passes_on (λ (q : Result (Unit {0}) TellFault). IsSomeAnd after (LeavesTold start q script before)) fault r passes
+    (ends_at_fault start script before n text left written after fault p turns)

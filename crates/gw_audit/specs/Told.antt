@@ -105,6 +105,14 @@ pub record TellsFront (start : Option Moment) (log before after : List ℕ) : Ty
   pub parts : joined texts ≡ front ++ unwritten
   pub written : after ≡ before ++ front
 
+-- what the telling leaves written, by its outcome
+abbrev pub LeavesTold : Option Moment → Result (Unit {0}) TellFault → (log before after : List ℕ) → Type 0
+LeavesTold start (Ok done) log before after = TellsWhole start log before after
+LeavesTold start (Err (Line n)) log before after = TellsToLine start n log before after
+LeavesTold start (Err Read) log before after = TellsPart start log before after
+LeavesTold start (Err Write) log before after = TellsFront start log before after
+LeavesTold start (Err Memory) log before after = TellsPart start log before after
+
 -- ---- one line of a log
 
 -- the first line is told, and that was appended

@@ -1,10 +1,10 @@
 //! A log told in words, line by line.
 
-ghost use Rattle.std.specs.Prelude.{◌≡◌, ◌+◌, ◌*◌, ◌<◌, ◌⊎◌, ℕ, List, [], length, Ok, Some, IsErrOf, OnOk, true};
+ghost use Rattle.std.specs.Prelude.{◌≡◌, ◌+◌, ◌*◌, ◌<◌, ℕ, List, [], length, Ok, Some, IsErrOf, true};
 ghost use Rattle.std.specs.Io.KnownBytes.{prepend_known};
 ghost use Rattle.gw_script.specs.Known.{IsShorter, OnKnown};
 ghost use Rattle.gw_script.specs.Reader.{IsPaid};
-ghost use Rattle.gw_audit.specs.Told.{OnKnownLine, TellsFront, TellsPart, TellsToLine, TellsWhole};
+ghost use Rattle.gw_audit.specs.Told.{LeavesTold, OnKnownLine};
 
 use crate::moment::Moment;
 use crate::words::tell_line;
@@ -55,18 +55,9 @@ pub fn tell_log<R: OctetSource, W: OctetSink>(
     reader: &mut R,
     writer: &mut W,
 ) -> Result<(), TellFault>
-    // What is written then, where the octets of the reader and the writer are known: the telling of all
-    // lines,
-    ensures whole { OnOk result
-        (OnKnown (R.left reader.old) (W.held writer.old) (W.held writer.new) (TellsWhole start)) }
-    // of the lines before one that is too long,
-    ensures line { (n : ℕ) → IsErrOf result (TellFault.Line n) →
-        OnKnown (R.left reader.old) (W.held writer.old) (W.held writer.new) (TellsToLine start n) }
-    // or of some first lines, of which a failed write may leave a front.
-    ensures front { IsErrOf result TellFault.Write →
-        OnKnown (R.left reader.old) (W.held writer.old) (W.held writer.new) (TellsFront start) }
-    ensures part { (IsErrOf result TellFault.Read ⊎ IsErrOf result TellFault.Memory) →
-        OnKnown (R.left reader.old) (W.held writer.old) (W.held writer.new) (TellsPart start) }
+    // What is written then, where the octets of the reader and the writer are known.
+    ensures told { OnKnown (R.left reader.old) (W.held writer.old) (W.held writer.new)
+        (LeavesTold start result) }
     // What never fails doesn't end the telling: a reader, of a text of less than 2 GiB, and a writer.
     ensures sure_reader { R.NeverFails reader.old → (text : List ℕ) →
         R.left reader.old ≡ Some text → 2 * length text + 1 < 4294967295 →
@@ -101,24 +92,16 @@ impl Telling {
     ) -> Result<(), TellFault>
         requires unread { self.old.lines.unread ≡ [] }
         requires calls { self.old.lines.calls ≡ 0 }
-        ensures whole { OnOk result
-            (OnKnown (R.left reader.old) (W.held writer.old) (W.held writer.new) (TellsWhole start)) }
-        ensures line { (n : ℕ) → IsErrOf result (TellFault.Line n) →
-            OnKnown (R.left reader.old) (W.held writer.old) (W.held writer.new) (TellsToLine start n) }
-        ensures front { IsErrOf result TellFault.Write →
-            OnKnown (R.left reader.old) (W.held writer.old) (W.held writer.new) (TellsFront start) }
-        ensures part { (IsErrOf result TellFault.Read ⊎ IsErrOf result TellFault.Memory) →
-            OnKnown (R.left reader.old) (W.held writer.old) (W.held writer.new) (TellsPart start) }
+        ensures told { OnKnown (R.left reader.old) (W.held writer.old) (W.held writer.new)
+            (LeavesTold start result) }
         ensures sure_reader { R.NeverFails reader.old → (text : List ℕ) →
             R.left reader.old ≡ Some text → 2 * length text + 1 < 4294967295 →
             ¬ (IsErrOf result TellFault.Read) }
         ensures sure_writer { W.NeverFails writer.old → ¬ (IsErrOf result TellFault.Write) }
     {
         for number in 1..u64::MAX {
-            match self.tell_next(alloc, start, number, reader, writer) {
-                Ok(true) => {}
-                Ok(false) => return Ok(()),
-                Err(fault) => return Err(fault),
+            if !self.tell_next(alloc, start, number, reader, writer)? {
+                return Ok(());
             }
         }
         Err(TellFault::Read)

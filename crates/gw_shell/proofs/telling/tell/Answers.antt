@@ -2,7 +2,8 @@ use Rattle.std.proofs.Common.{sym, subst, Result, IsSomeAnd}
 use Rattle.std.specs.Io.Buffered.{writer_contents}
 use Rattle.gw_shell.specs.declared.fault.Fault.{Fault}
 use Rattle.gw_shell.specs.Telling.{Tells, first_telling_fault}
-use Rattle.gw_shell.proofs.TellingLemmas.{LeavesTold, flushed_telling, telling_leaves}
+use Rattle.gw_audit.specs.Told.{LeavesTold}
+use Rattle.gw_shell.proofs.TellingLemmas.{flushed_telling}
 use Rattle.gw_shell.proofs.ReplayLemmas.{kept, weaker}
 use Rattle.gw_shell.proofs.telling.tell.Goals as goal
 
@@ -11,11 +12,9 @@ returns-clause-tells g c = λ log before reads holds.
     let contents = writer_contents g.W.Write.contents in
     let done = c.tell_log-telling in
     let ends = first_telling_fault done.result c.is_ok-is_flushed.result in
-    let leaves : IsSomeAnd (contents done.new.writer) (LeavesTold c.args.start log before done.result) =
-    telling_leaves c.args.start (g.R.OctetSource.left c.args.reader.now) (contents c.args.writer.now) (contents done.new.writer) done.result
-    done.ensures.whole done.ensures.line done.ensures.front done.ensures.part log before reads holds in
+    let leaves : IsSomeAnd (contents done.new.writer) (LeavesTold c.args.start done.result log before) = done.ensures.told log before reads holds in
     let told : IsSomeAnd (contents done.new.writer) (Tells c.args.start log before ends) =
-    weaker (LeavesTold c.args.start log before done.result) (Tells c.args.start log before ends) (contents done.new.writer)
+    weaker (LeavesTold c.args.start done.result log before) (Tells c.args.start log before ends) (contents done.new.writer)
     (λ bytes is. flushed_telling c.args.start log before bytes done.result c.is_ok-is_flushed.result is) leaves in
     subst (λ (r : Result (Unit {0}) Fault). IsSomeAnd (contents c.flush.new.self) (Tells c.args.start log before r)) (sym c.first_telling_fault.ensures)
     (kept (Tells c.args.start log before ends) (contents done.new.writer) (contents c.flush.new.self) c.flush.ensures.bytes told)

@@ -25,17 +25,17 @@ loop-number-preserved g c =
     let after = g.W.OctetSink.held c.answer_line.new.writer in record {
       progress = λ script before known written.
           goes_on rules script before n text left so_far after (c.loop-number.invariant.progress script before known written)
-          (subst (λ (b : Bool). Turns n rules text left so_far after (Ok b)) c.in-Ok-true.field-0-test c.in-Ok-true.ensures.outcome);
+          (subst (λ (b : Bool). Turns n rules text left so_far after (Ok b)) c.if-not-branch.false c.in_ok-answer_line.ensures.outcome);
       calls = λ script known.
           let bound = c.loop-number.invariant.calls script known in
           bound_goes_on script n _ _ _ _ _ _ bound
-          (c.in-Ok-true.ensures.shorter bound.remains bound.text_is (ap Ok c.in-Ok-true.field-0-test)) c.in-Ok-true.ensures.paid;
-      lasting_reader = λ never. c.in-Ok-true.ensures.lasting_reader (c.loop-number.invariant.lasting_reader never);
-      lasting_writer = λ never. c.in-Ok-true.ensures.lasting_writer (c.loop-number.invariant.lasting_writer never);
+          (c.in_ok-answer_line.ensures.shorter bound.remains bound.text_is (ap Ok c.if-not-branch.false)) c.in_ok-answer_line.ensures.paid;
+      lasting_reader = λ never. c.in_ok-answer_line.ensures.lasting_reader (c.loop-number.invariant.lasting_reader never);
+      lasting_writer = λ never. c.in_ok-answer_line.ensures.lasting_writer (c.loop-number.invariant.lasting_writer never);
     }
 
-pub returns-in-Ok-false-clause-answers : goal.returns-in-Ok-false-clause-answers
-returns-in-Ok-false-clause-answers g c = λ script before known written.
+pub returns-then-not-branch-clause-answers : goal.returns-then-not-branch-clause-answers
+returns-then-not-branch-clause-answers g c = λ script before known written.
     let n = c.loop-number.number in
     let rules = c.args.rules.now in
     let text = prepend_known c.loop-number.self.lines.unread (g.R.OctetSource.left c.loop-number.reader) in
@@ -43,7 +43,7 @@ returns-in-Ok-false-clause-answers g c = λ script before known written.
     let so_far = g.W.OctetSink.held c.loop-number.writer in
     let after = g.W.OctetSink.held c.answer_line.new.writer in
     ends_whole rules script before n text left so_far after (c.loop-number.invariant.progress script before known written)
-    (subst (λ (b : Bool). Turns n rules text left so_far after (Ok b)) c.in-Ok-false.field-0-test c.in-Ok-false.ensures.outcome)
+    (subst (λ (b : Bool). Turns n rules text left so_far after (Ok b)) c.if-not-branch.true c.in_ok-answer_line.ensures.outcome)
 
 pub returns-in_err-answer_line-clause-answers : goal.returns-in_err-answer_line-clause-answers
 returns-in_err-answer_line-clause-answers g c = λ script before known written.
