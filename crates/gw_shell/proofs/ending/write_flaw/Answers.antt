@@ -12,6 +12,6 @@ returns-clause-ok g c =
     subst (λ (text : List ℕ). OnOk c.write_whole-2.result (Appends (held c.args.errors.now) (held c.write_whole-2.new.sink) text))
     (line_joined (codes "bacgw: line ") (decimal c.args.number) (codes ": ") (words_of c.args.flaw) (10 ∷ []))
     (three_writes c.write_whole-2.result (held c.args.errors.now) (held c.write_number.new.errors) (held c.write_whole.new.sink) (held c.write_whole-2.new.sink)
-    front (words_of c.args.flaw) (10 ∷ []) c.in-Ok.ensures.ok
-    (subst (λ (text : List ℕ). Appends (held c.write_number.new.errors) (held c.write_whole.new.sink) text) words c.in-Ok-write_whole.ensures.ok)
+    front (words_of c.args.flaw) (10 ∷ []) c.in_ok-write_number.ensures.ok
+    (subst (λ (text : List ℕ). Appends (held c.write_number.new.errors) (held c.write_whole.new.sink) text) words c.in_ok-write_whole.ensures.ok)
     c.write_whole-2.ensures.ok)

@@ -11,6 +11,6 @@ returns-clause-ok g c =
     let behind : c.as_bytes-3.result.now ≡ c.args.behind.now = search rules in
     three_writes c.write_whole-3.result (held c.args.errors.now) (held c.write_whole.new.sink) (held c.write_whole-2.new.sink) (held c.write_whole-3.new.sink)
     c.args.text.now (decimal c.args.number) c.args.behind.now
-    (subst (λ (t : List ℕ). Appends (held c.args.errors.now) (held c.write_whole.new.sink) t) text c.in-Ok.ensures.ok)
-    (subst (λ (t : List ℕ). Appends (held c.write_whole.new.sink) (held c.write_whole-2.new.sink) t) digits c.in-Ok-write_whole.ensures.ok)
+    (subst (λ (t : List ℕ). Appends (held c.args.errors.now) (held c.write_whole.new.sink) t) text c.in_ok-write_whole.ensures.ok)
+    (subst (λ (t : List ℕ). Appends (held c.write_whole.new.sink) (held c.write_whole-2.new.sink) t) digits c.in_ok-write_whole-2.ensures.ok)
     (subst (λ (t : List ℕ). OnOk c.write_whole-3.result (Appends (held c.write_whole-2.new.sink) (held c.write_whole-3.new.sink) t)) behind c.write_whole-3.ensures.ok)
