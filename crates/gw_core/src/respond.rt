@@ -58,16 +58,15 @@ fn pass_on<J: Judge>(
         let due = passed_response rules relay.now (message_view message.now) in
         due.asks ≡ [] → due.sends ≡ [] → IsOk result }
 {
-    let CastResponse { given, goes_on } = relay.cast(alloc, judge, message)?;
+    let CastResponse { mut given, goes_on } = relay.cast(alloc, judge, message)?;
     if !goes_on {
         return Ok(CastResponse { given, goes_on });
     }
     let routed = relay.route(alloc, judge, message)?;
+    given.append(routed)?;
     let managed = relay.manage(alloc, judge, message)?;
-    Ok(CastResponse {
-        given: given.append(routed.append(managed)?)?,
-        goes_on,
-    })
+    given.append(managed)?;
+    Ok(CastResponse { given, goes_on })
 }
 
 /// What the device does about a message (step 10).
@@ -131,7 +130,7 @@ fn respond_to_message<J: Judge>(
         asks_for rules relay.now device.now due ≡ [] →
         sends_for rules relay.now device.now due ≡ [] → IsOk result }
 {
-    let CastResponse { given, goes_on } = pass_on(alloc, judge, relay, message)?;
+    let CastResponse { mut given, goes_on } = pass_on(alloc, judge, relay, message)?;
     if !goes_on {
         return Ok(Response {
             relayed: given,
@@ -139,8 +138,9 @@ fn respond_to_message<J: Judge>(
         });
     }
     let served = answer_apdu(alloc, judge, device, message)?;
+    given.append(served.relayed)?;
     Ok(Response {
-        relayed: given.append(served.relayed)?,
+        relayed: given,
         write: served.write,
     })
 }

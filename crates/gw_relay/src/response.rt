@@ -42,26 +42,23 @@ impl RelayResponse {
         }
     }
 
-    /// This, and behind it what a later step answers. What is to be committed is this one's, and
-    /// where there is none, the later one's. An `Err` where there is no memory for the lists, or
-    /// where there would be more than 2^64 - 1 datagrams, which no memory holds. Where the later
-    /// one sends nothing and had nothing denied it takes no memory.
+    /// Adds what a later step answers behind this. What is to be committed stays, and where there is
+    /// nothing, it is the later one's. An `Err` where there is no memory for the lists, or where there
+    /// would be more than 2^64 - 1 datagrams, which no memory holds; a part may then be added. Where the
+    /// later one sends nothing and had nothing denied it takes no memory.
     #[inline(always)]
-    pub fn append(self, later: RelayResponse) -> Result<Self, AllocError>
-        ensures sends { IfOk result (λ given. given.sends ≡ self.sends ++ later.sends) }
-        ensures refusals { IfOk result (λ given. given.refusals ≡ self.refusals ++ later.refusals) }
-        ensures change { IfOk result (λ given. given.change ≡ option_or self.change later.change) }
+    pub fn append(&mut self, later: RelayResponse) -> Result<(), AllocError>
+        ensures sends { OnOk result (self.new.sends ≡ self.old.sends ++ later.sends) }
+        ensures refusals { OnOk result (self.new.refusals ≡ self.old.refusals ++ later.refusals) }
+        ensures change { OnOk result (self.new.change ≡ option_or self.old.change later.change) }
         ensures silent { later.sends ≡ [] → later.refusals ≡ [] → IsOk result }
     {
-        let mut sends = self.sends;
-        let mut refusals = self.refusals;
-        sends.append(later.sends)?;
-        put_refusals(&mut refusals, later.refusals)?;
-        Ok(RelayResponse {
-            sends,
-            refusals,
-            change: self.change.or(later.change),
-        })
+        self.sends.append(later.sends)?;
+        put_refusals(&mut self.refusals, later.refusals)?;
+        if self.change.is_none() {
+            self.change = later.change;
+        }
+        Ok(())
     }
 }
 

@@ -1,4 +1,4 @@
-use Rattle.std.proofs.Common.{◌≡◌, ◌++◌, List, Option, sym, ap, ap₂, ◌∙◌}
+use Rattle.std.proofs.Common.{◌≡◌, ◌++◌, List, Option, sym, ap, ap₂, ◌∙◌, append_assoc}
 use Rattle.std.specs.Option.{option_or}
 use Rattle.gw_rules.specs.Authorizer.{denied_of}
 use Rattle.gw_rules.specs.declared.refusal.Refusal.{Refusal}
@@ -32,22 +32,16 @@ pub returns-in_err-append-clause-silent : goal.returns-in_err-append-clause-sile
 returns-in_err-append-clause-silent g c = λ rules stands asks sends.
     let on = sym c.in_ok-given.ensures.goes_on ∙ c.if-not-goes_on.false in
     let silent = on_silent rules c.args.relay.now (message_view c.args.message.now) on asks sends in
-    let managed = c.in_ok-managed.ensures.relayed rules stands in
-    let ok = c.in_err-append.ensures.silent (managed.sends ∙ silent.manage_sends) (managed.refusals ∙ ap (denied_of rules) silent.manage_asks) in
+    let routed = c.in_ok-routed.ensures.relayed rules stands in
+    let ok = c.in_err-append.ensures.silent (routed.sends ∙ silent.route_sends) (routed.refusals ∙ ap (denied_of rules) silent.route_asks) in
     absurd cc
 
 pub returns-in_err-append-2-clause-silent : goal.returns-in_err-append-2-clause-silent
 returns-in_err-append-2-clause-silent g c = λ rules stands asks sends.
     let on = sym c.in_ok-given.ensures.goes_on ∙ c.if-not-goes_on.false in
     let silent = on_silent rules c.args.relay.now (message_view c.args.message.now) on asks sends in
-    let routed = c.in_ok-routed.ensures.relayed rules stands in
     let managed = c.in_ok-managed.ensures.relayed rules stands in
-    let sent = c.in_ok-append.ensures.sends
-    ∙ ap₂ (λ (x y : List Sending). x ++ y) (routed.sends ∙ silent.route_sends) (managed.sends ∙ silent.manage_sends) in
-    let refused = c.in_ok-append.ensures.refusals
-    ∙ ap₂ (λ (x y : List Refusal). x ++ y) (routed.refusals ∙ ap (denied_of rules) silent.route_asks)
-    (managed.refusals ∙ ap (denied_of rules) silent.manage_asks) in
-    let ok = c.in_err-append-2.ensures.silent sent refused in
+    let ok = c.in_err-append-2.ensures.silent (managed.sends ∙ silent.manage_sends) (managed.refusals ∙ ap (denied_of rules) silent.manage_asks) in
     absurd cc
 
 pub returns-clause-relayed : goal.returns-clause-relayed
@@ -58,12 +52,16 @@ returns-clause-relayed g c = λ rules stands.
     let cast = c.in_ok-given.ensures.relayed rules stands in
     let routed = c.in_ok-routed.ensures.relayed rules stands in
     let managed = c.in_ok-managed.ensures.relayed rules stands in record {
-      sends = c.in_ok-append-2.ensures.sends ∙ ap₂ (λ (x y : List Sending). x ++ y) cast.sends
-          (c.in_ok-append.ensures.sends ∙ ap₂ (λ (x y : List Sending). x ++ y) routed.sends managed.sends) ∙ sym (sends_on rules relay m on);
-      refusals = c.in_ok-append-2.ensures.refusals ∙ ap₂ (λ (x y : List Refusal). x ++ y) cast.refusals
-          (c.in_ok-append.ensures.refusals ∙ ap₂ (λ (x y : List Refusal). x ++ y) routed.refusals managed.refusals)
-          ∙ sym (denied_on rules relay m on);
-      change = c.in_ok-append-2.ensures.change ∙ ap₂ (λ (x y : Option Change). option_or x y) cast.change
-          (c.in_ok-append.ensures.change ∙ ap₂ (λ (x y : Option Change). option_or x y) routed.change managed.change)
+      sends = c.in_ok-append-2.ensures.sends
+          ∙ ap₂ (λ (x y : List Sending). x ++ y)
+          (c.in_ok-append.ensures.sends ∙ ap₂ (λ (x y : List Sending). x ++ y) cast.sends routed.sends) managed.sends
+          ∙ append_assoc _ _ _ ∙ sym (sends_on rules relay m on);
+      refusals = c.in_ok-append-2.ensures.refusals
+          ∙ ap₂ (λ (x y : List Refusal). x ++ y)
+          (c.in_ok-append.ensures.refusals ∙ ap₂ (λ (x y : List Refusal). x ++ y) cast.refusals routed.refusals) managed.refusals
+          ∙ append_assoc _ _ _ ∙ sym (denied_on rules relay m on);
+      change = c.in_ok-append-2.ensures.change
+          ∙ ap₂ (λ (x y : Option Change). option_or x y)
+          (c.in_ok-append.ensures.change ∙ ap₂ (λ (x y : Option Change). option_or x y) cast.change routed.change) managed.change
           ∙ sym (change_on rules m on);
     }
