@@ -28,7 +28,7 @@ frames = tt
 
 -- all that a request runs through
 unfoldable reads : ⊤
-unfolding device_response references_at closing_at
+unfolding device_response read_of write_of references_at closing_at
 reads = tt
 
 -- all that an event runs through

@@ -46,6 +46,7 @@ use Rattle.gw_device.specs.Services.{set_of}
 
 -- what another object reads as
 read_other : (o : Object) (c : Configured) (s t : List Slots) (other : Object) (p : ℕ) (index : Option ℕ) → DifferIn o c s t → other ≢ o → read_of (standing c s) other p index ≡ read_of (standing c t) other p index
+unfolding read_of
 read_other o c s t other p index differ apart =
     ap (λ (found : Result (ConfiguredObject × Slots) ReadFault). (if same other (device_id c.device) then known_line types.Device (device_line c) p else (found >>= λ x. known_line (type_of x.0.details) (object_line x.0 x.1) p)) >>= λ contents. octets_of contents index) (differ other apart)
 

@@ -127,6 +127,7 @@ at_place c (Some place) number index priority octets write e =
 -- a write that is made is made at the place of its object
 pub write_place : (c : Configured) (wanted : Object) (number : ℕ) (index : Option ℕ) (priority : ℕ) (octets : List ℕ) (write : Write)
     → write_of c wanted number index priority octets ≡ Ok write → place_of c wanted ≡ Some write.place
+unfolding write_of
 write_place c wanted number index priority octets write e = by (same wanted (device_id c.device)) e
   where
     by : (b : Bool) → (if b then device_write number else (ok_or (place_of c wanted) UnknownObject >>= λ place. ok_or (slice_get c.objects place) UnknownObject >>= λ object. object_write place object number index priority octets)) ≡ Ok write
@@ -135,6 +136,7 @@ write_place c wanted number index priority octets write e = by (same wanted (dev
     by false e = at_place c (place_of c wanted) number index priority octets write e
 
 pub others_read_alike : OthersReadAlike
+unfolding read_of
 others_read_alike o c s t agree other p index apart =
     ap (λ (found : Result (ConfiguredObject × Slots) ReadFault). (if same other (device_id c.device) then known_line types.Device (device_line c) p else (found >>= λ x. known_line (type_of x.0.details) (object_line x.0 x.1) p)) >>= λ contents. octets_of contents index)
     (differ o c s t agree other apart)

@@ -145,5 +145,5 @@ contents_of d wanted number =
     else object_contents d wanted number
 
 -- the octets of a property of an object, or of one element of it, or the first fault
-abbrev pub read_of : Database → Object → ℕ → Option ℕ → Result (List ℕ) ReadFault
+unfoldable pub read_of : Database → Object → ℕ → Option ℕ → Result (List ℕ) ReadFault
 read_of d wanted number index = contents_of d wanted number >>= λ contents. octets_of contents index

@@ -129,7 +129,7 @@ device_write number =
     ok_or (property_of types.Device number) UnknownProperty >>= λ property. Err NotWritable
 
 -- what a write does, or the first fault
-abbrev pub write_of : Configured → Object → ℕ → Option ℕ → ℕ → List ℕ → Result Write WriteFault
+unfoldable pub write_of : Configured → Object → ℕ → Option ℕ → ℕ → List ℕ → Result Write WriteFault
 write_of c wanted number index priority octets =
     if same wanted (device_id c.device) then device_write number
     else (do

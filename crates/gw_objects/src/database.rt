@@ -206,6 +206,7 @@ fn make(slots: &mut PriorityArray<PropertyValue>, act: Act)
 
 /// Appends the octets of a property, or of one element of it. After an `Err` the buffer holds what
 /// it held.
+#[tactic(auto, unfolding(crate::specs::Table::read_of))]
 fn read(
     configured: &Configured,
     states: &[PriorityArray<PropertyValue>],

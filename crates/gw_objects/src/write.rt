@@ -67,6 +67,7 @@ impl Put {
 }
 
 /// The write, or its first fault.
+#[tactic(auto, unfolding(crate::specs::Write::write_of))]
 pub(crate) fn check(
     alloc: Global,
     configured: &Configured,
