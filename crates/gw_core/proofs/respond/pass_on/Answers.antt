@@ -2,7 +2,10 @@ use Rattle.std.proofs.Common.{◌≡◌, ◌++◌, List, Option, sym, ap, ap₂,
 use Rattle.std.specs.Option.{option_or}
 use Rattle.gw_rules.specs.Authorizer.{denied_of}
 use Rattle.gw_rules.specs.declared.refusal.Refusal.{Refusal}
+use Rattle.gw_relay.specs.Cast.{cast_asks, cast_sends}
+use Rattle.gw_relay.specs.Manage.{manage_asks, manage_sends}
 use Rattle.gw_relay.specs.Message.{message_view}
+use Rattle.gw_relay.specs.Route.{route_asks, route_sends}
 use Rattle.gw_relay.specs.Sends.{Sending}
 use Rattle.gw_relay.specs.declared.change.Change.{Change}
 use Rattle.gw_core.proofs.RespondLemmas.{cast_silent, change_on, denied_on, on_silent, sends_on}
@@ -55,11 +58,12 @@ returns-clause-relayed g c = λ rules stands.
       sends = c.in_ok-append-2.ensures.sends
           ∙ ap₂ (λ (x y : List Sending). x ++ y)
           (c.in_ok-append.ensures.sends ∙ ap₂ (λ (x y : List Sending). x ++ y) cast.sends routed.sends) managed.sends
-          ∙ append_assoc _ _ _ ∙ sym (sends_on rules relay m on);
+          ∙ append_assoc (cast_sends rules m) (route_sends rules relay m) (manage_sends rules relay m) ∙ sym (sends_on rules relay m on);
       refusals = c.in_ok-append-2.ensures.refusals
           ∙ ap₂ (λ (x y : List Refusal). x ++ y)
           (c.in_ok-append.ensures.refusals ∙ ap₂ (λ (x y : List Refusal). x ++ y) cast.refusals routed.refusals) managed.refusals
-          ∙ append_assoc _ _ _ ∙ sym (denied_on rules relay m on);
+          ∙ append_assoc (denied_of rules (cast_asks m)) (denied_of rules (route_asks relay m)) (denied_of rules (manage_asks relay m))
+          ∙ sym (denied_on rules relay m on);
       change = c.in_ok-append-2.ensures.change
           ∙ ap₂ (λ (x y : Option Change). option_or x y)
           (c.in_ok-append.ensures.change ∙ ap₂ (λ (x y : Option Change). option_or x y) cast.change routed.change) managed.change
