@@ -109,12 +109,7 @@ pub fn since(alloc: Global, line: &str, out: &mut Vec<u8>) -> io::Result<()> {
 }
 
 /// Tells the log of a case.
-fn tell(
-    alloc: Global,
-    start: Option<Moment>,
-    line: &str,
-    out: &mut Vec<u8>,
-) -> io::Result<()> {
+fn tell(alloc: Global, start: Option<Moment>, line: &str, out: &mut Vec<u8>) -> io::Result<()> {
     let mut words = line.splitn(4, ' ');
     let fails = number_or_none(words.next())?;
     let write = number_or_none(words.next())?;
