@@ -68,11 +68,11 @@ fn put_choice(
 
 /// What `log` is asked for.
 fn put_log(alloc: Global, start: Option<Moment>, out: &mut Vec<u8>) -> Result<(), AllocError> {
-    put(out, &["log"])?;
-    match start {
-        Some(start) => put(out, &[" start=", start.to_string(alloc)?.as_str()]),
-        None => Ok(()),
-    }
+    let Some(start) = start else {
+        return put(out, &["log"]);
+    };
+    let text = start.to_string(alloc)?;
+    put(out, &["log start=", text.as_str()])
 }
 
 /// What `run` is asked for.
