@@ -65,7 +65,7 @@ tables_text r =
     ++ field (codes " learned_routes=") r.learned_routes
 
 -- the line of a report: its fields in this order, and a line feed
-abbrev pub report_line : Report → List ℕ
+unfoldable pub report_line : Report → List ℕ
 report_line r = events_text r ++ calls_text r ++ tables_text r ++ 10 ∷ []
 
 -- ---- the reports of a run

@@ -1,10 +1,11 @@
 use Rattle.std.proofs.Common.{◌++◌, ◌∷◌, []}
 use Rattle.std.proofs.KnownBytes.{Appends-trans}
 use Rattle.gw_core.proofs.ReportLemmas.{behind_one}
-use Rattle.gw_core.specs.Reports.{calls_text, events_text, tables_text}
+use Rattle.gw_core.specs.Reports.{calls_text, events_text, report_line, tables_text}
 use Rattle.gw_core.proofs.report.write_report.Goals as goal
 
 pub returns-clause-ok : goal.returns-clause-ok
+unfolding report_line
 returns-clause-ok g c =
     let held = g.S.OctetSink.held in
     let r = c.args.report.now in
