@@ -81,10 +81,17 @@ def kind_of(name):
     return "replay" if name.endswith(".script") else name.split(" ")[0].rstrip(":")
 
 
+def is_cut(line, right):
+    """Whether a telling was cut where what it is written to had to grow: it tells so, and what was written is a front."""
+    call, _, answer = line.partition(b" => write failed")
+    wanted_call, _, wanted = right.partition(b" => ok ")
+    return bool(answer) and call == wanted_call and wanted.startswith(answer.removeprefix(b" "))
+
+
 def tells_it(line, right):
     """Whether a line is right, or tells that there was no memory. Of `serve` it may tell that an event was dropped for it."""
     dropped = re.search(rb"=> ok \d+ \d+ [1-9]", line)
-    return line == right or b"memory" in line.lower() or dropped is not None
+    return line == right or b"memory" in line.lower() or dropped is not None or is_cut(line, right)
 
 
 def is_well_answered(answer, right, told=b"err " + OUT_OF_MEMORY):
@@ -116,11 +123,26 @@ def is_told_without_note(lines, wanted):
     return b"status 0" not in wanted and left == [line for line in wanted if not is_note(line)]
 
 
-def is_served_without(turns, lines, wanted):
-    """Whether a run was served to its end without its one datagram: that found no memory and was dropped."""
+# A report of a run, and one that tells that its one datagram was dropped.
+REPORT = b"err stats "
+DROPPED = re.compile(rb"err stats seconds=\d+ datagrams=0 memory_drops=1 denials=0 sends=0 ")
+
+
+def is_served_without(turns, most, lines, wanted):
+    """Whether a run was served to its end without its one datagram: that found no memory and was dropped, and each report tells so,
+    as far as standard error, which takes at most so many octets, has room for it."""
     kept = [line for line in wanted if line.startswith((b"== ", b"err bacgw: serving")) or line == b"log "]
-    told = [line for line in lines if line not in (b"status 0", b"receives %d sends 0" % turns)]
-    return told == kept and len(lines) == len(kept) + 2
+    reports = [line for line in lines if line.startswith(REPORT)]
+    others = [line for line in lines if line not in reports]
+    told = [line for line in others if line not in (b"status 0", b"receives %d sends 0" % turns)]
+    is_told = all(DROPPED.match(line) or most is not None and len(line) == len(b"err ") + most for line in reports)
+    return told == kept and len(others) == len(kept) + 2 and is_told
+
+
+def has_no_room(most, lines):
+    """Whether a run ended for want of memory, and the reports before took all the octets that standard error has room for."""
+    reports = [line for line in lines if line.startswith(REPORT)]
+    return most is not None and b"status 1" in lines and len(reports) == 1 and len(reports[0]) == len(b"err ") + most
 
 
 def judge_of(section):
@@ -131,14 +153,16 @@ def judge_of(section):
         return is_well_answered
     words = others[0].split("|")
     narrow = re.search(r"(?m)^errors (\d+)$", "\n".join(others))
-    told = b"err " + OUT_OF_MEMORY[:int(narrow[1])] if narrow else b"err " + OUT_OF_MEMORY
+    most = int(narrow[1]) if narrow else None
+    told = b"err " + OUT_OF_MEMORY[:most]
     turns = int(words[words.index("--turns") + 1]) if "--turns" in words[:-1] else None
 
     def is_well_run(answer, right):
         lines, wanted = answer[1].splitlines(), right[1].splitlines()
         explains = words[0] == "check" and "--explain" in words or "--verbose" in words or b"err bacgw: bad command line" in wanted
         return (is_well_answered(answer, right, told) or answer[0] == 0 and explains and is_told_without_note(lines, wanted)
-                or answer[0] == 0 and turns is not None and is_served_without(turns, lines, wanted))
+                or answer[0] == 0 and turns is not None and is_served_without(turns, most, lines, wanted)
+                or answer[0] == 0 and has_no_room(most, lines))
 
     return is_well_run
 
