@@ -74,10 +74,7 @@ fn choice_from(alloc: Global, words: Result<Vec<String>, Fault>) -> Result<Choic
         (λ w. IsAnswer (map string_bytes w.items) result)
         (λ f. result ≡ Err f) }
 {
-    match words {
-        Ok(words) => choice_of(alloc, words.as_slice()),
-        Err(fault) => Err(fault),
-    }
+    choice_of(alloc, words?.as_slice())
 }
 
 /// Prints what a configuration has, and what else is asked for of it.
