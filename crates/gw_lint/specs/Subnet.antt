@@ -13,7 +13,7 @@ abbrev pub is_multicast : BipAddr → Bool
 is_multicast address = nat_le 224 (slice_index address.ip 0) && nat_le (slice_index address.ip 0) 239
 
 -- how many addresses a subnet may have: the powers of 2 from 1 to 2 ^ 32
-abbrev pub sizes : List ℕ
+unfoldable pub sizes : List ℕ
 sizes = map (λ bits. 2 ^ bits) (range_with_len 0 33)
 
 -- A subnet of so many addresses holds this one, and its last one is that. It has at least four: of two, none is a

@@ -146,7 +146,7 @@ item_words index name field item =
     numbered (codes "warning: rule ") index ++ name_words name ++ field ++ numbered (codes ": item ") item ++ codes ": "
 
 -- two addresses as a range has them
-abbrev pub ends_words : BipAddr → BipAddr → List ℕ
+unfoldable pub ends_words : BipAddr → BipAddr → List ℕ
 ends_words low high = codes "[\"" ++ text_of low ++ codes "\", \"" ++ text_of high ++ codes "\"]"
 
 -- the address with another UDP port

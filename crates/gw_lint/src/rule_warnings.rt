@@ -182,6 +182,7 @@ fn with_udp(udp: u16, address: BipAddr) -> BipAddr
 }
 
 /// Appends two addresses as a range has them.
+#[tactic(auto, unfolding(crate::specs::Warnings::ends_words))]
 fn put_ends(out: &mut Vec<u8>, low: BipAddr, high: BipAddr) -> Result<(), AllocError>
     ensures { IsAppended (ends_words low high) out.old out.new result }
 {

@@ -61,6 +61,7 @@ pub(crate) fn is_multicast(address: BipAddr) -> bool
     MULTICAST_LOW <= first && first <= MULTICAST_HIGH
 }
 
+#[tactic(auto, unfolding(crate::specs::Subnet::sizes))]
 fn sizes() -> [u64; 33]
     ensures { result ≡ sizes }
 {

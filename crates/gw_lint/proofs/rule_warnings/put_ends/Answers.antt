@@ -3,6 +3,7 @@ use Rattle.gw_lint.proofs.Lines.{then_put}
 use Rattle.gw_lint.proofs.rule_warnings.put_ends.Goals as goal
 
 pub returns : goal.returns
+unfolding ends_words
 returns c =
     then_put (then_put (then_put (then_put c.in_ok-put_slice.ensures c.in_ok-put_text.ensures) c.in_ok-put_slice-2.ensures)
     c.in_ok-put_text-2.ensures) c.put_slice-3.ensures
