@@ -27,18 +27,6 @@ few_octets w e none =
 pub tick_text : (w : State) → end_line ≡ event_text w Tick
 tick_text w = sym (ap effects_text (effects_at-tick w))
 
-text_length : {A : Type 0} (text : A → List ℕ) (x : A) (xs : List A)
-    → length (flat_map text (x ∷ xs)) ≡ length (text x) + length (flat_map text xs)
-text_length text x xs = ap length (flat_map-cons text x xs) ∙ length-append (text x) (flat_map text xs)
-
--- the text up to one of the items is no longer than the whole
-pub front_fits : {A : Type 0} (text : A → List ℕ) (xs : List A) (i : ℕ) (x : A) → i < length xs → x ≡ get_or xs i x
-    → length (flat_map text (take i xs)) + length (text x) ≤ length (flat_map text xs)
-front_fits text [] i x lt is = absurd (omega arith)
-front_fits {A} text (y ∷ xs) zero x lt is = omega (arith, text_length text y xs, ap (λ (t : A). length (text t)) is)
-front_fits text (y ∷ xs) (suc i) x lt is = omega
-    (arith, text_length text y xs, text_length text y (take i xs), front_fits text xs i x (omega (arith, lt)) is)
-
 -- the lines of a message are those of its datagrams
 one_text : (port : ℕ) (octets : List ℕ) (targets : List BipAddr)
     → flat_map sending_line (map (sending port octets) targets) ≡ flat_map (λ to. send_line port to octets) targets
@@ -50,9 +38,3 @@ batches_text [] = refl
 batches_text (b ∷ batches) =
     flat_map-append sending_line (sendings_of b) (flat_map sendings_of batches)
     ∙ ap₂ (λ (s t : List ℕ). s ++ t) (one_text b.port b.octets b.targets) (batches_text batches)
-
--- an item of a list, whatever stands behind it
-pub item_at : {A : Type 0} (xs : List A) (i : ℕ) (d : A) → i < length xs → get_or xs i d ≡ get_or xs i (get_or xs i d)
-item_at [] i d lt = absurd (omega arith)
-item_at (x ∷ xs) zero d lt = refl
-item_at (x ∷ xs) (suc i) d lt = item_at xs i d (omega (arith, lt))

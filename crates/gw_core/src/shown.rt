@@ -8,7 +8,7 @@ use crate::effects::Effects;
 use gw_addr::put_slice;
 use gw_audit::{Denial, line};
 use gw_relay::{Batch, Sends};
-use gw_script::{SpelledAddr, append_end, append_send_to};
+use gw_script::{SpelledAddr, append_end, append_sends_to};
 use std::alloc::AllocError;
 
 /// Appends the lines of what one event does. Refused only where the buffer had no room for them. The text of an address that is at
@@ -94,8 +94,5 @@ fn append_batch(
         IsOk result }
     ensures capacity { vec_capacity out.old ≤ vec_capacity out.new }
 {
-    for target in batch.targets() {
-        append_send_to(out, batch.port(), *target, at_hand, batch.octets())?;
-    }
-    Ok(())
+    append_sends_to(out, batch.port(), batch.targets(), at_hand, batch.octets())
 }

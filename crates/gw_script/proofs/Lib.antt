@@ -2,6 +2,8 @@ pub mod SearchLemmas
 pub mod LineLemmas
 pub mod UnreadLemmas
 pub mod AppendLemmas
+pub mod TailLemmas
+pub mod Lists
 pub mod EventLemmas
 pub mod PairLemmas
 pub mod FlawLemmas

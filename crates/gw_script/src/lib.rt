@@ -19,4 +19,4 @@ pub use line::{MAX_DATAGRAM, parse_line, parse_spelled};
 pub use reader::{LineReader, NextLine};
 pub use sink::{OctetSink, WriteFailed, write_whole};
 pub use source::{OctetSource, ReadFailed};
-pub use text::{append_end, append_send, append_send_to};
+pub use text::{append_end, append_send, append_sends_to};

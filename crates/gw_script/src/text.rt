@@ -1,10 +1,10 @@
 //! The pieces of the text that a replay writes, each appended to a buffer.
 
-ghost use Rattle.std.specs.Prelude.{◌≡◌, ◌*◌, ◌<◌, length, slice_index};
+ghost use Rattle.std.specs.Prelude.{◌≡◌, ◌+◌, ◌*◌, ◌<◌, ◌≤◌, ◌++◌, ◌-◌, IsOk, OnOk, length, slice_index, slice_range, take, vec_capacity, vec_len};
 ghost use Rattle.hex.specs.Hex.{encode_upper, upper_digits};
 ghost use Rattle.gw_addr.specs.Address.{text_of};
 ghost use Rattle.gw_addr.specs.Appending.{IsAppended, IsAppendedWhole};
-ghost use Rattle.gw_script.specs.Text.{end_line, send_head, send_line};
+ghost use Rattle.gw_script.specs.Text.{EndsWith, end_line, send_head, send_line, send_lines, send_tail};
 
 use crate::event::SpelledAddr;
 use gw_addr::{BipAddr, keep_whole, put_decimal, put_octet, put_slice};
@@ -20,23 +20,32 @@ pub fn append_send(
 ) -> Result<(), AllocError>
     ensures { IsAppendedWhole (send_line port to octets.now) out.old out.new result }
 {
-    append_send_to(out, port, to, &None, octets)
+    let len = out.len();
+    let put = put_send(out, port, to, &None, octets);
+    keep_whole(out, len, put)
 }
 
-/// Appends the line of a datagram that is sent, as [`append_send`] does, with its `Err`. Where it
-/// goes to an address whose text is at hand, the text is not made again.
-pub fn append_send_to(
+/// Appends a line for each address that a datagram goes to, in order. The digits of its octets are made
+/// once, and the text of an address that is at hand not again. An `Err` only where the buffer had no room
+/// for the lines; then a part of them may stand there.
+pub fn append_sends_to(
     out: &mut Vec<u8>,
     port: u8,
-    to: BipAddr,
+    targets: &[BipAddr],
     at_hand: &Option<SpelledAddr<'_>>,
     octets: &[u8],
 ) -> Result<(), AllocError>
-    ensures { IsAppendedWhole (send_line port to octets.now) out.old out.new result }
+    ensures ok { let lines = send_lines port targets.now octets.now in
+        OnOk result (out.new.items ≡ out.old.items ++ lines) }
+    ensures room { let lines = send_lines port targets.now octets.now in
+        vec_len out.old + length lines ≤ vec_capacity out.old → IsOk result }
+    ensures capacity { vec_capacity out.old ≤ vec_capacity out.new }
 {
-    let len = out.len();
-    let put = put_send(out, port, to, at_hand, octets);
-    keep_whole(out, len, put)
+    let Some((first, others)) = targets.split_first() else {
+        return Ok(());
+    };
+    put_send(out, port, *first, at_hand, octets)?;
+    put_sends_again(out, port, others, at_hand, octets)
 }
 
 /// Appends the line behind the last of an event. An `Err` only where the buffer had no room for it;
@@ -60,6 +69,70 @@ fn put_send(
     put_head(out, port, to, at_hand)?;
     put_octets(out, octets)?;
     put_octet(out, b'\n')
+}
+
+/// Appends a line for each address that a datagram goes to, behind one of the same datagram.
+fn put_sends_again(
+    out: &mut Vec<u8>,
+    port: u8,
+    targets: &[BipAddr],
+    at_hand: &Option<SpelledAddr<'_>>,
+    octets: &[u8],
+) -> Result<(), AllocError>
+    requires { EndsWith out.old.items (send_tail octets.now) }
+    ensures ok { let lines = send_lines port targets.now octets.now in
+        OnOk result (out.new.items ≡ out.old.items ++ lines) }
+    ensures room { let lines = send_lines port targets.now octets.now in
+        vec_len out.old + length lines ≤ vec_capacity out.old → IsOk result }
+    ensures capacity { vec_capacity out.old ≤ vec_capacity out.new }
+{
+    for target in targets {
+        put_send_again(out, port, *target, at_hand, octets)?;
+    }
+    Ok(())
+}
+
+/// Appends the line of a datagram that the line before brings too: its digits are copied from there. A
+/// front of it stands there where a growth was refused.
+fn put_send_again(
+    out: &mut Vec<u8>,
+    port: u8,
+    to: BipAddr,
+    at_hand: &Option<SpelledAddr<'_>>,
+    octets: &[u8],
+) -> Result<(), AllocError>
+    requires { EndsWith out.old.items (send_tail octets.now) }
+    ensures { IsAppended (send_line port to octets.now) out.old out.new result }
+{
+    let end = out.len();
+    put_head(out, port, to, at_hand)?;
+    put_tail_again(out, end, octets)
+}
+
+/// Appends once more what a line before that place ends with: its octets and the line feed.
+fn put_tail_again(out: &mut Vec<u8>, end: usize, octets: &[u8]) -> Result<(), AllocError>
+    requires within { end ≤ vec_len out.old }
+    requires stands { EndsWith (take end out.old.items) (send_tail octets.now) }
+    ensures { IsAppended (send_tail octets.now) out.old out.new result }
+{
+    let count = 2 * octets.len() + 1;
+    out.reserve(count)?;
+    let place = out.len();
+    out.resize(place + count, 0)?;
+    copy_again(out.as_mut_slice(), end - count, end, place);
+    Ok(())
+}
+
+/// Copies what stands in front of a place over what stands behind it.
+fn copy_again(text: &mut [u8], start: usize, end: usize, place: usize)
+    requires ordered { start ≤ end }
+    requires before { end ≤ place }
+    requires fits { place + (end - start) ≡ length text.old }
+    ensures { let front = take place text.old in
+        text.new ≡ front ++ slice_range front start end }
+{
+    let (front, back) = text.split_at_mut(place);
+    back.copy_from_slice(&front[start..end]);
 }
 
 /// Appends what stands before the octets in the line of a datagram that is sent.

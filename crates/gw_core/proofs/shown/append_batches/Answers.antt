@@ -2,7 +2,7 @@ use Rattle.std.proofs.Common.{ap, length, arith, take}
 use Rattle.std.specs.List.{flat_map}
 use Rattle.std.proofs.lemmas.List.{length-append}
 use Rattle.gw_core.specs.Shown.{batch_text}
-use Rattle.gw_core.proofs.ShownLemmas.{front_fits}
+use Rattle.gw_script.proofs.Lists.{front_fits}
 use Rattle.gw_core.proofs.shown.append_batches.Goals as goal
 
 pub returns-in_err-append_batch-clause-room : goal.returns-in_err-append_batch-clause-room

@@ -1,7 +1,7 @@
 use Rattle.std.proofs.Common.{ap, length, arith, take}
 use Rattle.std.proofs.lemmas.List.{length-append}
 use Rattle.gw_core.specs.Shown.{denial_line, denials_text}
-use Rattle.gw_core.proofs.ShownLemmas.{front_fits}
+use Rattle.gw_script.proofs.Lists.{front_fits}
 use Rattle.gw_core.proofs.shown.append_denials.Goals as goal
 
 pub returns-in_err-append_denial-clause-room : goal.returns-in_err-append_denial-clause-room
