@@ -1,5 +1,5 @@
 -- Every ask of an event carries its claim, so whoever may not read an object raises no ask to read it that is allowed.
-use Rattle.std.proofs.Common.{◌≡◌, ◌∙◌, sym, ap, refl, subst, ℕ, Bool, true, false, List, [], ◌++◌, Option, Some, None, Result, Ok, Err}
+use Rattle.std.proofs.Common.{◌≡◌, sym, refl, subst, ℕ, Bool, true, false, List, [], ◌++◌, Option, Some, None, Result, Ok, Err}
 use Rattle.std.specs.Prelude.{not, if◌then◌else◌, IfSome}
 use Rattle.std.specs.List.{AllByRecursion, Contains}
 use Rattle.gw_addr.specs.declared.bip.BipAddr.{BipAddr}

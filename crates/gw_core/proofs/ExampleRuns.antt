@@ -18,7 +18,6 @@ use Rattle.gw_relay.specs.State.{moved_by}
 use Rattle.gw_core.specs.Effects.{change_at, move_at, sends, effects_at, passes_end}
 use Rattle.gw_core.specs.History.{acts_of, run_after, written}
 use Rattle.gw_core.specs.Receive.{npdu_of, receive_on, receive}
-use Rattle.gw_core.specs.Reply.{reply_sends}
 use Rattle.gw_core.specs.Examples.{ReadIsAnswered, HiddenReadIsDenied, LocalReadIsUnheard, HiddenObjectIsUntold, UnknownObjectIsTold, EachCutIsDropped, WrongLengthsAreDropped, RoutedReadIsAnswered, CountsEnd, DenialsAreCountedOn, WriteIsSeen, RelinquishIsSeen, DeniedWriteIsUnseen, AllArePlaced, WhoIsIsAnswered, RegistrationEnds, BroadcastIsDistributed, LearnedRouteIsTaken, UnknownNetworkIsSought, GlobalWhoIsGoesOn, HiddenWriteIsUnseen, HidingIsSeen}
 
 -- all that a frame runs through

@@ -1,9 +1,8 @@
 -- Under the first format of a policy routing asks as it did before there was a second; and the format stays.
-use Rattle.std.proofs.Common.{◌≡◌, ◌∙◌, refl, ap, ap₂, ℕ, ◌+◌, Bool, true, false, List, [], ◌∷◌, ◌++◌, map, Option, Some, None}
+use Rattle.std.proofs.Common.{◌≡◌, ◌∙◌, refl, ap, ap₂, ◌+◌, List, [], ◌∷◌, ◌++◌, map, Option, Some, None}
 use Rattle.std.specs.Prelude.{if◌then◌else◌}
 use Rattle.std.specs.Option.{option_map_or}
 use Rattle.gw_npdu.specs.Npdu.{Destination, Payload}
-use Rattle.gw_configuration.specs.Configuration.{Configuration}
 use Rattle.gw_configuration.specs.declared.format.Format.{Format}
 use Rattle.gw_configuration.specs.declared.format.Format.TheVariants.{One, Two}
 use Rattle.gw_routes.specs.Table.{way}
@@ -22,13 +21,11 @@ use Rattle.gw_relay.specs.State.{Move, Relay, moved, moved_by}
 use Rattle.gw_relay.specs.State as move
 use Rattle.gw_relay.specs.Steps.{Step, asks_of, sends_of}
 use Rattle.gw_relay.specs.declared.port.PortState.{PortState}
-use Rattle.gw_script.specs.Event.{Event}
-use Rattle.gw_core.specs.declared.event.Counts.{Counts}
 use Rattle.gw_core.specs.Asks.{asks_for, cast_asks_for, link_asks_for, manage_asks_for, route_asks_for, serve_asks_for}
 use Rattle.gw_core.specs.Denials.{denials_of}
 use Rattle.gw_core.specs.Effects.{cast_sends_for, effects_at, link_sends_for, manage_sends_for, route_sends_for, sends_for, serve_sends_for}
 use Rattle.gw_core.specs.FormatOne.{asks_before, copy_step, route_asks_before, route_sends_before, routing_before, sends_before, steps_before, way_step}
-use Rattle.gw_core.specs.History.{acts_of, state_after}
+use Rattle.gw_core.specs.History.{acts_of}
 use Rattle.gw_core.specs.Laws.{FormatOneIsAsBefore, FormatStays}
 use Rattle.gw_core.specs.Receive.{Received, dropped, managed, unregistered, message, origin, receive}
 use Rattle.gw_core.specs.State.{State}

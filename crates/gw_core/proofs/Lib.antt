@@ -12,6 +12,7 @@ pub mod ReportLemmas
 pub mod ReplayLemmas
 pub mod ExplainedLemmas
 pub mod RespondLemmas
+pub mod PlainLemmas
 pub mod TrafficLemmas
 pub mod QuietLemmas
 pub mod WriteLemmas

@@ -1,5 +1,5 @@
 -- What is done about a message, by whether it goes on to the network layer.
-use Rattle.std.proofs.Common.{◌≡◌, ◌∙◌, sym, ap, refl, ℕ, ◌+◌, Bool, true, false, List, [], ◌∷◌, ◌++◌, length, length-append, map, append_assoc, Option, Some, None}
+use Rattle.std.proofs.Common.{◌≡◌, ◌∙◌, sym, ap, refl, Bool, true, false, List, [], ◌∷◌, ◌++◌, map, append_assoc, Option, Some, None}
 use Rattle.std.specs.Prelude.{if◌then◌else◌}
 use Rattle.std.specs.Option.{option_or}
 use Rattle.std.proofs.lemmas.List.{append-nil}
@@ -41,9 +41,6 @@ empty_right (x ∷ xs) ys none = absurd cc
 
 pub both_empty : {A : Type 0} (xs ys : List A) → xs ++ ys ≡ [] → (xs ≡ []) × (ys ≡ [])
 both_empty xs ys none = (empty_left xs ys none, empty_right xs ys none)
-
-five : {A : Type 0} (a b c d : List A) → (a ++ (b ++ c)) ++ d ≡ a ++ (b ++ (c ++ d))
-five {A = A} a b c d = append_assoc a (b ++ c) d ∙ ap (λ (l : List A). a ++ l) (append_assoc b c d)
 
 -- ---- what is passed on
 
@@ -202,29 +199,6 @@ pub goes_denied : (rules : List Rule) (relay : Relay) (d : Database) (m : Messag
     ++ denied_of rules (message_asks rules d m)
 goes_denied rules relay d m is =
     ap (denied_of rules) (goes rules relay d m is).asks ∙ denied_of-append rules (passed_asks relay m) (message_asks rules d m)
-
--- how many are
-pub count_off : (rules : List Rule) (relay : Relay) (d : Database) (m : Message) → on m ≡ false
-    → length (denied_of rules (cast_asks m)) ≡ length (denied_of rules (asks_for rules relay d (judged m)))
-count_off rules relay d m off =
-    ap (λ (asks : List Ask). length (denied_of rules asks)) (sym (asks_off relay m off) ∙ sym (stops rules relay d m off).asks)
-
-pub count_on : (rules : List Rule) (relay : Relay) (d : Database) (m : Message) → on m ≡ true
-    → length (denied_of rules (cast_asks m))
-    + (length (denied_of rules (route_asks relay m))
-    + (length (denied_of rules (manage_asks relay m)) + length
-    (denied_of rules (message_asks rules d m))))
-    ≡ length (denied_of rules (asks_for rules relay d (judged m)))
-count_on rules relay d m is =
-    let cast = denied_of rules (cast_asks m) in
-    let route = denied_of rules (route_asks relay m) in
-    let manage = denied_of rules (manage_asks relay m) in
-    let served = denied_of rules (message_asks rules d m) in
-    let whole : denied_of rules (asks_for rules relay d (judged m)) ≡ cast ++ (route ++ (manage ++ served)) =
-    goes_denied rules relay d m is ∙ ap (λ (l : List Refusal). l ++ served) (denied_on rules relay m is) ∙ five cast route manage served in
-    ap (λ (n : ℕ). length cast + (length route + n)) (sym (length-append manage served))
-    ∙ ap (λ (n : ℕ). length cast + n) (sym (length-append route (manage ++ served)))
-    ∙ sym (length-append cast (route ++ (manage ++ served))) ∙ ap length (sym whole)
 
 -- a change, or none behind it
 pub or_none : {A : Type 0} (o : Option A) → option_or o None ≡ o

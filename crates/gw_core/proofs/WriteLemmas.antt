@@ -2,14 +2,13 @@
 use Rattle.std.proofs.Common.{◌≡◌, ◌∙◌, sym, ap, refl, subst, ℕ, zero, suc, ◌+◌, add-zero, Bool, true, false, List, [], ◌∷◌, ◌++◌, map, length, take, Option, Some, None}
 use Rattle.std.specs.Prelude.{if◌then◌else◌, slice_get}
 use Rattle.std.specs.Option.{option_map, option_and_then}
-use Rattle.gw_addr.specs.declared.bip.BipAddr.{BipAddr}
 use Rattle.gw_audit.specs.declared.denial.Denial.{Denial}
 use Rattle.gw_device.specs.declared.context.Context.{Context}
 use Rattle.gw_device.specs.Laws.{AsksToRead, NoReadAllowed, object_written}
 use Rattle.gw_device.proofs.Changes.{changes_are_in_place, changes_rest_on_requests}
 use Rattle.gw_device.specs.Response.{Answer, Response}
 use Rattle.gw_device.proofs.Unread.{unread}
-use Rattle.gw_npdu.specs.Npdu.{Destination, Fields, Payload, apdu, message as network_message}
+use Rattle.gw_npdu.specs.Npdu.{Destination, Payload, apdu, message as network_message}
 use Rattle.gw_objects.specs.declared.configured.Configured.{Configured}
 use Rattle.gw_objects.specs.History.{after_write}
 use Rattle.gw_objects.specs.Laws.{AgreeBut, standing}
@@ -20,7 +19,6 @@ use Rattle.gw_relay.specs.Manage.{manage_change}
 use Rattle.gw_relay.specs.Sends.{Sending}
 use Rattle.gw_relay.specs.State.{Commit, Relay, moved}
 use Rattle.gw_relay.specs.declared.change.Change.{Change}
-use Rattle.gw_relay.specs.declared.port.PortState.{PortState}
 use Rattle.gw_rules.specs.Ask.{Ask}
 use Rattle.gw_rules.specs.Authorizer.{denied_of}
 use Rattle.gw_rules.proofs.EachAsk.{none_rest}

@@ -1,6 +1,6 @@
 -- What an event does under the first format of a policy, as it was before there was a second: a message that goes
 -- on is judged by its way alone. Routing stands here in full; nothing else looks at the format.
-use Rattle.std.specs.Prelude.{ℕ, ◌+◌, List, [], ◌∷◌, ◌++◌, map, Option, Some, None, if◌then◌else◌}
+use Rattle.std.specs.Prelude.{◌+◌, List, [], ◌∷◌, ◌++◌, map, Some, if◌then◌else◌}
 use Rattle.std.specs.Option.{option_map_or}
 use Rattle.gw_npdu.specs.Npdu.{Destination}
 use Rattle.gw_routes.specs.Table.{way}

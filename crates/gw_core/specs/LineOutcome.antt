@@ -1,5 +1,5 @@
 -- What comes of one line of a script in a replay.
-use Rattle.std.specs.Prelude.{◌≡◌, ◌⊎◌, ℕ, ◌+◌, ◌≤◌, Bool, true, false, List, [], ◌∷◌, ◌++◌, length}
+use Rattle.std.specs.Prelude.{◌≡◌, ◌⊎◌, ℕ, Bool, true, false, List, [], ◌∷◌, ◌++◌, length}
 use Rattle.std.specs.Prelude.{Option, Some, Result, Ok, Err}
 use Rattle.gw_script.specs.Event.{Event}
 use Rattle.gw_core.specs.declared.replaying.RunFault.{RunFault}

@@ -1,5 +1,5 @@
 -- What is told of serving: a report each so many seconds, and one at the end.
-use Rattle.std.specs.Prelude.{◌≡◌, ℕ, ◌-◌, ◌%◌, ◌==◌, ◌&&◌, nat_lt, Bool, if◌then◌else◌, List, [], ◌∷◌, ◌++◌, codes}
+use Rattle.std.specs.Prelude.{ℕ, ◌-◌, ◌%◌, ◌==◌, ◌&&◌, nat_lt, Bool, if◌then◌else◌, List, [], ◌∷◌, ◌++◌, codes}
 use Rattle.std.specs.Prelude.{decimal, length, sum_by}
 use Rattle.std.specs.Prelude.{Result, Ok, Err}
 use Rattle.gw_bdt_fdt.specs.Peers.{peers}

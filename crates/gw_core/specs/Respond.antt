@@ -1,6 +1,9 @@
 -- What the code's steps do about a message, as far as they have come.
-use Rattle.std.specs.Prelude.{◌≡◌, List, [], ◌++◌, Option, None, if◌then◌else◌}
+use Rattle.std.specs.Prelude.{◌≡◌, Bool, true, false, ◌&&◌, List, [], ◌++◌, Option, None, if◌then◌else◌}
+use Rattle.gw_bvll.specs.Bvll.{original_unicast}
+use Rattle.gw_bvll.specs.Bvll.{Message as Frame}
 use Rattle.gw_device.specs.Response.{HasPlace}
+use Rattle.gw_npdu.specs.Npdu.{Payload, apdu, message}
 use Rattle.gw_objects.specs.Objects.{Database}
 use Rattle.gw_relay.specs.Cast.{cast_asks, cast_sends, goes_on}
 use Rattle.gw_relay.specs.Manage.{manage_asks, manage_change, manage_sends}
@@ -17,6 +20,20 @@ use Rattle.gw_core.specs.Asks.{asks_for}
 use Rattle.gw_core.specs.Effects.{change_for, relay_change_for, sends_for}
 use Rattle.gw_relay.specs.Message.{Message}
 use Rattle.gw_core.specs.Receive.{Received}
+
+-- a frame is an Original-Unicast-NPDU
+abbrev pub is_unicast : Frame → Bool
+is_unicast (original_unicast npdu) = true
+is_unicast other = false
+
+-- a payload is an APDU
+abbrev pub is_apdu : Payload → Bool
+is_apdu (apdu octets) = true
+is_apdu (message m) = false
+
+-- a unicast with an APDU: it is neither distributed nor answered by the network layer
+abbrev pub is_plain : Message → Bool
+is_plain m = is_unicast m.frame && is_apdu m.npdu.payload
 
 -- What is asked before the device is: for the distribution, and where the frame goes on, for the routing
 -- and the network layer.

@@ -12,7 +12,7 @@ ghost use Rattle.gw_core.specs.Asks.{asks_for, message_asks};
 ghost use Rattle.gw_core.specs.Effects.{message_change, message_sends, sends_for};
 ghost use Rattle.gw_relay.specs.Response.{IsRelayed};
 ghost use Rattle.gw_core.specs.Receive.{managed};
-ghost use Rattle.gw_core.specs.Respond.{IsResponse, passed_response};
+ghost use Rattle.gw_core.specs.Respond.{IsResponse, is_plain, passed_response};
 ghost use Rattle.gw_core.specs.State.{device_network};
 ghost use Rattle.gw_relay.specs.Message.{message_view};
 ghost use Rattle.gw_core.specs.View.{judged, received_view};
@@ -22,6 +22,7 @@ use crate::reply::{answer_sends, apdu_for, context_of};
 use gw_addr::{BipAddr, NetNum};
 use gw_bvll::Bvll;
 use gw_device::{Change, Device, Reply};
+use gw_npdu::Payload;
 use gw_relay::{CastResponse, Message, PortState, Relay, RelayResponse};
 use gw_rules::Judge;
 use std::alloc::{AllocError, Global};
@@ -41,9 +42,10 @@ pub(crate) fn network_of(device: &Device) -> NetNum
     device.configured().device.network
 }
 
-/// What is done about a message but for the device (steps 4 and 6 to 9): it is distributed; and where
-/// it goes on to the network layer, it is routed and answered there.
-fn pass_on<J: Judge>(
+/// What is done about any message but for the device: it is distributed; and where it goes on to the
+/// network layer, it is routed and answered there.
+#[inline(never)]
+fn pass_on_each_way<J: Judge>(
     alloc: Global,
     judge: &J,
     relay: &Relay,
@@ -67,6 +69,40 @@ fn pass_on<J: Judge>(
     let managed = relay.manage(alloc, judge, message)?;
     given.append(managed)?;
     Ok(CastResponse { given, goes_on })
+}
+
+/// Whether a message is a unicast with an APDU. It is neither distributed nor answered by the network
+/// layer.
+fn is_plain(message: &Message<'_>) -> bool
+    ensures { result ≡ is_plain (message_view message.now) }
+{
+    matches!(message.frame, Bvll::OriginalUnicast(_))
+        && matches!(message.npdu.payload, Payload::Apdu(_))
+}
+
+/// What is done about a message but for the device (steps 4 and 6 to 9).
+fn pass_on<J: Judge>(
+    alloc: Global,
+    judge: &J,
+    relay: &Relay,
+    message: &Message<'_>,
+) -> Result<CastResponse, AllocError>
+    ensures relayed { (rules : List Rule) → J.StandsFor judge.now rules →
+        let due = passed_response rules relay.now (message_view message.now) in
+        IfOk result (λ passed. IsRelayed rules due passed.given) }
+    ensures goes_on { let m = message_view message.now in
+        IfOk result (λ passed. passed.goes_on ≡ goes_on m.here m.from m.frame) }
+    ensures silent { (rules : List Rule) → J.StandsFor judge.now rules →
+        let due = passed_response rules relay.now (message_view message.now) in
+        due.asks ≡ [] → due.sends ≡ [] → IsOk result }
+{
+    if is_plain(message) {
+        return Ok(CastResponse {
+            given: relay.route(alloc, judge, message)?,
+            goes_on: true,
+        });
+    }
+    pass_on_each_way(alloc, judge, relay, message)
 }
 
 /// What the device does about a message (step 10).

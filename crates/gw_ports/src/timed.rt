@@ -128,10 +128,7 @@ impl<S: Sock, C: Timepiece, P: Waiter> TimedPorts<S, C, P> {
         let Ok(_left) = self.count_seconds() else {
             return Err(self.ports.fail());
         };
-        match self.ports.next(buf) {
-            Ok(given) => Ok(given),
-            Err(fault) => Err(fault),
-        }
+        self.ports.next(buf)
     }
 
     /// What came, or where nothing did, what comes later: it is waited so long at most.

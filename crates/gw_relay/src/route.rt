@@ -8,7 +8,7 @@ ghost use Rattle.gw_rules.specs.declared.rule.Rule.{Rule};
 ghost use Rattle.gw_relay.specs.Message.{message_view};
 ghost use Rattle.gw_relay.specs.Response.{IsRelayed};
 ghost use Rattle.gw_relay.specs.Route.{copied, copy, delivered, has_hops, hop, is_local, last_hop, leaves, on_way, others, reject, route_ask, route_asks, route_response, routed, sent_on, sought, steps_by, who_is_router};
-ghost use Rattle.gw_relay.specs.Steps.{asks_of, broadcast, npdu_octets, unicast};
+ghost use Rattle.gw_relay.specs.Steps.{asks_of, broadcast, npdu_octets, taken, unicast};
 ghost use Rattle.gw_relay.specs.internal.Taken.{AreTaken};
 
 use crate::ask::{bound_for, message_ask};
@@ -365,6 +365,29 @@ fn put_by_way<J: Judge>(
     put_allowed(alloc, relay, message, destination, way, state)
 }
 
+/// Routes a message by a way.
+#[inline(never)]
+fn route_by_way<J: Judge>(
+    alloc: Global,
+    judge: &J,
+    relay: &Relay,
+    message: &Message<'_>,
+    destination: &Destination<'_>,
+    way: &Way,
+) -> Result<RelayResponse, AllocError>
+    ensures relayed { (rules : List Rule) → J.StandsFor judge.now rules →
+        let d = destination_view destination.now in
+        let steps = steps_by relay.now (message_view message.now) d way.now in
+        IfOk result (IsRelayed rules (taken rules steps)) }
+    ensures silent { let d = destination_view destination.now in
+        let steps = steps_by relay.now (message_view message.now) d way.now in
+        asks_of steps ≡ [] → IsOk result }
+{
+    let mut state = StepState::new(alloc, judge);
+    put_by_way(alloc, relay, message, destination, way, &mut state)?;
+    Ok(state.into_response())
+}
+
 /// Routes a message.
 pub(crate) fn route<J: Judge>(
     alloc: Global,
@@ -383,7 +406,8 @@ pub(crate) fn route<J: Judge>(
         return Ok(RelayResponse::nothing(alloc));
     }
     let way = relay.routes().find(destination.network);
-    let mut state = StepState::new(alloc, judge);
-    put_by_way(alloc, relay, message, destination, &way, &mut state)?;
-    Ok(state.into_response())
+    if way == Way::Device {
+        return Ok(RelayResponse::nothing(alloc));
+    }
+    route_by_way(alloc, judge, relay, message, destination, &way)
 }

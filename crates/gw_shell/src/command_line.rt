@@ -318,10 +318,7 @@ fn choice_for(alloc: Global, name: &str, matches: &ArgMatches<'_>) -> Result<Cho
     ensures { IsChosen (Some (call_by name.now (first_value (found_of matches.now)))) result }
 {
     if name == "log" {
-        return match start_of(matches.get_str("start")) {
-            Ok(start) => Ok(Choice::Log(start)),
-            Err(fault) => Err(fault),
-        };
+        return Ok(Choice::Log(start_of(matches.get_str("start"))?));
     }
     let config = file_of(alloc, matches, "config")?;
     if name == "replay" {
@@ -345,10 +342,7 @@ fn choice_for(alloc: Global, name: &str, matches: &ArgMatches<'_>) -> Result<Cho
         return Ok(Choice::Why(file));
     }
     if name == "run" {
-        return match run_options(alloc, matches, file) {
-            Ok(options) => Ok(Choice::Run(options)),
-            Err(fault) => Err(fault),
-        };
+        return Ok(Choice::Run(run_options(alloc, matches, file)?));
     }
     Err(Fault::CommandLine)
 }

@@ -101,10 +101,8 @@ pub fn serve_fresh<S: Wire, L: OctetSink, E: OctetSink>(
         × (E.NeverFails errors.old → Appends (E.held errors.old) (E.held errors.new) reports) }
     ensures lasting { E.NeverFails errors.old → E.NeverFails errors.new }
 {
-    match fresh_gateway(alloc, config) {
-        Ok(mut gateway) => serve_by(alloc, &mut gateway, sockets, log, errors, turns, stats),
-        Err(fault) => Err(fault),
-    }
+    let mut gateway = fresh_gateway(alloc, config)?;
+    serve_by(alloc, &mut gateway, sockets, log, errors, turns, stats)
 }
 
 /// Opens the log of this name. Where its last line was cut, that gets its line feed, so that the next

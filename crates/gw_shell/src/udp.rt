@@ -99,10 +99,7 @@ pub fn open_pairs(
 {
     let mut pairs = Vec::new(alloc);
     for place in 0..ports.len() {
-        let pair = match open_pair(net, place as u8 + 1, &ports[place]) {
-            Ok(pair) => pair,
-            Err(failure) => return Err(failure),
-        };
+        let pair = open_pair(net, place as u8 + 1, &ports[place])?;
         if pairs.push(pair).is_err() {
             return Err(SocketFailure::Memory);
         }

@@ -82,8 +82,10 @@ fn answer_line(
             out.truncate(len);
             writeln!(out, "no case")
         },
-        Err(fault) => Err(fault),
-        Ok(()) => writeln!(out),
+        answered => {
+            answered?;
+            writeln!(out)
+        },
     }
 }
 

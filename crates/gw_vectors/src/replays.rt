@@ -140,6 +140,12 @@ fn step(
     }
 }
 
+/// What a tick does: nothing that is seen.
+fn tick(alloc: Global, gateway: &mut Gateway) -> Result<Effects, StepFault> {
+    gateway.tick()?;
+    Ok(Effects::none(alloc))
+}
+
 /// What the event of a line does.
 fn take_line(
     alloc: Global,
@@ -149,10 +155,7 @@ fn take_line(
 ) -> io::Result<()> {
     let mut datagram = [0; MAX_DATAGRAM];
     let taken = match wanted(event_of(gateway.ports(), line.as_bytes(), &mut datagram))? {
-        Event::Tick => match gateway.tick() {
-            Ok(()) => Ok(Effects::none(alloc)),
-            Err(fault) => Err(fault),
-        },
+        Event::Tick => tick(alloc, gateway),
         Event::Datagram { port, from, octets } => step(alloc, gateway, port, from, octets),
     };
     match taken {

@@ -1,7 +1,7 @@
 use Rattle.std.proofs.Common.{codes, ◌++◌}
 use Rattle.std.proofs.KnownBytes.{Appends-trans}
 use Rattle.gw_core.proofs.ReportLemmas.{behind_one}
-use Rattle.gw_core.specs.Reports.{calls_text, field}
+use Rattle.gw_core.specs.Reports.{field}
 use Rattle.gw_core.proofs.report.write_calls.Goals as goal
 
 pub returns-clause-ok : goal.returns-clause-ok

@@ -1,4 +1,4 @@
-use Rattle.std.proofs.Common.{sym, subst, ◌≤◌, ◌+◌}
+use Rattle.std.proofs.Common.{sym, subst}
 use Rattle.gw_script.specs.declared.event.Event.{Event as LentEvent}
 use Rattle.gw_script.specs.Event.{event_view}
 use Rattle.gw_core.specs.Effects.{NeedsNoMemory}

@@ -1,4 +1,4 @@
-use Rattle.std.proofs.Common.{◌≡◌, ℕ, List, [], ap, get_or, length, arith, take}
+use Rattle.std.proofs.Common.{[], ap, get_or, length, arith, take}
 use Rattle.std.proofs.lemmas.List.{length-append}
 use Rattle.gw_addr.specs.declared.bip.BipAddr.{BipAddr}
 use Rattle.gw_script.specs.Text.{send_line, send_lines}

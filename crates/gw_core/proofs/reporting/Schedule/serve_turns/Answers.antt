@@ -1,7 +1,6 @@
 use Rattle.std.proofs.Common.{◌≡◌, ℕ, Err, ap, sym, subst, ◌∙◌, arith, refl}
-use Rattle.std.specs.Prelude.{◌-◌, Ok}
+use Rattle.std.specs.Prelude.{Ok}
 use Rattle.gw_core.specs.declared.serving.Served.{Served}
-use Rattle.gw_core.specs.ReportTurn.{HasGoneOn}
 use Rattle.gw_core.specs.Serve.{scene, zero_counts}
 use Rattle.gw_core.specs.ServeTurn.{wire_counts}
 use Rattle.gw_core.proofs.ReportLemmas.{Reported, reported_more, reported_none, reported_stop, since_end, since_start}

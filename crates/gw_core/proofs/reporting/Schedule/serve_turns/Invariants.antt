@@ -1,4 +1,4 @@
-use Rattle.std.proofs.Common.{◌≡◌, ◌+◌, ◌-◌, ◌*◌, ◌^◌, ◌≤◌, ◌<◌}
+use Rattle.std.proofs.Common.{◌≡◌, ◌+◌, ◌-◌, ◌*◌, ◌^◌, ◌≤◌}
 use Rattle.gw_core.specs.ReportTurn.{HasGoneOn}
 use Rattle.gw_core.specs.Serve.{scene}
 use Rattle.gw_core.specs.ServeTurn.{wire_counts}
