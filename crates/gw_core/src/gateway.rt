@@ -341,6 +341,7 @@ impl Gateway {
     }
 
     /// Takes a tick. `CountEnd` where the count of ticks would pass 2^63; then nothing changed.
+    #[inline(always)]
     pub fn tick(&mut self) -> Result<(), StepFault>
         ensures step { OnOk result (IsStep self.old Tick nothing self.new) }
         ensures writes { OnOk result (WritesGoOn self.old Tick self.new) }

@@ -105,6 +105,7 @@ fn npdu_of<'a>(links: &[PortState], device: NetNum, octets: &'a [u8]) -> Option<
     }
 }
 
+#[inline(always)]
 fn receive_npdu<'a>(
     links: &[PortState],
     device: NetNum,
@@ -127,6 +128,7 @@ fn receive_npdu<'a>(
     }
 }
 
+#[inline(always)]
 fn receive_frame<'a>(
     links: &[PortState],
     device: NetNum,
@@ -150,6 +152,7 @@ fn receive_frame<'a>(
     }
 }
 
+#[inline(always)]
 fn receive_datagram<'a>(
     links: &[PortState],
     device: NetNum,
@@ -170,6 +173,7 @@ fn receive_datagram<'a>(
 
 /// What a datagram is received as on the port of this number.
 #[tactic(auto, unfolding(crate::specs::Receive::receive_on))]
+#[inline(always)]
 pub fn receive_on<'a>(
     links: &'a [PortState],
     device: NetNum,

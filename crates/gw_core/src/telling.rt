@@ -67,6 +67,7 @@ fn append_asked(
 }
 
 /// Has the gateway take a tick, and appends its only line.
+#[inline(always)]
 fn append_tick(gateway: &mut Gateway, text: &mut Vec<u8>) -> Result<(), RunFault>
     requires room { vec_len text.old + 4 ≤ vec_capacity text.old }
     ensures text { OnOk result (text.new.items ≡ text.old.items ++ event_text gateway.old Tick) }
@@ -84,6 +85,7 @@ fn append_tick(gateway: &mut Gateway, text: &mut Vec<u8>) -> Result<(), RunFault
 }
 
 /// Has the gateway take a datagram, and appends the lines of what it does.
+#[inline(always)]
 fn append_step(
     alloc: Global,
     gateway: &mut Gateway,
@@ -112,6 +114,7 @@ fn append_step(
 }
 
 /// Has the gateway take an event, and appends the lines of what it does.
+#[inline(always)]
 fn append_taken(
     alloc: Global,
     gateway: &mut Gateway,

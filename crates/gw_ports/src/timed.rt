@@ -128,7 +128,8 @@ impl<S: Sock, C: Timepiece, P: Waiter> TimedPorts<S, C, P> {
         let Ok(_left) = self.count_seconds() else {
             return Err(self.ports.fail());
         };
-        self.ports.next(buf)
+        let given = self.ports.next(buf)?;
+        Ok(given)
     }
 
     /// What came, or where nothing did, what comes later: it is waited so long at most.

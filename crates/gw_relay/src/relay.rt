@@ -183,6 +183,7 @@ impl Relay {
     /// or to all other ports. Where no way is known the link source is told so, and the other ports'
     /// routers are asked for one. It changes nothing. The only fault is want of memory; what asks
     /// nothing wants none.
+    #[inline(always)]
     pub fn route<J: Judge>(
         &self,
         alloc: Global,
@@ -239,6 +240,7 @@ impl Relay {
 
     /// One second passes on all ports. The caller sees to it that there are no more than 2 to the
     /// power of 63 ticks.
+    #[inline(always)]
     pub fn tick(&mut self)
         requires { self.old.ticks < 2 ^ 63 }
         ensures later { self.new ≡ later self.old }

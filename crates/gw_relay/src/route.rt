@@ -389,6 +389,7 @@ fn route_by_way<J: Judge>(
 }
 
 /// Routes a message.
+#[inline(always)]
 pub(crate) fn route<J: Judge>(
     alloc: Global,
     judge: &J,

@@ -40,6 +40,7 @@ pub fn parse_line<'a>(
 
 /// The event that a line of at most 4096 octets writes, as [`parse_line`] gives it, and the address that a datagram comes from as
 /// the line spells it.
+#[inline(always)]
 pub fn parse_spelled<'a, 'b>(
     ports: u8,
     line: &'b [u8],
@@ -59,6 +60,7 @@ pub fn parse_spelled<'a, 'b>(
 }
 
 /// The datagram that a line writes, and whom it comes from as the line spells it.
+#[inline(always)]
 fn parse_datagram<'a, 'b>(
     ports: u8,
     line: &'b [u8],

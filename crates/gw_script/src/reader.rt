@@ -100,6 +100,7 @@ impl LineReader {
     }
 
     /// The first line, where its end, or that it is too long, can be told from what is unread.
+    #[inline(always)]
     fn whole_line(&self) -> Option<NextLine>
         ensures within { IfSome result (λ next. IsWithin self.now.unread next) }
         ensures found { IfSome result
@@ -160,6 +161,7 @@ impl LineReader {
 
     /// What stands first in the text that is left. It calls the source only where that can't be told from what is unread.
     /// `ReadFailed` only after a failed read, and where the calls are at their end.
+    #[inline(always)]
     pub fn find_line<S: OctetSource>(&mut self, source: &mut S) -> Result<NextLine, ReadFailed>
         ensures text { Keeps (prepend_known self.old.unread (S.left source.old))
             (prepend_known self.new.unread (S.left source.new)) }

@@ -43,6 +43,7 @@ impl<W: Write> OctetSink for W {
 }
 
 /// Writes a text whole. `WriteFailed` only after a failed write; then a front of the text is written.
+#[inline(always)]
 pub fn write_whole<S: OctetSink>(sink: &mut S, text: &[u8]) -> Result<(), WriteFailed>
     ensures ok { OnOk result (Appends (S.held sink.old) (S.held sink.new) text.now) }
     ensures front { OnErr result ((front : List ℕ) × (rest : List ℕ)
