@@ -2,6 +2,7 @@ pub mod SearchLemmas
 pub mod LineLemmas
 pub mod UnreadLemmas
 pub mod AppendLemmas
+pub mod Appended
 pub mod EventLemmas
 pub mod PairLemmas
 pub mod FlawLemmas
@@ -9,3 +10,4 @@ pub mod Order
 pub mod KnownTexts
 pub mod Calls
 pub mod Passing
+pub mod LinesLemmas
