@@ -5,9 +5,7 @@ pub mod ReadingLemmas
 pub mod MacLemmas
 pub mod AskLemmas
 pub mod TellingLemmas
-pub mod Appended
 pub mod MomentExamples
 pub mod MomentLemmas
 pub mod OnceLemmas
 pub mod Tables
-pub mod ToldLemmas

@@ -19,6 +19,6 @@ pub use entry::{Shown, ShownAsk};
 pub use moment::Moment;
 pub use names::{object_type_name, property_name, service_name};
 pub use reading::{read_ask, read_line};
-pub use telling::{TellFault, tell_log};
+pub use telling::tell_log;
 pub use text::{line, put_ask};
 pub use words::tell_line;

@@ -4,6 +4,7 @@ pub mod UnreadLemmas
 pub mod AppendLemmas
 pub mod TailLemmas
 pub mod Lists
+pub mod Appended
 pub mod EventLemmas
 pub mod PairLemmas
 pub mod FlawLemmas
@@ -11,3 +12,4 @@ pub mod Order
 pub mod KnownTexts
 pub mod Calls
 pub mod Passing
+pub mod LinesLemmas

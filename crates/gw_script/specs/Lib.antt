@@ -5,3 +5,4 @@ pub mod Text
 pub mod Flaw
 pub mod Order
 pub mod Known
+pub mod Lines

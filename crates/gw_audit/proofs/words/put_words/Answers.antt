@@ -1,5 +1,4 @@
-use Rattle.gw_audit.specs.Words.{words_of}
-use Rattle.gw_audit.proofs.Appended.{then_put}
+use Rattle.gw_script.proofs.Appended.{then_put}
 use Rattle.gw_audit.proofs.words.put_words.Goals as goal
 
 pub returns : goal.returns

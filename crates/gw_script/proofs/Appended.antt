@@ -17,7 +17,7 @@ ok_behind (Ok x) a b u v w first then = then ∙ ap (λ (t : List ℕ). t ++ b) 
 ok_behind (Err e) a b u v w first then = then
 
 -- behind a text that stands there, another one is appended or refused
-behind : {T F : Type 0} (r : Result T F) (a b : List ℕ) (u v w : Vec ℕ) → IsGrown a u v → IsAppended {T = T} {F = F} b v w r
+pub behind : {T F : Type 0} (r : Result T F) (a b : List ℕ) (u v w : Vec ℕ) → IsGrown a u v → IsAppended {T = T} {F = F} b v w r
     → IsAppended {T = T} {F = F} (a ++ b) u w r
 behind r a b u v w grown put = record {
   ok = ok_behind r a b (vec_items u) (vec_items v) (vec_items w) grown.items put.ok;
@@ -27,7 +27,7 @@ behind r a b u v w grown put = record {
   capacity = omega (arith, grown.capacity, put.capacity);
 }
 
-grown_by : {T F : Type 0} (x : T) (a : List ℕ) (u v : Vec ℕ) → IsAppended {T = T} {F = F} a u v (Ok x) → IsGrown a u v
+pub grown_by : {T F : Type 0} (x : T) (a : List ℕ) (u v : Vec ℕ) → IsAppended {T = T} {F = F} a u v (Ok x) → IsGrown a u v
 grown_by x a u v put = record { items = put.ok; capacity = put.capacity }
 
 -- two texts, one behind the other

@@ -1,15 +1,17 @@
 use Rattle.std.proofs.Common.{Bool, Ok, subst, ap, arith}
 use Rattle.std.specs.Io.KnownBytes.{prepend_known}
-use Rattle.gw_script.proofs.KnownTexts.{nothing_held}
+use Rattle.gw_script.specs.Lines.{OnKnownLine}
+use Rattle.gw_script.specs.declared.lines.LinesFault.TheVariants.{Read, Write}
 use Rattle.gw_script.proofs.Calls.{bound_at_first, bound_goes_on, calls_left, lines_left}
-use Rattle.gw_audit.specs.declared.telling.TellFault.TheVariants.{Read, Write}
+use Rattle.gw_script.proofs.KnownTexts.{nothing_held}
+use Rattle.gw_script.proofs.LinesLemmas.{begins, ends_part, ends_passed, ends_whole, goes_on}
 use Rattle.gw_script.proofs.Passing.{passed_as}
-use Rattle.gw_audit.proofs.ToldLemmas.{Turns, begins, ends_part, ends_passed, ends_whole, goes_on}
-use Rattle.gw_audit.proofs.telling.Telling.tell_lines.Goals as goal
+use Rattle.gw_script.proofs.lines.Telling.tell_each.Goals as goal
 
 pub loop-number-init : goal.loop-number-init
 loop-number-init g c = record {
-  progress = λ script before known written. begins c.args.start _ _ _ _ (nothing_held _ _ script c.requires.unread known) written;
+  progress = λ script before known written.
+      begins (g.T.LineTeller.Tells c.args.teller.now) script before _ _ (nothing_held _ _ script c.requires.unread known) written;
   calls = λ script known. bound_at_first script _ _ _ c.requires.calls known (nothing_held _ _ script c.requires.unread known);
   lasting_reader = λ never. never;
   lasting_writer = λ never. never;
@@ -18,13 +20,15 @@ loop-number-init g c = record {
 pub loop-number-preserved : goal.loop-number-preserved
 loop-number-preserved g c =
     let n = c.loop-number.number in
+    let tells = g.T.LineTeller.Tells c.args.teller.now in
+    let refuses = g.T.LineTeller.Refuses c.args.teller.now in
     let text = prepend_known c.loop-number.self.lines.unread (g.R.OctetSource.left c.loop-number.reader) in
     let left = prepend_known c.tell_next.new.self.lines.unread (g.R.OctetSource.left c.tell_next.new.reader) in
     let so_far = g.W.OctetSink.held c.loop-number.writer in
     let after = g.W.OctetSink.held c.tell_next.new.writer in record {
       progress = λ script before known written.
-          goes_on c.args.start script before n text left so_far after (c.loop-number.invariant.progress script before known written)
-          (subst (λ (b : Bool). Turns c.args.start n text left so_far after (Ok b)) c.if-not-branch.false c.in_ok-tell_next.ensures.outcome);
+          goes_on tells refuses script before n text left so_far after (c.loop-number.invariant.progress script before known written)
+          (subst (λ (b : Bool). OnKnownLine tells refuses n text left so_far after (Ok b)) c.if-not-branch.false c.in_ok-tell_next.ensures.outcome);
       calls = λ script known.
           let bound = c.loop-number.invariant.calls script known in
           bound_goes_on script n _ _ _ _ _ _ bound
@@ -36,28 +40,32 @@ loop-number-preserved g c =
 pub returns-then-not-branch-clause-told : goal.returns-then-not-branch-clause-told
 returns-then-not-branch-clause-told g c = λ script before known written.
     let n = c.loop-number.number in
+    let tells = g.T.LineTeller.Tells c.args.teller.now in
+    let refuses = g.T.LineTeller.Refuses c.args.teller.now in
     let text = prepend_known c.loop-number.self.lines.unread (g.R.OctetSource.left c.loop-number.reader) in
     let left = prepend_known c.tell_next.new.self.lines.unread (g.R.OctetSource.left c.tell_next.new.reader) in
     let so_far = g.W.OctetSink.held c.loop-number.writer in
     let after = g.W.OctetSink.held c.tell_next.new.writer in
-    ends_whole c.args.start script before n text left so_far after (c.loop-number.invariant.progress script before known written)
-    (subst (λ (b : Bool). Turns c.args.start n text left so_far after (Ok b)) c.if-not-branch.true c.in_ok-tell_next.ensures.outcome)
+    ends_whole tells refuses script before n text left so_far after (c.loop-number.invariant.progress script before known written)
+    (subst (λ (b : Bool). OnKnownLine tells refuses n text left so_far after (Ok b)) c.if-not-branch.true c.in_ok-tell_next.ensures.outcome)
 
 pub returns-in_err-tell_next-clause-told : goal.returns-in_err-tell_next-clause-told
 returns-in_err-tell_next-clause-told g c = λ script before known written.
     let n = c.loop-number.number in
+    let tells = g.T.LineTeller.Tells c.args.teller.now in
+    let refuses = g.T.LineTeller.Refuses c.args.teller.now in
     let text = prepend_known c.loop-number.self.lines.unread (g.R.OctetSource.left c.loop-number.reader) in
     let left = prepend_known c.tell_next.new.self.lines.unread (g.R.OctetSource.left c.tell_next.new.reader) in
     let so_far = g.W.OctetSink.held c.loop-number.writer in
     let after = g.W.OctetSink.held c.tell_next.new.writer in
-    ends_passed c.args.start script before n text left so_far after c.in_err-tell_next.field-0.0 c.from_residual.result c.from_residual.ensures
-    (c.loop-number.invariant.progress script before known written) c.in_err-tell_next.ensures.outcome
+    ends_passed tells refuses script before n text left so_far after (c.loop-number.invariant.progress script before known written)
+    c.in_err-tell_next.field-0.0 c.from_residual.result c.from_residual.ensures c.in_err-tell_next.ensures.outcome
 
 pub returns-clause-told : goal.returns-clause-told
 returns-clause-told g c = λ script before known written.
     let n = c.loop-number.number in
     let text = prepend_known c.loop-number.self.lines.unread (g.R.OctetSource.left c.loop-number.reader) in
-    ends_part c.args.start script before n text (g.W.OctetSink.held c.loop-number.writer)
+    ends_part (g.T.LineTeller.Tells c.args.teller.now) script before n text (g.W.OctetSink.held c.loop-number.writer)
     (c.loop-number.invariant.progress script before known written)
 
 pub returns-in_err-tell_next-clause-sure_reader : goal.returns-in_err-tell_next-clause-sure_reader
