@@ -1,9 +1,8 @@
 mod AnnouncementLemmas
 mod AppendLemmas
-mod AskingLemmas
 mod ChoiceLemmas
 mod HiddenLemmas
+mod LinesLemmas
 mod ReplayLemmas
 mod ServingLemmas
-mod TellingLemmas
 mod WordsLemmas

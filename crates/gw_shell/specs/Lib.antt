@@ -6,6 +6,7 @@ pub mod Ending
 pub mod Files
 pub mod Hidden
 pub mod Host
+pub mod Lines
 pub mod Opening
 pub mod Program
 pub mod Replay

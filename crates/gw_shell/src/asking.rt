@@ -3,26 +3,14 @@
 ghost use Rattle.std.specs.Prelude.{◌≡◌, [], OnOk};
 ghost use Rattle.std.specs.Io.Buffered.{writer_buffer, writer_contents};
 ghost use Rattle.gw_script.specs.Known.{OnKnown};
-ghost use Rattle.gw_shell.specs.Asking.{Answers, first_asking_fault};
+ghost use Rattle.gw_shell.specs.Asking.{Answers};
 
 use crate::fault::Fault;
-use gw_lint::WhyFault;
+use crate::lines::first_lines_fault;
 use gw_rules::RuleList;
 use gw_script::OctetSource;
 use std::alloc::Global;
 use std::io::{BufWriter, Write};
-
-/// The first fault of the answers and of the flush behind them.
-fn first_asking_fault(answers: Result<(), WhyFault>, is_flushed: bool) -> Result<(), Fault>
-    ensures { result ≡ first_asking_fault answers is_flushed }
-{
-    answers?;
-    if is_flushed {
-        Ok(())
-    } else {
-        Err(Fault::Write)
-    }
-}
 
 /// Answers each ask that `reader` has left by these rules. What was written is flushed at every outcome.
 /// Faults: those of the answers, and `Write` also where the flush alone fails.
@@ -38,5 +26,5 @@ pub fn why<R: OctetSource, W: Write + Drop>(
 {
     let answers = gw_lint::why(alloc, rules, reader, writer);
     let is_flushed = writer.flush().is_ok();
-    first_asking_fault(answers, is_flushed)
+    first_lines_fault(answers, is_flushed)
 }

@@ -1,16 +1,13 @@
 //! Why the program ends without success, and its exit status.
 
 ghost use Rattle.std.specs.Prelude.{◌≡◌, ◌≢◌};
-ghost use Rattle.gw_shell.specs.Asking.{fault_of_asking};
 ghost use Rattle.gw_shell.specs.Ending.{fault_of, fault_of_configuration, fault_of_serving, name_of, status_of, words_of};
-ghost use Rattle.gw_shell.specs.Telling.{fault_of_telling};
+ghost use Rattle.gw_shell.specs.Lines.{fault_of_lines};
 ghost use Rattle.gw_shell.specs.declared.fault.Fault.TheVariants.{CommandLine, Memory};
 
-use gw_audit::TellFault;
 use gw_configuration::ConfigFault;
 use gw_core::{RunFault, ServeFault};
-use gw_lint::WhyFault;
-use gw_script::LineFlaw;
+use gw_script::{LineFlaw, LinesFault};
 use std::alloc::AllocError;
 use std::io::ErrorKind;
 
@@ -142,28 +139,15 @@ impl From<ServeFault> for Fault {
     }
 }
 
-impl From<WhyFault> for Fault {
-    ghost from_gives = { λ asking fault. fault ≡ fault_of_asking asking };
+impl From<LinesFault> for Fault {
+    ghost from_gives = { λ lines fault. fault ≡ fault_of_lines lines };
 
-    fn from(asking: WhyFault) -> Fault {
-        match asking {
-            WhyFault::Read => Fault::Read,
-            WhyFault::Line(number) => Fault::Line(number),
-            WhyFault::Write => Fault::Write,
-            WhyFault::Memory => Fault::Memory,
-        }
-    }
-}
-
-impl From<TellFault> for Fault {
-    ghost from_gives = { λ telling fault. fault ≡ fault_of_telling telling };
-
-    fn from(telling: TellFault) -> Fault {
-        match telling {
-            TellFault::Read => Fault::Read,
-            TellFault::Line(number) => Fault::Line(number),
-            TellFault::Write => Fault::Write,
-            TellFault::Memory => Fault::Memory,
+    fn from(lines: LinesFault) -> Fault {
+        match lines {
+            LinesFault::Read => Fault::Read,
+            LinesFault::Line(number) => Fault::Line(number),
+            LinesFault::Write => Fault::Write,
+            LinesFault::Memory => Fault::Memory,
         }
     }
 }

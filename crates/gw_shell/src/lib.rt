@@ -13,6 +13,7 @@ mod fault;
 mod files;
 mod hidden;
 mod host;
+mod lines;
 mod opening;
 mod options;
 mod poll_waiter;

@@ -3,25 +3,14 @@
 ghost use Rattle.std.specs.Prelude.{◌≡◌, [], OnOk};
 ghost use Rattle.std.specs.Io.Buffered.{writer_buffer, writer_contents};
 ghost use Rattle.gw_script.specs.Known.{OnKnown};
-ghost use Rattle.gw_shell.specs.Telling.{Tells, first_telling_fault};
+ghost use Rattle.gw_shell.specs.Telling.{Tells};
 
 use crate::fault::Fault;
-use gw_audit::{Moment, TellFault, tell_log};
+use crate::lines::first_lines_fault;
+use gw_audit::{Moment, tell_log};
 use gw_script::OctetSource;
 use std::alloc::Global;
 use std::io::{BufWriter, Write};
-
-/// The first fault of the telling and of the flush behind it.
-fn first_telling_fault(telling: Result<(), TellFault>, is_flushed: bool) -> Result<(), Fault>
-    ensures { result ≡ first_telling_fault telling is_flushed }
-{
-    telling?;
-    if is_flushed {
-        Ok(())
-    } else {
-        Err(Fault::Write)
-    }
-}
 
 /// Tells in words each line of the log that `reader` has left, with the moments of the denials where it
 /// is known when the log began. What was written is flushed at every
@@ -38,5 +27,5 @@ pub fn tell<R: OctetSource, W: Write + Drop>(
 {
     let telling = tell_log(alloc, start, reader, writer);
     let is_flushed = writer.flush().is_ok();
-    first_telling_fault(telling, is_flushed)
+    first_lines_fault(telling, is_flushed)
 }

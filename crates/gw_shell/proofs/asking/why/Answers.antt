@@ -1,9 +1,10 @@
 use Rattle.std.proofs.Common.{sym, subst, Result, IsSomeAnd}
 use Rattle.std.specs.Io.Buffered.{writer_contents}
 use Rattle.gw_shell.specs.declared.fault.Fault.{Fault}
-use Rattle.gw_shell.specs.Asking.{Answers, first_asking_fault}
-use Rattle.gw_lint.specs.Why.{LeavesAnswers}
-use Rattle.gw_shell.proofs.AskingLemmas.{flushed_answers}
+use Rattle.gw_lint.specs.Why.{IsAnswered, LeavesAnswers, TellsNoAsk}
+use Rattle.gw_shell.specs.Asking.{Answers}
+use Rattle.gw_shell.specs.Lines.{first_lines_fault}
+use Rattle.gw_shell.proofs.LinesLemmas.{flushed_lines}
 use Rattle.gw_shell.proofs.ReplayLemmas.{kept, weaker}
 use Rattle.gw_shell.proofs.asking.why.Goals as goal
 
@@ -12,10 +13,10 @@ returns-clause-answers g c = λ text before reads holds.
     let contents = writer_contents g.W.Write.contents in
     let list = c.args.rules.now in
     let done = c.why-answers in
-    let ends = first_asking_fault done.result c.is_ok-is_flushed.result in
+    let ends = first_lines_fault done.result c.is_ok-is_flushed.result in
     let leaves : IsSomeAnd (contents done.new.writer) (LeavesAnswers list done.result text before) = done.ensures.answers text before reads holds in
     let answered : IsSomeAnd (contents done.new.writer) (Answers list text before ends) =
     weaker (LeavesAnswers list done.result text before) (Answers list text before ends) (contents done.new.writer)
-    (λ bytes is. flushed_answers list text before bytes done.result c.is_ok-is_flushed.result is) leaves in
-    subst (λ (r : Result (Unit {0}) Fault). IsSomeAnd (contents c.flush.new.self) (Answers list text before r)) (sym c.first_asking_fault.ensures)
+    (λ bytes is. flushed_lines (IsAnswered list) TellsNoAsk text before bytes done.result c.is_ok-is_flushed.result is) leaves in
+    subst (λ (r : Result (Unit {0}) Fault). IsSomeAnd (contents c.flush.new.self) (Answers list text before r)) (sym c.first_lines_fault.ensures)
     (kept (Answers list text before ends) (contents done.new.writer) (contents c.flush.new.self) c.flush.ensures.bytes answered)

@@ -1,0 +1,31 @@
+-- What is left written where a text is told line by line, at each outcome: over the definitions of `gw_script`.
+use Rattle.std.specs.Prelude.{ℕ, Bool, true, false, List, Result, Ok, Err}
+use Rattle.gw_script.specs.Lines.{TellsFront, TellsPart, TellsToLine, TellsWhole}
+use Rattle.gw_script.specs.declared.lines.LinesFault.{LinesFault}
+use Rattle.gw_script.specs.declared.lines.LinesFault.TheVariants as lines
+use Rattle.gw_shell.specs.declared.fault.Fault.{Fault}
+use Rattle.gw_shell.specs.declared.fault.Fault.TheVariants as fault
+
+-- `before` was written before the lines of this text were told, by what `Tells` and `Refuses` say of a line, with this
+-- outcome, and `after` when that ended
+abbrev pub Leaves : (List ℕ → List ℕ → Type 0) → (List ℕ → Type 0) → List ℕ → List ℕ → Result (Unit {0}) Fault → List ℕ
+    → Type 0
+Leaves Tells Refuses text before (Ok done) after = TellsWhole Tells text before after
+Leaves Tells Refuses text before (Err (fault.Line n)) after = TellsToLine Tells Refuses n text before after
+Leaves Tells Refuses text before (Err fault.Read) after = TellsPart Tells text before after
+Leaves Tells Refuses text before (Err fault.Write) after = TellsFront Tells text before after
+Leaves Tells Refuses text before (Err fault.Memory) after = TellsPart Tells text before after
+Leaves Tells Refuses text before (Err _) after = ⊥
+
+-- the fault of the telling, as the program tells it
+abbrev pub fault_of_lines : LinesFault → Fault
+fault_of_lines lines.Read = fault.Read
+fault_of_lines (lines.Line n) = fault.Line n
+fault_of_lines lines.Write = fault.Write
+fault_of_lines lines.Memory = fault.Memory
+
+-- the first fault of the telling and of the flush behind it
+abbrev pub first_lines_fault : Result (Unit {0}) LinesFault → Bool → Result (Unit {0}) Fault
+first_lines_fault (Ok done) true = Ok done
+first_lines_fault (Ok done) false = Err fault.Write
+first_lines_fault (Err of_lines) flushed = Err (fault_of_lines of_lines)
