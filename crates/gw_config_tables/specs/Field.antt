@@ -176,7 +176,7 @@ fault_of_fields fields table =
     else None
 
 -- the fault of a table, each of the five judged for the whole table before the next
-unfoldable pub fault_of : List Field → Members → Option ConfigFault
+abbrev pub fault_of : List Field → Members → Option ConfigFault
 fault_of fields table = if is_some (stranger fields table) then Some UnknownKey else fault_of_fields fields table
 
 -- where it is

@@ -242,7 +242,6 @@ fn has_too_many(fields: &[Field], table: &Table) -> bool
 }
 
 /// The fault of a table, each of the five judged for the whole table before the next.
-#[tactic(auto, unfolding(crate::specs::Field::fault_of))]
 fn fault_of(fields: &[Field], table: &Table) -> Option<ConfigFault>
     ensures { result ≡ fault_of fields.now (table_view table.now) }
 {
