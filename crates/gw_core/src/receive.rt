@@ -172,7 +172,6 @@ fn receive_datagram<'a>(
 }
 
 /// What a datagram is received as on the port of this number.
-#[tactic(auto, unfolding(crate::specs::Receive::receive_on))]
 #[inline(always)]
 pub fn receive_on<'a>(
     links: &'a [PortState],
