@@ -2,6 +2,8 @@
 use Rattle.std.specs.Prelude.{ℕ, ◌==◌, List, [], ◌∷◌, codes, Option, find}
 use Rattle.std.specs.Borrow.{Bor}
 use Rattle.std.specs.Option.{option_map}
+use Rattle.gw_audit.specs.declared.names.Table.{Table}
+use Rattle.gw_audit.specs.declared.names.Table.TheVariants.{ObjectTypes, Properties, Services}
 
 -- a row of a table that a name is lent from
 abbrev pub plain : ℕ × Bor (List ℕ) → ℕ × List ℕ
@@ -237,12 +239,18 @@ services =
     ∷ (1031, codes "Abort")
     ∷ []
 
+-- the rows of a table
+unfoldable pub rows_of : Table → List (ℕ × List ℕ)
+rows_of ObjectTypes = object_types
+rows_of Properties = properties
+rows_of Services = services
+
 -- the name of a type of objects, of a property, of a service or message
-unfoldable pub object_type_name : ℕ → Option (List ℕ)
-object_type_name number = name_in object_types number
+abbrev pub object_type_name : ℕ → Option (List ℕ)
+object_type_name number = name_in (rows_of ObjectTypes) number
 
-unfoldable pub property_name : ℕ → Option (List ℕ)
-property_name number = name_in properties number
+abbrev pub property_name : ℕ → Option (List ℕ)
+property_name number = name_in (rows_of Properties) number
 
-unfoldable pub service_name : ℕ → Option (List ℕ)
-service_name number = name_in services number
+abbrev pub service_name : ℕ → Option (List ℕ)
+service_name number = name_in (rows_of Services) number

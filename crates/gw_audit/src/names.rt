@@ -1,7 +1,7 @@
 //! Names of the standard by their numbers (ISO 16484-5).
 ghost use Rattle.std.specs.Prelude.{◌≡◌, ◌==◌, find, map};
 ghost use Rattle.std.specs.Option.{option_map};
-ghost use Rattle.gw_audit.specs.Names.{name_in, object_type_name, plain, property_name, service_name};
+ghost use Rattle.gw_audit.specs.Names.{name_in, object_type_name, plain, property_name, rows_of, service_name};
 
 /// A number, and its name.
 type Named = (u64, &'static str);
@@ -231,28 +231,49 @@ const SERVICES: [Named; 80] = [
     (1031, "Abort"),
 ];
 
+/// A table of names.
+#[derive(Clone, Copy)]
+pub enum Table {
+    /// The types of objects.
+    ObjectTypes,
+    /// Properties that are met often.
+    Properties,
+    /// Services and messages.
+    Services,
+}
+
+impl Table {
+    #[tactic(auto, unfolding(crate::specs::Names::rows_of))]
+    fn rows(self) -> &'static [Named]
+        ensures { map plain result.now ≡ rows_of self }
+    {
+        match self {
+            Table::ObjectTypes => &OBJECT_TYPES,
+            Table::Properties => &PROPERTIES,
+            Table::Services => &SERVICES,
+        }
+    }
+}
+
 /// The name of a type of objects, or `None` where the table lacks its number.
-#[tactic(auto, unfolding(crate::specs::Names::object_type_name))]
 pub fn object_type_name(number: u64) -> Option<&'static str>
     ensures { option_map (λ name. name.now) result ≡ object_type_name number }
 {
-    name_in(&OBJECT_TYPES, number)
+    name_in(Table::ObjectTypes.rows(), number)
 }
 
 /// The name of a property, or `None` where the table lacks its number.
-#[tactic(auto, unfolding(crate::specs::Names::property_name))]
 pub fn property_name(number: u64) -> Option<&'static str>
     ensures { option_map (λ name. name.now) result ≡ property_name number }
 {
-    name_in(&PROPERTIES, number)
+    name_in(Table::Properties.rows(), number)
 }
 
 /// The name of a service or message, or `None` where the table lacks its number.
-#[tactic(auto, unfolding(crate::specs::Names::service_name))]
 pub fn service_name(number: u64) -> Option<&'static str>
     ensures { option_map (λ name. name.now) result ≡ service_name number }
 {
-    name_in(&SERVICES, number)
+    name_in(Table::Services.rows(), number)
 }
 
 /// The row of a number in a table.
