@@ -93,7 +93,6 @@ message_datagram links device on from octets = by (comes_in on.port.address from
 
 message_on : (links : List PortState) (device number : ℕ) (from : BipAddr) (octets : List ℕ)
     → IfMessage (receive_on links device number from octets)
-unfolding receive_on
 message_on links device number from octets = by (link_at links number)
   where
     by : (on : Option PortState) → IfMessage (elim on [

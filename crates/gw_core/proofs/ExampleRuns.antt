@@ -8,27 +8,25 @@ use Rattle.gw_objects.specs.Table.{read_of}
 use Rattle.gw_objects.specs.Write.{write_of}
 use Rattle.gw_services.specs.MultiReading.{references_at}
 use Rattle.gw_tags.specs.Walk.{closing_at}
-use Rattle.gw_device.specs.Device.{device_response}
 use Rattle.gw_core.specs.Asks.{asks}
 use Rattle.gw_core.specs.Denials.{denials_at}
 use Rattle.gw_relay.specs.Cast.{cast_asks, cast_sends, spread}
-use Rattle.gw_relay.specs.Named.{named_asks}
 use Rattle.gw_relay.specs.Link.{link_answer, link_change}
 use Rattle.gw_relay.specs.State.{moved_by}
 use Rattle.gw_core.specs.Effects.{change_at, move_at, sends, effects_at, passes_end}
 use Rattle.gw_core.specs.History.{acts_of, run_after, written}
-use Rattle.gw_core.specs.Receive.{npdu_of, receive_on, receive}
+use Rattle.gw_core.specs.Receive.{npdu_of, receive}
 use Rattle.gw_core.specs.Reply.{reply_sends}
 use Rattle.gw_core.specs.Examples.{ReadIsAnswered, HiddenReadIsDenied, LocalReadIsUnheard, HiddenObjectIsUntold, UnknownObjectIsTold, EachCutIsDropped, WrongLengthsAreDropped, RoutedReadIsAnswered, CountsEnd, DenialsAreCountedOn, WriteIsSeen, RelinquishIsSeen, DeniedWriteIsUnseen, AllArePlaced, WhoIsIsAnswered, RegistrationEnds, BroadcastIsDistributed, LearnedRouteIsTaken, UnknownNetworkIsSought, GlobalWhoIsGoesOn, HiddenWriteIsUnseen, HidingIsSeen}
 
 -- all that a frame runs through
 unfoldable frames : ⊤
-unfolding npdu_of receive_on receive
+unfolding npdu_of receive
 frames = tt
 
 -- all that a request runs through
 unfoldable reads : ⊤
-unfolding device_response read_of write_of references_at closing_at
+unfolding read_of write_of references_at closing_at
 reads = tt
 
 -- all that an event runs through
@@ -38,7 +36,7 @@ steps = tt
 
 -- all that is passed on runs through
 unfoldable passes : ⊤
-unfolding cast_asks cast_sends named_asks spread link_answer link_change
+unfolding cast_asks cast_sends spread link_answer link_change
 passes = tt
 
 pub read_is_answered : ReadIsAnswered

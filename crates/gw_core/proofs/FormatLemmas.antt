@@ -38,7 +38,6 @@ use Rattle.gw_core.proofs.EffectLemmas.{effects_are}
 
 -- nothing is asked behind a `route` ask
 none_named : (format : Format) (route : Ask) (payload : Payload) → format ≡ One → named_asks format route payload ≡ []
-unfolding named_asks
 none_named One route payload is = refl
 none_named Two route payload is = absurd cc
 

@@ -167,7 +167,6 @@ brief_apdu rules d context (Ok apdu) = brief_header rules d context apdu.header 
 brief_apdu rules d context (Err fault) = brief_silence
 
 brief_device : (rules : List Rule) (d : Database) (context : Context) (octets : List ℕ) → Brief (device_response rules d context octets)
-unfolding device_response
 brief_device rules d context octets = brief_apdu rules d context (apdu_at octets)
 
 -- ---- a short answer is sent

@@ -107,7 +107,7 @@ receive_datagram links device on from octets =
       | Err fault ↦ dropped
     ]) else dropped
 
-unfoldable pub receive_on : List PortState → ℕ → ℕ → BipAddr → List ℕ → Received
+abbrev pub receive_on : List PortState → ℕ → ℕ → BipAddr → List ℕ → Received
 receive_on links device number from octets = elim (link_at links number) [
   | Some on ↦ receive_datagram links device on from octets
   | None ↦ dropped

@@ -169,7 +169,6 @@ fn receive_datagram<'a>(
 }
 
 /// What a datagram is received as on the port of this number.
-#[tactic(auto, unfolding(crate::specs::Receive::receive_on))]
 pub fn receive_on<'a>(
     links: &'a [PortState],
     device: NetNum,

@@ -151,7 +151,6 @@ multi_apdu rules d context (Err fault) body is = absurd cc
 
 pub multi_device : (rules : List Rule) (d : Database) (context : Context) (octets body : List ℕ) → apdu_multi context (apdu_at octets) ≡ Some body
     → device_asks rules d context octets ≡ body_asks rules d context (multi_at body)
-unfolding device_response
 multi_device rules d context octets body is = multi_apdu rules d context (apdu_at octets) body is
 
 -- ---- such a request is answered
@@ -177,7 +176,6 @@ answered_apdu rules d context (Err fault) body is none = absurd cc
 
 pub multi_answered : (rules : List Rule) (d : Database) (context : Context) (octets body : List ℕ)
     → apdu_multi context (apdu_at octets) ≡ Some body → device_answer rules d context octets ≡ None → ⊥
-unfolding device_response
 multi_answered rules d context octets body is none = answered_apdu rules d context (apdu_at octets) body is none
 
 -- ---- any other asks the same under any rules
@@ -268,7 +266,6 @@ other_apdu rules d context (Err fault) other = refl
 
 pub other_device : (rules : List Rule) (d : Database) (context : Context) (octets : List ℕ) → apdu_multi context (apdu_at octets) ≡ None
     → device_asks rules d context octets ≡ device_asks [] d context octets
-unfolding device_response
 other_device rules d context octets other = other_apdu rules d context (apdu_at octets) other
 
 -- what is refused of it where there are no rules is what it asks

@@ -117,7 +117,6 @@ puts_apdu o rules d context (Err fault) names = absurd (no_some o names)
 
 puts_device : (o : Object) (rules : List Rule) (d : Database) (context : Context) (octets : List ℕ) → apdu_writes (apdu_at octets) ≡ Some o
     → Puts o d.configured (device_response rules d context octets)
-unfolding device_response
 puts_device o rules d context octets names = puts_apdu o rules d context (apdu_at octets) names
 
 -- ---- on what it rests
@@ -231,7 +230,6 @@ still_apdu rules d context (Err fault) = (λ h. refl)
 
 still_device : (rules : List Rule) (d : Database) (context : Context) (octets : List ℕ)
     → Still rules (device_response rules d context octets)
-unfolding device_response
 still_device rules d context octets = still_apdu rules d context (apdu_at octets)
 
 -- ---- whose asks
@@ -323,7 +321,6 @@ from_apdu rules d context (Err fault) = tt
 -- ---- the laws
 
 pub changes_rest_on_requests : ChangesRestOnRequests
-unfolding device_response
 changes_rest_on_requests rules c s t context octets = alike_apdu rules c s t context (apdu_at octets)
 
 pub changes_are_in_place : ChangesAreInPlace
@@ -333,5 +330,4 @@ pub changes_are_allowed : ChangesAreAllowed
 changes_are_allowed rules d context octets h = still_device rules d context octets h
 
 pub asks_have_their_source : AsksHaveTheirSource
-unfolding device_response
 asks_have_their_source rules d context octets = from_apdu rules d context (apdu_at octets)

@@ -201,5 +201,4 @@ apdu_same rules o c s t context (Err fault) differ h = refl
 pub unread : (rules : List Rule) (c : Configured) (s t : List Slots) (o : Object) (context : Context) (octets : List ℕ) → DifferIn o c s t
     → NoReadAllowed rules o (device_asks rules (standing c s) context octets)
     → device_response rules (standing c s) context octets ≡ device_response rules (standing c t) context octets
-unfolding device_response
 unread rules c s t o context octets differ h = apdu_same rules o c s t context (apdu_at octets) differ h

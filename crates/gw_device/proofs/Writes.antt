@@ -146,5 +146,4 @@ makes_apdu rules d context (Ok apdu) = makes_header rules d context apdu.header 
 makes_apdu rules d context (Err fault) = λ write e. absurd (no_some write e)
 
 pub changes_can_be_made : ChangesCanBeMade
-unfolding device_response
 changes_can_be_made rules d context octets = makes_apdu rules d context (apdu_at octets)

@@ -81,7 +81,7 @@ apdu_response rules d context (Ok apdu) = header_response rules d context apdu.h
 apdu_response rules d context (Err fault) = silence
 
 -- what the device does about the octets of an APDU under these rules
-unfoldable pub device_response : List Rule → Database → Context → List ℕ → Response
+abbrev pub device_response : List Rule → Database → Context → List ℕ → Response
 device_response rules d context octets = apdu_response rules d context (apdu_at octets)
 
 -- what it asks, what it answers if anything, and the write that it makes if any

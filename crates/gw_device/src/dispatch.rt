@@ -219,7 +219,6 @@ fn by_type<J: Judge>(
 
 /// What the device gives to the octets of an APDU. What is no APDU is dropped. `AllocError` where
 /// memory was refused.
-#[tactic(auto, unfolding(crate::specs::Device::device_response))]
 pub(crate) fn answer<J: Judge>(
     alloc: Global,
     objects: &ObjectDb,

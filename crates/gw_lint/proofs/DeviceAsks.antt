@@ -139,5 +139,4 @@ each_apdu P rules d context (Err fault) cases = tt
 
 pub each_device : (P : Ask → Type 0) (rules : List Rule) (d : Database) (context : Context) (octets : List ℕ) → DeviceCases P d context
     → AllByRecursion P (device_asks rules d context octets)
-unfolding device_response
 each_device P rules d context octets cases = each_apdu P rules d context (apdu_at octets) cases

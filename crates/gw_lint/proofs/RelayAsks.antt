@@ -128,7 +128,6 @@ each_apdu P route (Err fault) cases is = tt
 
 each_behind : (P : Ask → Type 0) (format : Format) (route : Ask) (payload : Payload) → (format ≡ Two → NamedCases P route)
     → route.service ≡ service_of payload → AllByRecursion P (named_asks format route payload)
-unfolding named_asks
 each_behind P One route payload cases is = tt
 each_behind P Two route (message m) cases is = tt
 each_behind P Two route (apdu octets) cases is = each_apdu P route (apdu_at octets) (cases refl) is

@@ -233,7 +233,6 @@ found_link links Is number on false e there each =
 
 heard_on : (links : List PortState) (device : ℕ) (Is : Port → Type 0) (number : ℕ) (from : BipAddr) (octets : List ℕ)
     → AllByRecursion (λ link. Is link.port) links → Heard links device Is (receive_on links device number from octets)
-unfolding receive_on
 heard_on links device Is number from octets each =
     by (link_at links number) (λ on there. found_link links Is number on (number == 0) refl there each)
   where

@@ -192,7 +192,6 @@ sent_datagram links device on from octets is = by (comes_in on.port.address from
 
 sent_on : (links : List PortState) (device number : ℕ) (from : BipAddr) (octets : List ℕ) → IsAddress from
     → SentBy (receive_on links device number from octets)
-unfolding receive_on
 sent_on links device number from octets is = by (link_at links number)
   where
     by : (on : Option PortState) → SentBy (elim on [

@@ -193,7 +193,6 @@ from_apdu source route (Err fault) is = tt
 
 from_behind : (source : Source) (format : Format) (route : Ask) (payload : Payload) → IsFrom source.net (key_of source.mac) route
     → AreFrom source (named_asks format route payload)
-unfolding named_asks
 from_behind source One route payload is = tt
 from_behind source Two route (message m) is = tt
 from_behind source Two route (apdu octets) is = from_apdu source route (apdu_at octets) is

@@ -85,7 +85,7 @@ apdu_asks route (Ok a) = header_asks route a.header a.rest
 apdu_asks route (Err fault) = []
 
 -- what is asked behind a `route` ask
-unfoldable pub named_asks : Format → Ask → Payload → List Ask
+abbrev pub named_asks : Format → Ask → Payload → List Ask
 named_asks One route payload = []
 named_asks Two route (message m) = []
 named_asks Two route (apdu octets) = apdu_asks route (apdu_at octets)

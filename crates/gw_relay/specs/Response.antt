@@ -1,5 +1,5 @@
 -- What a step of the relay answers to a message.
-use Rattle.std.specs.Prelude.{◌≡◌, List, Option, None}
+use Rattle.std.specs.Prelude.{◌≡◌, List, Option}
 use Rattle.gw_rules.specs.Ask.{Ask}
 use Rattle.gw_rules.specs.Authorizer.{denied_of}
 use Rattle.gw_rules.specs.declared.rule.Rule.{Rule}

@@ -214,7 +214,6 @@ fn authorize_request<J: Judge>(
 }
 
 /// Puts the asks of what a message names, and tells whether all are allowed.
-#[tactic(auto, unfolding(crate::specs::Named::named_asks))]
 fn authorize_named<J: Judge>(
     authorizer: &mut Authorizer<'_, J>,
     format: Format,

@@ -1,4 +1,4 @@
-use Rattle.std.proofs.Common.{◌≡◌, ◌∙◌, sym, ap, Ok}
+use Rattle.std.proofs.Common.{◌∙◌, sym, ap, Ok}
 use Rattle.std.specs.Option.{option_map}
 use Rattle.gw_services.specs.Multi.{reference_view}
 use Rattle.gw_services.specs.internal.Next.{next_view}
