@@ -43,10 +43,8 @@ appended (Ok done) old new text is = is
 appended (Err fault) old new text is = search rules
 
 pub too_long : (text : List ℕ) → nat_lt 1048576 (length text) ≡ true → located_configuration text ≡ Err (of_text TooMany)
-unfolding located_configuration
 too_long text is = rw is refl
 
 pub no_document : (text : List ℕ) (fault : ConfigFault) → nat_lt 1048576 (length text) ≡ false → document text ≡ Err fault
     → located_configuration text ≡ Err (of_text fault)
-unfolding located_configuration
 no_document text fault short is = rw (short, is) refl

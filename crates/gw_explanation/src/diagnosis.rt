@@ -22,7 +22,6 @@ use toml::de::Error;
 /// The line that says where this fault of a text is, the one that `read_config` answered for it: the
 /// table, its number from 1 and its name, the key, of a list the item, and what is wrong there, as in
 /// `port 2: network: 1 is named twice`. `None` where the first fault of the text isn't this one.
-#[tactic(auto, unfolding(gw_policy_text::specs::Document::located_configuration))]
 pub fn explain(
     alloc: Global,
     text: &[u8],

@@ -23,7 +23,7 @@ abbrev pub document : List ℕ → Read Members
 document text = if is_utf8 text then ok_or (parse_document text) NotToml else Err NotToml
 
 -- the configuration that a text of at most 1,048,576 octets says, or its first fault and where that is
-unfoldable pub located_configuration : List ℕ → Find Configuration
+abbrev pub located_configuration : List ℕ → Find Configuration
 located_configuration text =
     if nat_lt 1048576 (length text) then Err (of_text TooMany) else (whole (document text) >>= configuration_of)
 

@@ -26,7 +26,6 @@ pub const MAX_OCTETS: usize = 1_048_576;
 /// are judged in this order `UnknownKey`, `Missing`, `Kind`, `Range` and `TooMany`, each for the
 /// whole table; last of all `Duplicate`. `Memory` where there is none for what would be judged
 /// next.
-#[tactic(auto, unfolding(crate::specs::Document::located_configuration))]
 pub fn read_config(alloc: Global, text: &[u8]) -> Result<Config, ConfigFault>
     ensures configuration { Gives (λ c. c) result (configuration text.now) }
     ensures too_long { 1048576 < length text.now → result ≡ Err TooMany }
