@@ -1,7 +1,7 @@
 //! A policy: rules in order, of which the first that matches an ask decides.
-ghost use Rattle.std.specs.Prelude.{◌≡◌, ◌<◌, ◌↔◌, ◌&&◌, IsTrue, true, find, not, ℕ, Option, option_copied, IsFalse, IsOk, IfOk, IfSome, IsErrOf, [], false, length, position};
+ghost use Rattle.std.specs.Prelude.{◌≡◌, ◌<◌, ◌↔◌, ◌&&◌, Bool, IsTrue, true, find, List, ℕ, Option, option_copied, IsFalse, IsOk, IfOk, IfSome, IsErrOf, [], false, length, position};
 ghost use Rattle.std.specs.List.{list_all};
-ghost use Rattle.std.specs.Option.{option_map_or};
+ghost use Rattle.gw_rules.specs.declared.rule.Rule.{Rule};
 ghost use Rattle.gw_rules.specs.Hides.{HidesFrom, HidesFromNetwork, IsHidden, hides, may_match, may_match_some, must_match, must_match_all, reading, settles};
 ghost use Rattle.gw_rules.specs.Rule.{has_few_ranges, matches};
 ghost use Rattle.gw_rules.specs.RuleList.{IsNumberOf, KeepsCounts, KeepsOrder, allows, decide, first, keeps_counts, keeps_order};
@@ -64,37 +64,42 @@ impl RuleList {
     }
 
     /// The number of the first rule that matches the ask, counted from 1, or none.
-    #[tactic(auto, unfolding(crate::specs::RuleList::first))]
     pub fn first(&self, ask: &Ask) -> Option<u16>
         ensures first { result ≡ first self.now ask.now }
         ensures within { IfSome result (IsNumberOf self.now) }
     {
-        match place_of(&self.rules, ask) {
-            Some(place) => Some(place as u16 + 1),
-            None => None,
-        }
+        self.verdict(ask).0
     }
 
     /// Whether there is a first rule that matches the ask, and it says allow.
-    #[tactic(auto, unfolding(crate::specs::RuleList::allows))]
     pub fn allows(&self, ask: &Ask) -> bool
         ensures allows { result ≡ allows self.now ask.now }
         ensures no_rules { self.now ≡ [] → result ≡ false }
     {
-        match self.first(ask) {
-            Some(number) => self.rules[usize::from(number) - 1].allow,
-            None => false,
-        }
+        self.verdict(ask).1
     }
 
     /// Both at once, by one walk: whether the ask is allowed, and which rule denies it.
-    #[tactic(auto, unfolding(crate::specs::RuleList::allows))]
     pub fn decide(&self, ask: &Ask) -> Decision
         ensures { result ≡ decide self.now ask.now }
     {
-        match self.first(ask) {
-            Some(number) if self.rules[usize::from(number) - 1].allow => Decision::Allow,
-            by => Decision::Deny { by },
+        match self.verdict(ask) {
+            (_, true) => Decision::Allow,
+            (by, false) => Decision::Deny { by },
+        }
+    }
+
+    /// The number of the first rule that matches the ask, and whether it says allow.
+    #[tactic(auto, unfolding(crate::specs::RuleList::first, crate::specs::RuleList::allows))]
+    fn verdict(&self, ask: &Ask) -> (Option<u16>, bool)
+        ensures first { result.0 ≡ first self.now ask.now }
+        ensures within { IfSome result.0 (IsNumberOf self.now) }
+        ensures allows { result.1 ≡ allows self.now ask.now }
+        ensures no_rules { self.now ≡ [] → result.1 ≡ false }
+    {
+        match place_of(&self.rules, ask) {
+            Some(place) => (Some(place as u16 + 1), self.rules[place].allow),
+            None => (None, false),
         }
     }
 
@@ -110,7 +115,6 @@ impl RuleList {
         self.hides_by(&ask)
     }
 
-    #[tactic(auto, unfolding(crate::specs::Hides::hides))]
     fn hides_by(&self, ask: &Ask) -> bool
         ensures { result ≡ hides (may_match ask.now) (must_match ask.now) self.now }
     {
@@ -126,7 +130,6 @@ impl RuleList {
         self.hides_all_by(&ask)
     }
 
-    #[tactic(auto, unfolding(crate::specs::Hides::hides))]
     fn hides_all_by(&self, ask: &Ask) -> bool
         ensures { result ≡ hides (may_match_some ask.now) (must_match_all ask.now) self.now }
     {
@@ -161,9 +164,11 @@ fn first_settling_all<'a>(rules: &'a [Rule], ask: &Ask) -> Option<&'a Rule>
     rules.iter().find(|rule| rule.settles_all(ask))
 }
 
-/// Whether a rule denies, or there is none.
+/// Whether the first rule that settles it denies, or there is none: then it is hidden.
+#[tactic(auto, unfolding(crate::specs::Hides::hides))]
 fn denies(rule: Option<&Rule>) -> bool
-    ensures { result ≡ option_map_or (λ rule. not rule.allow) (option_copied rule.entry) true }
+    ensures { (may : Rule → Bool) (must : Rule → Bool) (rules : List Rule) →
+        option_copied rule.entry ≡ find (settles may must) rules → result ≡ hides may must rules }
 {
     match rule {
         Some(rule) => !rule.allow,
