@@ -1,5 +1,5 @@
 #!/usr/bin/env bash
-# Runs the gate, `rt ci`, on a clean clone of HEAD and, where it is green, adds its row to docs/GATE.md. That page says what the
+# Runs the gate, `rt ci --anew`, on a clean clone of HEAD and, where it is green, adds its row to docs/GATE.md. That page says what the
 # columns are and how they are measured. A run that fails one writes no row.
 #
 #     bench/gate.sh [PAGE]      # docs/GATE.md unless told otherwise
@@ -20,7 +20,7 @@ clone=$work/clone
 git clone -q --no-checkout "$top" "$clone"
 git -C "$clone" checkout -q --detach "$(git -C "$top" rev-parse HEAD)"
 
-# Runs rt ci, passes on what it prints, and writes its last line and what the run cost to the file.
+# Runs rt ci from nothing, passes on what it prints, and writes its last line and what the run cost to the file.
 python3 - "$clone" "$work/cost" <<'PYTHON'
 import os
 import resource
@@ -100,7 +100,7 @@ class Cost:
 clone, report = sys.argv[1:]
 cost, start, text, ended = Cost(), time.monotonic(), b"", None
 with open(report + ".log", "wb") as log, open(report + ".log", "rb") as told:
-    ran = subprocess.Popen(["rt", "ci"], cwd=clone, stdin=subprocess.DEVNULL, stdout=log, stderr=subprocess.STDOUT)
+    ran = subprocess.Popen(["rt", "ci", "--anew"], cwd=clone, stdin=subprocess.DEVNULL, stdout=log, stderr=subprocess.STDOUT)
     while ended is None:
         try:
             ended = ran.wait(PAUSE)
