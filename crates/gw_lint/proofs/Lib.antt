@@ -12,5 +12,4 @@ pub mod RelayAsks
 pub mod ShapeLaw
 pub mod Taking
 pub mod Whence
-pub mod WhyLemmas
 pub mod WhyLaw

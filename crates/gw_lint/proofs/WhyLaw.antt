@@ -1,13 +1,10 @@
 -- A line of the log tells which rule denied it.
-use Rattle.std.proofs.Common.{◌≡◌, ◌∙◌, ◌⊎◌, inl, inr, sym, ap, ap₂, refl, subst, ℕ, ◌+◌, ◌-◌, ◌≤◌, Bool, true, false, List, [], ◌∷◌, ◌++◌, length, Option, Some, None, Result, Ok, Err, arith, append_assoc, length-append}
+use Rattle.std.proofs.Common.{◌≡◌, ◌∙◌, ◌⊎◌, inl, inr, sym, ap, refl, ℕ, ◌+◌, ◌-◌, ◌≤◌, Bool, true, false, List, [], ◌∷◌, ◌++◌, length, Option, Some, None, Result, Ok, Err, arith, length-append}
 use Rattle.std.specs.Prelude.{◌==◌, not, ◌&&◌, if◌then◌else◌, slice_get, codes, filter, map}
-use Rattle.std.specs.Fmt.{decimal}
 use Rattle.std.specs.Int.{w16, to_be_bytes}
 use Rattle.std.specs.List.{AllByRecursion}
-use Rattle.std.specs.Option.{option_map_or}
 use Rattle.std.proofs.lemmas.Bool.{eq-eqb, eqb-true}
 use Rattle.gw_addr.specs.declared.bip.BipAddr.{BipAddr}
-use Rattle.gw_addr.specs.declared.station.Source.{Source}
 use Rattle.gw_addr.specs.Address.{IsAddress, big_endian, octets_of}
 use Rattle.gw_addr.specs.Station.{key_of}
 use Rattle.gw_audit.specs.Entry.{IsLineOf, IsShowable, TellsAsk, ask_shown, shown_ask}
@@ -21,31 +18,28 @@ use Rattle.gw_bvll.specs.Bvll as bvll
 use Rattle.gw_bvll.specs.Reading.{bvll_at}
 use Rattle.gw_npdu.specs.Npdu.{Fields}
 use Rattle.gw_objects.specs.Objects.{Database}
-use Rattle.gw_configuration.specs.Configuration.{Configuration}
 use Rattle.gw_configuration.specs.declared.format.Format.{Format}
 use Rattle.gw_relay.specs.Cast.{accepts, cast_ask, cast_asks, goes_on, is_broadcast, is_unregistered}
 use Rattle.gw_relay.specs.Asks as table
 use Rattle.gw_relay.specs.Message.{Message, message_of}
 use Rattle.gw_relay.specs.Route.{route_ask}
 use Rattle.gw_relay.specs.State.{Relay, link_at}
-use Rattle.gw_relay.specs.declared.port.Port.{Port}
 use Rattle.gw_relay.specs.declared.port.PortState.{PortState}
 use Rattle.gw_rules.specs.Ask.{Ask}
 use Rattle.gw_rules.specs.Authorizer.{denied_of, refusal}
-use Rattle.gw_rules.specs.RuleList.{IsFirst, allows, allows_at, first}
+use Rattle.gw_rules.specs.RuleList.{allows, first}
 use Rattle.gw_rules.specs.declared.refusal.Refusal.{Refusal}
 use Rattle.gw_rules.specs.declared.rule.Rule.{Rule}
 use Rattle.gw_rules.proofs.EachAsk.{each_both, each_weaker}
 use Rattle.gw_rules.proofs.First.{first_iff}
 use Rattle.gw_script.specs.Event.{Event, Datagram, Tick}
 use Rattle.gw_core.specs.Asks.{apdu_asks, asks_for, manage_asks_for, message_asks, route_asks_for}
-use Rattle.gw_core.specs.Denials.{default_name, denials_at, denials_for, denials_from, denials_of, name_at, rule_name}
-use Rattle.gw_core.specs.Effects.{effects_at, effects_for}
+use Rattle.gw_core.specs.Denials.{default_name, denials_at, denials_for, denials_from, name_at, rule_name}
+use Rattle.gw_core.specs.Effects.{effects_at}
 use Rattle.gw_core.specs.History.{state_after}
-use Rattle.gw_core.specs.Receive.{Origin, Received, comes_in, dropped, managed, manages, message, message_origin, node_origin, npdu_of, origin, payload_of, receive, receive_datagram, receive_frame, receive_npdu, receive_on, unregistered}
+use Rattle.gw_core.specs.Receive.{Origin, Received, comes_in, dropped, managed, manages, message, message_origin, node_origin, npdu_of, payload_of, receive, receive_datagram, receive_frame, receive_npdu, receive_on, unregistered}
 use Rattle.gw_core.specs.Reply.{apdu_for, context_of}
 use Rattle.gw_core.specs.State.{State, device_network}
-use Rattle.gw_core.specs.declared.event.Counts.{Counts}
 use Rattle.gw_lint.specs.Laws.{IsSent, NamesTheRule, WhyNamesTheRule, denied_by}
 use Rattle.gw_core.specs.Explained.{by_text}
 use Rattle.gw_lint.specs.Why.{answer, answer_to}

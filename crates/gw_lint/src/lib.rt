@@ -23,7 +23,7 @@ mod subnet;
 mod text;
 mod warnings;
 
-pub use asking::{WhyFault, why};
+pub use asking::why;
 pub use cover::{matches_nothing, takes_all};
 pub use finding::{Finding, MAX_STEPS, finding_of, findings_of};
 pub use lint::put_lint;
