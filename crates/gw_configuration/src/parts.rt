@@ -47,7 +47,14 @@ impl Model for Parts {
 
     ghost Value = { Configuration };
 
-    ghost view = { λ c. record { format = c.format; device = c.device; ports = c.ports; routes = c.routes; objects = c.objects; rules = c.rules } };
+    ghost view = { λ c. record {
+      format = c.format;
+      device = c.device;
+      ports = c.ports;
+      routes = c.routes;
+      objects = c.objects;
+      rules = c.rules;
+    } };
 
     ghost invariant = { λ c. (1 ≤ length c.ports) × ((length c.ports ≤ MAX_PORTS) × ((length c.routes ≤ 512)
         × ((length c.objects ≤ 256) × IsTrue (list_all (is_by (length c.ports)) c.routes)))) };
