@@ -6,9 +6,13 @@ use Rattle.hex.specs.Hex.{encode_upper}
 use Rattle.gw_addr.specs.declared.bip.BipAddr.{BipAddr}
 use Rattle.gw_addr.specs.Address.{text_of}
 
--- what stands before the octets in the line of a datagram that is sent: `send <port> <address> `
+-- what stands before the address in the line of a datagram that is sent: `send <port> `
+abbrev pub send_port : ℕ → List ℕ
+send_port port = codes "send " ++ decimal port ++ 32 ∷ []
+
+-- and what stands before the octets: `send <port> <address> `
 abbrev pub send_head : ℕ → BipAddr → List ℕ
-send_head port to = codes "send " ++ decimal port ++ 32 ∷ [] ++ text_of to ++ 32 ∷ []
+send_head port to = send_port port ++ text_of to ++ 32 ∷ []
 
 -- and what stands from the octets on
 abbrev pub send_tail : List ℕ → List ℕ

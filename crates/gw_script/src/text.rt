@@ -4,7 +4,7 @@ ghost use Rattle.std.specs.Prelude.{◌≡◌, ◌+◌, ◌*◌, ◌<◌, ◌≤
 ghost use Rattle.hex.specs.Hex.{encode_upper, upper_digits};
 ghost use Rattle.gw_addr.specs.Address.{text_of};
 ghost use Rattle.gw_addr.specs.Appending.{IsAppended, IsAppendedWhole};
-ghost use Rattle.gw_script.specs.Text.{EndsWith, end_line, send_head, send_line, send_lines, send_tail};
+ghost use Rattle.gw_script.specs.Text.{EndsWith, end_line, send_head, send_line, send_lines, send_port, send_tail};
 
 use crate::event::SpelledAddr;
 use gw_addr::{BipAddr, keep_whole, put_decimal, put_octet, put_slice};
@@ -135,6 +135,19 @@ fn copy_again(text: &mut [u8], start: usize, end: usize, place: usize)
     back.copy_from_slice(&front[start..end]);
 }
 
+/// Appends what stands before the address in the line of a datagram that is sent. A port of one digit, as
+/// each of a gateway has, is appended with the words around it at once.
+fn put_port(out: &mut Vec<u8>, port: u8) -> Result<(), AllocError>
+    ensures { IsAppended (send_port port) out.old out.new result }
+{
+    if port < 10 {
+        return put_slice(out, &[b's', b'e', b'n', b'd', b' ', b'0' + port, b' ']);
+    }
+    put_slice(out, b"send ")?;
+    put_decimal(out, port)?;
+    put_octet(out, b' ')
+}
+
 /// Appends what stands before the octets in the line of a datagram that is sent.
 fn put_head(
     out: &mut Vec<u8>,
@@ -144,9 +157,7 @@ fn put_head(
 ) -> Result<(), AllocError>
     ensures { IsAppended (send_head port to) out.old out.new result }
 {
-    put_slice(out, b"send ")?;
-    put_decimal(out, port)?;
-    put_octet(out, b' ')?;
+    put_port(out, port)?;
     put_address(out, to, at_hand)?;
     put_octet(out, b' ')
 }
