@@ -1,7 +1,6 @@
 -- What is done about a message, by whether it goes on to the network layer.
 use Rattle.std.proofs.Common.{◌≡◌, ◌∙◌, sym, ap, refl, Bool, true, false, List, [], ◌∷◌, ◌++◌, map, append_assoc, Option, Some, None}
 use Rattle.std.specs.Prelude.{if◌then◌else◌}
-use Rattle.std.specs.Option.{option_or}
 use Rattle.std.proofs.lemmas.List.{append-nil}
 use Rattle.gw_bvll.specs.Bvll.{Message as Frame}
 use Rattle.gw_bvll.specs.Bvll as bvll
@@ -199,11 +198,6 @@ pub goes_denied : (rules : List Rule) (relay : Relay) (d : Database) (m : Messag
     ++ denied_of rules (message_asks rules d m)
 goes_denied rules relay d m is =
     ap (denied_of rules) (goes rules relay d m is).asks ∙ denied_of-append rules (passed_asks relay m) (message_asks rules d m)
-
--- a change, or none behind it
-pub or_none : {A : Type 0} (o : Option A) → option_or o None ≡ o
-or_none None = refl
-or_none (Some x) = refl
 
 -- ---- nothing is asked or sent
 

@@ -1,12 +1,8 @@
 -- What the code's values mean, without where they lie in memory.
 use Rattle.std.specs.Prelude.{not, if◌then◌else◌, Option, Some, None}
-use Rattle.gw_addr.specs.declared.bip.BipAddr.{BipAddr}
 use Rattle.gw_bvll.specs.Bvll.{view as frame_view}
-use Rattle.gw_bvll.specs.Bvll.{Message as Frame}
-use Rattle.gw_npdu.specs.Npdu.{Fields}
 use Rattle.gw_relay.specs.Cast.{accepts, is_unregistered}
-use Rattle.gw_relay.specs.Message.{Message, message_of, message_view}
-use Rattle.gw_relay.specs.declared.port.PortState.{PortState}
+use Rattle.gw_relay.specs.Message.{Message, message_view}
 use Rattle.gw_core.specs.declared.denial.Origin.{Origin as CodeOrigin}
 use Rattle.gw_core.specs.declared.receive.Received.{Received as LentReceived}
 use Rattle.gw_core.specs.declared.receive.Received.TheVariants as lent
@@ -23,11 +19,6 @@ abbrev pub received_view : LentReceived → Received
 received_view lent.Dropped = dropped
 received_view (lent.Managed on from frame) = managed on.now from (frame_view frame)
 received_view (lent.Message m) = judged (message_view m)
-
--- what a message is received as, where there is one
-abbrev pub received_npdu : PortState → BipAddr → Frame → Option Fields → Received
-received_npdu on from frame None = dropped
-received_npdu on from frame (Some npdu) = judged (message_of on from frame npdu)
 
 -- whom the code takes a datagram to come from, unjudged
 abbrev pub origin_of : LentReceived → Option Origin

@@ -6,8 +6,8 @@ ghost use Rattle.std.specs.Option.{option_map};
 ghost use Rattle.gw_bvll.specs.Bvll.{view as frame_view};
 ghost use Rattle.gw_npdu.specs.Npdu.{view as npdu_view, address_view};
 ghost use Rattle.gw_relay.specs.Claim.{local_source};
-ghost use Rattle.gw_core.specs.Receive.{claims_direct, comes_in, is_direct, manages, npdu_of, payload_of, receive_datagram, receive_frame, receive_on};
-ghost use Rattle.gw_core.specs.View.{received_npdu, received_view};
+ghost use Rattle.gw_core.specs.Receive.{claims_direct, comes_in, is_direct, manages, npdu_of, payload_of, receive_on};
+ghost use Rattle.gw_core.specs.View.{received_view};
 
 use gw_addr::{BipAddr, NetNum};
 use gw_bvll::Bvll;
@@ -105,74 +105,7 @@ fn npdu_of<'a>(links: &[PortState], device: NetNum, octets: &'a [u8]) -> Option<
     }
 }
 
-#[inline(always)]
-fn receive_npdu<'a>(
-    links: &[PortState],
-    device: NetNum,
-    on: &'a PortState,
-    from: BipAddr,
-    frame: &Bvll<'a>,
-    octets: &'a [u8],
-) -> Received<'a>
-    ensures { received_view result
-        ≡ received_npdu on.now from (frame_view frame.now) (npdu_of links.now device octets.now) }
-{
-    match npdu_of(links, device, octets) {
-        None => Received::Dropped,
-        Some(npdu) => Received::Message(Message {
-            here: on,
-            from,
-            frame: *frame,
-            npdu,
-        }),
-    }
-}
-
-#[inline(always)]
-fn receive_frame<'a>(
-    links: &[PortState],
-    device: NetNum,
-    on: &'a PortState,
-    from: BipAddr,
-    frame: &Bvll<'a>,
-) -> Received<'a>
-    ensures { received_view result
-        ≡ receive_frame links.now device on.now from (frame_view frame.now) }
-{
-    if manages(frame) {
-        return Received::Managed {
-            on,
-            from,
-            frame: *frame,
-        };
-    }
-    match payload_of(frame) {
-        Some(octets) => receive_npdu(links, device, on, from, frame, octets),
-        None => Received::Dropped,
-    }
-}
-
-#[inline(always)]
-fn receive_datagram<'a>(
-    links: &[PortState],
-    device: NetNum,
-    on: &'a PortState,
-    from: BipAddr,
-    octets: &'a [u8],
-) -> Received<'a>
-    ensures { received_view result ≡ receive_datagram links.now device on.now from octets.now }
-{
-    if !comes_in(on.port.address, from, octets) {
-        return Received::Dropped;
-    }
-    match gw_bvll::decode(octets) {
-        Ok(frame) => receive_frame(links, device, on, from, &frame),
-        Err(_) => Received::Dropped,
-    }
-}
-
 /// What a datagram is received as on the port of this number.
-#[inline(always)]
 pub fn receive_on<'a>(
     links: &'a [PortState],
     device: NetNum,
@@ -182,8 +115,28 @@ pub fn receive_on<'a>(
 ) -> Received<'a>
     ensures { received_view result ≡ receive_on links.now device number from octets.now }
 {
-    match link_at(links, usize::from(number)) {
-        Some(on) => receive_datagram(links, device, on, from, octets),
+    let Some(on) = link_at(links, usize::from(number)) else {
+        return Received::Dropped;
+    };
+    if !comes_in(on.port.address, from, octets) {
+        return Received::Dropped;
+    }
+    let Ok(frame) = gw_bvll::decode(octets) else {
+        return Received::Dropped;
+    };
+    if manages(&frame) {
+        return Received::Managed { on, from, frame };
+    }
+    let Some(payload) = payload_of(&frame) else {
+        return Received::Dropped;
+    };
+    match npdu_of(links, device, payload) {
+        Some(npdu) => Received::Message(Message {
+            here: on,
+            from,
+            frame,
+            npdu,
+        }),
         None => Received::Dropped,
     }
 }

@@ -1,7 +1,7 @@
 //! What is done about what is received, while the gateway stays as it is: what all its parts ask,
 //! send and change.
 
-ghost use Rattle.std.specs.Prelude.{◌≡◌, [], List, None, IfOk, IsOk};
+ghost use Rattle.std.specs.Prelude.{◌≡◌, ◌++◌, [], List, None, IfOk, IsOk, OnOk};
 ghost use Rattle.gw_bvll.specs.Bvll.{view as frame_view};
 ghost use Rattle.gw_objects.specs.Objects.{Database};
 ghost use Rattle.gw_device.specs.Response.{HasPlace};
@@ -105,34 +105,33 @@ fn pass_on<J: Judge>(
     pass_on_each_way(alloc, judge, relay, message)
 }
 
-/// What the device does about a message (step 10).
+/// Adds what the device does about a message (step 10), and answers the write that is granted, if there is
+/// one. A part may be added where a growth was refused.
 fn answer_apdu<J: Judge>(
     alloc: Global,
     judge: &J,
     device: &Device,
     message: &Message<'_>,
-) -> Result<Response, AllocError>
+    given: &mut RelayResponse,
+) -> Result<Option<Change>, AllocError>
     ensures sends { (rules : List Rule) → J.StandsFor judge.now rules →
         let due = message_sends rules device.now (message_view message.now) in
-        IfOk result (λ given. given.relayed.sends ≡ due) }
+        OnOk result (given.new.sends ≡ given.old.sends ++ due) }
     ensures refusals { (rules : List Rule) → J.StandsFor judge.now rules →
         let asks = message_asks rules device.now (message_view message.now) in
-        IfOk result (λ given. given.relayed.refusals ≡ denied_of rules asks) }
-    ensures change { IfOk result (λ given. given.relayed.change ≡ None) }
+        OnOk result (given.new.refusals ≡ given.old.refusals ++ denied_of rules asks) }
+    ensures change { OnOk result (given.new.change ≡ given.old.change) }
     ensures write { (rules : List Rule) → J.StandsFor judge.now rules →
         let due = message_change rules device.now (message_view message.now) in
-        IfOk result (λ given. given.write ≡ due) }
-    ensures place { IfOk result (λ given. HasPlace device.now given.write) }
+        IfOk result (λ write. write ≡ due) }
+    ensures place { IfOk result (λ write. HasPlace device.now write) }
     ensures silent { (rules : List Rule) → J.StandsFor judge.now rules →
         let m = message_view message.now in
         message_asks rules device.now m ≡ [] → message_sends rules device.now m ≡ [] → IsOk result }
 {
     let network = network_of(device);
     let Some(apdu) = apdu_for(network, &message.npdu) else {
-        return Ok(Response {
-            relayed: RelayResponse::nothing(alloc),
-            write: None,
-        });
+        return Ok(None);
     };
     let context = context_of(network, message);
     let Reply {
@@ -140,14 +139,12 @@ fn answer_apdu<J: Judge>(
         refusals,
         change,
     } = device.answer(alloc, judge, &context, apdu)?;
-    Ok(Response {
-        relayed: RelayResponse {
-            sends: answer_sends(alloc, network, message, &answer)?,
-            refusals,
-            ..RelayResponse::nothing(alloc)
-        },
-        write: change,
-    })
+    given.append(RelayResponse {
+        sends: answer_sends(alloc, network, message, &answer)?,
+        refusals,
+        change: None,
+    })?;
+    Ok(change)
 }
 
 /// What is done about a message (steps 4 and 6 to 10).
@@ -166,19 +163,18 @@ fn respond_to_message<J: Judge>(
         asks_for rules relay.now device.now due ≡ [] →
         sends_for rules relay.now device.now due ≡ [] → IsOk result }
 {
-    let CastResponse { mut given, goes_on } = pass_on(alloc, judge, relay, message)?;
+    let CastResponse {
+        given: mut relayed,
+        goes_on,
+    } = pass_on(alloc, judge, relay, message)?;
     if !goes_on {
         return Ok(Response {
-            relayed: given,
+            relayed,
             write: None,
         });
     }
-    let served = answer_apdu(alloc, judge, device, message)?;
-    given.append(served.relayed)?;
-    Ok(Response {
-        relayed: given,
-        write: served.write,
-    })
+    let write = answer_apdu(alloc, judge, device, message, &mut relayed)?;
+    Ok(Response { relayed, write })
 }
 
 /// What is done about a frame that manages a table (step 3).
