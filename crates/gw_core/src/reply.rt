@@ -6,18 +6,18 @@ ghost use Rattle.std.specs.Prelude.{IfOk, IsOk, OnOk, None, Ok, true, false};
 ghost use Rattle.std.specs.Int.{w16, to_be_bytes};
 ghost use Rattle.std.specs.Option.{option_map};
 ghost use Rattle.gw_device.specs.Response.{answer_view};
-ghost use Rattle.gw_npdu.specs.Npdu.{destination_view, payload_view, address_view, encoding, max_header_len, view as npdu_view};
+ghost use Rattle.gw_npdu.specs.Npdu.{destination_view, payload_view, address_view, encoding, max_header_len, priority_of, view as npdu_view};
 ghost use Rattle.gw_npdu.specs.Numbers.{max_len};
 ghost use Rattle.gw_core.specs.Effects.{answer_sends};
 ghost use Rattle.gw_bvll.specs.Bvll.{original_unicast};
 ghost use Rattle.gw_bvll.specs.Bvll.{encoding as bvll_encoding};
 ghost use Rattle.gw_relay.specs.Steps.{broadcast, npdu_octets, unicast};
-ghost use Rattle.gw_core.specs.Reply.{apdu_for, apdu_of, context_of, goes_to_all, is_broadcast, is_device, is_local_broadcast, reply_npdu, reply_sends, max_reply_apdu, reply_destination};
+ghost use Rattle.gw_core.specs.Reply.{apdu_for, apdu_of, context_of, goes_to_all, is_broadcast, is_device, is_local_broadcast, local_reply, reply_npdu, reply_sends, max_reply_apdu, reply_destination};
 ghost use Rattle.gw_relay.specs.Message.{message_view};
 
 use gw_addr::NetNum;
 use gw_device::{Answer, Context};
-use gw_npdu::{AddressRef, Destination, Npdu, Payload};
+use gw_npdu::{AddressRef, Control, Destination, Npdu, Payload, Priority};
 use gw_relay::{Batch, Message, Sends};
 use std::alloc::{AllocError, Global};
 
@@ -29,6 +29,10 @@ const WHOLE_COUNT: u8 = 255;
 const FRAME_HEADER: usize = 4;
 /// An Original-Unicast-NPDU without an NPDU (Annex J.2.11).
 const EMPTY_UNICAST: [u8; FRAME_HEADER] = [0x81, 0x0A, 0x00, 0x04];
+/// The version of the network layer (clause 6.2.1).
+const NPDU_VERSION: u8 = 1;
+/// How many octets stand before the APDU where the source alone is named: version, control, SNET, SLEN and SADR.
+const LOCAL_HEADER: usize = 6;
 /// How many octets most replies have before the APDU, so that a buffer seldom grows.
 const REPLY_HEADERS: usize = 32;
 
@@ -142,6 +146,31 @@ fn put_frame(out: &mut Vec<u8>) -> Result<(), AllocError>
     out.extend_from_slice(&EMPTY_UNICAST)
 }
 
+/// Appends the NPDU that carries an answer to a node of the port's own network, as most go: its header has one
+/// form. It answers whether that was done: not where it would be over 1497 octets.
+fn put_local_reply(
+    out: &mut Vec<u8>,
+    network: NetNum,
+    priority: Priority,
+    apdu: &[u8],
+) -> Result<bool, AllocError>
+    ensures put { let npdu = local_reply network (priority_of priority) apdu.now in
+        OnOk result (result ≡ Ok true → out.new.items ≡ out.old.items ++ encoding npdu) }
+    ensures within { let npdu = local_reply network (priority_of priority) apdu.now in
+        result ≡ Ok true → length (encoding npdu) ≤ max_len }
+    ensures no_room { let npdu = local_reply network (priority_of priority) apdu.now in
+        result ≡ Ok false → max_len < length (encoding npdu) }
+{
+    if apdu.len() > gw_npdu::MAX_LEN - LOCAL_HEADER {
+        return Ok(false);
+    }
+    let [high, low] = network.get().to_be_bytes();
+    let control = Control::SOURCE.0 + priority.number();
+    out.extend_from_slice(&[NPDU_VERSION, control, high, low, 1, DEVICE_STATION])?;
+    out.extend_from_slice(apdu)?;
+    Ok(true)
+}
+
 /// Appends the NPDU that carries an answer back. It answers whether that was done: not where it
 /// would be over 1497 octets.
 fn put_reply(
@@ -160,6 +189,9 @@ fn put_reply(
         let npdu = reply_npdu network request (answer_view answer.now) in
         result ≡ Ok false → max_len < length (encoding npdu) }
 {
+    if message.npdu.source.is_none() {
+        return put_local_reply(out, network, message.npdu.priority, &answer.apdu);
+    }
     let npdu = reply_npdu(network, &message.npdu, &answer.apdu, answer.broadcast);
     match gw_npdu::encode(&npdu, out) {
         Ok(()) => Ok(true),
