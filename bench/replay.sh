@@ -1,6 +1,6 @@
 #!/usr/bin/env bash
 # How fast `bacgw replay` is: the instructions of a line of each kind, with start-up taken off, and its calls of the allocator; and for
-# three mixes the least time of several runs and the peak memory. It writes the table of docs/PERFORMANCE.md, beside the same figures of
+# three mixes the misses of the instruction cache, the least time of several runs and the peak memory. It writes the table of docs/PERFORMANCE.md, beside the same figures of
 # another gateway, one in plain Rust, where it is given.
 #
 #     bench/replay.sh [RUNS]                         # 11 runs unless told otherwise; writes docs/PERFORMANCE.md
@@ -198,6 +198,12 @@ instructions() {
     awk '/^(summary|totals):/ { print $2; exit }' "$work/callgrind"
 }
 
+# misses SCRIPT PROGRAM..: how often an instruction isn't in a first cache of 32 KiB, of eight ways
+misses() {
+    valgrind --tool=cachegrind --cache-sim=yes --I1=32768,8,64 --cachegrind-out-file="$work/cachegrind" "${@:2}" < "$1" > /dev/null 2> "$work/errors"
+    awk '/^summary:/ { print $3; exit }' "$work/cachegrind"
+}
+
 # allocations SCRIPT PROGRAM..: how often it calls the allocator for memory
 allocations() {
     valgrind --tool=memcheck --leak-check=no "${@:2}" < "$1" 2>&1 > /dev/null \
@@ -229,7 +235,7 @@ seconds() {
 # row NAME OURS PLAIN: a line of the table, with the ratio of the two
 row() {
     local ratio=-
-    [ "$3" = "not measured" ] || ratio=$(awk -v a="$2" -v b="$3" 'BEGIN { printf "%.2f", a / b }')
+    [ "$3" = "not measured" ] || ratio=$(awk -v a="$2" -v b="$3" 'BEGIN { if (b > 0) printf "%.2f", a / b; else printf "-" }')
     echo "| $1 | $(grouped <<< "$2") | $(grouped <<< "$3") | $ratio |"
 }
 
@@ -245,6 +251,7 @@ beside() {
 }
 
 whole_instructions() { each instructions "$@" | sed 's/\..*//'; }
+whole_misses() { each misses "$@" | sed 's/\..*//'; }
 each_allocation() { each allocations "$@"; }
 
 {
@@ -252,6 +259,9 @@ each_allocation() { each allocations "$@"; }
     echo "|---|---|---|---|"
     for kind in $kinds $mixes; do
         row "instructions: ${name[$kind]}" "$(whole_instructions "$kind" "$program" replay)" "$(beside whole_instructions "$kind")"
+    done
+    for kind in $mixes; do
+        row "misses of the instruction cache: ${name[$kind]}" "$(whole_misses "$kind" "$program" replay)" "$(beside whole_misses "$kind")"
     done
     for kind in $kinds; do
         echo "| allocations: ${name[$kind]} | $(each_allocation "$kind" "$program" replay) | $(beside each_allocation "$kind") | |"
