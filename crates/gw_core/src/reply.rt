@@ -16,7 +16,7 @@ ghost use Rattle.gw_core.specs.Reply.{apdu_for, apdu_of, context_of, goes_to_all
 ghost use Rattle.gw_relay.specs.Message.{message_view};
 
 use gw_addr::NetNum;
-use gw_device::{Answer, Context};
+use gw_device::{Answer, Context, HEADER_ROOM};
 use gw_npdu::{AddressRef, Control, Destination, Npdu, Payload, Priority};
 use gw_relay::{Batch, Message, Sends};
 use std::alloc::{AllocError, Global};
@@ -27,12 +27,14 @@ const DEVICE_STATION: u8 = 1;
 const WHOLE_COUNT: u8 = 255;
 /// How many octets of a frame stand before its NPDU (Annex J.2.11, J.2.12).
 const FRAME_HEADER: usize = 4;
-/// An Original-Unicast-NPDU without an NPDU (Annex J.2.11).
-const EMPTY_UNICAST: [u8; FRAME_HEADER] = [0x81, 0x0A, 0x00, 0x04];
+/// The type of a BACnet/IP frame (Annex J.2).
+const BVLL_TYPE: u8 = 0x81;
+/// The function of an Original-Unicast-NPDU (Annex J.2.11).
+const ORIGINAL_UNICAST: u8 = 0x0A;
+/// An Original-Unicast-NPDU without an NPDU.
+const EMPTY_UNICAST: [u8; FRAME_HEADER] = [BVLL_TYPE, ORIGINAL_UNICAST, 0x00, 0x04];
 /// The version of the network layer (clause 6.2.1).
 const NPDU_VERSION: u8 = 1;
-/// How many octets stand before the APDU where the source alone is named: version, control, SNET, SLEN and SADR.
-const LOCAL_HEADER: usize = 6;
 /// How many octets most replies have before the APDU, so that a buffer seldom grows.
 const REPLY_HEADERS: usize = 32;
 
@@ -146,53 +148,22 @@ fn put_frame(out: &mut Vec<u8>) -> Result<(), AllocError>
     out.extend_from_slice(&EMPTY_UNICAST)
 }
 
-/// Appends the NPDU that carries an answer to a node of the port's own network, as most go: its header has one
-/// form. It answers whether that was done: not where it would be over 1497 octets.
-fn put_local_reply(
-    out: &mut Vec<u8>,
-    network: NetNum,
-    priority: Priority,
-    apdu: &[u8],
-) -> Result<bool, AllocError>
-    ensures put { let npdu = local_reply network (priority_of priority) apdu.now in
-        OnOk result (result ≡ Ok true → out.new.items ≡ out.old.items ++ encoding npdu) }
-    ensures within { let npdu = local_reply network (priority_of priority) apdu.now in
-        result ≡ Ok true → length (encoding npdu) ≤ max_len }
-    ensures no_room { let npdu = local_reply network (priority_of priority) apdu.now in
-        result ≡ Ok false → max_len < length (encoding npdu) }
-{
-    if apdu.len() > gw_npdu::MAX_LEN - LOCAL_HEADER {
-        return Ok(false);
-    }
-    let [high, low] = network.get().to_be_bytes();
-    let control = Control::SOURCE.0 + priority.number();
-    out.extend_from_slice(&[NPDU_VERSION, control, high, low, 1, DEVICE_STATION])?;
-    out.extend_from_slice(apdu)?;
-    Ok(true)
-}
-
 /// Appends the NPDU that carries an answer back. It answers whether that was done: not where it
 /// would be over 1497 octets.
-fn put_reply(
+fn put_npdu(
     out: &mut Vec<u8>,
     network: NetNum,
-    message: &Message<'_>,
+    request: &Npdu<'_>,
     answer: &Answer,
 ) -> Result<bool, AllocError>
-    ensures put { let request = npdu_view message.now.npdu in
-        let npdu = reply_npdu network request (answer_view answer.now) in
+    ensures put { let npdu = reply_npdu network (npdu_view request.now) (answer_view answer.now) in
         OnOk result (result ≡ Ok true → out.new.items ≡ out.old.items ++ encoding npdu) }
-    ensures within { let request = npdu_view message.now.npdu in
-        let npdu = reply_npdu network request (answer_view answer.now) in
+    ensures within { let npdu = reply_npdu network (npdu_view request.now) (answer_view answer.now) in
         result ≡ Ok true → length (encoding npdu) ≤ max_len }
-    ensures no_room { let request = npdu_view message.now.npdu in
-        let npdu = reply_npdu network request (answer_view answer.now) in
+    ensures no_room { let npdu = reply_npdu network (npdu_view request.now) (answer_view answer.now) in
         result ≡ Ok false → max_len < length (encoding npdu) }
 {
-    if message.npdu.source.is_none() {
-        return put_local_reply(out, network, message.npdu.priority, &answer.apdu);
-    }
-    let npdu = reply_npdu(network, &message.npdu, &answer.apdu, answer.broadcast);
+    let npdu = reply_npdu(network, request, answer.apdu(), answer.broadcast);
     match gw_npdu::encode(&npdu, out) {
         Ok(()) => Ok(true),
         Err(gw_npdu::EncodeFault::TooLong) => Ok(false),
@@ -211,103 +182,132 @@ fn put_length(frame: &mut [u8])
     frame[2..4].copy_from_slice(&len);
 }
 
-/// The datagram of an answer to one address, in one buffer: the frame's header, the NPDU and its
-/// APDU. None where the NPDU would be over 1497 octets.
-fn unicast_octets(
+/// The datagram of an answer to a node behind a router, in a buffer of its own. None where the NPDU would be over
+/// 1497 octets.
+fn routed_octets(
     alloc: Global,
     network: NetNum,
-    message: &Message<'_>,
+    request: &Npdu<'_>,
     answer: &Answer,
 ) -> Result<Option<Vec<u8>>, AllocError>
-    ensures { let npdu = reply_npdu network (npdu_view message.now.npdu) (answer_view answer.now) in
+    ensures { let npdu = reply_npdu network (npdu_view request.now) (answer_view answer.now) in
         IfOk result (λ made. option_map (λ v. v.items) made
         ≡ option_map (λ octets. bvll_encoding (original_unicast octets)) (npdu_octets npdu)) }
 {
-    let mut octets = Vec::with_capacity(alloc, REPLY_HEADERS + answer.apdu.len())?;
+    let mut octets = Vec::with_capacity(alloc, REPLY_HEADERS + answer.octets.len())?;
     put_frame(&mut octets)?;
-    if !put_reply(&mut octets, network, message, answer)? {
+    if !put_npdu(&mut octets, network, request, answer)? {
         return Ok(None);
     }
     put_length(octets.as_mut_slice());
     Ok(Some(octets))
 }
 
-/// The datagram of an answer to where the message came from.
-fn unicast_sends(
-    alloc: Global,
-    network: NetNum,
-    message: &Message<'_>,
-    answer: &Answer,
-) -> Result<Sends, AllocError>
-    ensures { let m = message_view message.now in
-        let npdu = reply_npdu network m.npdu (answer_view answer.now) in
-        IfOk result (λ sends. sends ≡ unicast m.here.port.number m.link npdu) }
+/// Writes the headers of an answer to a node of the port's own network into the room before its APDU: those of an
+/// Original-Unicast-NPDU (Annex J.2.11) and of an NPDU that names its source alone (clause 6.2.2).
+fn put_local_headers(octets: &mut [u8], network: NetNum, priority: Priority)
+    requires least { 10 ≤ length octets.old }
+    requires most { length octets.old < 2 ^ 16 }
+    ensures { let npdu = local_reply network (priority_of priority) (drop 10 octets.old) in
+        octets.new ≡ bvll_encoding (original_unicast (encoding npdu)) }
 {
-    match unicast_octets(alloc, network, message, answer)? {
-        Some(octets) => Sends::of(
-            alloc,
-            Batch::to_one(message.here.port.number, message.link(), octets),
-        ),
-        None => Ok(Sends::new(alloc)),
-    }
+    let [len_high, len_low] = (octets.len() as u16).to_be_bytes();
+    let [network_high, network_low] = network.get().to_be_bytes();
+    let control = Control::SOURCE.0 + priority.number();
+    octets[..HEADER_ROOM].copy_from_slice(&[
+        BVLL_TYPE,
+        ORIGINAL_UNICAST,
+        len_high,
+        len_low,
+        NPDU_VERSION,
+        control,
+        network_high,
+        network_low,
+        1,
+        DEVICE_STATION,
+    ]);
 }
 
-/// The datagrams of an answer to everyone on the port's network.
-fn broadcast_sends(
+/// The datagram of an answer to a node of the port's own network, in the answer's buffer. None where the NPDU would be
+/// over 1497 octets.
+fn local_octets(network: NetNum, priority: Priority, answer: Answer) -> Option<Vec<u8>>
+    ensures { let npdu = local_reply network (priority_of priority) (answer_view answer).apdu in
+        option_map (λ v. v.items) result
+        ≡ option_map (λ octets. bvll_encoding (original_unicast octets)) (npdu_octets npdu) }
+{
+    let mut octets = answer.octets;
+    if octets.len() > FRAME_HEADER + gw_npdu::MAX_LEN {
+        return None;
+    }
+    put_local_headers(octets.as_mut_slice(), network, priority);
+    Some(octets)
+}
+
+/// The datagram of an answer to one address: the frame's header, the NPDU and its APDU. None where the NPDU would be
+/// over 1497 octets.
+fn reply_octets(
     alloc: Global,
     network: NetNum,
-    message: &Message<'_>,
-    answer: &Answer,
-) -> Result<Sends, AllocError>
-    ensures { let m = message_view message.now in
-        let npdu = reply_npdu network m.npdu (answer_view answer.now) in
-        IfOk result (λ sends. sends ≡ broadcast npdu m.here) }
+    request: &Npdu<'_>,
+    answer: Answer,
+) -> Result<Option<Vec<u8>>, AllocError>
+    ensures { let npdu = reply_npdu network (npdu_view request.now) (answer_view answer) in
+        IfOk result (λ made. option_map (λ v. v.items) made
+        ≡ option_map (λ octets. bvll_encoding (original_unicast octets)) (npdu_octets npdu)) }
 {
-    let mut npdu = Vec::with_capacity(alloc, REPLY_HEADERS + answer.apdu.len())?;
-    if !put_reply(&mut npdu, network, message, answer)? {
-        return Ok(Sends::new(alloc));
+    if request.source.is_none() {
+        return Ok(local_octets(network, request.priority, answer));
     }
-    message.here.spread(alloc, npdu.as_slice())
+    routed_octets(alloc, network, request, &answer)
 }
 
 /// Whether an answer goes to everyone on the port's network.
-fn is_local_broadcast(message: &Message<'_>, answer: &Answer) -> bool
-    ensures { result ≡ is_local_broadcast (npdu_view message.now.npdu) (answer_view answer.now) }
+fn is_local_broadcast(request: &Npdu<'_>, answer: &Answer) -> bool
+    ensures { result ≡ is_local_broadcast (npdu_view request.now) (answer_view answer.now) }
 {
-    answer.broadcast && message.npdu.source.is_none()
+    answer.broadcast && request.source.is_none()
 }
 
-/// The sends of an answer to a message.
-fn reply_sends(
+/// Adds the sends of an answer to a message behind others. An `Err` only where a growth of memory was refused; a part may
+/// then be added.
+fn put_reply(
     alloc: Global,
     network: NetNum,
     message: &Message<'_>,
-    answer: &Answer,
-) -> Result<Sends, AllocError>
-    ensures { let answer = answer_view answer.now in
-        IfOk result (λ sends. sends ≡ reply_sends network (message_view message.now) answer) }
+    answer: Answer,
+    sends: &mut Sends,
+) -> Result<(), AllocError>
+    ensures { let due = reply_sends network (message_view message.now) (answer_view answer) in
+        OnOk result (sends.new ≡ sends.old ++ due) }
 {
-    if is_local_broadcast(message, answer) {
-        broadcast_sends(alloc, network, message, answer)
+    let goes_to_all = is_local_broadcast(&message.npdu, &answer);
+    let Some(octets) = reply_octets(alloc, network, &message.npdu, answer)? else {
+        return Ok(());
+    };
+    if goes_to_all {
+        let spread = message.here.spread(alloc, &octets[FRAME_HEADER..])?;
+        sends.append(spread)
     } else {
-        unicast_sends(alloc, network, message, answer)
+        let port = message.here.port.number;
+        sends.push(Batch::to_one(port, message.link(), octets))
     }
 }
 
-/// The sends of an answer to a message, where there is one. An `Err` only where a growth of memory
-/// was refused, and none without an answer.
-pub fn answer_sends(
+/// Adds the sends of an answer to a message, where there is one, behind others. An `Err` only where a growth of memory
+/// was refused, and none without an answer; a part may then be added.
+pub fn put_answer(
     alloc: Global,
     network: NetNum,
     message: &Message<'_>,
-    answer: &Option<Answer>,
-) -> Result<Sends, AllocError>
-    ensures sends { let due = option_map answer_view answer.now in
-        IfOk result (λ sends. sends ≡ answer_sends network (message_view message.now) due) }
-    ensures silent { answer.now ≡ None → IsOk result }
+    answer: Option<Answer>,
+    sends: &mut Sends,
+) -> Result<(), AllocError>
+    ensures sends { let due = answer_sends network (message_view message.now) (option_map answer_view answer) in
+        OnOk result (sends.new ≡ sends.old ++ due) }
+    ensures silent { answer ≡ None → IsOk result }
 {
     match answer {
-        Some(answer) => reply_sends(alloc, network, message, answer),
-        None => Ok(Sends::new(alloc)),
+        Some(answer) => put_reply(alloc, network, message, answer, sends),
+        None => Ok(()),
     }
 }

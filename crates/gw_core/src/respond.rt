@@ -18,12 +18,12 @@ ghost use Rattle.gw_relay.specs.Message.{message_view};
 ghost use Rattle.gw_core.specs.View.{judged, received_view};
 
 use crate::receive::Received;
-use crate::reply::{answer_sends, apdu_for, context_of};
+use crate::reply::{apdu_for, context_of, put_answer};
 use gw_addr::{BipAddr, NetNum};
 use gw_bvll::Bvll;
 use gw_device::{Change, Device, Reply};
 use gw_npdu::Payload;
-use gw_relay::{CastResponse, Message, PortState, Relay, RelayResponse};
+use gw_relay::{CastResponse, Message, PortState, Relay, RelayResponse, put_refusals};
 use gw_rules::Judge;
 use std::alloc::{AllocError, Global};
 
@@ -139,11 +139,8 @@ fn answer_apdu<J: Judge>(
         refusals,
         change,
     } = device.answer(alloc, judge, &context, apdu)?;
-    given.append(RelayResponse {
-        sends: answer_sends(alloc, network, message, &answer)?,
-        refusals,
-        change: None,
-    })?;
+    put_answer(alloc, network, message, answer, &mut given.sends)?;
+    put_refusals(&mut given.refusals, refusals)?;
     Ok(change)
 }
 

@@ -1,5 +1,5 @@
 -- What the device does about an APDU: what it asks of the policy, what it answers, what it changes.
-use Rattle.std.specs.Prelude.{◌≡◌, ◌<◌, ℕ, IfSome, Bool, true, false, ◌&&◌, nat_le, if◌then◌else◌, List, [], length}
+use Rattle.std.specs.Prelude.{◌≡◌, ◌<◌, ℕ, IfSome, Bool, true, false, ◌&&◌, nat_le, if◌then◌else◌, List, [], ◌∷◌, ◌++◌, length, drop}
 use Rattle.std.specs.Prelude.{Option, Some, None}
 use Rattle.std.specs.Option.{option_map}
 use Rattle.gw_apdu.specs.declared.header.ConfirmedRequest.{ConfirmedRequest}
@@ -12,7 +12,7 @@ use Rattle.gw_rules.specs.declared.rule.Rule.{Rule}
 use Rattle.gw_rules.specs.Ask.{Ask}
 use Rattle.gw_rules.specs.Authorizer.{denied_of}
 use Rattle.gw_device.specs.declared.context.Context.{Context}
-use Rattle.gw_device.specs.declared.reply.Answer.{Answer as RustAnswer}
+use Rattle.gw_device.specs.declared.answer.Answer.{Answer as RustAnswer}
 use Rattle.gw_device.specs.declared.reply.Reply.{Reply}
 
 -- an APDU, and whether it goes to everyone on the requester's network
@@ -20,9 +20,17 @@ pub record Answer : Type 0 where
   pub apdu : List ℕ
   pub broadcast : Bool
 
--- an answer of the code
+-- the octets that an answer keeps for its headers, and which say nothing yet
+abbrev pub header_room : List ℕ
+header_room = 0 ∷ 0 ∷ 0 ∷ 0 ∷ 0 ∷ 0 ∷ 0 ∷ 0 ∷ 0 ∷ 0 ∷ []
+
+-- an APDU behind that room
+abbrev pub with_room : List ℕ → List ℕ
+with_room apdu = header_room ++ apdu
+
+-- an answer of the code: what stands behind the room
 abbrev pub answer_view : RustAnswer → Answer
-answer_view a = record { apdu = a.apdu.items; broadcast = a.broadcast }
+answer_view a = record { apdu = drop 10 a.octets.items; broadcast = a.broadcast }
 
 -- the asks in their order, the answer if there is one, and the write that is made if there is one
 pub record Response : Type 0 where

@@ -40,8 +40,8 @@ fn rejected(alloc: Global, invoke: u8, reason: RejectReason) -> Result<Reply, Al
         IfOk result (IsReply rules (turned_down (reject invoke reason.0))) }
     ensures place { IfOk result (λ reply. reply.change ≡ None) }
 {
-    let apdu = reject(alloc, invoke, reason)?;
-    Ok(Reply::turned_down(alloc, apdu))
+    let octets = reject(alloc, invoke, reason)?;
+    Ok(Reply::turned_down(alloc, octets))
 }
 
 /// An Abort of what is segmented.
@@ -50,8 +50,8 @@ fn aborted(alloc: Global, invoke: u8) -> Result<Reply, AllocError>
         IfOk result (IsReply rules (turned_down (abort invoke segmentation_not_supported))) }
     ensures place { IfOk result (λ reply. reply.change ≡ None) }
 {
-    let apdu = abort(alloc, invoke, AbortReason::SEGMENTATION_NOT_SUPPORTED)?;
-    Ok(Reply::turned_down(alloc, apdu))
+    let octets = abort(alloc, invoke, AbortReason::SEGMENTATION_NOT_SUPPORTED)?;
+    Ok(Reply::turned_down(alloc, octets))
 }
 
 fn read_property<J: Judge>(

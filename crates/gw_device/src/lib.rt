@@ -2,6 +2,7 @@
 //! look-up (ISO 16484-5, clauses 12, 15, 16 and 20).
 #![tactic(auto)]
 
+mod answer;
 mod ask;
 mod asking;
 mod context;
@@ -18,7 +19,8 @@ mod who_has;
 mod who_is;
 mod write;
 
+pub use answer::{Answer, HEADER_ROOM};
 pub use asking::{Asks, NoRules, put_refused};
 pub use context::Context;
 pub use device::Device;
-pub use reply::{Answer, Change, Reply};
+pub use reply::{Change, Reply};

@@ -1,22 +1,22 @@
 //! ReadPropertyMultiple (clause 15.7): the answer is written while it is judged, each error in its
 //! place.
 
-ghost use Rattle.std.specs.Prelude.{◌≡◌, ◌++◌, List, map, None, IfOk, OnOk};
+ghost use Rattle.std.specs.Prelude.{◌≡◌, ◌≤◌, ◌++◌, List, map, vec_len, None, IfOk, OnOk};
 ghost use Rattle.gw_rules.specs.declared.rule.Rule.{Rule};
 ghost use Rattle.gw_rules.specs.Authorizer.{denied_of};
 ghost use Rattle.gw_objects.specs.Objects.{type_at};
 ghost use Rattle.gw_objects.specs.Table.{read_of};
 ghost use Rattle.gw_services.specs.Multi.{multi_view, reference_view};
 ghost use Rattle.gw_tags.specs.Object.{object_view};
-ghost use Rattle.gw_device.specs.Multi.{item, members_part, multi_ask, multi_part, multi_response, named_part, properties_part, property_part, reference_part, set_part};
+ghost use Rattle.gw_device.specs.Multi.{item, members_part, multi_ack, multi_ask, multi_part, multi_response, named_part, properties_part, property_part, reference_part, set_part};
 ghost use Rattle.gw_device.specs.Read.{or_error};
-ghost use Rattle.gw_device.specs.Response.{IsReply};
+ghost use Rattle.gw_device.specs.Response.{IsReply, fitted, with_room};
 ghost use Rattle.gw_device.specs.Services.{set_of};
 
 use crate::ask::{named_object, property_ask};
 use crate::error::{READ_DENIED, UNKNOWN_OBJECT, read_error};
 use crate::services::set_of;
-use crate::short::{first_room, fit};
+use crate::short::{begin_apdu, first_room, fit};
 use crate::{Answer, Context, Reply};
 use gw_apdu::{ConfirmedRequest, write_complex};
 use gw_objects::{ObjectDb, Property, PropertySet, properties};
@@ -55,8 +55,9 @@ fn put_item(
     index: Option<u32>,
     out: &mut Vec<u8>,
 ) -> Result<(), AllocError>
-    ensures { let found = read_of objects.now (object_view object) property index in
+    ensures octets { let found = read_of objects.now (object_view object) property index in
         OnOk result (out.new.items ≡ out.old.items ++ item property index (or_error found)) }
+    ensures longer { OnOk result (vec_len out.old ≤ vec_len out.new) }
 {
     let len = out.len();
     write_value_item_head(out, property, index)?;
@@ -90,6 +91,7 @@ fn put_property<J: Judge>(
         OnOk result (authorizer.new.denied
         ≡ authorizer.old.denied ++ denied_of rules part.asks) }
     ensures judge { authorizer.new.judge ≡ authorizer.old.judge }
+    ensures longer { OnOk result (vec_len out.old ≤ vec_len out.new) }
 {
     let ask = multi_ask(objects, context, object, property);
     if authorizer.authorize(&ask)? {
@@ -118,6 +120,7 @@ fn put_properties<J: Judge>(
         OnOk result (authorizer.new.denied
         ≡ authorizer.old.denied ++ denied_of rules part.asks) }
     ensures judge { authorizer.new.judge ≡ authorizer.old.judge }
+    ensures longer { OnOk result (vec_len out.old ≤ vec_len out.new) }
 {
     let Some((first, others)) = properties.split_first() else {
         return Ok(());
@@ -156,6 +159,7 @@ fn put_members<J: Judge>(
         OnOk result (authorizer.new.denied
         ≡ authorizer.old.denied ++ denied_of rules part.asks) }
     ensures judge { authorizer.new.judge ≡ authorizer.old.judge }
+    ensures longer { OnOk result (vec_len out.old ≤ vec_len out.new) }
 {
     match objects.find(object) {
         Some(kind) => put_properties(
@@ -190,6 +194,7 @@ fn put_set<J: Judge>(
         OnOk result (authorizer.new.denied
         ≡ authorizer.old.denied ++ denied_of rules part.asks) }
     ensures judge { authorizer.new.judge ≡ authorizer.old.judge }
+    ensures longer { OnOk result (vec_len out.old ≤ vec_len out.new) }
 {
     let ask = multi_ask(objects, context, object, property);
     if authorizer.authorize(&ask)? {
@@ -221,6 +226,7 @@ fn put_named<J: Judge>(
         OnOk result (authorizer.new.denied
         ≡ authorizer.old.denied ++ denied_of rules part.asks) }
     ensures judge { authorizer.new.judge ≡ authorizer.old.judge }
+    ensures longer { OnOk result (vec_len out.old ≤ vec_len out.new) }
 {
     match set_of(property) {
         Some(set) => put_set(objects, authorizer, context, object, property, set, out),
@@ -247,6 +253,7 @@ fn put_reference<J: Judge>(
         OnOk result (authorizer.new.denied
         ≡ authorizer.old.denied ++ denied_of rules part.asks) }
     ensures judge { authorizer.new.judge ≡ authorizer.old.judge }
+    ensures longer { OnOk result (vec_len out.old ≤ vec_len out.new) }
 {
     let object = named_object(objects.configured(), reference.object);
     write_list_head(out, reference.begins, object)?;
@@ -278,12 +285,39 @@ fn put_references<J: Judge>(
         OnOk result (authorizer.new.denied
         ≡ authorizer.old.denied ++ denied_of rules part.asks) }
     ensures judge { authorizer.new.judge ≡ authorizer.old.judge }
+    ensures longer { OnOk result (vec_len out.old ≤ vec_len out.new) }
 {
     let Some((first, others)) = references.split_first() else {
         return Ok(());
     };
     put_reference(objects, authorizer, context, first, list_ends(others), out)?;
     put_references(objects, authorizer, context, others, out)
+}
+
+/// The answer to a ReadPropertyMultiple, behind the room for headers.
+fn multi_apdu<J: Judge>(
+    alloc: Global,
+    objects: &ObjectDb,
+    authorizer: &mut Authorizer<'_, J>,
+    context: &Context,
+    header: &ConfirmedRequest,
+    references: &[Reference],
+) -> Result<Vec<u8>, AllocError>
+    ensures apdu { (rules : List Rule) → J.StandsFor authorizer.old.judge rules →
+        let part = multi_part rules objects.now context.now (map reference_view references.now) in
+        let ack = multi_ack header.now.invoke part.octets in
+        IfOk result (λ octets. octets.items ≡ with_room (fitted header.now context.now ack)) }
+    ensures denied { (rules : List Rule) → J.StandsFor authorizer.old.judge rules →
+        let part = multi_part rules objects.now context.now (map reference_view references.now) in
+        OnOk result (authorizer.new.denied
+        ≡ authorizer.old.denied ++ denied_of rules part.asks) }
+    ensures room { IfOk result (λ octets. 10 ≤ vec_len octets) }
+{
+    let mut octets = begin_apdu(alloc, first_room(header, context))?;
+    write_complex(&mut octets, header.invoke, READ_PROPERTY_MULTIPLE)?;
+    put_references(objects, authorizer, context, references, &mut octets)?;
+    fit(&mut octets, header, context)?;
+    Ok(octets)
 }
 
 /// What the device gives to a ReadPropertyMultiple (clause 15.7). `AllocError` where memory was
@@ -302,19 +336,11 @@ pub(crate) fn read_multiple<J: Judge>(
     ensures place { IfOk result (λ reply. reply.change ≡ None) }
 {
     let mut authorizer = Authorizer::new(alloc, judge);
-    let mut apdu = Vec::with_capacity(alloc, first_room(header, context))?;
-    write_complex(&mut apdu, header.invoke, READ_PROPERTY_MULTIPLE)?;
-    put_references(
-        objects,
-        &mut authorizer,
-        context,
-        request.references.as_slice(),
-        &mut apdu,
-    )?;
-    fit(&mut apdu, header, context)?;
+    let references = request.references.as_slice();
+    let octets = multi_apdu(alloc, objects, &mut authorizer, context, header, references)?;
     Ok(Reply {
         answer: Some(Answer {
-            apdu,
+            octets,
             broadcast: false,
         }),
         refusals: authorizer.into_refusals(),

@@ -1,18 +1,18 @@
 //! ReadProperty (clause 15.5).
 
-ghost use Rattle.std.specs.Prelude.{None, ◌≡◌, ◌++◌, ◌∷◌, [], List, IfOk, OnOk};
+ghost use Rattle.std.specs.Prelude.{None, ◌≡◌, ◌≤◌, ◌++◌, ◌∷◌, [], List, vec_len, IfOk, OnOk};
 ghost use Rattle.gw_rules.specs.declared.rule.Rule.{Rule};
 ghost use Rattle.gw_rules.specs.Authorizer.{denied_of};
 ghost use Rattle.gw_services.specs.Read.{read_view};
 ghost use Rattle.gw_objects.specs.Table.{read_of};
 ghost use Rattle.gw_tags.specs.Object.{object_view};
 ghost use Rattle.gw_device.specs.Read.{named_read, or_error, plain_read_response, read_ack, read_answer, read_ask, read_response, read_value};
-ghost use Rattle.gw_device.specs.Response.{IsReply};
+ghost use Rattle.gw_device.specs.Response.{IsReply, with_room};
 
 use crate::ask::{named_object, property_ask};
 use crate::error::{READ_DENIED, read_error};
-use crate::short::{error, first_room, fit};
-use crate::{Answer, Context, Reply};
+use crate::short::{begin_apdu, error, first_room, fit};
+use crate::{Answer, Context, HEADER_ROOM, Reply};
 use gw_apdu::{ConfirmedRequest, write_complex, write_error};
 use gw_objects::ObjectDb;
 use gw_rules::{Ask, Authorizer, Judge, Operation, Service};
@@ -52,25 +52,25 @@ fn value_apdu(
     header: &ConfirmedRequest,
     request: &ReadReq,
 ) -> Result<Vec<u8>, AllocError>
-    ensures { let read = read_view request.now in IfOk result (λ apdu. apdu.items
-        ≡ read_answer header.now context.now read
-        (or_error (read_of objects.now read.object read.property read.index))) }
+    ensures apdu { let read = read_view request.now in IfOk result (λ octets. octets.items
+        ≡ with_room (read_answer header.now context.now read
+        (or_error (read_of objects.now read.object read.property read.index)))) }
 {
-    let mut apdu = Vec::with_capacity(alloc, first_room(header, context))?;
-    write_complex(&mut apdu, header.invoke, READ_PROPERTY)?;
-    write_read_answer_head(&mut apdu, request)?;
-    match objects.read(request.object, request.property, request.index, &mut apdu) {
+    let mut octets = begin_apdu(alloc, first_room(header, context))?;
+    write_complex(&mut octets, header.invoke, READ_PROPERTY)?;
+    write_read_answer_head(&mut octets, request)?;
+    match objects.read(request.object, request.property, request.index, &mut octets) {
         Ok(()) => {
-            write_read_answer_tail(&mut apdu)?;
-            fit(&mut apdu, header, context)?;
+            write_read_answer_tail(&mut octets)?;
+            fit(&mut octets, header, context)?;
         }
         Err(fault) => {
             let why = read_error(fault)?;
-            apdu.clear();
-            write_error(&mut apdu, header.invoke, READ_PROPERTY, why)?;
+            octets.truncate(HEADER_ROOM);
+            write_error(&mut octets, header.invoke, READ_PROPERTY, why)?;
         }
     }
-    Ok(apdu)
+    Ok(octets)
 }
 
 /// The answer to a read: the policy is asked before any look-up.
@@ -86,10 +86,11 @@ fn read_apdu<J: Judge>(
         let read = read_view request.now in
         let ask = read_ask objects.now context.now read in
         let value = read_value rules objects.now ask read.object read.property read.index in
-        IfOk result (λ apdu. apdu.items ≡ read_answer header.now context.now read value) }
+        IfOk result (λ octets. octets.items ≡ with_room (read_answer header.now context.now read value)) }
     ensures denied { (rules : List Rule) → J.StandsFor authorizer.old.judge rules →
         let ask = read_ask objects.now context.now (read_view request.now) in
         OnOk result (authorizer.new.denied ≡ authorizer.old.denied ++ denied_of rules (ask ∷ [])) }
+    ensures room { IfOk result (λ octets. 10 ≤ vec_len octets) }
 {
     let ask = read_ask(objects, context, request);
     if authorizer.authorize(&ask)? {
@@ -115,10 +116,10 @@ pub(crate) fn read<J: Judge>(
 {
     let mut authorizer = Authorizer::new(alloc, judge);
     let request = named_read(objects, request);
-    let apdu = read_apdu(alloc, objects, &mut authorizer, context, header, &request)?;
+    let octets = read_apdu(alloc, objects, &mut authorizer, context, header, &request)?;
     Ok(Reply {
         answer: Some(Answer {
-            apdu,
+            octets,
             broadcast: false,
         }),
         refusals: authorizer.into_refusals(),

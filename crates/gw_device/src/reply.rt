@@ -1,22 +1,14 @@
 //! What the device gives to one APDU.
 
-ghost use Rattle.std.specs.Prelude.{◌≡◌, [], None};
+ghost use Rattle.std.specs.Prelude.{◌≡◌, ◌≤◌, [], None, drop, vec_len};
 ghost use Rattle.std.specs.Option.{option_map};
 ghost use Rattle.gw_device.specs.Response.{answer_view, to_client};
 
+use crate::Answer;
 use gw_objects::Put;
 use gw_rules::Refusals;
 use std::alloc::Global;
 use std::marker::Model;
-
-/// What the device answers.
-#[derive(Debug, Drop)]
-pub struct Answer {
-    /// The octets of the APDU.
-    pub apdu: Vec<u8>,
-    /// Whether it goes to everyone on the requester's network.
-    pub broadcast: bool,
-}
 
 /// A write that is granted, for [`Device::commit`](crate::Device::commit). Contracts see what it
 /// does, and to which object.
@@ -74,15 +66,17 @@ impl Reply {
         }
     }
 
-    /// The answer to a request that is turned down before anything is asked.
-    pub(crate) fn turned_down(alloc: Global, apdu: Vec<u8>) -> Self
-        ensures answer { option_map answer_view result.answer ≡ to_client apdu.items }
+    /// The answer to a request that is turned down before anything is asked: an APDU behind the room for its
+    /// headers.
+    pub(crate) fn turned_down(alloc: Global, octets: Vec<u8>) -> Self
+        requires { 10 ≤ vec_len octets }
+        ensures answer { option_map answer_view result.answer ≡ to_client (drop 10 octets.items) }
         ensures refusals { result.refusals ≡ [] }
         ensures change { result.change ≡ None }
     {
         Reply {
             answer: Some(Answer {
-                apdu,
+                octets,
                 broadcast: false,
             }),
             refusals: Refusals::new(alloc),

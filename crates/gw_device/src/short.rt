@@ -1,10 +1,11 @@
 //! Short answers: errors, rejects and aborts, and the abort in the place of what is too long.
 
-ghost use Rattle.std.specs.Prelude.{◌≡◌, ℕ, List, length, IfOk, OnOk};
+ghost use Rattle.std.specs.Prelude.{◌≡◌, ◌≤◌, ℕ, List, length, vec_len, IfOk, OnOk};
 ghost use Rattle.gw_apdu.specs.Answers.{abort, error, reject, simple_ack};
-ghost use Rattle.gw_device.specs.Response.{fits, fitted};
+ghost use Rattle.gw_device.specs.Response.{fits, fitted, header_room, with_room};
 
-use crate::Context;
+use crate::{Context, HEADER_ROOM};
+use gw_addr::put_slice;
 use gw_apdu::{
     AbortReason, ConfirmedRequest, RejectReason, ServiceError, write_abort, write_error,
     write_reject, write_simple,
@@ -16,45 +17,55 @@ const MOST_OCTETS: usize = 9;
 /// How many octets an answer with values has room for at first, so that the allocator serves it quickly; it grows where it has more.
 const FIRST_ROOM: usize = 480;
 
-/// The octets of an Error. `AllocError` where memory was refused.
+/// A buffer with the room for headers, and with memory for an APDU of so many octets. `AllocError` where it was
+/// refused.
+pub(crate) fn begin_apdu(alloc: Global, apdu_len: usize) -> Result<Vec<u8>, AllocError>
+    ensures { IfOk result (λ octets. octets.items ≡ header_room) }
+{
+    let mut octets = Vec::with_capacity(alloc, apdu_len.saturating_add(HEADER_ROOM))?;
+    put_slice(&mut octets, &[0; HEADER_ROOM])?;
+    Ok(octets)
+}
+
+/// The octets of an Error, behind the room for headers. `AllocError` where memory was refused.
 pub(crate) fn error(
     alloc: Global,
     invoke: u8,
     service: u8,
     why: ServiceError,
 ) -> Result<Vec<u8>, AllocError>
-    ensures { IfOk result (λ apdu. apdu.items ≡ error invoke service why) }
+    ensures { IfOk result (λ octets. octets.items ≡ with_room (error invoke service why)) }
 {
-    let mut apdu = Vec::with_capacity(alloc, MOST_OCTETS)?;
-    write_error(&mut apdu, invoke, service, why)?;
-    Ok(apdu)
+    let mut octets = begin_apdu(alloc, MOST_OCTETS)?;
+    write_error(&mut octets, invoke, service, why)?;
+    Ok(octets)
 }
 
-/// The octets of a Reject. `AllocError` where memory was refused.
+/// The octets of a Reject, behind the room for headers. `AllocError` where memory was refused.
 pub(crate) fn reject(alloc: Global, invoke: u8, reason: RejectReason) -> Result<Vec<u8>, AllocError>
-    ensures { IfOk result (λ apdu. apdu.items ≡ reject invoke reason.0) }
+    ensures { IfOk result (λ octets. octets.items ≡ with_room (reject invoke reason.0)) }
 {
-    let mut apdu = Vec::with_capacity(alloc, MOST_OCTETS)?;
-    write_reject(&mut apdu, invoke, reason)?;
-    Ok(apdu)
+    let mut octets = begin_apdu(alloc, MOST_OCTETS)?;
+    write_reject(&mut octets, invoke, reason)?;
+    Ok(octets)
 }
 
-/// The octets of an Abort. `AllocError` where memory was refused.
+/// The octets of an Abort, behind the room for headers. `AllocError` where memory was refused.
 pub(crate) fn abort(alloc: Global, invoke: u8, reason: AbortReason) -> Result<Vec<u8>, AllocError>
-    ensures { IfOk result (λ apdu. apdu.items ≡ abort invoke reason.0) }
+    ensures { IfOk result (λ octets. octets.items ≡ with_room (abort invoke reason.0)) }
 {
-    let mut apdu = Vec::with_capacity(alloc, MOST_OCTETS)?;
-    write_abort(&mut apdu, invoke, reason)?;
-    Ok(apdu)
+    let mut octets = begin_apdu(alloc, MOST_OCTETS)?;
+    write_abort(&mut octets, invoke, reason)?;
+    Ok(octets)
 }
 
-/// The octets of a SimpleACK. `AllocError` where memory was refused.
+/// The octets of a SimpleACK, behind the room for headers. `AllocError` where memory was refused.
 pub(crate) fn simple_ack(alloc: Global, invoke: u8, service: u8) -> Result<Vec<u8>, AllocError>
-    ensures { IfOk result (λ apdu. apdu.items ≡ simple_ack invoke service) }
+    ensures { IfOk result (λ octets. octets.items ≡ with_room (simple_ack invoke service)) }
 {
-    let mut apdu = Vec::with_capacity(alloc, MOST_OCTETS)?;
-    write_simple(&mut apdu, invoke, service)?;
-    Ok(apdu)
+    let mut octets = begin_apdu(alloc, MOST_OCTETS)?;
+    write_simple(&mut octets, invoke, service)?;
+    Ok(octets)
 }
 
 /// How many octets a ComplexACK has room for at first: as many as most answers have.
@@ -69,21 +80,24 @@ fn fits(request: &ConfirmedRequest, context: &Context, len: usize) -> bool
     len <= request.max_apdu_len() && len <= context.room
 }
 
-/// Puts an Abort in the place of a ComplexACK that is too long. `AllocError` where memory was
-/// refused.
+/// Puts an Abort in the place of a ComplexACK that is too long; the room for headers stays. `AllocError` where memory
+/// was refused.
 pub(crate) fn fit(
-    apdu: &mut Vec<u8>,
+    octets: &mut Vec<u8>,
     request: &ConfirmedRequest,
     context: &Context,
 ) -> Result<(), AllocError>
-    ensures { OnOk result (apdu.new.items ≡ fitted request.now context.now apdu.old.items) }
+    requires { 10 ≤ vec_len octets.old }
+    ensures fitted { (ack : List ℕ) → octets.old.items ≡ with_room ack →
+        OnOk result (octets.new.items ≡ with_room (fitted request.now context.now ack)) }
+    ensures room { OnOk result (10 ≤ vec_len octets.new) }
 {
-    if fits(request, context, apdu.len()) {
+    if fits(request, context, octets.len() - HEADER_ROOM) {
         return Ok(());
     }
-    apdu.clear();
+    octets.truncate(HEADER_ROOM);
     write_abort(
-        apdu,
+        octets,
         request.invoke,
         AbortReason::SEGMENTATION_NOT_SUPPORTED,
     )

@@ -8,11 +8,12 @@ ghost use Rattle.gw_rules.specs.RuleList.{allows};
 ghost use Rattle.gw_objects.specs.Objects.{name_at};
 ghost use Rattle.gw_services.specs.WhoHas.{sought_view, who_has_view};
 ghost use Rattle.gw_tags.specs.Object.{object_view};
-ghost use Rattle.gw_device.specs.Response.{IsReply, answer_view, told};
+ghost use Rattle.gw_device.specs.Response.{IsReply, answer_view, told, with_room};
 ghost use Rattle.gw_device.specs.WhoHas.{i_have_apdu, object_response, sought_object, who_has_ask, who_has_response};
 ghost use Rattle.gw_device.specs.WhoIs.{if_allowed};
 
 use crate::ask::property_ask;
+use crate::short::begin_apdu;
 use crate::who_is::{is_within, put_unconfirmed};
 use crate::{Answer, Context, Reply};
 use gw_objects::{Configured, ObjectDb, Property};
@@ -51,7 +52,7 @@ fn who_has_ask(configured: &Configured, context: &Context, object: ObjectId) -> 
     )
 }
 
-/// The I-Have of an object of that name.
+/// The I-Have of an object of that name, behind the room for headers.
 fn i_have_apdu(
     alloc: Global,
     configured: &Configured,
@@ -59,11 +60,11 @@ fn i_have_apdu(
     name: &str,
 ) -> Result<Vec<u8>, AllocError>
     requires { length name.now ≤ 255 }
-    ensures { IfOk result (λ apdu. apdu.items
-        ≡ i_have_apdu configured.now (object_view object) name.now) }
+    ensures { IfOk result (λ octets. octets.items
+        ≡ with_room (i_have_apdu configured.now (object_view object) name.now)) }
 {
-    let mut apdu = Vec::with_capacity(alloc, MOST_OCTETS + name.len())?;
-    put_unconfirmed(&mut apdu, I_HAVE)?;
+    let mut octets = begin_apdu(alloc, MOST_OCTETS + name.len())?;
+    put_unconfirmed(&mut octets, I_HAVE)?;
     let announced = IHave {
         device: configured.device_id(),
         object,
@@ -72,8 +73,8 @@ fn i_have_apdu(
             octets: name.as_bytes(),
         },
     };
-    encode_i_have(&announced, &mut apdu)?;
-    Ok(apdu)
+    encode_i_have(&announced, &mut octets)?;
+    Ok(octets)
 }
 
 /// The answer about an object that may be told of, where it is there.
@@ -90,9 +91,9 @@ fn object_answer(
     let Some(name) = objects.name(object) else {
         return Ok(None);
     };
-    let apdu = i_have_apdu(alloc, objects.configured(), object, name.as_str())?;
+    let octets = i_have_apdu(alloc, objects.configured(), object, name.as_str())?;
     Ok(Some(Answer {
-        apdu,
+        octets,
         broadcast: true,
     }))
 }

@@ -4,10 +4,11 @@ ghost use Rattle.std.specs.Prelude.{None, ◌≡◌, ◌++◌, ◌∷◌, [], Li
 ghost use Rattle.std.specs.Option.{option_map};
 ghost use Rattle.gw_rules.specs.declared.rule.Rule.{Rule};
 ghost use Rattle.gw_services.specs.WhoIs.{limits_view, who_is_view};
-ghost use Rattle.gw_device.specs.Response.{IsReply};
+ghost use Rattle.gw_device.specs.Response.{IsReply, with_room};
 ghost use Rattle.gw_device.specs.WhoIs.{i_am_apdu, is_within, unconfirmed, who_is_ask, who_is_response};
 
 use crate::ask::property_ask;
+use crate::short::begin_apdu;
 use crate::{Answer, Context, Reply};
 use gw_addr::put_slice;
 use gw_objects::{Configured, ObjectDb, Property};
@@ -54,20 +55,20 @@ fn who_is_ask(configured: &Configured, context: &Context) -> Ask
     )
 }
 
-/// The I-Am of the device.
+/// The I-Am of the device, behind the room for headers.
 fn i_am_apdu(alloc: Global, configured: &Configured) -> Result<Vec<u8>, AllocError>
-    ensures { IfOk result (λ apdu. apdu.items ≡ i_am_apdu configured.now) }
+    ensures { IfOk result (λ octets. octets.items ≡ with_room (i_am_apdu configured.now)) }
 {
-    let mut apdu = Vec::with_capacity(alloc, MOST_OCTETS)?;
-    put_unconfirmed(&mut apdu, I_AM)?;
+    let mut octets = begin_apdu(alloc, MOST_OCTETS)?;
+    put_unconfirmed(&mut octets, I_AM)?;
     let announced = IAm {
         device: configured.device_id(),
         max_apdu: LONGEST_APDU,
         segmentation: Segmentation::None,
         vendor: configured.device.vendor,
     };
-    encode_i_am(&announced, &mut apdu)?;
-    Ok(apdu)
+    encode_i_am(&announced, &mut octets)?;
+    Ok(octets)
 }
 
 /// What the device gives to a Who-Is (clause 16.10). `AllocError` where memory was refused.
@@ -93,7 +94,7 @@ pub(crate) fn who_is<J: Judge>(
     let mut authorizer = Authorizer::new(alloc, judge);
     let answer = if authorizer.authorize(&who_is_ask(configured, context))? {
         Some(Answer {
-            apdu: i_am_apdu(alloc, configured)?,
+            octets: i_am_apdu(alloc, configured)?,
             broadcast: true,
         })
     } else {

@@ -8,7 +8,7 @@ ghost use Rattle.gw_services.specs.Limits.{priority_of};
 ghost use Rattle.gw_services.specs.Write.{write_view};
 ghost use Rattle.gw_objects.specs.Write.{write_of};
 ghost use Rattle.gw_device.specs.Write.{or_error, write_answer, write_ask, write_decision, write_response};
-ghost use Rattle.gw_device.specs.Response.{HasPlace, IsReply};
+ghost use Rattle.gw_device.specs.Response.{HasPlace, IsReply, with_room};
 
 use crate::ask::property_ask;
 use crate::error::{WRITE_DENIED, write_error};
@@ -89,9 +89,9 @@ fn decide<J: Judge>(
     }
 }
 
-/// The answer to a write.
+/// The answer to a write, behind the room for headers.
 fn write_apdu(alloc: Global, invoke: u8, decision: &Decision) -> Result<Vec<u8>, AllocError>
-    ensures { IfOk result (λ apdu. apdu.items ≡ write_answer invoke decision.now) }
+    ensures { IfOk result (λ octets. octets.items ≡ with_room (write_answer invoke decision.now)) }
 {
     match decision {
         Ok(_) => simple_ack(alloc, invoke, WRITE_PROPERTY),
@@ -115,10 +115,10 @@ pub(crate) fn write<J: Judge>(
 {
     let mut authorizer = Authorizer::new(alloc, judge);
     let decision = decide(alloc, objects, &mut authorizer, context, request)?;
-    let apdu = write_apdu(alloc, invoke, &decision)?;
+    let octets = write_apdu(alloc, invoke, &decision)?;
     Ok(Reply {
         answer: Some(Answer {
-            apdu,
+            octets,
             broadcast: false,
         }),
         refusals: authorizer.into_refusals(),
