@@ -106,6 +106,7 @@ fn npdu_of<'a>(links: &[PortState], device: NetNum, octets: &'a [u8]) -> Option<
 }
 
 /// What a datagram is received as on the port of this number.
+#[inline(always)]
 pub fn receive_on<'a>(
     links: &'a [PortState],
     device: NetNum,
