@@ -1,6 +1,6 @@
 //! The line of a denial, piece by piece behind what a buffer holds.
 
-ghost use Rattle.std.specs.Prelude.{◌≡◌, ◌++◌};
+ghost use Rattle.std.specs.Prelude.{◌≡◌, ◌++◌, decimal};
 ghost use Rattle.gw_addr.specs.Appending.{IsAppended, IsAppendedWhole};
 ghost use Rattle.gw_audit.specs.Line.{ask_text, field_text, line_text, operation_of, operation_text};
 ghost use Rattle.gw_audit.specs.internal.Parts.{asked_text, counts_text, object_text, pieces_text, request_text, rule_text, source_text};
@@ -12,6 +12,9 @@ use std::alloc::AllocError;
 
 /// What stands in the place of a field that the ask doesn't have.
 const ABSENT: &[u8] = b"-";
+
+/// How many digits there are: a number below is one of them.
+const RADIX: u64 = 10;
 
 /// Appends the line of a denial, which shows its number, its tick, its port, the station that the
 /// datagram claims to come from, what was asked, and the rule that denied it.
@@ -67,11 +70,11 @@ fn put_line(out: &mut Vec<u8>, denial: &Denial) -> Result<(), AllocError>
 fn put_counts(out: &mut Vec<u8>, denial: &Denial) -> Result<(), AllocError>
     ensures { IsAppended (counts_text denial.now) out.old out.new result }
 {
-    put_decimal(out, denial.number)?;
+    put_digits(out, denial.number)?;
     put_octet(out, b' ')?;
-    put_decimal(out, denial.tick)?;
+    put_digits(out, denial.tick)?;
     put_octet(out, b' ')?;
-    put_decimal(out, denial.port)?;
+    put_digits(out, u64::from(denial.port))?;
     put_octet(out, b' ')
 }
 
@@ -139,7 +142,19 @@ fn put_field(out: &mut Vec<u8>, label: &[u8], value: Option<u64>) -> Result<(), 
 {
     put_slice(out, label)?;
     match value {
-        Some(number) => put_decimal(out, number),
+        Some(number) => put_digits(out, number),
         None => put_slice(out, ABSENT),
+    }
+}
+
+/// Appends a number in decimal: most in a line have one digit, which is written as it is.
+#[tactic(auto, using(std::proofs::lemmas::Fmt::decimal_digit))]
+fn put_digits(out: &mut Vec<u8>, number: u64) -> Result<(), AllocError>
+    ensures { IsAppended (decimal number) out.old out.new result }
+{
+    if number < RADIX {
+        put_octet(out, b'0' + number as u8)
+    } else {
+        put_decimal(out, number)
     }
 }
