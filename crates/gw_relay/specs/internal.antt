@@ -1,5 +1,6 @@
 -- What only private parts and proofs cite.
 pub mod Targets
+pub mod Batches
 pub mod Octets
 pub mod Grants
 pub mod Ticks

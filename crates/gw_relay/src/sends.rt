@@ -1,13 +1,16 @@
 //! Datagrams to send. A message stands once, whomever it goes to: a broadcast to many addresses
 //! takes the octets of one.
 
-ghost use Rattle.std.specs.Prelude.{◌≡◌, ◌==◌, ◌+◌, ◌^◌, ◌<◌, ◌++◌, ◌∷◌, [], length, IfOk, IsOk, OnOk, OnErr};
+ghost use Rattle.std.specs.Prelude.{◌≡◌, ◌==◌, ◌+◌, ◌^◌, ◌<◌, ◌≤◌, ◌++◌, ◌∷◌, [], length, vec_len, IfOk, IsOk, OnOk, OnErr};
 ghost use Rattle.std.specs.List.{flat_map};
+ghost use Rattle.std.specs.Vec.{vec_capacity};
 ghost use Rattle.gw_relay.specs.Sends.{sendings, sendings_of};
+ghost use Rattle.gw_relay.specs.internal.Batches.{batches_of};
 
 use gw_addr::BipAddr;
 use std::alloc::{AllocError, Global};
 use std::marker::Model;
+use std::mem;
 
 /// Whom a message goes to. One address takes no memory.
 #[derive(Debug, Drop)]
@@ -90,11 +93,67 @@ impl Batch {
     }
 }
 
+/// The messages of a list. One message takes no memory.
+#[derive(Debug, Drop)]
+enum Batches {
+    None,
+    One([Batch; 1]),
+    Many(Vec<Batch>),
+}
+
+impl Batches {
+    /// The messages, lent.
+    fn as_slice(&self) -> &[Batch]
+        ensures { result.now ≡ batches_of self.now }
+    {
+        match self {
+            Batches::None => &[],
+            Batches::One(batch) => batch,
+            Batches::Many(batches) => batches.as_slice(),
+        }
+    }
+
+    /// Adds others behind them. An `Err` where there is no memory for the list: they are as before.
+    #[inline(never)]
+    fn append(&mut self, alloc: Global, others: Batches) -> Result<(), AllocError>
+        ensures ok { OnOk result (batches_of self.new ≡ batches_of self.old ++ batches_of others) }
+        ensures err { OnErr result (batches_of self.new ≡ batches_of self.old) }
+    {
+        if let Batches::Many(all) = self {
+            return others.move_to(all);
+        }
+        let mut all = Vec::with_capacity(alloc, 1 + others.as_slice().len())?;
+        mem::replace(self, Batches::None).move_to(&mut all)?;
+        others.move_to(&mut all)?;
+        *self = Batches::Many(all);
+        Ok(())
+    }
+
+    /// Moves the messages behind those of a list. An `Err` where it has no room and gets no memory:
+    /// it is as before.
+    fn move_to(self, all: &mut Vec<Batch>) -> Result<(), AllocError>
+        ensures ok { OnOk result (all.new.items ≡ all.old.items ++ batches_of self) }
+        ensures err { OnErr result (all.new.items ≡ all.old.items) }
+        ensures room { vec_len all.old + length (batches_of self) ≤ vec_capacity all.old → IsOk result }
+        ensures capacity { vec_capacity all.old ≤ vec_capacity all.new }
+    {
+        match self {
+            Batches::None => Ok(()),
+            Batches::One([batch]) => {
+                all.push(batch)?;
+                Ok(())
+            }
+            Batches::Many(mut batches) => all.append(&mut batches),
+        }
+    }
+}
+
 /// Datagrams to send, in order, at most 2^64 - 1. Contracts see the list of them, each with its
-/// port, address and octets.
+/// port, address and octets. One message takes no memory.
 #[derive(Debug, Drop)]
 pub struct Sends {
-    batches: Vec<Batch>,
+    alloc: Global,
+    batches: Batches,
     count: u64,
 }
 
@@ -105,9 +164,11 @@ impl Model for Sends {
 
     ghost Value = { List Sending };
 
-    ghost view = { λ s. flat_map sendings_of s.batches.items };
+    ghost use Rattle.gw_relay.specs.internal.Batches.{batches_of};
 
-    ghost invariant = { λ s. (s.count ≡ length (flat_map sendings_of s.batches.items)) × (s.count < 2 ^ 64) };
+    ghost view = { λ s. flat_map sendings_of (batches_of s.batches) };
+
+    ghost invariant = { λ s. (s.count ≡ length (flat_map sendings_of (batches_of s.batches))) × (s.count < 2 ^ 64) };
 }
 
 impl Sends {
@@ -116,20 +177,18 @@ impl Sends {
         ensures { result ≡ [] }
     {
         Sends {
-            batches: Vec::new(alloc),
+            alloc,
+            batches: Batches::None,
             count: 0,
         }
     }
 
-    /// The datagrams of one message. An `Err` where there is no memory for the list.
+    /// The datagrams of one message. It takes no memory.
     #[inline(always)]
     pub fn of(alloc: Global, batch: Batch) -> Result<Self, AllocError>
         ensures { IfOk result (λ sends. sends ≡ sendings_of batch) }
     {
-        let mut sends = Sends {
-            batches: Vec::with_capacity(alloc, 1)?,
-            count: 0,
-        };
+        let mut sends = Sends::new(alloc);
         sends.push(batch)?;
         Ok(sends)
     }
@@ -143,7 +202,8 @@ impl Sends {
 
     /// Adds the datagrams of a message behind the others; one that goes to nobody is let go. An
     /// `Err` where there is no memory for the list, or where there would be more than 2^64 - 1
-    /// datagrams, which no memory holds: they are as before.
+    /// datagrams, which no memory holds: they are as before. Where there were none before, it takes no
+    /// memory.
     #[inline(always)]
     pub fn push(&mut self, batch: Batch) -> Result<(), AllocError>
         ensures ok { OnOk result (self.new ≡ self.old ++ sendings_of batch) }
@@ -153,7 +213,12 @@ impl Sends {
             return Ok(());
         }
         let count = sum(self.len(), batch.targets().len() as u64)?;
-        self.batches.push(batch)?;
+        let batch = Batches::One([batch]);
+        if self.len() == 0 {
+            self.batches = batch;
+        } else {
+            self.batches.append(self.alloc, batch)?;
+        }
         self.count = count;
         Ok(())
     }
@@ -175,8 +240,7 @@ impl Sends {
             return Ok(());
         }
         let count = sum(self.len(), others.len())?;
-        let mut others = others.batches;
-        self.batches.append(&mut others)?;
+        self.batches.append(self.alloc, others.batches)?;
         self.count = count;
         Ok(())
     }
