@@ -1,5 +1,5 @@
 -- How time passes at the ports: in whole seconds, each of which is a tick.
-use Rattle.std.specs.Prelude.{◌≡◌, ℕ, ◌+◌, ◌-◌, ◌*◌, ◌/◌, ◌%◌, ◌^◌, min, Bool, true, false, List, Result, Ok, Err}
+use Rattle.std.specs.Prelude.{◌≡◌, ◌⊎◌, ℕ, ◌+◌, ◌-◌, ◌*◌, ◌/◌, ◌%◌, ◌^◌, ◌≤◌, ◌<◌, min, Bool, true, false, List, Result, Ok, Err}
 use Rattle.std.specs.Duration.{as_nanos, max_nanos}
 use Rattle.std.specs.List.{list_any}
 use Rattle.gw_core.specs.declared.wire.Got.{Got}
@@ -9,6 +9,7 @@ use Rattle.gw_ports.specs.Ports.{AreAllWoken, IsNext, Ports}
 use Rattle.gw_ports.specs.Socket.{Answer}
 use Rattle.gw_ports.specs.SockPair.{is_awake}
 use Rattle.gw_ports.specs.declared.timed.TimedPorts.{TimedPorts}
+use Rattle.gw_ports.specs.declared.timed.TheConstants.{MOST_UNLOOKED}
 
 -- how many nanoseconds a second has
 abbrev pub second : ℕ
@@ -36,6 +37,12 @@ pub record IsCounted {S C P : Type 0} (Told : C → ℕ → Type 0) (before afte
   pub counted : as_nanos after.counted
       ≡ min (as_nanos before.counted + seconds_between (as_nanos before.counted) moment * second) max_nanos
   pub rest : left ≡ second - rest_between (as_nanos before.counted) moment
+  pub waiter : after.waiter ≡ before.waiter
+  pub unlooked : after.unlooked ≡ before.unlooked
+
+-- these ports, and all else as it was
+abbrev pub with_ports : {S C P : Type 0} → Ports S → TimedPorts S C P → TimedPorts S C P
+with_ports ports before = record before { ports = ports }
 
 -- what may come next of ports, with what the buffer then holds, and the ports behind it
 abbrev pub Following : Type 0 → Type 1
@@ -57,12 +64,18 @@ pub record HasWaited {S C P : Type 0} (Waited Quiet : P → ℕ → Type 0) (bef
   pub waited : Waited after.waiter most
   pub woken : AreAllWoken (Quiet after.waiter) before.ports after.ports
   pub counted : after.counted ≡ before.counted
+  pub clock : after.clock ≡ before.clock
+  pub unlooked : after.unlooked ≡ 0
 
--- Where something may wait at a socket the waiter told, without a wait, where more came; else that
--- is left to the wait behind it.
-pub record HasLooked {S C P : Type 0} (Waited Quiet : P → ℕ → Type 0) (before after : TimedPorts S C P) : Type 0 where
-  pub awake : list_any is_awake before.ports.pairs ≡ true → HasWaited Waited Quiet before after 0
-  pub asleep : list_any is_awake before.ports.pairs ≡ false → after ≡ before
+-- Where something may wait at a socket, seven receives pass by, of which nothing changes but their
+-- count, and then the waiter told, without a wait, where more came. Where nothing may wait, that is
+-- left to the wait behind it.
+pub data HasLooked {S C P : Type 0} (Waited Quiet : P → ℕ → Type 0) (before after : TimedPorts S C P) : Type 0 where
+  passed : list_any is_awake before.ports.pairs ≡ true → before.unlooked < MOST_UNLOOKED →
+      after ≡ record before { unlooked = before.unlooked + 1 } → HasLooked Waited Quiet before after
+  looked : list_any is_awake before.ports.pairs ≡ true → MOST_UNLOOKED ≤ before.unlooked →
+      HasWaited Waited Quiet before after 0 → HasLooked Waited Quiet before after
+  asleep : list_any is_awake before.ports.pairs ≡ false → after ≡ before → HasLooked Waited Quiet before after
 
 -- It was waited so long at most, then the seconds were counted, and this came next.
 pub record IsReceivedLater {S C P : Type 0} (Told : C → ℕ → Type 0) (Waited Quiet : P → ℕ → Type 0)
@@ -72,20 +85,43 @@ pub record IsReceivedLater {S C P : Type 0} (Told : C → ℕ → Type 0) (Waite
   pub counted : TimedPorts S C P
   pub left : ℕ
   pub waits : HasWaited Waited Quiet before woken most
-  pub waiter : after.waiter ≡ woken.waiter
   pub counts : IsCounted Told woken counted left
   pub follows : Follows counted.ports after.ports buffer given
+  pub stays : after ≡ with_ports after.ports counted
 
--- The seconds were counted, it was looked for what came, and something came next; or nothing did,
--- and it was waited for as long as is left of the second.
+-- The seconds were counted, it was looked for what came where that was due, and something came next;
+-- or nothing did, and it was waited for as long as is left of the second.
 pub data IsReceived {S C P : Type 0} (Told : C → ℕ → Type 0) (Waited Quiet : P → ℕ → Type 0) (Follows : Following S)
     (before after : TimedPorts S C P) (buffer : List ℕ) (given : Got) : Type 0 where
   at_once : (counted looked : TimedPorts S C P) (left : ℕ) → IsCounted Told before counted left →
       HasLooked Waited Quiet counted looked → Follows looked.ports after.ports buffer given
-      → is_idle (Ok given) ≡ false →
+      → is_idle (Ok given) ≡ false → after ≡ with_ports after.ports looked →
       IsReceived Told Waited Quiet Follows before after buffer given
   later : (counted looked idle : TimedPorts S C P) (left : ℕ) (held : List ℕ) → IsCounted Told before counted left →
       HasLooked Waited Quiet counted looked → Follows looked.ports idle.ports held got.Idle
-      → idle.counted ≡ looked.counted →
+      → idle ≡ with_ports idle.ports looked →
       IsReceivedLater Told Waited Quiet Follows idle after left buffer given →
       IsReceived Told Waited Quiet Follows before after buffer given
+
+-- ---- how long what came may go unseen, also where calls fail
+
+-- It was waited, and the count of receives without a look begins anew.
+pub record BeginsAnew {S C P : Type 0} (Waited : P → ℕ → Type 0) (after : TimedPorts S C P) : Type 0 where
+  pub waiter : P
+  pub most : ℕ
+  pub waited : Waited waiter most
+  pub unlooked : after.unlooked ≡ 0
+
+-- That count is as it was, or it begins anew.
+abbrev pub KeepsCount : {S C P : Type 0} → (P → ℕ → Type 0) → TimedPorts S C P → TimedPorts S C P → Type 0
+KeepsCount Waited before after = (after.unlooked ≡ before.unlooked) ⊎ BeginsAnew Waited after
+
+-- A receive, which may have failed: it was waited; or it is one more without a look, of seven; or
+-- nothing may have waited at any socket; or no socket was asked.
+pub data IsLookedInTime {S C P : Type 0} (Waited : P → ℕ → Type 0) (before after : TimedPorts S C P) : Type 0 where
+  anew : BeginsAnew Waited after → IsLookedInTime Waited before after
+  one_more : before.unlooked < MOST_UNLOOKED → after.unlooked ≡ before.unlooked + 1 → IsLookedInTime Waited before after
+  none_awake : list_any is_awake before.ports.pairs ≡ false → after.unlooked ≡ before.unlooked
+      → IsLookedInTime Waited before after
+  none_asked : after.ports.pairs ≡ before.ports.pairs → after.unlooked ≡ before.unlooked
+      → IsLookedInTime Waited before after

@@ -3,6 +3,7 @@
 //! It is over any sockets, clock and waiter, and opens none: those of the system are `gw_shell`'s.
 #![tactic(auto)]
 
+pub mod laws;
 mod ports;
 mod sock_pair;
 mod socket;

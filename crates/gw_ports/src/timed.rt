@@ -1,10 +1,10 @@
 //! The ports and a clock: each second that passes is a tick, and where nothing waits it is waited for.
 
-ghost use Rattle.std.specs.Prelude.{◌≡◌, ◌+◌, ◌-◌, ◌*◌, ◌<◌, ◌^◌, ◌∷◌, [], length, min, slice_index_or, true, false, IfOk, OnOk, None};
+ghost use Rattle.std.specs.Prelude.{◌≡◌, ◌+◌, ◌-◌, ◌*◌, ◌<◌, ◌^◌, ◌∷◌, [], length, min, slice_index_or, true, false, IfOk, OnErr, OnOk, None};
 ghost use Rattle.std.specs.Duration.{as_nanos, max_nanos};
 ghost use Rattle.gw_core.specs.Wire.{IsHandedIn, Tells, failures_of, receive_answer, receive_call, send_call};
 ghost use Rattle.gw_ports.specs.declared.sock_pair.SockPair.{SockPair};
-ghost use Rattle.gw_ports.specs.Timed.{ComesNext, HasLooked, HasWaited, IsCounted, IsReceived, IsReceivedLater, is_idle, rest_between, second, seconds_between, with_due};
+ghost use Rattle.gw_ports.specs.Timed.{ComesNext, HasLooked, HasWaited, IsCounted, IsLookedInTime, IsReceived, IsReceivedLater, KeepsCount, is_idle, rest_between, second, seconds_between, with_due, with_ports};
 
 use crate::ports::Ports;
 use crate::socket::Sock;
@@ -15,10 +15,15 @@ use gw_core::{Got, RECEIVE_ROOM, Wire, WireFault};
 use std::io;
 use std::time::Duration;
 
+/// How many receives may go by without a look at what came, while something may wait at a socket
+/// already.
+pub(crate) const MOST_UNLOOKED: u8 = 7;
+
 /// The ports as a wire in time. Before each receive the whole seconds are counted that passed since
 /// the last look at the clock, and so many ticks are due. Where nothing waits it waits for a
 /// datagram, up to the next second, and then asks once more. Only sockets are asked at which
-/// something may wait, by what the waiter tells.
+/// something may wait, by what the waiter tells. While something may wait already, seven receives go
+/// by before the next asks the waiter, so that what came elsewhere has its turn.
 #[derive(Drop)]
 pub struct TimedPorts<S, C, P> {
     /// The sockets of all ports, and the ticks that are due.
@@ -29,6 +34,8 @@ pub struct TimedPorts<S, C, P> {
     pub waiter: P,
     /// The moment of the clock up to which each whole second was counted.
     pub counted: Duration,
+    /// How many receives went by since the waiter last told where something came.
+    pub unlooked: u8,
 }
 
 impl<S: Sock, C: Timepiece, P: Waiter> TimedPorts<S, C, P> {
@@ -42,6 +49,7 @@ impl<S: Sock, C: Timepiece, P: Waiter> TimedPorts<S, C, P> {
         ensures ports { IfOk result (λ timed. timed.ports ≡ ports) }
         ensures waiter { IfOk result (λ timed. timed.waiter ≡ waiter) }
         ensures now { IfOk result (λ timed. C.Told timed.clock (as_nanos timed.counted)) }
+        ensures unlooked { IfOk result (λ timed. timed.unlooked ≡ 0) }
     {
         let counted = clock.elapsed()?;
         Ok(TimedPorts {
@@ -49,6 +57,7 @@ impl<S: Sock, C: Timepiece, P: Waiter> TimedPorts<S, C, P> {
             clock,
             waiter,
             counted,
+            unlooked: 0,
         })
     }
 
@@ -65,6 +74,7 @@ impl<S: Sock, C: Timepiece, P: Waiter> TimedPorts<S, C, P> {
             ≡ second - rest_between (as_nanos self.old.counted) (as_nanos now) }
         ensures clock { self.new.clock ≡ self.old.clock }
         ensures waiter { self.new.waiter ≡ self.old.waiter }
+        ensures unlooked { self.new.unlooked ≡ self.old.unlooked }
     {
         let passed = now.saturating_sub(self.counted);
         let seconds = passed.as_secs();
@@ -78,6 +88,8 @@ impl<S: Sock, C: Timepiece, P: Waiter> TimedPorts<S, C, P> {
     fn count_seconds(&mut self) -> io::Result<Duration>
         ensures counts { IfOk result (λ left. IsCounted C.Told self.old self.new (as_nanos left)) }
         ensures waiter { self.new.waiter ≡ self.old.waiter }
+        ensures unlooked { self.new.unlooked ≡ self.old.unlooked }
+        ensures pairs { self.new.ports.pairs ≡ self.old.ports.pairs }
         ensures count { length self.new.ports.pairs ≡ length self.old.ports.pairs }
         ensures failures { self.new.ports.failures ≡ self.old.ports.failures }
     {
@@ -89,26 +101,35 @@ impl<S: Sock, C: Timepiece, P: Waiter> TimedPorts<S, C, P> {
     fn wait(&mut self, most: Duration) -> io::Result<()>
         ensures waits { OnOk result
             (HasWaited P.Waited P.Quiet self.old self.new (as_nanos most)) }
+        ensures unlooked { OnErr result (self.new.unlooked ≡ self.old.unlooked) }
+        ensures pairs { OnErr result (self.new.ports.pairs ≡ self.old.ports.pairs) }
         ensures count { length self.new.ports.pairs ≡ length self.old.ports.pairs }
         ensures failures { self.new.ports.failures ≡ self.old.ports.failures }
     {
         self.waiter.wait(most)?;
         self.ports.wake(&self.waiter);
+        self.unlooked = 0;
         Ok(())
     }
 
     /// Notes at which sockets a datagram may have come, where something may wait already, so that it
-    /// keeps none from its turn. It doesn't wait.
+    /// keeps none from its turn; or lets a receive go by, seven of them between two looks. It doesn't
+    /// wait.
     fn look(&mut self) -> io::Result<()>
         ensures looks { OnOk result (HasLooked P.Waited P.Quiet self.old self.new) }
+        ensures unlooked { OnErr result (self.new.unlooked ≡ self.old.unlooked) }
+        ensures pairs { OnErr result (self.new.ports.pairs ≡ self.old.ports.pairs) }
         ensures count { length self.new.ports.pairs ≡ length self.old.ports.pairs }
         ensures failures { self.new.ports.failures ≡ self.old.ports.failures }
     {
-        if self.ports.is_any_awake() {
-            self.wait(Duration::ZERO)
-        } else {
-            Ok(())
+        if !self.ports.is_any_awake() {
+            return Ok(());
         }
+        if self.unlooked < MOST_UNLOOKED {
+            self.unlooked += 1;
+            return Ok(());
+        }
+        self.wait(Duration::ZERO)
     }
 
     /// Waits for a datagram, so long at most, and receives what has come then.
@@ -117,6 +138,7 @@ impl<S: Sock, C: Timepiece, P: Waiter> TimedPorts<S, C, P> {
         ensures later { IfOk result (IsReceivedLater C.Told P.Waited P.Quiet
             (ComesNext S.look_count S.is_empty S.Answered) self.old self.new
             (as_nanos most) buf.new) }
+        ensures unlooked { KeepsCount P.Waited self.old self.new }
         ensures count { length self.new.ports.pairs ≡ length self.old.ports.pairs }
         ensures handed_in { IfOk result (IsHandedIn (length self.new.ports.pairs)) }
         ensures failures { self.new.ports.failures
@@ -148,6 +170,7 @@ impl<S: Sock, C: Timepiece, P: Waiter> TimedPorts<S, C, P> {
             IfOk result (IsReceivedLater C.Told P.Waited P.Quiet
             (ComesNext S.look_count S.is_empty S.Answered) self.old self.new
             (as_nanos most) buf.new) }
+        ensures unlooked { KeepsCount P.Waited self.old self.new }
         ensures count { length self.new.ports.pairs ≡ length self.old.ports.pairs }
         ensures handed_in { IfOk result (IsHandedIn (length self.new.ports.pairs)) }
         ensures failures { self.new.ports.failures + failures_of came
@@ -179,6 +202,7 @@ impl<S: Sock, C: Timepiece, P: Waiter> Wire for TimedPorts<S, C, P> {
         requires { self.old.ports.failures < 2 ^ 128 - 1 }
         ensures received { IfOk result (IsReceived C.Told P.Waited P.Quiet
             (ComesNext S.look_count S.is_empty S.Answered) self.old self.new buf.new) }
+        ensures looked { IsLookedInTime P.Waited self.old self.new }
         ensures ports { length self.new.ports.pairs ≡ length self.old.ports.pairs }
         ensures handed_in { IfOk result (IsHandedIn (length self.new.ports.pairs)) }
         ensures calls { let call = receive_call (receive_answer result buf.new) in
@@ -200,6 +224,7 @@ impl<S: Sock, C: Timepiece, P: Waiter> Wire for TimedPorts<S, C, P> {
         requires { self.old.ports.failures < 2 ^ 128 - 1 }
         ensures sent { (d : SockPair S) →
             OnOk result (S.Sent (slice_index_or self.new.ports.pairs (port - 1) d).own.socket to octets.now) }
+        ensures stays { self.new ≡ with_ports self.new.ports self.old }
         ensures ports { length self.new.ports.pairs ≡ length self.old.ports.pairs }
         ensures calls { let call = send_call result
             (record { port = port; to = to; octets = octets.now }) in

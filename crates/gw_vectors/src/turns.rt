@@ -9,7 +9,7 @@ use gw_core::{Got, RECEIVE_ROOM, Wire, WireFault};
 use gw_ports::{Ports, Sock, SockFault, SockPair, TimedPorts, Timepiece, Waiter};
 use std::alloc::{AllocError, Global};
 use std::io;
-use std::io::ErrorKind;
+use std::io::{ErrorKind, Write};
 use std::time::Duration;
 
 /// Whom all datagrams come from.
@@ -18,22 +18,28 @@ const SENDER: BipAddr = BipAddr {
     udp: 47808,
 };
 
-/// How many calls a course over time has.
+/// How many datagrams wait at each port in a course over time, where the line doesn't say it.
+const TIMED_WAITING: u64 = 2;
+
+/// How many calls such a course has, where the line doesn't say it.
 const TIMED_CALLS: u64 = 8;
 
-/// A socket in memory at which so many datagrams wait, which fails at one of its calls.
+/// A socket in memory at which so many datagrams wait, behind so many looks that find none, which
+/// fails at one of its calls.
 #[derive(Drop)]
 struct MemSock {
     waiting: u64,
+    late: u64,
     failing: Option<u64>,
     looks: u64,
     empty: bool,
 }
 
 impl MemSock {
-    fn with(waiting: u64, failing: Option<u64>) -> Self {
+    fn with(waiting: u64, late: u64, failing: Option<u64>) -> Self {
         MemSock {
             waiting,
+            late,
             failing,
             looks: 0,
             empty: false,
@@ -47,7 +53,7 @@ impl MemSock {
         if self.failing == Some(self.looks) {
             return Err(SockFault::Failed);
         }
-        if self.waiting == 0 {
+        if self.looks < self.late || self.waiting == 0 {
             return Ok(None);
         }
         self.waiting -= 1;
@@ -87,11 +93,12 @@ impl Sock for MemSock {
     }
 }
 
-/// Two ports with so many datagrams at their own sockets and none at the others. The socket of one
-/// place, from 0, may fail at one of its calls.
+/// Two ports with so many datagrams at their own sockets and none at the others. Those of port 2 are
+/// late by so many looks. The socket of one place, from 0, may fail at one of its calls.
 fn two_ports(
     alloc: Global,
     waiting: u64,
+    late: u64,
     failing: Option<(u64, u64)>,
 ) -> Result<Ports<MemSock>, AllocError> {
     let call_of = |place: u64| match failing {
@@ -100,8 +107,9 @@ fn two_ports(
     };
     let mut pairs = Vec::with_capacity(alloc, 2)?;
     for port in 0..2 {
-        let own = MemSock::with(waiting, call_of(2 * port));
-        let broadcast = MemSock::with(0, call_of(2 * port + 1));
+        let late = if port == 0 { 0 } else { late };
+        let own = MemSock::with(waiting, late, call_of(2 * port));
+        let broadcast = MemSock::with(0, 0, call_of(2 * port + 1));
         pairs.push(SockPair::new(own, broadcast))?;
     }
     if pairs.len() > 2 {
@@ -148,7 +156,7 @@ fn failing_of(line: &str) -> Option<(u64, u64)> {
 /// What comes of two ports, with so many datagrams waiting and ticks due as the line says.
 pub fn turns(alloc: Global, line: &str, out: &mut Vec<u8>) -> io::Result<()> {
     let waiting = number_of(line, "waiting=").unwrap_or(0);
-    let mut ports = two_ports(alloc, waiting, failing_of(line))?;
+    let mut ports = two_ports(alloc, waiting, 0, failing_of(line))?;
     ports.due(number_of(line, "ticks=").unwrap_or(0));
     put_course(&mut ports, number_of(line, "calls=").unwrap_or(0), out)
 }
@@ -173,10 +181,12 @@ impl Timepiece for SlowClock {
     }
 }
 
-/// Waits for nothing, and fails at one of its calls, from 1. It tells how long it was let wait.
+/// Waits for nothing, and fails at one of its calls, from 1. It tells how long it was let wait, and
+/// counts its calls, and those without time.
 #[derive(Drop)]
 struct MemWaiter {
     waits: u64,
+    looks: u64,
     failing: Option<u64>,
     last: Duration,
 }
@@ -186,6 +196,9 @@ impl Waiter for MemWaiter {
 
     fn wait(&mut self, most: Duration) -> io::Result<()> {
         self.waits = self.waits.wrapping_add(1);
+        if most.is_zero() {
+            self.looks = self.looks.wrapping_add(1);
+        }
         if self.failing == Some(self.waits) || most > Duration::from_secs(1) {
             return Err(ErrorKind::Other.into());
         }
@@ -194,21 +207,28 @@ impl Waiter for MemWaiter {
     }
 }
 
-/// What comes of two ports with two datagrams each in eight receives, where the clock and the waiter
-/// fail as the line says. The looks at the clock are at 0.0, 0.3, 0.6, .. seconds; a receive looks
-/// once, and where nothing waits again.
+/// What comes of two ports in so many receives, where the clock and the waiter fail as the line says,
+/// and how often it was waited, and without time. The looks at the clock are at 0.0, 0.3, 0.6, ..
+/// seconds; a receive looks once, and where nothing waits again.
 pub fn seconds(alloc: Global, line: &str, out: &mut Vec<u8>) -> io::Result<()> {
+    let waiting = number_of(line, "waiting=").unwrap_or(TIMED_WAITING);
+    let late = number_of(line, "late=").unwrap_or(0);
     let clock = SlowClock {
         looks: 0,
         failing: number_of(line, "look="),
     };
     let waiter = MemWaiter {
         waits: 0,
+        looks: 0,
         failing: number_of(line, "wait="),
         last: Duration::from_secs(0),
     };
-    match TimedPorts::start(two_ports(alloc, 2, None)?, clock, waiter) {
-        Ok(mut timed) => put_course(&mut timed, TIMED_CALLS, out),
-        Err(_) => Ok(out.extend_from_slice(b"not started")?),
-    }
+    let ports = two_ports(alloc, waiting, late, None)?;
+    let Ok(mut timed) = TimedPorts::start(ports, clock, waiter) else {
+        return Ok(out.extend_from_slice(b"not started")?);
+    };
+    let calls = number_of(line, "calls=").unwrap_or(TIMED_CALLS);
+    put_course(&mut timed, calls, out)?;
+    let waiter = &timed.waiter;
+    write!(out, " waits={} looks={}", waiter.waits, waiter.looks)
 }

@@ -1,5 +1,19 @@
+use Rattle.std.proofs.Common.{refl, inr}
 use Rattle.std.specs.Duration.{as_nanos}
+use Rattle.gw_ports.proofs.TimedLemmas.{begun}
 use Rattle.gw_ports.proofs.timed.TimedPorts.recv_later.Goals as goal
+
+pub returns-in_default-count_seconds-clause-unlooked : goal.returns-in_default-count_seconds-clause-unlooked
+returns-in_default-count_seconds-clause-unlooked g c =
+    inr (begun g.P.Waiter.Waited g.P.Waiter.Quiet c.args.self.now c.wait.new.self _ (as_nanos c.args.most) c.in-Ok.ensures.waits c.count_seconds.ensures.unlooked)
+
+pub returns-in_err-given-clause-unlooked : goal.returns-in_err-given-clause-unlooked
+returns-in_err-given-clause-unlooked g c =
+    inr (begun g.P.Waiter.Waited g.P.Waiter.Quiet c.args.self.now c.wait.new.self _ (as_nanos c.args.most) c.in-Ok.ensures.waits c.count_seconds.ensures.unlooked)
+
+pub returns-clause-unlooked : goal.returns-clause-unlooked
+returns-clause-unlooked g c =
+    inr (begun g.P.Waiter.Waited g.P.Waiter.Quiet c.args.self.now c.wait.new.self _ (as_nanos c.args.most) c.in-Ok.ensures.waits c.count_seconds.ensures.unlooked)
 
 pub returns-clause-later : goal.returns-clause-later
 returns-clause-later g c = record {
@@ -7,7 +21,7 @@ returns-clause-later g c = record {
   counted = c.count_seconds.new.self;
   left = as_nanos c.in-Ok-count_seconds._left;
   waits = c.in-Ok.ensures.waits;
-  waiter = c.count_seconds.ensures.waiter;
   counts = c.in-Ok-count_seconds.ensures.counts;
   follows = c.in_ok-given.ensures.next;
+  stays = refl;
 }

@@ -1,6 +1,6 @@
 use Rattle.std.proofs.Common.{refl}
 use Rattle.std.specs.Duration.{as_nanos}
-use Rattle.gw_ports.proofs.TimedLemmas.{received}
+use Rattle.gw_ports.proofs.TimedLemmas.{looked_in_time, received}
 use Rattle.gw_ports.proofs.timed.TimedPortsWire.recv.Goals as goal
 
 pub returns-clause-received : goal.returns-clause-received
@@ -10,3 +10,9 @@ returns-clause-received g c =
     c.count_seconds.new.self c.look.new.self _ c.recv_behind.new.self (as_nanos c.in-Ok.most) c.next-came.new.buf c.recv_behind.new.buf
     c.next-came.result c.recv_behind.result c.in-Ok.ensures.counts c.in-Ok-look.ensures.looks c.next-came.ensures.next refl
     behind.came behind.stays behind.buffer behind.later
+
+pub returns-clause-looked : goal.returns-clause-looked
+returns-clause-looked g c =
+    looked_in_time g.C.Timepiece.Told g.P.Waiter.Waited g.P.Waiter.Quiet c.args.self.now
+    c.count_seconds.new.self c.look.new.self c.recv_behind.new.self (as_nanos c.in-Ok.most)
+    c.in-Ok.ensures.counts c.in-Ok-look.ensures.looks c.recv_behind.ensures.unlooked
