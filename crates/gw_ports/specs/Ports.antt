@@ -9,7 +9,7 @@ use Rattle.gw_core.specs.declared.wire.Got.{Got}
 use Rattle.gw_core.specs.declared.wire.Got.TheVariants as got
 use Rattle.gw_core.specs.declared.wire.WireFault.{WireFault}
 use Rattle.gw_core.specs.declared.wire.WireFault.TheVariants as wire_fault
-use Rattle.gw_ports.specs.SockPair.{ArePassed, AreWoken, IsAnswer}
+use Rattle.gw_ports.specs.SockPair.{ArePassed, AreWoken, HasSent, IsAnswer}
 use Rattle.gw_ports.specs.Socket.{Answer}
 
 -- ---- the ports
@@ -122,6 +122,15 @@ pub data IsNext {S : Type 0} (looks : S → ℕ) (empty : S → Bool) (Answered 
       AreAskedInTurn looks empty Answered before.pairs (last_number before.last) pairs (Some (place, said)) buffer →
       after ≡ handed_in place said (asked pairs before) → given ≡ got_of (place + 1) said →
       IsNext looks empty Answered before after buffer given
+
+-- ---- a send
+
+-- The own socket of the port at a place sent, or failed to. All else is as it was, but for the count
+-- of failures.
+pub record HasSentAt {S : Type 0} (place : ℕ) (before after : Ports S) : Type 0 where
+  pub others : Stay place (place + 1) before.pairs after.pairs
+  pub own : AtPlace before.pairs after.pairs place HasSent
+  pub rest : after ≡ record before { pairs = after.pairs; failures = after.failures }
 
 -- ---- what came while it was waited
 

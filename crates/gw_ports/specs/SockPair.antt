@@ -31,6 +31,10 @@ pub record IsAnswer {S : Type 0} (looks : S → ℕ) (empty : S → Bool) (Answe
   pub answers : AnswersOf looks empty own before after
   pub said : Answered (socket own after).socket answer buffer
 
+-- The own socket sent, or failed to. All else of the pair is as it was.
+abbrev pub HasSent : {S : Type 0} → SockPair S → SockPair S → Type 0
+HasSent before after = after ≡ record before { own = record before.own { socket = after.own.socket } }
+
 -- ---- what came while it was waited
 
 -- something may wait at one of the two

@@ -3,7 +3,7 @@
 ghost use Rattle.gw_addr.specs.declared.TheConstants.{MAX_PORTS};
 ghost use Rattle.std.specs.Prelude.{◌≡◌, ◌≢◌, ◌+◌, ◌≤◌, ◌<◌, ◌^◌, true, false, length, IfOk, IfSome, OnOk};
 ghost use Rattle.gw_ports.specs.Socket.{FitsBuffer, is_nothing};
-ghost use Rattle.gw_ports.specs.SockPair.{ArePassed, AreWoken, IsAnswer, is_awake};
+ghost use Rattle.gw_ports.specs.SockPair.{ArePassed, AreWoken, HasSent, IsAnswer, is_awake};
 ghost use Rattle.gw_ports.specs.Watch.{HasAnswered, IsPassed};
 
 use crate::socket::{Sock, SockFault};
@@ -59,7 +59,8 @@ impl<S: Sock> SockPair<S> {
     /// Sends the octets by the own socket, as one datagram to an address. `Failed` where the call
     /// failed.
     pub(crate) fn send(&mut self, to: BipAddr, octets: &[u8]) -> Result<(), SockFault>
-        ensures { OnOk result (S.Sent self.new.own.socket to octets.now) }
+        ensures sent { OnOk result (S.Sent self.new.own.socket to octets.now) }
+        ensures rest { HasSent self.old self.new }
     {
         self.own.socket.send_to(to, octets)
     }

@@ -4,6 +4,7 @@ ghost use Rattle.std.specs.Prelude.{◌≡◌, ◌+◌, ◌-◌, ◌*◌, ◌<�
 ghost use Rattle.std.specs.Duration.{as_nanos, max_nanos};
 ghost use Rattle.gw_core.specs.Wire.{IsHandedIn, Tells, failures_of, receive_answer, receive_call, send_call};
 ghost use Rattle.gw_ports.specs.declared.sock_pair.SockPair.{SockPair};
+ghost use Rattle.gw_ports.specs.Ports.{HasSentAt};
 ghost use Rattle.gw_ports.specs.Timed.{ComesNext, HasLooked, HasWaited, IsCounted, IsLookedInTime, IsReceived, IsReceivedLater, KeepsCount, is_idle, rest_between, second, seconds_between, with_due, with_ports};
 
 use crate::ports::Ports;
@@ -224,6 +225,7 @@ impl<S: Sock, C: Timepiece, P: Waiter> Wire for TimedPorts<S, C, P> {
         requires { self.old.ports.failures < 2 ^ 128 - 1 }
         ensures sent { (d : SockPair S) →
             OnOk result (S.Sent (slice_index_or self.new.ports.pairs (port - 1) d).own.socket to octets.now) }
+        ensures only { HasSentAt (port - 1) self.old.ports self.new.ports }
         ensures stays { self.new ≡ with_ports self.new.ports self.old }
         ensures ports { length self.new.ports.pairs ≡ length self.old.ports.pairs }
         ensures calls { let call = send_call result

@@ -6,7 +6,7 @@ ghost use Rattle.gw_ports.specs.declared.sock_pair.SockPair.{SockPair};
 ghost use Rattle.gw_ports.specs.Socket.{FitsBuffer};
 ghost use Rattle.gw_core.specs.Wire.{IsHandedIn, Tells, failures_of, receive_answer, receive_call, send_call};
 ghost use Rattle.std.specs.List.{list_any};
-ghost use Rattle.gw_ports.specs.Ports.{AreAllWoken, AreAsked, AreAskedInTurn, IsNext, asked, got_of, handed_in, last_number, some_answer};
+ghost use Rattle.gw_ports.specs.Ports.{AreAllWoken, AreAsked, AreAskedInTurn, HasSentAt, IsNext, asked, got_of, handed_in, last_number, some_answer};
 ghost use Rattle.gw_ports.specs.SockPair.{is_awake};
 
 use crate::ports::Ports;
@@ -111,6 +111,7 @@ impl<S: Sock> Ports<S> {
         ensures rest { self.new ≡ asked self.new.pairs self.old }
         ensures sent { (d : SockPair S) →
             OnOk result (S.Sent (slice_index_or self.new.pairs (port - 1) d).own.socket to octets.now) }
+        ensures only { HasSentAt (port - 1) self.old self.new }
     {
         if port == 0 || usize::from(port) > self.pairs.len() {
             return Err(SockFault::Failed);
@@ -241,6 +242,7 @@ impl<S: Sock> Wire for Ports<S> {
         requires { self.old.failures < 2 ^ 128 - 1 }
         ensures sent { (d : SockPair S) →
             OnOk result (S.Sent (slice_index_or self.new.pairs (port - 1) d).own.socket to octets.now) }
+        ensures only { HasSentAt (port - 1) self.old self.new }
         ensures ports { length self.new.pairs ≡ length self.old.pairs }
         ensures calls { let call = send_call result
             (record { port = port; to = to; octets = octets.now }) in
