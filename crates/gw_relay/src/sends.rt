@@ -113,6 +113,23 @@ impl Batches {
         }
     }
 
+    /// Adds a message behind others. An `Err` where there is no memory for the list: they are as before.
+    #[inline(never)]
+    fn push(&mut self, alloc: Global, batch: Batch) -> Result<(), AllocError>
+        ensures ok { OnOk result (batches_of self.new ≡ batches_of self.old ++ batch ∷ []) }
+        ensures err { OnErr result (batches_of self.new ≡ batches_of self.old) }
+    {
+        if let Batches::Many(all) = self {
+            all.push(batch)?;
+            return Ok(());
+        }
+        let mut both = Vec::with_capacity(alloc, 2)?;
+        mem::replace(self, Batches::None).move_to(&mut both)?;
+        both.push(batch)?;
+        *self = Batches::Many(both);
+        Ok(())
+    }
+
     /// Adds others behind them. An `Err` where there is no memory for the list: they are as before.
     #[inline(never)]
     fn append(&mut self, alloc: Global, others: Batches) -> Result<(), AllocError>
@@ -213,11 +230,10 @@ impl Sends {
             return Ok(());
         }
         let count = sum(self.len(), batch.targets().len() as u64)?;
-        let batch = Batches::One([batch]);
-        if self.len() == 0 {
-            self.batches = batch;
+        if let Batches::None = &self.batches {
+            self.batches = Batches::One([batch]);
         } else {
-            self.batches.append(self.alloc, batch)?;
+            self.batches.push(self.alloc, batch)?;
         }
         self.count = count;
         Ok(())
@@ -235,7 +251,7 @@ impl Sends {
         if others.len() == 0 {
             return Ok(());
         }
-        if self.len() == 0 {
+        if let Batches::None = &self.batches {
             *self = others;
             return Ok(());
         }
