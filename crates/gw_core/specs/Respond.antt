@@ -15,7 +15,8 @@ use Rattle.gw_relay.specs.declared.change.Change.{Change}
 use Rattle.gw_rules.specs.Ask.{Ask}
 use Rattle.gw_rules.specs.Authorizer.{denied_of}
 use Rattle.gw_rules.specs.declared.rule.Rule.{Rule}
-use Rattle.gw_core.specs.declared.respond.Response.{Response}
+use Rattle.gw_objects.specs.Write.{Write}
+use Rattle.gw_relay.specs.declared.response.RelayResponse.{RelayResponse}
 use Rattle.gw_core.specs.Asks.{asks_for}
 use Rattle.gw_core.specs.Effects.{change_for, relay_change_for, sends_for}
 use Rattle.gw_relay.specs.Message.{Message}
@@ -62,11 +63,11 @@ passed_response rules relay m = record {
   change = passed_change rules m;
 }
 
--- a response of the code is what is due about what is received
+-- what is given, and the write that is granted if there is one, are what is due about what is received
 pub record IsResponse (rules : List Rule) (relay : Relay) (d : Database) (received : Received)
-    (given : Response) : Type 0 where
-  pub sends : given.relayed.sends ≡ sends_for rules relay d received
-  pub refusals : given.relayed.refusals ≡ denied_of rules (asks_for rules relay d received)
-  pub change : given.relayed.change ≡ relay_change_for rules received
-  pub write : given.write ≡ change_for rules d received
-  pub place : HasPlace d given.write
+    (given : RelayResponse) (granted : Option Write) : Type 0 where
+  pub sends : given.sends ≡ sends_for rules relay d received
+  pub refusals : given.refusals ≡ denied_of rules (asks_for rules relay d received)
+  pub change : given.change ≡ relay_change_for rules received
+  pub write : granted ≡ change_for rules d received
+  pub place : HasPlace d granted

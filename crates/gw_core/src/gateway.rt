@@ -28,11 +28,11 @@ use crate::event::Counts;
 use crate::explaining::append_asks;
 use crate::fault::StepFault;
 use crate::receive::{Received, receive_on};
-use crate::respond::{Response, network_of, respond};
+use crate::respond::{network_of, respond};
 use gw_addr::BipAddr;
 use gw_configuration::Config;
 use gw_device::{Change, Device};
-use gw_relay::{Change as RelayChange, Relay};
+use gw_relay::{Change as RelayChange, Relay, RelayResponse};
 use gw_rule_index::Policy;
 use std::alloc::{AllocError, Global};
 use std::marker::Model;
@@ -207,12 +207,14 @@ impl Gateway {
             sends_for self.now.rules self.now.relay self.now.device received ≡ [] → IsOk result }
     {
         let rules = self.policy.rules();
-        let Response { relayed, write } = respond(
+        let mut relayed = RelayResponse::nothing(alloc);
+        let write = respond(
             alloc,
             &self.policy,
             &self.relay,
             &self.device,
             received,
+            &mut relayed,
         )?;
         if relayed.refusals.len() as u64 > self.left() {
             return Err(StepFault::CountEnd);

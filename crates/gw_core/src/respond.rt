@@ -23,17 +23,9 @@ use gw_addr::{BipAddr, NetNum};
 use gw_bvll::Bvll;
 use gw_device::{Change, Device, Reply};
 use gw_npdu::Payload;
-use gw_relay::{CastResponse, Message, PortState, Relay, RelayResponse, put_refusals};
+use gw_relay::{Message, PortState, Relay, RelayResponse, put_refusals};
 use gw_rules::Judge;
 use std::alloc::{AllocError, Global};
-
-/// What is done: what is sent, what the policy denied and what the relay commits; and the write to
-/// the device that is granted, if there is one.
-#[derive(Drop)]
-pub(crate) struct Response {
-    pub(crate) relayed: RelayResponse,
-    pub(crate) write: Option<Change>,
-}
 
 /// The device's network.
 pub(crate) fn network_of(device: &Device) -> NetNum
@@ -42,33 +34,36 @@ pub(crate) fn network_of(device: &Device) -> NetNum
     device.configured().device.network
 }
 
-/// What is done about any message but for the device: it is distributed; and where it goes on to the
-/// network layer, it is routed and answered there.
+/// What is done about any message but for the device, in the place of what is given: it is distributed; and
+/// where it goes on to the network layer, it is routed and answered there. It answers whether it goes on.
 #[inline(never)]
 fn pass_on_each_way<J: Judge>(
     alloc: Global,
     judge: &J,
     relay: &Relay,
     message: &Message<'_>,
-) -> Result<CastResponse, AllocError>
+    given: &mut RelayResponse,
+) -> Result<bool, AllocError>
     ensures relayed { (rules : List Rule) → J.StandsFor judge.now rules →
         let due = passed_response rules relay.now (message_view message.now) in
-        IfOk result (λ passed. IsRelayed rules due passed.given) }
+        OnOk result (IsRelayed rules due given.new) }
     ensures goes_on { let m = message_view message.now in
-        IfOk result (λ passed. passed.goes_on ≡ goes_on m.here m.from m.frame) }
+        IfOk result (λ goes. goes ≡ goes_on m.here m.from m.frame) }
     ensures silent { (rules : List Rule) → J.StandsFor judge.now rules →
         let due = passed_response rules relay.now (message_view message.now) in
         due.asks ≡ [] → due.sends ≡ [] → IsOk result }
 {
-    let CastResponse { mut given, goes_on } = relay.cast(alloc, judge, message)?;
+    let distributed = relay.cast(alloc, judge, message)?;
+    let goes_on = distributed.goes_on;
+    *given = distributed.given;
     if !goes_on {
-        return Ok(CastResponse { given, goes_on });
+        return Ok(false);
     }
     let routed = relay.route(alloc, judge, message)?;
     given.append(routed)?;
     let managed = relay.manage(alloc, judge, message)?;
     given.append(managed)?;
-    Ok(CastResponse { given, goes_on })
+    Ok(true)
 }
 
 /// Whether a message is a unicast with an APDU. It is neither distributed nor answered by the network
@@ -80,29 +75,29 @@ fn is_plain(message: &Message<'_>) -> bool
         && matches!(message.npdu.payload, Payload::Apdu(_))
 }
 
-/// What is done about a message but for the device (steps 4 and 6 to 9).
+/// What is done about a message but for the device (steps 4 and 6 to 9), in the place of what is given. It
+/// answers whether the message goes on to the network layer.
 fn pass_on<J: Judge>(
     alloc: Global,
     judge: &J,
     relay: &Relay,
     message: &Message<'_>,
-) -> Result<CastResponse, AllocError>
+    given: &mut RelayResponse,
+) -> Result<bool, AllocError>
     ensures relayed { (rules : List Rule) → J.StandsFor judge.now rules →
         let due = passed_response rules relay.now (message_view message.now) in
-        IfOk result (λ passed. IsRelayed rules due passed.given) }
+        OnOk result (IsRelayed rules due given.new) }
     ensures goes_on { let m = message_view message.now in
-        IfOk result (λ passed. passed.goes_on ≡ goes_on m.here m.from m.frame) }
+        IfOk result (λ goes. goes ≡ goes_on m.here m.from m.frame) }
     ensures silent { (rules : List Rule) → J.StandsFor judge.now rules →
         let due = passed_response rules relay.now (message_view message.now) in
         due.asks ≡ [] → due.sends ≡ [] → IsOk result }
 {
     if is_plain(message) {
-        return Ok(CastResponse {
-            given: relay.route(alloc, judge, message)?,
-            goes_on: true,
-        });
+        *given = relay.route(alloc, judge, message)?;
+        return Ok(true);
     }
-    pass_on_each_way(alloc, judge, relay, message)
+    pass_on_each_way(alloc, judge, relay, message, given)
 }
 
 /// Adds what the device does about a message (step 10), and answers the write that is granted, if there is
@@ -144,37 +139,34 @@ fn answer_apdu<J: Judge>(
     Ok(change)
 }
 
-/// What is done about a message (steps 4 and 6 to 10).
+/// What is done about a message (steps 4 and 6 to 10), in the place of what is given; and the write to the
+/// device that is granted, if there is one.
 fn respond_to_message<J: Judge>(
     alloc: Global,
     judge: &J,
     relay: &Relay,
     device: &Device,
     message: &Message<'_>,
-) -> Result<Response, AllocError>
+    given: &mut RelayResponse,
+) -> Result<Option<Change>, AllocError>
     ensures response { (rules : List Rule) → J.StandsFor judge.now rules →
         let due = judged (message_view message.now) in
-        IfOk result (IsResponse rules relay.now device.now due) }
+        IfOk result (IsResponse rules relay.now device.now due given.new) }
     ensures silent { (rules : List Rule) → J.StandsFor judge.now rules →
         let due = judged (message_view message.now) in
         asks_for rules relay.now device.now due ≡ [] →
         sends_for rules relay.now device.now due ≡ [] → IsOk result }
 {
-    let CastResponse {
-        given: mut relayed,
-        goes_on,
-    } = pass_on(alloc, judge, relay, message)?;
+    let goes_on = pass_on(alloc, judge, relay, message, given)?;
     if !goes_on {
-        return Ok(Response {
-            relayed,
-            write: None,
-        });
+        return Ok(None);
     }
-    let write = answer_apdu(alloc, judge, device, message, &mut relayed)?;
-    Ok(Response { relayed, write })
+    let write = answer_apdu(alloc, judge, device, message, given)?;
+    Ok(write)
 }
 
-/// What is done about a frame that manages a table (step 3).
+/// What is done about a frame that manages a table (step 3), in the place of what is given. It writes nothing to
+/// the device.
 fn respond_to_managed<J: Judge>(
     alloc: Global,
     judge: &J,
@@ -182,43 +174,47 @@ fn respond_to_managed<J: Judge>(
     on: &PortState,
     from: BipAddr,
     frame: &Bvll<'_>,
-) -> Result<Response, AllocError>
+    given: &mut RelayResponse,
+) -> Result<Option<Change>, AllocError>
     ensures response { (rules : List Rule) (device : Database) → J.StandsFor judge.now rules →
         let due = managed on.now from (frame_view frame.now) in
-        IfOk result (IsResponse rules relay.now device due) }
+        IfOk result (IsResponse rules relay.now device due given.new) }
     ensures silent { (rules : List Rule) (device : Database) →
         let due = managed on.now from (frame_view frame.now) in
         asks_for rules relay.now device due ≡ [] → IsOk result }
 {
-    Ok(Response {
-        relayed: relay.link(alloc, judge, on, from, frame)?,
-        write: None,
-    })
+    *given = relay.link(alloc, judge, on, from, frame)?;
+    Ok(None)
 }
 
-/// What is done about what is received.
+/// What is done about what is received, in the place of what is given: what is sent, what the policy denied
+/// and what the relay commits; and the write to the device that is granted, if there is one.
 pub(crate) fn respond<J: Judge>(
     alloc: Global,
     judge: &J,
     relay: &Relay,
     device: &Device,
     received: &Received<'_>,
-) -> Result<Response, AllocError>
+    given: &mut RelayResponse,
+) -> Result<Option<Change>, AllocError>
     ensures response { (rules : List Rule) → J.StandsFor judge.now rules →
-        IfOk result (IsResponse rules relay.now device.now (received_view received.now)) }
+        let due = received_view received.now in
+        IfOk result (IsResponse rules relay.now device.now due given.new) }
     ensures silent { (rules : List Rule) → J.StandsFor judge.now rules →
         let due = received_view received.now in
         asks_for rules relay.now device.now due ≡ [] →
         sends_for rules relay.now device.now due ≡ [] → IsOk result }
 {
     match received {
-        Received::Dropped => Ok(Response {
-            relayed: RelayResponse::nothing(alloc),
-            write: None,
-        }),
-        Received::Managed { on, from, frame } => {
-            respond_to_managed(alloc, judge, relay, on, *from, frame)
+        Received::Dropped => {
+            *given = RelayResponse::nothing(alloc);
+            Ok(None)
         }
-        Received::Message(message) => respond_to_message(alloc, judge, relay, device, message),
+        Received::Managed { on, from, frame } => {
+            respond_to_managed(alloc, judge, relay, on, *from, frame, given)
+        }
+        Received::Message(message) => {
+            respond_to_message(alloc, judge, relay, device, message, given)
+        }
     }
 }

@@ -10,8 +10,8 @@ use Rattle.gw_core.proofs.gateway.Gateway.outcome.Goals as goal
 
 pub returns-clause-effects : goal.returns-clause-effects
 returns-clause-effects c =
-    let r = c.in_ok-relayed.ensures.response c.self.inside.policy refl in
-    let refusals = c.in_ok-relayed.field-0.relayed.refusals in
+    let r = c.in_ok-write.ensures.response c.self.inside.policy refl in
+    let refusals = c.respond.new.given.refusals in
     let w : State = record {
       relay = c.self.inside.relay;
       device = c.self.inside.device;
@@ -25,15 +25,15 @@ returns-clause-effects c =
 
 pub returns-clause-place : goal.returns-clause-place
 returns-clause-place c =
-    let r = c.in_ok-relayed.ensures.response c.self.inside.policy refl in
-    subst (λ (s : State). HasPlace s.device c.in_ok-relayed.field-0.write) c.self.view_is r.place
+    let r = c.in_ok-write.ensures.response c.self.inside.policy refl in
+    subst (λ (s : State). HasPlace s.device c.in_ok-write.write) c.self.view_is r.place
 
 pub returns-clause-room : goal.returns-clause-room
 returns-clause-room c = λ ok.
     let w = c.args.self.now in
     let received = received_view c.args.received.now in
-    let r = c.in_ok-relayed.ensures.response c.self.inside.policy refl in
-    let refusals = subst (λ (s : State). c.in_ok-relayed.field-0.relayed.refusals ≡ denied_of s.rules (asks_for s.rules s.relay s.device received))
+    let r = c.in_ok-write.ensures.response c.self.inside.policy refl in
+    let refusals = subst (λ (s : State). c.respond.new.given.refusals ≡ denied_of s.rules (asks_for s.rules s.relay s.device received))
     c.self.view_is r.refusals in
     omega (arith, c.if-len-left.false, c.len.ensures, c.left.ensures, ap length refusals, counted_for w received)
 
@@ -41,7 +41,7 @@ pub returns-then-len-left-clause-count_end : goal.returns-then-len-left-clause-c
 returns-then-len-left-clause-count_end c = λ h.
     let w = c.args.self.now in
     let received = received_view c.args.received.now in
-    let r = c.in_ok-relayed.ensures.response c.self.inside.policy refl in
-    let refusals = subst (λ (s : State). c.in_ok-relayed.field-0.relayed.refusals ≡ denied_of s.rules (asks_for s.rules s.relay s.device received))
+    let r = c.in_ok-write.ensures.response c.self.inside.policy refl in
+    let refusals = subst (λ (s : State). c.respond.new.given.refusals ≡ denied_of s.rules (asks_for s.rules s.relay s.device received))
     c.self.view_is r.refusals in
     omega (arith, c.if-len-left.true, c.len.ensures, c.left.ensures, ap length refusals, counted_for w received)
