@@ -1,3 +1,4 @@
+pub mod Digits
 pub mod Pieces
 pub mod Fields
 pub mod LineLemmas

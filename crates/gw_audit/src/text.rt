@@ -1,6 +1,6 @@
 //! The line of a denial, piece by piece behind what a buffer holds.
 
-ghost use Rattle.std.specs.Prelude.{◌≡◌, ◌++◌, decimal};
+ghost use Rattle.std.specs.Prelude.{◌≡◌, ◌≤◌, ◌+◌, ◌%◌, ◌++◌, decimal};
 ghost use Rattle.gw_addr.specs.Appending.{IsAppended, IsAppendedWhole};
 ghost use Rattle.gw_audit.specs.Line.{ask_text, field_text, line_text, operation_of, operation_text};
 ghost use Rattle.gw_audit.specs.internal.Parts.{asked_text, counts_text, object_text, pieces_text, request_text, rule_text, source_text};
@@ -15,6 +15,12 @@ const ABSENT: &[u8] = b"-";
 
 /// How many digits there are: a number below is one of them.
 const RADIX: u64 = 10;
+
+/// The least number of three digits.
+const HUNDRED: u64 = RADIX * RADIX;
+
+/// The least number of four digits.
+const THOUSAND: u64 = HUNDRED * RADIX;
 
 /// Appends the line of a denial, which shows its number, its tick, its port, the station that the
 /// datagram claims to come from, what was asked, and the rule that denied it.
@@ -82,7 +88,7 @@ fn put_counts(out: &mut Vec<u8>, denial: &Denial) -> Result<(), AllocError>
 fn put_source(out: &mut Vec<u8>, source: &Source) -> Result<(), AllocError>
     ensures { IsAppended (source_text source.now) out.old out.new result }
 {
-    source.net.put_text(out)?;
+    put_digits(out, u64::from(source.net.get()))?;
     put_octet(out, b':')?;
     source.mac.put_text(out)
 }
@@ -137,6 +143,7 @@ pub(crate) fn operation_of(number: u64) -> Option<Operation>
 }
 
 /// Appends a label and the value of a field behind it.
+#[inline(always)]
 fn put_field(out: &mut Vec<u8>, label: &[u8], value: Option<u64>) -> Result<(), AllocError>
     ensures { IsAppended (label.now ++ field_text value) out.old out.new result }
 {
@@ -148,13 +155,44 @@ fn put_field(out: &mut Vec<u8>, label: &[u8], value: Option<u64>) -> Result<(), 
 }
 
 /// Appends a number in decimal: most in a line have one digit, which is written as it is.
-#[tactic(auto, using(std::proofs::lemmas::Fmt::decimal_digit))]
+#[inline(always)]
+#[tactic(auto, using(crate::proofs::Digits::one_digit))]
 fn put_digits(out: &mut Vec<u8>, number: u64) -> Result<(), AllocError>
     ensures { IsAppended (decimal number) out.old out.new result }
 {
     if number < RADIX {
-        put_octet(out, b'0' + number as u8)
+        put_octet(out, digit(number))
+    } else {
+        put_several_digits(out, number)
+    }
+}
+
+/// Appends a number of two digits or more in decimal. Two or three are written as they are.
+#[tactic(auto, using(crate::proofs::Digits::two_digits, crate::proofs::Digits::three_digits))]
+fn put_several_digits(out: &mut Vec<u8>, number: u64) -> Result<(), AllocError>
+    requires { 10 ≤ number }
+    ensures { IsAppended (decimal number) out.old out.new result }
+{
+    if number < HUNDRED {
+        put_slice(out, &[digit(number / RADIX), digit(number)])
+    } else if number < THOUSAND {
+        put_slice(
+            out,
+            &[
+                digit(number / HUNDRED),
+                digit(number / RADIX),
+                digit(number),
+            ],
+        )
     } else {
         put_decimal(out, number)
     }
+}
+
+/// The last decimal digit of a number.
+#[inline(always)]
+fn digit(number: u64) -> u8
+    ensures { result ≡ 48 + number % 10 }
+{
+    b'0' + (number % RADIX) as u8
 }
