@@ -19,7 +19,7 @@ use crate::message::Message;
 use crate::octets::message_octets;
 use crate::outgoing::Outgoing;
 use crate::port::PortState;
-use crate::response::{CastResponse, RelayResponse};
+use crate::response::RelayResponse;
 use crate::sends::{Batch, Sends};
 use gw_addr::{BdtEntry, BipAddr};
 use gw_bvll::Bvll;
@@ -318,17 +318,19 @@ impl PortState {
     }
 }
 
-/// Distributes the broadcast that brought a message, where the policy allows it.
+/// Distributes the broadcast that brought a message, where the policy allows it. What that gives stands in
+/// the place of what is given. It answers whether the message goes on to the network layer.
 pub(crate) fn cast<J: Judge>(
     alloc: Global,
     judge: &J,
     message: &Message<'_>,
-) -> Result<CastResponse, AllocError>
+    given: &mut RelayResponse,
+) -> Result<bool, AllocError>
     ensures relayed { (rules : List Rule) → J.StandsFor judge.now rules →
         let due = cast_response rules (message_view message.now) in
-        IfOk result (λ cast. IsRelayed rules due cast.given) }
+        OnOk result (IsRelayed rules due given.new) }
     ensures goes_on { let m = message_view message.now in
-        IfOk result (λ cast. cast.goes_on ≡ goes_on m.here m.from m.frame) }
+        IfOk result (λ goes. goes ≡ goes_on m.here m.from m.frame) }
     // What asks nothing and tells no unregistered sender wants no memory.
     ensures silent { let m = message_view message.now in
         cast_asks m ≡ [] → is_unregistered m.here m.from m.frame ≡ false → IsOk result }
@@ -340,21 +342,15 @@ pub(crate) fn cast<J: Judge>(
         ..
     } = message;
     if !here.accepts(*from, frame) {
-        return Ok(CastResponse {
-            given: RelayResponse::nothing(alloc),
-            goes_on: false,
-        });
+        *given = RelayResponse::nothing(alloc);
+        return Ok(false);
     }
     if here.is_unregistered(*from, frame) {
-        return Ok(CastResponse {
-            given: here.refuse_unregistered(alloc, *from, frame)?,
-            goes_on: false,
-        });
+        *given = here.refuse_unregistered(alloc, *from, frame)?;
+        return Ok(false);
     }
-    Ok(CastResponse {
-        given: cast_accepted(alloc, judge, message)?,
-        goes_on: true,
-    })
+    cast_accepted(alloc, judge, message, given)?;
+    Ok(true)
 }
 
 /// The ask of a broadcast.
@@ -364,19 +360,23 @@ fn cast_ask(message: &Message<'_>) -> Ask
     message_ask(Operation::Cast, message, bound_for(&message.npdu))
 }
 
-/// Distributes a broadcast that is accepted, and no unregistered sender's.
+/// Distributes a broadcast that is accepted, and no unregistered sender's. What that gives stands in the
+/// place of what is given.
 fn cast_accepted<J: Judge>(
     alloc: Global,
     judge: &J,
     message: &Message<'_>,
-) -> Result<RelayResponse, AllocError>
+    given: &mut RelayResponse,
+) -> Result<(), AllocError>
     requires { let m = message_view message.now in goes_on m.here m.from m.frame ≡ true }
     ensures relayed { (rules : List Rule) → J.StandsFor judge.now rules →
-        IfOk result (IsRelayed rules (cast_response rules (message_view message.now))) }
+        let due = cast_response rules (message_view message.now) in
+        OnOk result (IsRelayed rules due given.new) }
     ensures silent { cast_asks (message_view message.now) ≡ [] → IsOk result }
 {
     if !is_broadcast(&message.frame) {
-        return Ok(RelayResponse::nothing(alloc));
+        *given = RelayResponse::nothing(alloc);
+        return Ok(());
     }
     let mut authorizer = Authorizer::new(alloc, judge);
     let ask = cast_ask(message);
@@ -384,11 +384,12 @@ fn cast_accepted<J: Judge>(
     let sends = message
         .here
         .judged_sends(alloc, message.from, &message.frame, is_allowed)?;
-    Ok(RelayResponse {
+    *given = RelayResponse {
         sends,
         refusals: authorizer.into_refusals(),
         change: None,
-    })
+    };
+    Ok(())
 }
 
 /// A message, of about so many octets, to each of the addresses. None where it is too long, or

@@ -29,5 +29,5 @@ pub use change::Change;
 pub use message::{Message, local_source};
 pub use port::{Port, PortState, link_at};
 pub use relay::Relay;
-pub use response::{CastResponse, RelayResponse, put_refusals};
+pub use response::{RelayResponse, put_refusals};
 pub use sends::{Batch, Sends};

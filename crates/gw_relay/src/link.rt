@@ -1,6 +1,6 @@
 //! The frames that read or change a table of their port (Annex J.2, J.4, J.5).
 
-ghost use Rattle.std.specs.Prelude.{◌≡◌, ◌||◌, ◌∷◌, [], List, not, map, IfOk, IsOk, if◌then◌else◌, Some, None};
+ghost use Rattle.std.specs.Prelude.{◌≡◌, ◌||◌, ◌∷◌, [], List, not, map, IfOk, IsOk, OnOk, if◌then◌else◌, Some, None};
 ghost use Rattle.gw_addr.specs.Entry.{bdt_entry};
 ghost use Rattle.gw_bdt_fdt.specs.Peers.{are_too_many, has_twice};
 ghost use Rattle.gw_bdt_fdt.specs.Registrations.{contains, has_room};
@@ -39,33 +39,39 @@ enum Grant {
 
 impl PortState {
     /// Answers a frame that reads or changes a table of the port. The answer goes to the sender; a
-    /// frame of another kind gets none, and asks nothing. The only fault is want of memory.
+    /// frame of another kind gets none, and asks nothing. What that gives stands in the place of what is
+    /// given. The only fault is want of memory.
     pub(crate) fn handle_table_message<J: Judge>(
         &self,
         alloc: Global,
         judge: &J,
         from: BipAddr,
         frame: &Bvll<'_>,
-    ) -> Result<RelayResponse, AllocError>
+        given: &mut RelayResponse,
+    ) -> Result<(), AllocError>
         ensures relayed { (rules : List Rule) → J.StandsFor judge.now rules →
-            IfOk result (IsRelayed rules (link_response rules self.now from (view frame.now))) }
+            let due = link_response rules self.now from (view frame.now) in
+            OnOk result (IsRelayed rules due given.new) }
         ensures silent { link_asks self.now.port from (view frame.now) ≡ [] → IsOk result }
     {
         let Some(operation) = management_of(frame) else {
-            return Ok(RelayResponse::nothing(alloc));
+            *given = RelayResponse::nothing(alloc);
+            return Ok(());
         };
         let mut authorizer = Authorizer::new(alloc, judge);
         let ask = link_ask(&self.port, from, frame, operation);
         let is_allowed = authorizer.authorize(&ask)?;
         let (sends, change) = self.answer_table_message(alloc, from, frame, is_allowed)?;
-        Ok(RelayResponse {
+        *given = RelayResponse {
             sends,
             refusals: authorizer.into_refusals(),
             change,
-        })
+        };
+        Ok(())
     }
 
     /// The answer to a frame that was judged, and what it changes.
+    #[inline(always)]
     fn answer_table_message(
         &self,
         alloc: Global,

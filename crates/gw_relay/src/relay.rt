@@ -27,7 +27,7 @@ use crate::links::{make, tick_each};
 use crate::manage::manage;
 use crate::message::Message;
 use crate::port::{PortState, link_at};
-use crate::response::{CastResponse, RelayResponse};
+use crate::response::RelayResponse;
 use crate::route::route;
 use crate::sends::Sends;
 use gw_addr::BipAddr;
@@ -106,8 +106,8 @@ impl Relay {
 
     /// Answers a frame that reads or changes a table of the port that it came on (Annex J.2, J.4,
     /// J.5): the policy is asked once, and the answer goes to the sender. A frame of another kind
-    /// asks nothing and gets no answer. It changes nothing. The only fault is want of memory; what
-    /// asks nothing wants none.
+    /// asks nothing and gets no answer. What that gives stands in the place of what is given. It
+    /// changes nothing. The only fault is want of memory; what asks nothing wants none.
     pub fn link<J: Judge>(
         &self,
         alloc: Global,
@@ -115,33 +115,37 @@ impl Relay {
         on: &PortState,
         from: BipAddr,
         frame: &Bvll<'_>,
-    ) -> Result<RelayResponse, AllocError>
+        given: &mut RelayResponse,
+    ) -> Result<(), AllocError>
         ensures relayed { (rules : List Rule) → J.StandsFor judge.now rules →
-            IfOk result (IsRelayed rules (link_response rules on.now from (frame_view frame.now))) }
+            let due = link_response rules on.now from (frame_view frame.now) in
+            OnOk result (IsRelayed rules due given.new) }
         ensures silent { link_asks on.now.port from (frame_view frame.now) ≡ [] → IsOk result }
     {
-        on.handle_table_message(alloc, judge, from, frame)
+        on.handle_table_message(alloc, judge, from, frame, given)
     }
 
     /// Distributes the broadcast that brought a message (Annex J.4, J.5): where the policy allows it,
-    /// one message goes to all peers and foreign devices that are due. Its answer tells whether the
-    /// message goes on to the network layer. It changes nothing. The only fault is want of memory.
+    /// one message goes to all peers and foreign devices that are due. What that gives stands in the
+    /// place of what is given. It answers whether the message goes on to the network layer: to routing,
+    /// network messages and the device. It changes nothing. The only fault is want of memory.
     pub fn cast<J: Judge>(
         &self,
         alloc: Global,
         judge: &J,
         message: &Message<'_>,
-    ) -> Result<CastResponse, AllocError>
+        given: &mut RelayResponse,
+    ) -> Result<bool, AllocError>
         ensures relayed { (rules : List Rule) → J.StandsFor judge.now rules →
             let due = cast_response rules (message_view message.now) in
-            IfOk result (λ cast. IsRelayed rules due cast.given) }
+            OnOk result (IsRelayed rules due given.new) }
         ensures goes_on { let m = message_view message.now in
-            IfOk result (λ cast. cast.goes_on ≡ goes_on m.here m.from m.frame) }
+            IfOk result (λ goes. goes ≡ goes_on m.here m.from m.frame) }
         // What asks nothing and tells no unregistered sender wants no memory.
         ensures silent { let m = message_view message.now in
             cast_asks m ≡ [] → is_unregistered m.here m.from m.frame ≡ false → IsOk result }
     {
-        cast(alloc, judge, message)
+        cast(alloc, judge, message, given)
     }
 
     /// The sends of a broadcast by the gateway on the port of this number: on its subnet, and to
@@ -181,21 +185,22 @@ impl Relay {
     /// Routes a message (clause 6.5). By the way of its destination the policy is asked, and what is
     /// allowed is sent: to a station of another port's network or to all there, to the next router,
     /// or to all other ports. Where no way is known the link source is told so, and the other ports'
-    /// routers are asked for one. It changes nothing. The only fault is want of memory; what asks
-    /// nothing wants none.
+    /// routers are asked for one. What that gives stands in the place of what is given. It changes
+    /// nothing. The only fault is want of memory; what asks nothing wants none.
     #[inline(always)]
     pub fn route<J: Judge>(
         &self,
         alloc: Global,
         judge: &J,
         message: &Message<'_>,
-    ) -> Result<RelayResponse, AllocError>
+        given: &mut RelayResponse,
+    ) -> Result<(), AllocError>
         ensures relayed { (rules : List Rule) → J.StandsFor judge.now rules →
             let m = message_view message.now in
-            IfOk result (IsRelayed rules (route_response rules self.now m)) }
+            OnOk result (IsRelayed rules (route_response rules self.now m) given.new) }
         ensures silent { route_asks self.now (message_view message.now) ≡ [] → IsOk result }
     {
-        route(alloc, judge, self, message)
+        route(alloc, judge, self, message, given)
     }
 
     /// Answers a network layer message (clause 6.4): a Who-Is-Router-To-Network and a

@@ -19,15 +19,6 @@ pub struct RelayResponse {
     pub change: Option<Change>,
 }
 
-/// What distribution answers (Annex J.4, J.5).
-#[derive(Drop)]
-pub struct CastResponse {
-    /// What is sent, and what was denied.
-    pub given: RelayResponse,
-    /// Whether the message goes on to the network layer: to routing, network messages and the device.
-    pub goes_on: bool,
-}
-
 impl RelayResponse {
     /// Nothing is asked, sent or changed. It takes no memory.
     pub fn nothing(alloc: Global) -> Self

@@ -365,7 +365,7 @@ fn put_by_way<J: Judge>(
     put_allowed(alloc, relay, message, destination, way, state)
 }
 
-/// Routes a message by a way.
+/// Routes a message by a way. What that gives stands in the place of what is given.
 #[inline(never)]
 fn route_by_way<J: Judge>(
     alloc: Global,
@@ -374,41 +374,46 @@ fn route_by_way<J: Judge>(
     message: &Message<'_>,
     destination: &Destination<'_>,
     way: &Way,
-) -> Result<RelayResponse, AllocError>
+    given: &mut RelayResponse,
+) -> Result<(), AllocError>
     ensures relayed { (rules : List Rule) → J.StandsFor judge.now rules →
         let d = destination_view destination.now in
         let steps = steps_by relay.now (message_view message.now) d way.now in
-        IfOk result (IsRelayed rules (taken rules steps)) }
+        OnOk result (IsRelayed rules (taken rules steps) given.new) }
     ensures silent { let d = destination_view destination.now in
         let steps = steps_by relay.now (message_view message.now) d way.now in
         asks_of steps ≡ [] → IsOk result }
 {
     let mut state = StepState::new(alloc, judge);
     put_by_way(alloc, relay, message, destination, way, &mut state)?;
-    Ok(state.into_response())
+    *given = state.into_response();
+    Ok(())
 }
 
-/// Routes a message.
+/// Routes a message. What that gives stands in the place of what is given.
 #[inline(always)]
 pub(crate) fn route<J: Judge>(
     alloc: Global,
     judge: &J,
     relay: &Relay,
     message: &Message<'_>,
-) -> Result<RelayResponse, AllocError>
+    given: &mut RelayResponse,
+) -> Result<(), AllocError>
     ensures relayed { (rules : List Rule) → J.StandsFor judge.now rules →
-        IfOk result (IsRelayed rules (route_response rules relay.now (message_view message.now))) }
+        let due = route_response rules relay.now (message_view message.now) in
+        OnOk result (IsRelayed rules due given.new) }
     ensures silent { route_asks relay.now (message_view message.now) ≡ [] → IsOk result }
 {
+    *given = RelayResponse::nothing(alloc);
     let Some(destination) = &message.npdu.destination else {
-        return Ok(RelayResponse::nothing(alloc));
+        return Ok(());
     };
     if is_local(&message.npdu.payload) {
-        return Ok(RelayResponse::nothing(alloc));
+        return Ok(());
     }
     let way = relay.routes().find(destination.network);
     if way == Way::Device {
-        return Ok(RelayResponse::nothing(alloc));
+        return Ok(());
     }
-    route_by_way(alloc, judge, relay, message, destination, &way)
+    route_by_way(alloc, judge, relay, message, destination, &way, given)
 }

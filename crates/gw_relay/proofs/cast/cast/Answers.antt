@@ -18,7 +18,7 @@ returns-then-is_unregistered-clause-relayed g c = λ rules stands.
     let m = message_view c.args.message.now in
     let heard = sym c.accepts.ensures ∙ c.if-not-accepts.false in
     let strange = sym c.is_unregistered.ensures ∙ c.if-is_unregistered.true in record {
-      sends = c.in_ok-refuse_unregistered.ensures.sends ∙ sym (strange_sends rules m heard strange);
-      refusals = c.in_ok-refuse_unregistered.ensures.refusals ∙ ap (denied_of rules) (sym (strange_asks m heard strange));
-      change = c.in_ok-refuse_unregistered.ensures.change;
+      sends = c.in_ok-given.ensures.sends ∙ sym (strange_sends rules m heard strange);
+      refusals = c.in_ok-given.ensures.refusals ∙ ap (denied_of rules) (sym (strange_asks m heard strange));
+      change = c.in_ok-given.ensures.change;
     }
