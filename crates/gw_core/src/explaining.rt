@@ -20,7 +20,7 @@ use crate::respond::network_of;
 use gw_addr::{Source, put_decimal, put_octet, put_slice};
 use gw_audit::put_ask;
 use gw_device::{Asks, Device, NoRules, put_refused};
-use gw_relay::{CastResponse, Message, Relay};
+use gw_relay::{Message, Relay, RelayResponse};
 use gw_rule_index::Policy;
 use gw_rules::{Ask, Judge, RuleList};
 use std::alloc::{AllocError, Global};
@@ -40,13 +40,14 @@ fn put_passed_asks(
     ensures silent { (rules : List Rule) → let m = message_view message.now in
         passed_asks relay.now m ≡ [] → passed_sends rules relay.now m ≡ [] → IsOk result }
 {
-    let CastResponse { given, goes_on } = relay.cast(alloc, &NoRules, message)?;
+    let mut given = RelayResponse::nothing(alloc);
+    let goes_on = relay.cast(alloc, &NoRules, message, &mut given)?;
     put_refused(asks, given.refusals.as_slice())?;
     if !goes_on {
         return Ok(false);
     }
-    let routed = relay.route(alloc, &NoRules, message)?;
-    put_refused(asks, routed.refusals.as_slice())?;
+    relay.route(alloc, &NoRules, message, &mut given)?;
+    put_refused(asks, given.refusals.as_slice())?;
     let managed = relay.manage(alloc, &NoRules, message)?;
     put_refused(asks, managed.refusals.as_slice())?;
     Ok(true)
@@ -116,7 +117,8 @@ fn put_asks<J: Judge>(
     match received {
         Received::Dropped => Ok(()),
         Received::Managed { on, from, frame } => {
-            let linked = relay.link(alloc, &NoRules, on, *from, frame)?;
+            let mut linked = RelayResponse::nothing(alloc);
+            relay.link(alloc, &NoRules, on, *from, frame, &mut linked)?;
             put_refused(asks, linked.refusals.as_slice())
         }
         Received::Message(message) => {

@@ -53,13 +53,12 @@ fn pass_on_each_way<J: Judge>(
         let due = passed_response rules relay.now (message_view message.now) in
         due.asks ≡ [] → due.sends ≡ [] → IsOk result }
 {
-    let distributed = relay.cast(alloc, judge, message)?;
-    let goes_on = distributed.goes_on;
-    *given = distributed.given;
+    let goes_on = relay.cast(alloc, judge, message, given)?;
     if !goes_on {
         return Ok(false);
     }
-    let routed = relay.route(alloc, judge, message)?;
+    let mut routed = RelayResponse::nothing(alloc);
+    relay.route(alloc, judge, message, &mut routed)?;
     given.append(routed)?;
     let managed = relay.manage(alloc, judge, message)?;
     given.append(managed)?;
@@ -94,7 +93,7 @@ fn pass_on<J: Judge>(
         due.asks ≡ [] → due.sends ≡ [] → IsOk result }
 {
     if is_plain(message) {
-        *given = relay.route(alloc, judge, message)?;
+        relay.route(alloc, judge, message, given)?;
         return Ok(true);
     }
     pass_on_each_way(alloc, judge, relay, message, given)
@@ -183,7 +182,7 @@ fn respond_to_managed<J: Judge>(
         let due = managed on.now from (frame_view frame.now) in
         asks_for rules relay.now device due ≡ [] → IsOk result }
 {
-    *given = relay.link(alloc, judge, on, from, frame)?;
+    relay.link(alloc, judge, on, from, frame, given)?;
     Ok(None)
 }
 

@@ -4,18 +4,18 @@ use Rattle.gw_relay.specs.Message.{message_view}
 use Rattle.gw_core.proofs.PlainLemmas.{passes_by}
 use Rattle.gw_core.proofs.respond.pass_on.Goals as goal
 
-pub returns-in_err-given-clause-silent : goal.returns-in_err-given-clause-silent
-returns-in_err-given-clause-silent g c = λ rules stands asks sends.
+pub returns-in_err-route-clause-silent : goal.returns-in_err-route-clause-silent
+returns-in_err-route-clause-silent g c = λ rules stands asks sends.
     let m = message_view c.args.message.now in
     let by = passes_by rules c.args.relay.now m (sym c.is_plain.ensures ∙ c.if-is_plain.true) in
-    let ok = c.in_err-given.ensures.silent (sym by.asks ∙ asks) in
+    let ok = c.in_err-route.ensures.silent (sym by.asks ∙ asks) in
     absurd cc
 
 pub returns-then-is_plain-clause-relayed : goal.returns-then-is_plain-clause-relayed
 returns-then-is_plain-clause-relayed g c = λ rules stands.
     let m = message_view c.args.message.now in
     let by = passes_by rules c.args.relay.now m (sym c.is_plain.ensures ∙ c.if-is_plain.true) in
-    let routed = c.in_ok-given.ensures.relayed rules stands in record {
+    let routed = c.in_ok-route.ensures.relayed rules stands in record {
       sends = routed.sends ∙ sym by.sends;
       refusals = routed.refusals ∙ ap (denied_of rules) (sym by.asks);
       change = routed.change ∙ sym by.change;

@@ -11,37 +11,37 @@ use Rattle.gw_relay.specs.declared.change.Change.{Change}
 use Rattle.gw_core.proofs.RespondLemmas.{cast_silent, change_on, denied_on, on_silent, sends_on}
 use Rattle.gw_core.proofs.respond.pass_on_each_way.Goals as goal
 
-pub returns-in_err-distributed-clause-silent : goal.returns-in_err-distributed-clause-silent
-returns-in_err-distributed-clause-silent g c = λ rules stands asks sends.
+pub returns-in_err-goes_on-clause-silent : goal.returns-in_err-goes_on-clause-silent
+returns-in_err-goes_on-clause-silent g c = λ rules stands asks sends.
     let silent = cast_silent rules c.args.relay.now (message_view c.args.message.now) asks sends in
-    let ok = c.in_err-distributed.ensures.silent silent.0 silent.1 in
+    let ok = c.in_err-goes_on.ensures.silent silent.0 silent.1 in
     absurd cc
 
-pub returns-in_err-routed-clause-silent : goal.returns-in_err-routed-clause-silent
-returns-in_err-routed-clause-silent g c = λ rules stands asks sends.
-    let on = sym c.in_ok-distributed.ensures.goes_on ∙ c.if-not-goes_on.false in
+pub returns-in_err-route-clause-silent : goal.returns-in_err-route-clause-silent
+returns-in_err-route-clause-silent g c = λ rules stands asks sends.
+    let on = sym c.in_ok-goes_on.ensures.goes_on ∙ c.if-not-goes_on.false in
     let silent = on_silent rules c.args.relay.now (message_view c.args.message.now) on asks sends in
-    let ok = c.in_err-routed.ensures.silent silent.route_asks in
+    let ok = c.in_err-route.ensures.silent silent.route_asks in
     absurd cc
 
 pub returns-in_err-managed-clause-silent : goal.returns-in_err-managed-clause-silent
 returns-in_err-managed-clause-silent g c = λ rules stands asks sends.
-    let on = sym c.in_ok-distributed.ensures.goes_on ∙ c.if-not-goes_on.false in
+    let on = sym c.in_ok-goes_on.ensures.goes_on ∙ c.if-not-goes_on.false in
     let silent = on_silent rules c.args.relay.now (message_view c.args.message.now) on asks sends in
     let ok = c.in_err-managed.ensures.silent silent.manage_asks in
     absurd cc
 
 pub returns-in_err-append-clause-silent : goal.returns-in_err-append-clause-silent
 returns-in_err-append-clause-silent g c = λ rules stands asks sends.
-    let on = sym c.in_ok-distributed.ensures.goes_on ∙ c.if-not-goes_on.false in
+    let on = sym c.in_ok-goes_on.ensures.goes_on ∙ c.if-not-goes_on.false in
     let silent = on_silent rules c.args.relay.now (message_view c.args.message.now) on asks sends in
-    let routed = c.in_ok-routed.ensures.relayed rules stands in
+    let routed = c.in_ok-route.ensures.relayed rules stands in
     let ok = c.in_err-append.ensures.silent (routed.sends ∙ silent.route_sends) (routed.refusals ∙ ap (denied_of rules) silent.route_asks) in
     absurd cc
 
 pub returns-in_err-append-2-clause-silent : goal.returns-in_err-append-2-clause-silent
 returns-in_err-append-2-clause-silent g c = λ rules stands asks sends.
-    let on = sym c.in_ok-distributed.ensures.goes_on ∙ c.if-not-goes_on.false in
+    let on = sym c.in_ok-goes_on.ensures.goes_on ∙ c.if-not-goes_on.false in
     let silent = on_silent rules c.args.relay.now (message_view c.args.message.now) on asks sends in
     let managed = c.in_ok-managed.ensures.relayed rules stands in
     let ok = c.in_err-append-2.ensures.silent (managed.sends ∙ silent.manage_sends) (managed.refusals ∙ ap (denied_of rules) silent.manage_asks) in
@@ -51,9 +51,9 @@ pub returns-clause-relayed : goal.returns-clause-relayed
 returns-clause-relayed g c = λ rules stands.
     let relay = c.args.relay.now in
     let m = message_view c.args.message.now in
-    let on = sym c.in_ok-distributed.ensures.goes_on ∙ c.if-not-goes_on.false in
-    let cast = c.in_ok-distributed.ensures.relayed rules stands in
-    let routed = c.in_ok-routed.ensures.relayed rules stands in
+    let on = sym c.in_ok-goes_on.ensures.goes_on ∙ c.if-not-goes_on.false in
+    let cast = c.in_ok-goes_on.ensures.relayed rules stands in
+    let routed = c.in_ok-route.ensures.relayed rules stands in
     let managed = c.in_ok-managed.ensures.relayed rules stands in record {
       sends = c.in_ok-append-2.ensures.sends
           ∙ ap₂ (λ (x y : List Sending). x ++ y)
