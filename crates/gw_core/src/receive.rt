@@ -1,17 +1,18 @@
 //! What the gateway makes of a datagram before any policy is asked (Annex J.2, clause 6.2).
 
-ghost use Rattle.std.specs.Prelude.{◌≡◌, ◌==◌, ◌<◌, ◌≤◌, length};
+ghost use Rattle.std.specs.Prelude.{◌≡◌, ◌==◌, ◌<◌, ◌≤◌, length, not, if◌then◌else◌};
 ghost use Rattle.std.specs.List.{list_any};
 ghost use Rattle.std.specs.Option.{option_map};
 ghost use Rattle.gw_bvll.specs.Bvll.{view as frame_view};
-ghost use Rattle.gw_npdu.specs.Npdu.{view as npdu_view, address_view};
+ghost use Rattle.gw_npdu.specs.Npdu.{address_view};
 ghost use Rattle.gw_relay.specs.Claim.{local_source};
-ghost use Rattle.gw_core.specs.Receive.{claims_direct, comes_in, is_direct, manages, npdu_of, payload_of, receive_on};
+ghost use Rattle.gw_relay.specs.Cast.{accepts};
+ghost use Rattle.gw_core.specs.Receive.{claims_direct, comes_in, dropped, is_direct, manages, payload_of, receive_npdu, receive_on};
 ghost use Rattle.gw_core.specs.View.{received_view};
 
 use gw_addr::{BipAddr, NetNum};
 use gw_bvll::Bvll;
-use gw_npdu::{AddressRef, Npdu};
+use gw_npdu::AddressRef;
 use gw_relay::{Message, PortState, link_at};
 
 /// The longest datagram that is heard, in octets.
@@ -89,19 +90,32 @@ fn claims_direct(links: &[PortState], device: NetNum, source: &Option<AddressRef
     }
 }
 
-/// The NPDU of these octets, where it is heard.
+/// What a frame is received as that brings the NPDU of these octets: that is heard, or the frame is dropped.
 #[inline(never)]
 #[tactic(auto, unfolding(crate::specs::Receive::npdu_of))]
-fn npdu_of<'a>(links: &[PortState], device: NetNum, octets: &'a [u8]) -> Option<Npdu<'a>>
-    ensures { option_map npdu_view result ≡ npdu_of links.now device octets.now }
+fn receive_npdu<'a>(
+    links: &[PortState],
+    device: NetNum,
+    here: &'a PortState,
+    from: BipAddr,
+    frame: &Bvll<'a>,
+    octets: &'a [u8],
+) -> Received<'a>
+    ensures { let frame = frame_view frame.now in
+        received_view result ≡ (if not (accepts here.now from frame) then dropped
+        else receive_npdu links.now device here.now from frame octets.now) }
 {
     if octets.len() > MAX_NPDU {
-        return None;
+        return Received::Dropped;
     }
     match gw_npdu::decode(octets) {
-        Ok(npdu) if claims_direct(links, device, &npdu.source) => None,
-        Ok(npdu) => Some(npdu),
-        Err(_) => None,
+        Ok(npdu) if !claims_direct(links, device, &npdu.source) => Received::Message(Message {
+            here,
+            from,
+            frame: *frame,
+            npdu,
+        }),
+        _ => Received::Dropped,
     }
 }
 
@@ -131,13 +145,5 @@ pub fn receive_on<'a>(
     let Some(payload) = payload_of(&frame) else {
         return Received::Dropped;
     };
-    match npdu_of(links, device, payload) {
-        Some(npdu) => Received::Message(Message {
-            here: on,
-            from,
-            frame,
-            npdu,
-        }),
-        None => Received::Dropped,
-    }
+    receive_npdu(links, device, on, from, &frame, payload)
 }
