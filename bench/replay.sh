@@ -215,7 +215,7 @@ each() {
     local few many
     few=$("$1" "$work/$2.1000" "${@:3}")
     many=$("$1" "$work/$2.3000" "${@:3}")
-    awk -v d=$((many - few)) 'BEGIN { printf "%.1f", d / 2000 }' | sed 's/\.0$//'
+    awk -v d=$((many - few)) 'BEGIN { printf "%.1f", d / 2000 }' | sed 's/\.0$//; s/^-0$/0/'
 }
 
 grouped() { sed ':a; s/\B[0-9]\{3\}\>/,&/; ta'; }
