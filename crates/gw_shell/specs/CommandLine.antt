@@ -19,13 +19,20 @@ use Rattle.gw_shell.specs.declared.command_line.Choice.TheVariants as choice
 use Rattle.gw_shell.specs.declared.fault.Fault.{Fault}
 use Rattle.gw_shell.specs.declared.fault.Fault.TheVariants as fault
 
+-- an option of a name that has a value, and one that has none
+abbrev pub option : Text → Rule
+option name = record (new_rule name) { long = Some name; value_names = 1 }
+
+abbrev pub flag : Text → Rule
+flag name = record (new_rule name) { long = Some name; action = Some SetTrue }
+
 -- `--config FILE`
 abbrev pub config : Rule
-config = record (new_rule (codes "config")) { long = Some (codes "config"); value_names = 1 }
+config = option (codes "config")
 
 -- `--explain`, which has no value
 abbrev pub explain : Rule
-explain = record (new_rule (codes "explain")) { long = Some (codes "explain"); action = Some SetTrue }
+explain = flag (codes "explain")
 
 -- `check`, which needs a file
 abbrev pub check_of_file : App
@@ -33,7 +40,7 @@ check_of_file = with_rule (new_app (codes "check")) (record config { required = 
 
 -- `--lint`, which has no value
 abbrev pub lint : Rule
-lint = record (new_rule (codes "lint")) { long = Some (codes "lint"); action = Some SetTrue }
+lint = flag (codes "lint")
 
 -- and may have to explain, and to say which rules never decide
 abbrev pub check : App
@@ -48,17 +55,17 @@ abbrev pub needed_config : Rule
 needed_config = record config { required = true }
 
 abbrev pub log : Rule
-log = record (new_rule (codes "log")) { long = Some (codes "log"); value_names = 1 }
+log = option (codes "log")
 
 abbrev pub turns : Rule
-turns = record (new_rule (codes "turns")) { long = Some (codes "turns"); value_names = 1 }
+turns = option (codes "turns")
 
 abbrev pub verbose : Rule
-verbose = record (new_rule (codes "verbose")) { long = Some (codes "verbose"); action = Some SetTrue }
+verbose = flag (codes "verbose")
 
 -- `--stats SECONDS`
 abbrev pub stats : Rule
-stats = record (new_rule (codes "stats")) { long = Some (codes "stats"); value_names = 1 }
+stats = option (codes "stats")
 
 -- `run`, which needs a file and may have another for the log,
 abbrev pub run_of_files : App
@@ -78,7 +85,7 @@ why = with_rule (new_app (codes "why")) needed_config
 
 -- `--start TIME`
 abbrev pub start : Rule
-start = record (new_rule (codes "start")) { long = Some (codes "start"); value_names = 1 }
+start = option (codes "start")
 
 -- `log`, which needs nothing, and may have the moment at which the log began
 abbrev pub log_in_words : App

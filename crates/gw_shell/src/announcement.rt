@@ -1,11 +1,12 @@
 //! What `run --verbose` tells at the start: one line on what is served.
 
 ghost use Rattle.std.specs.Prelude.{◌≡◌, ◌++◌, ◌≤◌, length, map, option_map, string_bytes, IfOk, OnOk};
+ghost use Rattle.gw_addr.specs.Address.{text_of};
 ghost use Rattle.gw_addr.specs.declared.TheConstants.{MAX_PORTS};
 ghost use Rattle.gw_shell.specs.Announcement.{announcement, device_text, log_text, objects_text, port_text, rules_text, shown, startup_line};
 ghost use Rattle.gw_script.specs.Order.{in_order};
 
-use gw_addr::put_decimal;
+use gw_addr::{BipAddr, put_decimal};
 use gw_configuration::{Config, Device, Port};
 use itoa::Integer;
 use std::alloc::{AllocError, Global};
@@ -50,13 +51,18 @@ pub fn startup_line(
 fn put_port(out: &mut Vec<u8>, number: usize, port: &Port) -> Result<(), AllocError>
     ensures { OnOk result (out.new.items ≡ out.old.items ++ port_text number port.now) }
 {
-    out.extend_from_slice(b"port ")?;
-    put_decimal(out, number)?;
-    out.extend_from_slice(b" at ")?;
-    port.address.put_text(out)?;
-    out.extend_from_slice(b", broadcast ")?;
-    port.broadcast.put_text(out)?;
+    put_number(out, "port ", number)?;
+    put_address(out, " at ", port.address)?;
+    put_address(out, ", broadcast ", port.broadcast)?;
     out.extend_from_slice(b"; ")
+}
+
+/// Appends a text and an address behind it.
+fn put_address(out: &mut Vec<u8>, text: &str, address: BipAddr) -> Result<(), AllocError>
+    ensures { OnOk result (out.new.items ≡ out.old.items ++ text.now ++ text_of address) }
+{
+    out.extend_from_slice(text.as_bytes())?;
+    address.put_text(out)
 }
 
 /// Appends the ports in order.

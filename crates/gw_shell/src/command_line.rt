@@ -3,7 +3,7 @@
 ghost use Rattle.std.specs.Prelude.{◌≡◌, ◌<◌, Some, None, true, false, IfOk, IfSome, MatchResult, map, codes, option_map, string_bytes};
 ghost use Rattle.clap.specs.Words.{app_of, first_value, found_of, kind_of, rule_of, subcommand_rows_of};
 ghost use Rattle.clap.specs.declared.builder.command.Command.TheViews.{out-Command};
-ghost use Rattle.gw_shell.specs.CommandLine.{call_by, call_of, check, check_of_file, commands, explain, is_given, log_in_words, replay, run, run_of_files, run_of_turns, needed_config, why, AreOptions, CallsCheck, CallsExplain, CallsLint, CallsLog, CallsLogSince, CallsReplay, CallsReplayExplained, CallsRun, CallsRunWhole, CallsWhy, IsAnswer, IsCheck, IsChosen, IsLog, IsLogSince, IsNoPeriod, IsNoStart, IsNoTurns, AreNoOptions, IsPeriod, IsRefusal, IsReplay, IsServing, IsStart, IsTurns, IsWhy};
+ghost use Rattle.gw_shell.specs.CommandLine.{call_by, call_of, check, check_of_file, commands, flag, is_given, log_in_words, option, replay, run, run_of_files, run_of_turns, needed_config, why, AreOptions, CallsCheck, CallsExplain, CallsLint, CallsLog, CallsLogSince, CallsReplay, CallsReplayExplained, CallsRun, CallsRunWhole, CallsWhy, IsAnswer, IsCheck, IsChosen, IsLog, IsLogSince, IsNoPeriod, IsNoStart, IsNoTurns, AreNoOptions, IsPeriod, IsRefusal, IsReplay, IsServing, IsStart, IsTurns, IsWhy};
 
 use crate::fault::Fault;
 use crate::options::RunOptions;
@@ -22,7 +22,14 @@ const MAX_SECONDS: u64 = u32::MAX as u64;
 /// proved in, as `rt version` names it.
 const VERSION: &str = "0.1.0, proved by Rattle, logic dac8208d650f15bf";
 
-/// What `--explain` of `check` and of `replay` does.
+/// The option that names the configuration's file, and what help calls a file.
+const CONFIG: &str = "config";
+
+const FILE: &str = "FILE";
+
+/// The option that explains, and what it does of `check` and of `replay`.
+const EXPLAIN: &str = "explain";
+
 const CHECK_EXPLAIN: &str = "Also prints where the fault is, or what the policy hides from whom";
 
 const REPLAY_EXPLAIN: &str = "Also prints each ask, and which rule decides it";
@@ -74,12 +81,9 @@ fn make_check<'a>(alloc: Global) -> Result<Command<'a>, AllocError>
     ensures app { IfOk result (λ command. app_of command ≡ check) }
     ensures local { IfOk result (λ command. (out-Command command).has_globals ≡ false) }
 {
-    let lint = Arg::new(alloc, "lint")
-        .long("lint")
-        .help("Also prints which rules never decide")
-        .action(ArgAction::SetTrue);
+    let lint = make_flag(alloc, "lint", "Also prints which rules never decide");
     make_check_of_file(alloc)?
-        .arg(make_explain(alloc, CHECK_EXPLAIN))?
+        .arg(make_flag(alloc, EXPLAIN, CHECK_EXPLAIN))?
         .arg(lint)
 }
 
@@ -92,13 +96,24 @@ fn make_check_of_file<'a>(alloc: Global) -> Result<Command<'a>, AllocError>
         .arg(make_config(alloc))
 }
 
-/// `--explain`, with this help.
-fn make_explain<'a>(alloc: Global, help: &'a str) -> Arg<'a>
-    ensures rule { rule_of result ≡ explain }
+/// An option of this name that has a value, which help calls so.
+fn make_option<'a>(alloc: Global, name: &'a str, value_name: &'a str, help: &'a str) -> Arg<'a>
+    ensures rule { rule_of result ≡ option name.now }
     ensures local { result.global ≡ false }
 {
-    Arg::new(alloc, "explain")
-        .long("explain")
+    Arg::new(alloc, name)
+        .long(name)
+        .value_name(value_name)
+        .help(help)
+}
+
+/// An option of this name that has no value.
+fn make_flag<'a>(alloc: Global, name: &'a str, help: &'a str) -> Arg<'a>
+    ensures rule { rule_of result ≡ flag name.now }
+    ensures local { result.global ≡ false }
+{
+    Arg::new(alloc, name)
+        .long(name)
         .help(help)
         .action(ArgAction::SetTrue)
 }
@@ -108,35 +123,27 @@ fn make_config<'a>(alloc: Global) -> Arg<'a>
     ensures rule { rule_of result ≡ needed_config }
     ensures local { result.global ≡ false }
 {
-    Arg::new(alloc, "config")
-        .long("config")
-        .value_name("FILE")
-        .help("The configuration, in TOML")
-        .required(true)
+    make_option(alloc, CONFIG, FILE, "The configuration, in TOML").required(true)
 }
 
 fn make_replay<'a>(alloc: Global) -> Result<Command<'a>, AllocError>
     ensures app { IfOk result (λ command. app_of command ≡ replay) }
     ensures local { IfOk result (λ command. (out-Command command).has_globals ≡ false) }
 {
-    let config = Arg::new(alloc, "config")
-        .long("config")
-        .value_name("FILE")
-        .help("The configuration, in TOML; without it the built-in one");
+    let help = "The configuration, in TOML; without it the built-in one";
+    let config = make_option(alloc, CONFIG, FILE, help);
     Command::new(alloc, "replay")
         .about("Plays the events of standard input and prints what the gateway gives for each")
         .arg(config)?
-        .arg(make_explain(alloc, REPLAY_EXPLAIN))
+        .arg(make_flag(alloc, EXPLAIN, REPLAY_EXPLAIN))
 }
 
 fn make_run<'a>(alloc: Global) -> Result<Command<'a>, AllocError>
     ensures app { IfOk result (λ command. app_of command ≡ run) }
     ensures local { IfOk result (λ command. (out-Command command).has_globals ≡ false) }
 {
-    let stats = Arg::new(alloc, "stats")
-        .long("stats")
-        .value_name("SECONDS")
-        .help("Tells what was done, each so many seconds, from 1 to 4294967295, and at the end");
+    let help = "Tells what was done, each so many seconds, from 1 to 4294967295, and at the end";
+    let stats = make_option(alloc, "stats", "SECONDS", help);
     make_run_of_turns(alloc)?.arg(stats)
 }
 
@@ -144,13 +151,10 @@ fn make_run_of_turns<'a>(alloc: Global) -> Result<Command<'a>, AllocError>
     ensures app { IfOk result (λ command. app_of command ≡ run_of_turns) }
     ensures local { IfOk result (λ command. (out-Command command).has_globals ≡ false) }
 {
-    let turns = Arg::new(alloc, "turns").long("turns").value_name("N").help(
-        "How many turns are served, from 1 to 9223372036854775807, the default",
-    );
-    let verbose = Arg::new(alloc, "verbose")
-        .long("verbose")
-        .help("Tells at the start what is served, or where a fault is")
-        .action(ArgAction::SetTrue);
+    let help = "How many turns are served, from 1 to 9223372036854775807, the default";
+    let turns = make_option(alloc, "turns", "N", help);
+    let help = "Tells at the start what is served, or where a fault is";
+    let verbose = make_flag(alloc, "verbose", help);
     make_run_of_files(alloc)?.arg(turns)?.arg(verbose)
 }
 
@@ -158,10 +162,8 @@ fn make_run_of_files<'a>(alloc: Global) -> Result<Command<'a>, AllocError>
     ensures app { IfOk result (λ command. app_of command ≡ run_of_files) }
     ensures local { IfOk result (λ command. (out-Command command).has_globals ≡ false) }
 {
-    let log = Arg::new(alloc, "log")
-        .long("log")
-        .value_name("FILE")
-        .help("What the log is appended to; without it standard output");
+    let help = "What the log is appended to; without it standard output";
+    let log = make_option(alloc, "log", FILE, help);
     Command::new(alloc, "run")
         .about("Serves the ports of a configuration over UDP")
         .after_help(RUN_EXAMPLE)
@@ -183,10 +185,8 @@ fn make_log<'a>(alloc: Global) -> Result<Command<'a>, AllocError>
     ensures app { IfOk result (λ command. app_of command ≡ log_in_words) }
     ensures local { IfOk result (λ command. (out-Command command).has_globals ≡ false) }
 {
-    let start = Arg::new(alloc, "start")
-        .long("start")
-        .value_name("TIME")
-        .help("Also tells when each denial was, if the log began then: 2026-11-25T08:00:00+01:00");
+    let help = "Also tells when each denial was, if the log began then: 2026-11-25T08:00:00+01:00";
+    let start = make_option(alloc, "start", "TIME", help);
     Command::new(alloc, "log")
         .about("Tells each line of a log on standard input in words")
         .after_help(LOG_EXAMPLE)
@@ -320,9 +320,9 @@ fn choice_for(alloc: Global, name: &str, matches: &ArgMatches<'_>) -> Result<Cho
     if name == "log" {
         return Ok(Choice::Log(start_of(matches.get_str("start"))?));
     }
-    let config = file_of(alloc, matches, "config")?;
+    let config = file_of(alloc, matches, CONFIG)?;
     if name == "replay" {
-        let explains = is_given(matches, "explain");
+        let explains = is_given(matches, EXPLAIN);
         return Ok(Choice::Replay {
             file: config,
             explains,
@@ -334,7 +334,7 @@ fn choice_for(alloc: Global, name: &str, matches: &ArgMatches<'_>) -> Result<Cho
     if name == "check" {
         return Ok(Choice::Check {
             file,
-            explains: is_given(matches, "explain"),
+            explains: is_given(matches, EXPLAIN),
             lints: is_given(matches, "lint"),
         });
     }
