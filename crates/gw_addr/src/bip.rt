@@ -6,10 +6,9 @@ ghost use Rattle.gw_addr.specs.Address.{octets_of, address_of, address_in, IsAdd
 ghost use Rattle.gw_addr.specs.Address.{big_endian, text_of};
 ghost use Rattle.gw_addr.specs.Appending.{IsAppended};
 
-use crate::digits::{number_in, octet_before, put_four};
+use crate::digits::{number_in, octet_before, put_four_and_number};
 use crate::fault::{OctetsFault, TextFault};
 use crate::station::Mac;
-use crate::writers::{put_decimal, put_octet};
 use std::alloc::AllocError;
 use std::fmt;
 
@@ -107,9 +106,7 @@ impl BipAddr {
     pub fn put_text(self, out: &mut Vec<u8>) -> Result<(), AllocError>
         ensures { IsAppended (text_of self) out.old out.new result }
     {
-        put_four(out, self.ip)?;
-        put_octet(out, b':')?;
-        put_decimal(out, self.udp)
+        put_four_and_number(out, self.ip, self.udp)
     }
 }
 

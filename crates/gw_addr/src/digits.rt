@@ -1,6 +1,6 @@
 //! Numbers in decimal digits without leading zeros, as addresses and masks are written with them.
 
-ghost use Rattle.std.specs.Prelude.{◌≡◌, ◌<◌, ◌≤◌, ◌+◌, ◌^◌, ◌++◌, ◌∷◌, ◌↔◌, ℕ, List, length};
+ghost use Rattle.std.specs.Prelude.{◌≡◌, ◌<◌, ◌≤◌, ◌+◌, ◌^◌, ◌++◌, ◌∷◌, ◌↔◌, ◌%◌, [], ℕ, List, length};
 ghost use Rattle.std.specs.Prelude.{take, drop, slice_index, IsTrue};
 ghost use Rattle.std.specs.Prelude.{Some, IfSome, IsSomeAnd};
 ghost use Rattle.std.specs.Char.{IsAsciiDigit};
@@ -18,6 +18,8 @@ const MAX_DIGITS: usize = 5;
 const MAX_OCTET_DIGITS: usize = 3;
 /// How many octets four such numbers take at most, with points between them.
 const MAX_FOUR: usize = 4 * MAX_OCTET_DIGITS + 3;
+/// How many octets they take at most with a colon and a number below 65536 behind them.
+const MAX_TEXT: usize = MAX_FOUR + 1 + MAX_DIGITS;
 
 /// Whether digits begin as a number does that has no leading zeros.
 fn begins_canonical(digits: &[u8]) -> bool
@@ -102,19 +104,58 @@ pub fn octet_before(text: &[u8], separator: u8) -> Option<(u8, &[u8])>
     None
 }
 
-/// Adds a number below 256 in decimal digits.
-fn push_decimal(text: &mut ArrayVec<u8, MAX_FOUR>, number: u8)
-    requires { length text.old.items + MAX_OCTET_DIGITS ≤ MAX_FOUR }
+/// The last decimal digit of a number.
+#[inline(always)]
+fn digit(number: u16) -> u8
+    ensures { result ≡ 48 + number % 10 }
+{
+    b'0' + (number % 10) as u8
+}
+
+/// Adds a number below 1000 in decimal digits.
+fn push_decimal(text: &mut ArrayVec<u8, MAX_TEXT>, number: u16)
+    requires below { number < 1000 }
+    requires room { length text.old.items + MAX_OCTET_DIGITS ≤ MAX_TEXT }
     ensures text { text.new.items ≡ text.old.items ++ decimal number }
     ensures digits { length text.new.items ≤ length text.old.items + MAX_OCTET_DIGITS }
 {
     if number >= 100 {
-        text.push(b'0' + number / 100);
+        text.push(digit(number / 100));
     }
     if number >= 10 {
-        text.push(b'0' + number / 10 % 10);
+        text.push(digit(number / 10));
     }
-    text.push(b'0' + number % 10);
+    text.push(digit(number));
+}
+
+/// Adds a number below 65536 in decimal digits.
+fn push_number(text: &mut ArrayVec<u8, MAX_TEXT>, number: u16)
+    requires { length text.old.items + MAX_DIGITS ≤ MAX_TEXT }
+    ensures { text.new.items ≡ text.old.items ++ decimal number }
+{
+    if number < 1000 {
+        push_decimal(text, number);
+        return;
+    }
+    push_decimal(text, number / 100);
+    text.push(digit(number / 10));
+    text.push(digit(number));
+}
+
+/// Adds four numbers in decimal, with points between them.
+fn push_four(text: &mut ArrayVec<u8, MAX_TEXT>, octets: [u8; 4])
+    requires { text.old.items ≡ [] }
+    ensures text { text.new.items ≡ four_text octets }
+    ensures digits { length text.new.items ≤ MAX_FOUR }
+{
+    let [a, b, c, d] = octets;
+    push_decimal(text, u16::from(a));
+    text.push(b'.');
+    push_decimal(text, u16::from(b));
+    text.push(b'.');
+    push_decimal(text, u16::from(c));
+    text.push(b'.');
+    push_decimal(text, u16::from(d));
 }
 
 /// Appends four numbers in decimal, with points between them. An `Err` only where the buffer had no
@@ -122,14 +163,23 @@ fn push_decimal(text: &mut ArrayVec<u8, MAX_FOUR>, number: u8)
 pub fn put_four(out: &mut Vec<u8>, octets: [u8; 4]) -> Result<(), AllocError>
     ensures { IsAppended (four_text octets) out.old out.new result }
 {
-    let [a, b, c, d] = octets;
     let mut text = ArrayVec::new();
-    push_decimal(&mut text, a);
-    text.push(b'.');
-    push_decimal(&mut text, b);
-    text.push(b'.');
-    push_decimal(&mut text, c);
-    text.push(b'.');
-    push_decimal(&mut text, d);
+    push_four(&mut text, octets);
+    out.extend_from_slice(text.as_slice())
+}
+
+/// Appends four numbers in decimal, with points between them, and a number behind a colon. An `Err`
+/// only where the buffer had no room for them; then a front of them may stand there.
+pub fn put_four_and_number(
+    out: &mut Vec<u8>,
+    octets: [u8; 4],
+    number: u16,
+) -> Result<(), AllocError>
+    ensures { IsAppended (four_text octets ++ 58 ∷ decimal number) out.old out.new result }
+{
+    let mut text = ArrayVec::new();
+    push_four(&mut text, octets);
+    text.push(b':');
+    push_number(&mut text, number);
     out.extend_from_slice(text.as_slice())
 }

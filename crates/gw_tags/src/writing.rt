@@ -1,6 +1,6 @@
 //! Writing a tag behind what a buffer has (clause 20.2.1).
 
-ghost use Rattle.std.specs.Prelude.{◌≡◌, ◌<◌, ◌+◌, ◌*◌};
+ghost use Rattle.std.specs.Prelude.{◌≡◌, ◌↔◌, ◌<◌, ◌+◌, ◌*◌, [], IsTrue};
 ghost use Rattle.gw_addr.specs.Appending.{IsAppended, IsAppendedWhole};
 ghost use Rattle.gw_tags.specs.Tag.{tag_view, class_of, low_of, length_octets, shortest_length, canonical};
 
@@ -54,8 +54,33 @@ fn first_octet(high: u8, context: bool, low: u8) -> u8
     high << 4 | class_bit(context) | low
 }
 
-/// Appends the shortest tag_encoding of the tag. After an `Err` a front of it may stand there.
+/// Whether the first octet tells all of what such a tag announces.
+#[inline(always)]
+fn is_told_by_low_bits(kind: Kind) -> bool
+    ensures { IsTrue result ↔ (length_octets kind (shortest_length kind) ≡ []) }
+{
+    match kind {
+        Kind::Length(length) => length < 5,
+        Kind::Opening | Kind::Closing => true,
+    }
+}
+
+/// Appends the shortest encoding of the tag, which is one octet for most. After an `Err` a front of it
+/// may stand there.
+#[inline(always)]
 pub fn put_tag(out: &mut Vec<u8>, tag: Tag) -> Result<(), AllocError>
+    ensures { IsAppended (canonical (tag_view tag)) out.old out.new result }
+{
+    if tag.number < 15 && is_told_by_low_bits(tag.kind) {
+        return put_octet(out, first_octet(tag.number, tag.context, low_bits(tag.kind)));
+    }
+    put_long_tag(out, tag)
+}
+
+/// Appends the shortest encoding of a tag of any number and kind. After an `Err` a front of it may stand
+/// there.
+#[inline(never)]
+fn put_long_tag(out: &mut Vec<u8>, tag: Tag) -> Result<(), AllocError>
     ensures { IsAppended (canonical (tag_view tag)) out.old out.new result }
 {
     let low = low_bits(tag.kind);
@@ -74,6 +99,7 @@ pub fn put_tag(out: &mut Vec<u8>, tag: Tag) -> Result<(), AllocError>
 /// # Errors
 ///
 /// 1 Memory, only where the buffer had no room for the tag.
+#[inline(always)]
 pub fn write_tag(out: &mut Vec<u8>, tag: Tag) -> Result<(), AllocError>
     ensures { IsAppendedWhole (canonical (tag_view tag)) out.old out.new result }
 {
