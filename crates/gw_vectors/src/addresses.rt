@@ -11,7 +11,9 @@ pub fn address(alloc: Global, line: &str, out: &mut Vec<u8>) -> io::Result<()> {
     match BipAddr::parse(line.trim_matches('"')) {
         Ok(address) => {
             put_octets(alloc, &address.to_octets(), out)?;
-            write!(out, " {address}")
+            write!(out, " ")?;
+            address.put_text(out)?;
+            Ok(())
         },
         Err(_) => write!(out, "no address"),
     }

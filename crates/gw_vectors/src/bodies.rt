@@ -84,18 +84,22 @@ fn put<T: Debug, F: Debug>(read: &Result<T, F>, out: &mut Vec<u8>) -> io::Result
 }
 
 /// A body, by the name of its service.
-pub fn body(alloc: Global, line: &str, out: &mut Vec<u8>) -> io::Result<()> {
-    let (service, digits) = wanted(line.split_once(' '))?;
-    let octets = octets_of(alloc, digits)?;
+fn put_body(alloc: Global, service: &str, octets: &[u8], out: &mut Vec<u8>) -> io::Result<()> {
     match service {
-        "read" => read(alloc, &octets, out),
-        "write" => write(alloc, &octets, out),
-        "multi" => multi(alloc, &octets, out),
-        "count" => count(alloc, &octets, out),
-        "who-is" => who_is(alloc, &octets, out),
-        "who-has" => put(&decode_who_has(&octets), out),
-        "i-am" => i_am(alloc, &octets, out),
-        "i-have" => put(&decode_i_have(&octets), out),
+        "read" => read(alloc, octets, out),
+        "write" => write(alloc, octets, out),
+        "multi" => multi(alloc, octets, out),
+        "count" => count(alloc, octets, out),
+        "who-is" => who_is(alloc, octets, out),
+        "who-has" => put(&decode_who_has(octets), out),
+        "i-am" => i_am(alloc, octets, out),
+        "i-have" => put(&decode_i_have(octets), out),
         _ => Err(ErrorKind::InvalidData.into()),
     }
+}
+
+/// The name of a service and a body.
+pub fn body(alloc: Global, line: &str, out: &mut Vec<u8>) -> io::Result<()> {
+    let (service, digits) = wanted(line.split_once(' '))?;
+    put_body(alloc, service, &octets_of(alloc, digits)?, out)
 }

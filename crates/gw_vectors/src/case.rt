@@ -65,7 +65,8 @@ fn put_numbered(text: &str, number: u64, out: &mut Vec<u8>) -> io::Result<()> {
 /// Appends a text so many times, numbered from 0.
 fn put_repeated(repetition: &str, out: &mut Vec<u8>) -> io::Result<()> {
     let (count, text) = wanted(repetition.split_once(' '))?;
-    for place in 0..number::<u64>(Some(count))? {
+    let count: u64 = number(Some(count))?;
+    for place in 0..count {
         put_numbered(text, place, out)?;
     }
     Ok(())

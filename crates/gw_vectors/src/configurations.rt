@@ -27,16 +27,21 @@ pub fn text(alloc: Global, body: &str) -> io::Result<String> {
     }
 }
 
-/// The text with a new part in the place where an old one stands first. A line has both, as `old | new`.
+/// The text edited by a line, `old | new`.
 fn edited(alloc: Global, text: &str, line: &str) -> io::Result<String> {
     let (old, new) = wanted(line.split_once(" |"))?;
     let old = unfolded(alloc, old)?;
-    let (front, rest) = wanted(text.split_once(utf8(&old)?))?;
-    let mut edited = String::from_str(alloc, front)?;
     let new = unfolded(alloc, new.strip_prefix(' ').unwrap_or(new))?;
-    edited.push_str(utf8(&new)?)?;
-    edited.push_str(rest)?;
-    Ok(edited)
+    replaced(alloc, text, utf8(&old)?, utf8(&new)?)
+}
+
+/// The text with a new part in the place where an old one stands first.
+fn replaced(alloc: Global, text: &str, old: &str, new: &str) -> io::Result<String> {
+    let (front, rest) = wanted(text.split_once(old))?;
+    let mut replaced = String::from_str(alloc, front)?;
+    replaced.push_str(new)?;
+    replaced.push_str(rest)?;
+    Ok(replaced)
 }
 
 fn utf8(octets: &[u8]) -> io::Result<&str> {

@@ -94,21 +94,30 @@ fn write(
     }
 }
 
+/// Finds the object of a name, or tells of an object its type or some of its properties.
+fn find(db: &ObjectDb, what: &str, of: &str, out: &mut Vec<u8>) -> io::Result<()> {
+    if what == "name" {
+        return put_named(db.find_name(of.as_bytes()), out);
+    }
+    let kind = db.find(object_of(of)?);
+    match what {
+        "type" => put_type(kind, out),
+        "all" => put_set(kind, PropertySet::All, out),
+        "required" => put_set(kind, PropertySet::Required, out),
+        "optional" => put_set(kind, PropertySet::Optional, out),
+        _ => Err(ErrorKind::InvalidData.into()),
+    }
+}
+
 /// One thing that is asked.
 fn step(alloc: Global, db: &mut ObjectDb, asked: &str, out: &mut Vec<u8>) -> io::Result<()> {
     let mut words = asked.splitn(4, ' ');
     let first = wanted(words.next())?;
     let second = wanted(words.next())?;
-    match (first, words.next(), words.next()) {
-        ("type", ..) => put_type(db.find(object_of(second)?), out),
-        ("name", ..) => put_named(db.find_name(second.as_bytes()), out),
-        ("all", ..) => put_set(db.find(object_of(second)?), PropertySet::All, out),
-        ("required", ..) => put_set(db.find(object_of(second)?), PropertySet::Required, out),
-        ("optional", ..) => put_set(db.find(object_of(second)?), PropertySet::Optional, out),
-        (object, Some(priority), Some(value)) => {
-            write(alloc, db, (object, second), priority, value, out)
-        }
-        (object, ..) => read(alloc, db, object, second, out),
+    match (words.next(), words.next()) {
+        (Some(priority), Some(value)) => write(alloc, db, (first, second), priority, value, out),
+        _ if first.contains('/') => read(alloc, db, first, second, out),
+        _ => find(db, first, second, out),
     }
 }
 
@@ -123,9 +132,14 @@ fn put_steps(alloc: Global, db: &mut ObjectDb, line: &str, out: &mut Vec<u8>) ->
     Ok(())
 }
 
+/// The fresh objects of a configuration.
+fn make_objects(alloc: Global, config: &str) -> io::Result<ObjectDb> {
+    let config = configurations::read(alloc, config)?;
+    Ok(ObjectDb::from_config(alloc, &config)?)
+}
+
 /// What fresh objects of a configuration answer to the things that a line asks one after the other.
 pub fn steps(alloc: Global, config: &str, line: &str, out: &mut Vec<u8>) -> io::Result<()> {
-    let config = configurations::read(alloc, config)?;
-    let mut db = ObjectDb::from_config(alloc, &config)?;
+    let mut db = make_objects(alloc, config)?;
     put_steps(alloc, &mut db, line, out)
 }

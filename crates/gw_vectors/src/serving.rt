@@ -56,18 +56,21 @@ fn make_gateway(alloc: Global, config: &str, counts: Counts) -> io::Result<Gatew
     Ok(Gateway::new(alloc, read(alloc, config)?, counts)?)
 }
 
-/// How serving a wire ends.
-fn end_of(
+/// Serves a wire, and appends how that ends, a letter for each call of the wire, and the log.
+fn put_call(
     alloc: Global,
     gateway: &mut Gateway,
     wire: &mut MemWire<'_>,
     log: &mut Narrow,
     turns: u64,
-) -> io::Result<Result<Served, ServeStop>> {
+    out: &mut Vec<u8>,
+) -> io::Result<()> {
     if turns >= 1 << 63 || wire.failures() > 0 {
         return Err(ErrorKind::InvalidData.into());
     }
-    Ok(serve(alloc, gateway, wire, log, turns))
+    put_end(&serve(alloc, gateway, wire, log, turns), out)?;
+    put_word(wire.calls(), out)?;
+    put_word(log.held(), out)
 }
 
 /// How a call ends; a letter for each call of the wire; and the log. A case has how many turns are asked for, the call of the wire and
@@ -80,14 +83,11 @@ pub fn call(alloc: Global, config: &str, line: &str, out: &mut Vec<u8>) -> io::R
     let failing_write = number_or_none(words.next())?;
     let octets = number(words.next())?;
     let denials = number(words.next())?;
-    let mut gateway = make_gateway(alloc, config, Counts { ticks: 0, denials })?;
     let script = unfolded(alloc, words.next().unwrap_or(""))?;
     let mut wire = MemWire::new(alloc, &script, failing_call)?;
     let mut log = Narrow::new(alloc, failing_write, octets)?;
-    let end = end_of(alloc, &mut gateway, &mut wire, &mut log, turns)?;
-    put_end(&end, out)?;
-    put_word(wire.calls(), out)?;
-    put_word(log.held(), out)
+    let mut gateway = make_gateway(alloc, config, Counts { ticks: 0, denials })?;
+    put_call(alloc, &mut gateway, &mut wire, &mut log, turns, out)
 }
 
 /// Serves with reports, each so many seconds.
@@ -116,10 +116,10 @@ pub fn reports(alloc: Global, config: &str, line: &str, out: &mut Vec<u8>) -> io
     let failing_write = number_or_none(words.next())?;
     let failing_report = number_or_none(words.next())?;
     let script = unfolded(alloc, words.next().unwrap_or(""))?;
-    let mut gateway = make_gateway(alloc, config, BEFORE)?;
     let mut wire = MemWire::new(alloc, &script, failing_call)?;
     let mut log = Narrow::new(alloc, failing_write, AMPLE)?;
     let mut told = Narrow::new(alloc, failing_report, AMPLE)?;
+    let mut gateway = make_gateway(alloc, config, BEFORE)?;
     let end = report_to(
         alloc,
         &mut gateway,

@@ -89,8 +89,18 @@ pub fn stream(alloc: Global, config: &str, line: &str, out: &mut Vec<u8>) -> io:
         fails,
     };
     let mut writer = Narrow::new(alloc, write, octets)?;
-    let end = end_of(alloc, config, &mut reader, &mut writer)?;
-    put_end(end, out)?;
+    put_replay(alloc, config, &mut reader, &mut writer, out)
+}
+
+/// Replays a script, and appends how that ends and what was written.
+fn put_replay(
+    alloc: Global,
+    config: &str,
+    reader: &mut Slow<'_>,
+    writer: &mut Narrow,
+    out: &mut Vec<u8>,
+) -> io::Result<()> {
+    put_end(end_of(alloc, config, reader, writer)?, out)?;
     put_word(writer.held(), out)
 }
 
@@ -120,7 +130,18 @@ fn tell(alloc: Global, start: Option<Moment>, line: &str, out: &mut Vec<u8>) -> 
         fails,
     };
     let mut writer = Narrow::new(alloc, write, octets)?;
-    match tell_log(alloc, start, &mut reader, &mut writer) {
+    put_told(alloc, start, &mut reader, &mut writer, out)
+}
+
+/// Tells a log in words, and appends how that ends and what was written.
+fn put_told(
+    alloc: Global,
+    start: Option<Moment>,
+    reader: &mut Slow<'_>,
+    writer: &mut Narrow,
+    out: &mut Vec<u8>,
+) -> io::Result<()> {
+    match tell_log(alloc, start, reader, writer) {
         Ok(()) => write!(out, "ok")?,
         Err(fault) => write!(out, "{fault}")?,
     }
