@@ -2,17 +2,21 @@
 //! send and change.
 
 ghost use Rattle.std.specs.Prelude.{◌≡◌, ◌++◌, [], List, None, IfOk, IsOk, OnOk};
+ghost use Rattle.std.specs.Option.{option_or};
 ghost use Rattle.gw_bvll.specs.Bvll.{view as frame_view};
 ghost use Rattle.gw_objects.specs.Objects.{Database};
 ghost use Rattle.gw_device.specs.Response.{HasPlace};
 ghost use Rattle.gw_rules.specs.Authorizer.{denied_of};
 ghost use Rattle.gw_rules.specs.declared.rule.Rule.{Rule};
+ghost use Rattle.gw_npdu.specs.Npdu.{view as npdu_view};
 ghost use Rattle.gw_relay.specs.Cast.{goes_on};
+ghost use Rattle.gw_relay.specs.Manage.{manage_asks, manage_change, manage_sends};
+ghost use Rattle.gw_relay.specs.Route.{route_asks, route_sends};
 ghost use Rattle.gw_core.specs.Asks.{asks_for, message_asks};
 ghost use Rattle.gw_core.specs.Effects.{message_change, message_sends, sends_for};
 ghost use Rattle.gw_relay.specs.Response.{IsRelayed};
 ghost use Rattle.gw_core.specs.Receive.{managed};
-ghost use Rattle.gw_core.specs.Respond.{IsResponse, is_plain, passed_response};
+ghost use Rattle.gw_core.specs.Respond.{IsResponse, is_apdu, is_plain, passed_response};
 ghost use Rattle.gw_core.specs.State.{device_network};
 ghost use Rattle.gw_relay.specs.Message.{message_view};
 ghost use Rattle.gw_core.specs.View.{judged, received_view};
@@ -32,6 +36,71 @@ pub(crate) fn network_of(device: &Device) -> NetNum
     ensures { result ≡ device_network device.now }
 {
     device.configured().device.network
+}
+
+/// Whether a message brings an APDU, and none of the network layer.
+fn is_apdu(message: &Message<'_>) -> bool
+    ensures { result ≡ is_apdu (npdu_view message.now.npdu).payload }
+{
+    matches!(message.npdu.payload, Payload::Apdu(_))
+}
+
+/// Adds what routing gives of a message (step 8). One that names no destination isn't routed.
+fn put_routed<J: Judge>(
+    alloc: Global,
+    judge: &J,
+    relay: &Relay,
+    message: &Message<'_>,
+    given: &mut RelayResponse,
+) -> Result<(), AllocError>
+    ensures sends { (rules : List Rule) → J.StandsFor judge.now rules →
+        let due = route_sends rules relay.now (message_view message.now) in
+        OnOk result (given.new.sends ≡ given.old.sends ++ due) }
+    ensures refusals { (rules : List Rule) → J.StandsFor judge.now rules →
+        let due = denied_of rules (route_asks relay.now (message_view message.now)) in
+        OnOk result (given.new.refusals ≡ given.old.refusals ++ due) }
+    ensures change { (rules : List Rule) → J.StandsFor judge.now rules →
+        OnOk result (given.new.change ≡ given.old.change) }
+    ensures silent { (rules : List Rule) → J.StandsFor judge.now rules →
+        let m = message_view message.now in
+        route_asks relay.now m ≡ [] → route_sends rules relay.now m ≡ [] → IsOk result }
+{
+    if message.npdu.destination.is_none() {
+        return Ok(());
+    }
+    let mut routed = RelayResponse::nothing(alloc);
+    relay.route(alloc, judge, message, &mut routed)?;
+    given.append(routed)?;
+    Ok(())
+}
+
+/// Adds what the network layer answers to a message (step 9). It answers to no APDU.
+fn put_managed<J: Judge>(
+    alloc: Global,
+    judge: &J,
+    relay: &Relay,
+    message: &Message<'_>,
+    given: &mut RelayResponse,
+) -> Result<(), AllocError>
+    ensures sends { (rules : List Rule) → J.StandsFor judge.now rules →
+        let due = manage_sends rules relay.now (message_view message.now) in
+        OnOk result (given.new.sends ≡ given.old.sends ++ due) }
+    ensures refusals { (rules : List Rule) → J.StandsFor judge.now rules →
+        let due = denied_of rules (manage_asks relay.now (message_view message.now)) in
+        OnOk result (given.new.refusals ≡ given.old.refusals ++ due) }
+    ensures change { (rules : List Rule) → J.StandsFor judge.now rules →
+        let due = manage_change rules (message_view message.now) in
+        OnOk result (given.new.change ≡ option_or given.old.change due) }
+    ensures silent { (rules : List Rule) → J.StandsFor judge.now rules →
+        let m = message_view message.now in
+        manage_asks relay.now m ≡ [] → manage_sends rules relay.now m ≡ [] → IsOk result }
+{
+    if is_apdu(message) {
+        return Ok(());
+    }
+    let managed = relay.manage(alloc, judge, message)?;
+    given.append(managed)?;
+    Ok(())
 }
 
 /// What is done about any message but for the device, in the place of what is given: it is distributed; and
@@ -57,11 +126,8 @@ fn pass_on_each_way<J: Judge>(
     if !goes_on {
         return Ok(false);
     }
-    let mut routed = RelayResponse::nothing(alloc);
-    relay.route(alloc, judge, message, &mut routed)?;
-    given.append(routed)?;
-    let managed = relay.manage(alloc, judge, message)?;
-    given.append(managed)?;
+    put_routed(alloc, judge, relay, message, given)?;
+    put_managed(alloc, judge, relay, message, given)?;
     Ok(true)
 }
 
@@ -70,8 +136,7 @@ fn pass_on_each_way<J: Judge>(
 fn is_plain(message: &Message<'_>) -> bool
     ensures { result ≡ is_plain (message_view message.now) }
 {
-    matches!(message.frame, Bvll::OriginalUnicast(_))
-        && matches!(message.npdu.payload, Payload::Apdu(_))
+    matches!(message.frame, Bvll::OriginalUnicast(_)) && is_apdu(message)
 }
 
 /// What is done about a message but for the device (steps 4 and 6 to 9), in the place of what is given. It

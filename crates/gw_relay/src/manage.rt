@@ -141,6 +141,20 @@ fn put_i_am_router(
     put_message(alloc, here, kind, octets.as_slice(), sends)
 }
 
+/// Broadcasts an I-Am-Router-To-Network for one network (clause 6.4.2).
+fn put_i_am_router_to(
+    alloc: Global,
+    here: &PortState,
+    network: NetNum,
+    sends: &mut Sends,
+) -> Result<(), AllocError>
+    ensures { let sent = broadcast (i_am_router (network ∷ [])) here.now in
+        OnOk result (sends.new ≡ sends.old ++ sent) }
+{
+    let octets = network.get().to_be_bytes();
+    put_message(alloc, here, MessageKind::IAmRouterToNetwork, &octets, sends)
+}
+
 /// Broadcasts a Network-Number-Is (clause 6.4.20).
 fn put_number_is(alloc: Global, here: &PortState, sends: &mut Sends) -> Result<(), AllocError>
     ensures { let sent = broadcast (network_number_is here.now.port.network) here.now in
@@ -196,7 +210,7 @@ fn answer_who_is_router(
         Way::Port(other) if *other == usize::from(here.port.number) => Ok(()),
         Way::Router(route) if route.port == here.port.number => Ok(()),
         Way::Port(_) | Way::Device | Way::Router(_) => {
-            put_i_am_router(alloc, here, &[network], sends)
+            put_i_am_router_to(alloc, here, network, sends)
         }
         Way::Unknown => forward_who_is_router(alloc, relay, message, network, sends),
         Way::Everywhere => Ok(()),
