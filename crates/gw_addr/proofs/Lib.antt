@@ -4,4 +4,6 @@ pub mod Lacking
 pub mod Addresses
 pub mod Entries
 pub mod Writing
+pub mod Appended
+pub mod Written
 pub mod Stations

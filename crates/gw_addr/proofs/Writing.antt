@@ -27,25 +27,17 @@ two_digits front n some few =
     let same : n / 10 % 10 ≡ n / 10 = omega arith in
     rw (decimal_step n some (omega arith), decimal_digit (n / 10) (omega arith), same) (append_assoc front _ _)
 
-pub three_digits : (front : List ℕ) (n : ℕ) → 100 ≤ n → n < 1000
-    → ((front ++ (48 + n / 100 % 10) ∷ []) ++ (48 + n / 10 % 10) ∷ []) ++ (48 + n % 10) ∷ [] ≡ front ++ decimal n
+pub three_digits : (front : List ℕ) (n : ℕ) → 100 ≤ n → n < 256
+    → ((front ++ (48 + n / 100) ∷ []) ++ (48 + n / 10 % 10) ∷ []) ++ (48 + n % 10) ∷ [] ≡ front ++ decimal n
 three_digits front n some few =
-    let same : n / 10 / 10 ≡ n / 100 % 10 = omega arith in
+    let same : n / 10 / 10 ≡ n / 100 = omega arith in
     rw (
       decimal_step n (omega arith) (omega arith),
       decimal_step (n / 10) (omega arith) (omega arith),
       decimal_digit (n / 10 / 10) (omega arith),
       same,
     )
-    (append_assoc (front ++ (48 + n / 100 % 10) ∷ []) _ _ ∙ append_assoc front _ _)
-
--- two digits behind those of the hundreds
-pub two_more_digits : (front : List ℕ) (n : ℕ) → 100 ≤ n → n < 65536
-    → ((front ++ decimal (n / 100)) ++ (48 + n / 10 % 10) ∷ []) ++ (48 + n % 10) ∷ [] ≡ front ++ decimal n
-two_more_digits front n some few =
-    let same : n / 10 / 10 ≡ n / 100 = omega arith in
-    rw (decimal_step n (omega arith) (omega arith), decimal_step (n / 10) (omega arith) (omega arith), same)
-    (ap (λ (t : List ℕ). t ++ (48 + n % 10) ∷ []) (append_assoc front _ _) ∙ append_assoc front _ _)
+    (append_assoc (front ++ (48 + n / 100) ∷ []) _ _ ∙ append_assoc front _ _)
 
 -- four numbers, each behind those before it and a point
 pub four_in_turn : (octets : List ℕ) → (((((decimal (get_or octets 0 0) ++ 46 ∷ []) ++ decimal (get_or octets 1 0)) ++ 46 ∷ [])
@@ -66,3 +58,8 @@ address_text a =
     sym (append_assoc w (46 ∷ (x ++ 46 ∷ (y ++ 46 ∷ z))) port
     ∙ ap (λ (t : List ℕ). w ++ 46 ∷ t) (append_assoc x (46 ∷ (y ++ 46 ∷ z)) port
     ∙ ap (λ (t : List ℕ). x ++ 46 ∷ t) (append_assoc y (46 ∷ z) port)))
+
+-- an address, each number with what stands behind it
+pub address_in_turn : (a : BipAddr) → text_of a ≡ ((((decimal (get_or a.ip 0 0) ++ 46 ∷ []) ++ (decimal (get_or a.ip 1 0) ++ 46 ∷ []))
+    ++ (decimal (get_or a.ip 2 0) ++ 46 ∷ [])) ++ (decimal (get_or a.ip 3 0) ++ 58 ∷ [])) ++ decimal a.udp
+address_in_turn a = grind (arith, common_steps)

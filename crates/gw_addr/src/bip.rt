@@ -6,7 +6,7 @@ ghost use Rattle.gw_addr.specs.Address.{octets_of, address_of, address_in, IsAdd
 ghost use Rattle.gw_addr.specs.Address.{big_endian, text_of};
 ghost use Rattle.gw_addr.specs.Appending.{IsAppended};
 
-use crate::digits::{number_in, octet_before, put_four_and_number};
+use crate::digits::{number_in, octet_before, put_octet_text, put_port_text};
 use crate::fault::{OctetsFault, TextFault};
 use crate::station::Mac;
 use std::alloc::AllocError;
@@ -106,7 +106,12 @@ impl BipAddr {
     pub fn put_text(self, out: &mut Vec<u8>) -> Result<(), AllocError>
         ensures { IsAppended (text_of self) out.old out.new result }
     {
-        put_four_and_number(out, self.ip, self.udp)
+        let [a, b, c, d] = self.ip;
+        put_octet_text(out, a, b'.')?;
+        put_octet_text(out, b, b'.')?;
+        put_octet_text(out, c, b'.')?;
+        put_octet_text(out, d, b':')?;
+        put_port_text(out, self.udp)
     }
 }
 

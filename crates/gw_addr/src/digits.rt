@@ -9,6 +9,7 @@ ghost use Rattle.gw_addr.specs.internal.Digits.{begins_canonical_of};
 ghost use Rattle.gw_addr.specs.Appending.{IsAppended};
 ghost use Rattle.gw_addr.specs.Text.{four_text};
 
+use crate::writers::{put_decimal, put_slice};
 use arrayvec::ArrayVec;
 use std::alloc::AllocError;
 
@@ -18,8 +19,6 @@ const MAX_DIGITS: usize = 5;
 const MAX_OCTET_DIGITS: usize = 3;
 /// How many octets four such numbers take at most, with points between them.
 const MAX_FOUR: usize = 4 * MAX_OCTET_DIGITS + 3;
-/// How many octets they take at most with a colon and a number below 65536 behind them.
-const MAX_TEXT: usize = MAX_FOUR + 1 + MAX_DIGITS;
 
 /// Whether digits begin as a number does that has no leading zeros.
 fn begins_canonical(digits: &[u8]) -> bool
@@ -112,50 +111,19 @@ fn digit(number: u16) -> u8
     b'0' + (number % 10) as u8
 }
 
-/// Adds a number below 1000 in decimal digits.
-fn push_decimal(text: &mut ArrayVec<u8, MAX_TEXT>, number: u16)
-    requires below { number < 1000 }
-    requires room { length text.old.items + MAX_OCTET_DIGITS ≤ MAX_TEXT }
+/// Adds a number below 256 in decimal digits.
+fn push_decimal(text: &mut ArrayVec<u8, MAX_FOUR>, number: u8)
+    requires { length text.old.items + MAX_OCTET_DIGITS ≤ MAX_FOUR }
     ensures text { text.new.items ≡ text.old.items ++ decimal number }
     ensures digits { length text.new.items ≤ length text.old.items + MAX_OCTET_DIGITS }
 {
     if number >= 100 {
-        text.push(digit(number / 100));
+        text.push(b'0' + number / 100);
     }
     if number >= 10 {
-        text.push(digit(number / 10));
+        text.push(b'0' + number / 10 % 10);
     }
-    text.push(digit(number));
-}
-
-/// Adds a number below 65536 in decimal digits.
-fn push_number(text: &mut ArrayVec<u8, MAX_TEXT>, number: u16)
-    requires { length text.old.items + MAX_DIGITS ≤ MAX_TEXT }
-    ensures { text.new.items ≡ text.old.items ++ decimal number }
-{
-    if number < 1000 {
-        push_decimal(text, number);
-        return;
-    }
-    push_decimal(text, number / 100);
-    text.push(digit(number / 10));
-    text.push(digit(number));
-}
-
-/// Adds four numbers in decimal, with points between them.
-fn push_four(text: &mut ArrayVec<u8, MAX_TEXT>, octets: [u8; 4])
-    requires { text.old.items ≡ [] }
-    ensures text { text.new.items ≡ four_text octets }
-    ensures digits { length text.new.items ≤ MAX_FOUR }
-{
-    let [a, b, c, d] = octets;
-    push_decimal(text, u16::from(a));
-    text.push(b'.');
-    push_decimal(text, u16::from(b));
-    text.push(b'.');
-    push_decimal(text, u16::from(c));
-    text.push(b'.');
-    push_decimal(text, u16::from(d));
+    text.push(b'0' + number % 10);
 }
 
 /// Appends four numbers in decimal, with points between them. An `Err` only where the buffer had no
@@ -163,23 +131,59 @@ fn push_four(text: &mut ArrayVec<u8, MAX_TEXT>, octets: [u8; 4])
 pub fn put_four(out: &mut Vec<u8>, octets: [u8; 4]) -> Result<(), AllocError>
     ensures { IsAppended (four_text octets) out.old out.new result }
 {
+    let [a, b, c, d] = octets;
     let mut text = ArrayVec::new();
-    push_four(&mut text, octets);
+    push_decimal(&mut text, a);
+    text.push(b'.');
+    push_decimal(&mut text, b);
+    text.push(b'.');
+    push_decimal(&mut text, c);
+    text.push(b'.');
+    push_decimal(&mut text, d);
     out.extend_from_slice(text.as_slice())
 }
 
-/// Appends four numbers in decimal, with points between them, and a number behind a colon. An `Err`
-/// only where the buffer had no room for them; then a front of them may stand there.
-pub fn put_four_and_number(
-    out: &mut Vec<u8>,
-    octets: [u8; 4],
-    number: u16,
-) -> Result<(), AllocError>
-    ensures { IsAppended (four_text octets ++ 58 ∷ decimal number) out.old out.new result }
+/// Appends a number in decimal, and a character behind it.
+#[inline(always)]
+#[tactic(auto, using(crate::proofs::Written::one_digit, crate::proofs::Written::two_digits, crate::proofs::Written::three_digits))]
+pub fn put_octet_text(out: &mut Vec<u8>, number: u8, behind: u8) -> Result<(), AllocError>
+    ensures { IsAppended (decimal number ++ behind ∷ []) out.old out.new result }
 {
-    let mut text = ArrayVec::new();
-    push_four(&mut text, octets);
-    text.push(b':');
-    push_number(&mut text, number);
-    out.extend_from_slice(text.as_slice())
+    let number = u16::from(number);
+    if number < 10 {
+        put_slice(out, &[digit(number), behind])
+    } else if number < 100 {
+        put_slice(out, &[digit(number / 10), digit(number), behind])
+    } else {
+        put_slice(
+            out,
+            &[
+                digit(number / 100),
+                digit(number / 10),
+                digit(number),
+                behind,
+            ],
+        )
+    }
+}
+
+/// Appends a number in decimal. Those of five digits, as most ports have, are written as they are.
+#[inline(always)]
+#[tactic(auto, using(crate::proofs::Written::five_digits))]
+pub fn put_port_text(out: &mut Vec<u8>, number: u16) -> Result<(), AllocError>
+    ensures { IsAppended (decimal number) out.old out.new result }
+{
+    if number < 10_000 {
+        return put_decimal(out, number);
+    }
+    put_slice(
+        out,
+        &[
+            digit(number / 10_000),
+            digit(number / 1000),
+            digit(number / 100),
+            digit(number / 10),
+            digit(number),
+        ],
+    )
 }

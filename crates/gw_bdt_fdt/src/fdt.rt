@@ -88,7 +88,7 @@ impl Fdt {
     fn has_room(&self, address: BipAddr) -> bool
         ensures { result ≡ has_room self.now address }
     {
-        self.contains(address) || self.count() < MAX_REGISTRATIONS
+        self.count() < MAX_REGISTRATIONS || self.contains(address)
     }
 
     /// Deletes the registration of a foreign device (Annex J.5.2.1). `Absent` where it isn't

@@ -1,7 +1,5 @@
 -- A unicast with an APDU: routing and the device alone concern it.
-use Rattle.std.proofs.Common.{◌≡◌, ◌∙◌, ℕ, ap, refl, Bool, true, false, ◌&&◌, List, [], ◌++◌, Some, None}
-use Rattle.std.specs.Prelude.{Option, if◌then◌else◌}
-use Rattle.std.specs.Option.{option_map_or, option_or}
+use Rattle.std.proofs.Common.{◌≡◌, ◌∙◌, ℕ, ap, refl, Bool, true, false, ◌&&◌, List, [], ◌++◌, None}
 use Rattle.std.proofs.lemmas.List.{append-nil}
 use Rattle.gw_bvll.specs.Bvll.{Message as Frame}
 use Rattle.gw_bvll.specs.Bvll as bvll
@@ -11,8 +9,7 @@ use Rattle.gw_npdu.specs.declared.kind.MessageKind.TheVariants.{IAmRouterToNetwo
 use Rattle.gw_relay.specs.Cast.{accepts, goes_on, is_broadcast, is_unregistered}
 use Rattle.gw_relay.specs.Manage.{manage_asks, manage_change, manage_sends, manage_steps}
 use Rattle.gw_relay.specs.Message.{Message}
-use Rattle.gw_relay.specs.Route.{is_kind, is_local, route_asks, route_sends, route_steps, steps_by}
-use Rattle.gw_routes.specs.Table.{way}
+use Rattle.gw_relay.specs.Route.{is_kind, route_asks, route_sends}
 use Rattle.gw_relay.specs.Sends.{Sending}
 use Rattle.gw_relay.specs.State.{Relay}
 use Rattle.gw_relay.specs.Steps.{Step, asks_of, sends_of}
@@ -51,21 +48,12 @@ no_kind : (payload : Payload) (kind : MessageKind) → is_apdu payload ≡ true 
 no_kind (apdu octets) kind e = refl
 no_kind (message m) kind e = absurd cc
 
-pub no_steps : (relay : Relay) (m : Message) → is_apdu m.npdu.payload ≡ true → manage_steps relay m ≡ []
+no_steps : (relay : Relay) (m : Message) → is_apdu m.npdu.payload ≡ true → manage_steps relay m ≡ []
 no_steps relay m is =
     rw (no_kind m.npdu.payload IAmRouterToNetwork is, no_kind m.npdu.payload WhoIsRouterToNetwork is, no_kind m.npdu.payload WhatIsNetworkNumber is) refl
 
-pub nothing_learned : (rules : List Rule) (m : Message) → is_apdu m.npdu.payload ≡ true → manage_change rules m ≡ None
+nothing_learned : (rules : List Rule) (m : Message) → is_apdu m.npdu.payload ≡ true → manage_change rules m ≡ None
 nothing_learned rules m is = rw (no_kind m.npdu.payload IAmRouterToNetwork is) refl
-
-no_way_by : (local : Bool) (relay : Relay) (m : Message) → m.npdu.destination ≡ None
-    → (if local then [] else option_map_or (λ d. steps_by relay m d (way relay.routes d.address.network)) m.npdu.destination []) ≡ []
-no_way_by true relay m none = refl
-no_way_by false relay m none = rw none refl
-
--- a message that names no destination isn't routed
-pub no_way : (relay : Relay) (m : Message) → m.npdu.destination ≡ None → route_steps relay m ≡ []
-no_way relay m none = no_way_by (is_local m.npdu.payload) relay m none
 
 -- what is done about such a message but for the device is what routing does
 pub record PassesBy (rules : List Rule) (relay : Relay) (m : Message) : Type 0 where
@@ -92,8 +80,3 @@ passes_by rules relay m plain =
           ∙ ap (λ (steps : List Step). route_sends rules relay m ++ sends_of rules steps) none ∙ append-nil (route_sends rules relay m);
       change = change_on rules m on ∙ nothing_learned rules m parts.1;
     }
-
--- nothing behind what is to be committed
-pub nothing_more : {A : Type 0} (change : Option A) → option_or change None ≡ change
-nothing_more (Some x) = refl
-nothing_more None = refl

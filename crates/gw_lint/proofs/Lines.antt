@@ -4,7 +4,7 @@ use Rattle.std.proofs.lemmas.List.{append-nil, length-append, take_all, take_at}
 use Rattle.std.specs.Prelude.{IsErr, vec_items}
 use Rattle.std.specs.Global.{Vec}
 use Rattle.gw_addr.specs.Appending.{IsAppended}
-use Rattle.gw_script.proofs.Appended.{IsGrown, behind, grown_by}
+use Rattle.gw_addr.proofs.Appended.{IsGrown, behind, grown_by}
 use Rattle.gw_script.proofs.Order.{in_order_front, in_order_next}
 use Rattle.gw_script.specs.Order.{in_order}
 

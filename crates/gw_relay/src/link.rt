@@ -144,7 +144,7 @@ impl PortState {
     fn has_room(&self, address: BipAddr) -> bool
         ensures { result ≡ has_room self.now.fdt address }
     {
-        self.fdt.contains(address) || self.fdt.count() < MAX_REGISTRATIONS
+        self.fdt.count() < MAX_REGISTRATIONS || self.fdt.contains(address)
     }
 
     /// Whether there is a registration to delete.

@@ -4,7 +4,6 @@ pub mod UnreadLemmas
 pub mod AppendLemmas
 pub mod TailLemmas
 pub mod Lists
-pub mod Appended
 pub mod EventLemmas
 pub mod PairLemmas
 pub mod FlawLemmas

@@ -1,7 +1,7 @@
 use Rattle.std.proofs.Common.{take}
 use Rattle.gw_script.specs.Order.{in_order}
 use Rattle.gw_lint.specs.Warnings.{peer_lines}
-use Rattle.gw_script.proofs.Appended.{IsGrown}
+use Rattle.gw_addr.proofs.Appended.{IsGrown}
 use Rattle.gw_lint.proofs.port_warnings.put_peers.Given as goal
 
 abbrev pub invariant-loop-index : goal.invariant-loop-index

@@ -1,7 +1,7 @@
 use Rattle.std.proofs.Common.{take}
 use Rattle.gw_script.specs.Order.{in_order}
 use Rattle.gw_lint.specs.Warnings.{port_lines}
-use Rattle.gw_script.proofs.Appended.{IsGrown}
+use Rattle.gw_addr.proofs.Appended.{IsGrown}
 use Rattle.gw_lint.proofs.port_warnings.put_ports.Given as goal
 
 abbrev pub invariant-loop-place : goal.invariant-loop-place

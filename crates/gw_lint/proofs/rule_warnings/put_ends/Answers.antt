@@ -1,5 +1,5 @@
 use Rattle.gw_lint.specs.Warnings.{ends_words}
-use Rattle.gw_script.proofs.Appended.{then_put}
+use Rattle.gw_addr.proofs.Appended.{then_put}
 use Rattle.gw_lint.proofs.rule_warnings.put_ends.Goals as goal
 
 pub returns : goal.returns

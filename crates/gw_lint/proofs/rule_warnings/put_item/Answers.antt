@@ -1,4 +1,4 @@
-use Rattle.gw_script.proofs.Appended.{then_put}
+use Rattle.gw_addr.proofs.Appended.{then_put}
 use Rattle.gw_lint.proofs.rule_warnings.put_item.Goals as goal
 
 pub returns : goal.returns

@@ -1,7 +1,7 @@
 use Rattle.std.proofs.Common.{take}
 use Rattle.gw_script.specs.Order.{in_order}
 use Rattle.gw_lint.specs.Warnings.{missing_lines}
-use Rattle.gw_script.proofs.Appended.{IsGrown}
+use Rattle.gw_addr.proofs.Appended.{IsGrown}
 use Rattle.gw_lint.proofs.rule_warnings.put_missing.Given as goal
 
 abbrev pub invariant-loop-item : goal.invariant-loop-item
