@@ -72,7 +72,10 @@ pub fn put_tag(out: &mut Vec<u8>, tag: Tag) -> Result<(), AllocError>
     ensures { IsAppended (canonical (tag_view tag)) out.old out.new result }
 {
     if tag.number < 15 && is_told_by_low_bits(tag.kind) {
-        return put_octet(out, first_octet(tag.number, tag.context, low_bits(tag.kind)));
+        return put_octet(
+            out,
+            first_octet(tag.number, tag.context, low_bits(tag.kind)),
+        );
     }
     put_long_tag(out, tag)
 }
