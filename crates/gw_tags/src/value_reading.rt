@@ -5,7 +5,8 @@ ghost use Rattle.gw_addr.specs.Reading.{Gives, front_at};
 ghost use Rattle.gw_addr.specs.Address.{big_endian};
 ghost use Rattle.gw_tags.specs.Number.{twos_complement};
 ghost use Rattle.gw_tags.specs.Object.{object_of};
-ghost use Rattle.gw_tags.specs.Reading.{head_at, octets_at, number_in, judged_text_at, judged_body_at, one_to_four, null_at, boolean_at, text_at, bits_at, body_at, judged, value_at};
+ghost use Rattle.gw_tags.specs.Reading.{head_at, octets_at, content_at, number_in, judged_text_at, judged_body_at, one_to_four, null_at, boolean_at, text_at, bits_at, body_at, judged, value_at};
+ghost use Rattle.gw_tags.specs.Value.{double as double_value, octet_string as string_value, signed as signed_value};
 ghost use Rattle.gw_tags.specs.Value.{Value, value_view, IsValue, BeginsWithValue, IsShortValue, IsBadValueTag, IsBadLength, IsBadText};
 ghost use Rattle.gw_tags.specs.internal.Body.{body_view};
 
@@ -86,13 +87,13 @@ fn unsigned(body: Body<'_>) -> Result<(u32, &[u8]), ValueFault>
     }
 }
 
-fn signed(body: Body<'_>) -> Result<(i32, &[u8]), ValueFault>
-    ensures { Gives (λ x. (x.0, x.1.now))
-        result (number_in twos_complement (body_view body.entry)) }
+fn signed(body: Body<'_>) -> Found<'_>
+    ensures { Gives (λ x. (value_view x.0, x.1.now)) result
+        (content_at one_to_four (λ o. signed_value (twos_complement o)) (body_view body.entry)) }
 {
     let (content, rest) = content((1..=4).contains(&body.count), body)?;
     match number::signed(content) {
-        Some(z) => Ok((z, rest)),
+        Some(z) => Ok((AppValue::Signed(z), rest)),
         None => Err(ValueFault::BadLength),
     }
 }
@@ -108,20 +109,27 @@ fn four(body: Body<'_>) -> Result<([u8; 4], &[u8]), ValueFault>
     Ok(([*a, *b, *c, *d], rest))
 }
 
-fn eight(body: Body<'_>) -> Result<([u8; 8], &[u8]), ValueFault>
-    ensures { Gives (λ x. (x.0, x.1.now))
-        result (octets_at (body.entry.count == 8) (body_view body.entry)) }
+fn double(body: Body<'_>) -> Found<'_>
+    ensures { Gives (λ x. (value_view x.0, x.1.now))
+        result (content_at (λ n. n == 8) double_value (body_view body.entry)) }
 {
     let (content, rest) = content(body.count == 8, body)?;
     let [a, b, c, d, e, f, g, h] = content else {
         return Err(ValueFault::BadLength);
     };
-    Ok(([*a, *b, *c, *d, *e, *f, *g, *h], rest))
+    Ok((AppValue::Double([*a, *b, *c, *d, *e, *f, *g, *h]), rest))
 }
 
-fn text(body: Body<'_>) -> Result<(CharacterString<'_>, &[u8]), ValueFault>
-    ensures { Gives (λ x. (value_view (AppValue.Text x.0), x.1.now))
-        result (judged_text_at (body_view body.entry)) }
+fn octet_string(body: Body<'_>) -> Found<'_>
+    ensures { Gives (λ x. (value_view x.0, x.1.now))
+        result (content_at (λ n. true) string_value (body_view body.entry)) }
+{
+    let (octets, rest) = content(true, body)?;
+    Ok((AppValue::Octets(octets), rest))
+}
+
+fn text(body: Body<'_>) -> Found<'_>
+    ensures { Gives (λ x. (value_view x.0, x.1.now)) result (judged_text_at (body_view body.entry)) }
 {
     let (content, rest) = content(body.count > 0, body)?;
     let [charset, octets @ ..] = content else {
@@ -130,18 +138,15 @@ fn text(body: Body<'_>) -> Result<(CharacterString<'_>, &[u8]), ValueFault>
     if *charset == 0 && !is_utf8(octets) {
         return Err(ValueFault::BadText);
     }
-    Ok((
-        CharacterString {
-            charset: *charset,
-            octets,
-        },
-        rest,
-    ))
+    let text = CharacterString {
+        charset: *charset,
+        octets,
+    };
+    Ok((AppValue::Text(text), rest))
 }
 
-fn bits(body: Body<'_>) -> Result<(BitString<'_>, &[u8]), ValueFault>
-    ensures { Gives (λ x. (value_view (AppValue.Bits x.0), x.1.now))
-        result (bits_at (body_view body.entry)) }
+fn bits(body: Body<'_>) -> Found<'_>
+    ensures { Gives (λ x. (value_view x.0, x.1.now)) result (bits_at (body_view body.entry)) }
 {
     if body.count == 0 {
         return Err(ValueFault::BadLength);
@@ -157,7 +162,7 @@ fn bits(body: Body<'_>) -> Result<(BitString<'_>, &[u8]), ValueFault>
         octets,
     };
     let (octets, rest) = content(true, rest)?;
-    Ok((BitString { unused, octets }, rest))
+    Ok((AppValue::Bits(BitString { unused, octets }), rest))
 }
 
 /// The content of a kind.
@@ -172,30 +177,15 @@ fn value(datatype: Datatype, body: Body<'_>) -> Found<'_>
             let (n, rest) = unsigned(body)?;
             Ok((AppValue::Unsigned(n), rest))
         }
-        Datatype::Signed => {
-            let (z, rest) = signed(body)?;
-            Ok((AppValue::Signed(z), rest))
-        }
+        Datatype::Signed => signed(body),
         Datatype::Real => {
             let (octets, rest) = four(body)?;
             Ok((AppValue::Real(octets), rest))
         }
-        Datatype::Double => {
-            let (octets, rest) = eight(body)?;
-            Ok((AppValue::Double(octets), rest))
-        }
-        Datatype::Octets => {
-            let (octets, rest) = content(true, body)?;
-            Ok((AppValue::Octets(octets), rest))
-        }
-        Datatype::Text => {
-            let (text, rest) = text(body)?;
-            Ok((AppValue::Text(text), rest))
-        }
-        Datatype::Bits => {
-            let (bits, rest) = bits(body)?;
-            Ok((AppValue::Bits(bits), rest))
-        }
+        Datatype::Double => double(body),
+        Datatype::Octets => octet_string(body),
+        Datatype::Text => text(body),
+        Datatype::Bits => bits(body),
         Datatype::Enumerated => {
             let (n, rest) = unsigned(body)?;
             Ok((AppValue::Enumerated(n), rest))
