@@ -110,16 +110,23 @@ fn put_route_networks(all: &mut Vec<u64>, routes: &[Route]) -> Result<(), AllocE
     Ok(())
 }
 
-fn address_twice<'a>(alloc: Global, ports: &[Port]) -> Result<Option<Located<'a>>, AllocError>
-    ensures { let found = option_map spec.address_twice (second nat_eq (port_addresses ports.now)) in
-        IfOk result (λ l. option_map located_view l ≡ found) }
+/// Own and broadcast addresses are numbered in turn, port by port.
+fn second_address(alloc: Global, ports: &[Port]) -> Result<Option<usize>, AllocError>
+    ensures { IfOk result (λ p. p ≡ second nat_eq (port_addresses ports.now)) }
 {
     let mut all = Vec::new(alloc);
     for port in ports {
         all.push(port.address.key48())?;
         all.push(port.broadcast.key48())?;
     }
-    match second(alloc, &all)? {
+    second(alloc, &all)
+}
+
+fn address_twice<'a>(alloc: Global, ports: &[Port]) -> Result<Option<Located<'a>>, AllocError>
+    ensures { let found = option_map spec.address_twice (second nat_eq (port_addresses ports.now)) in
+        IfOk result (λ l. option_map located_view l ≡ found) }
+{
+    match second_address(alloc, ports)? {
         Some(index) => {
             let key = if index % 2 == 0 {
                 "address"
@@ -154,6 +161,16 @@ fn second_peer(alloc: Global, peers: &[BdtEntry]) -> Result<Option<usize>, Alloc
     second(alloc, &all)
 }
 
+fn second_identifier(alloc: Global, objects: &[Object]) -> Result<Option<usize>, AllocError>
+    ensures { IfOk result (λ p. p ≡ second nat_eq (identifiers objects.now)) }
+{
+    let mut all = Vec::new(alloc);
+    for object in objects {
+        all.push(identifier(object))?;
+    }
+    second(alloc, &all)
+}
+
 fn identifier_twice<'a>(
     alloc: Global,
     objects: &[Object],
@@ -161,11 +178,7 @@ fn identifier_twice<'a>(
     ensures { let found = option_map spec.identifier_twice (second nat_eq (identifiers objects.now)) in
         IfOk result (λ l. option_map located_view l ≡ found) }
 {
-    let mut all = Vec::new(alloc);
-    for object in objects {
-        all.push(identifier(object))?;
-    }
-    match second(alloc, &all)? {
+    match second_identifier(alloc, objects)? {
         Some(index) => Ok(Some(twice(Place::Object(index), "instance"))),
         None => Ok(None),
     }
@@ -190,6 +203,23 @@ fn type_number(value: &ObjectValue) -> u64
     }
 }
 
+/// The name of the device comes before those of the objects.
+fn second_name(
+    alloc: Global,
+    device: &Device,
+    objects: &[Object],
+) -> Result<Option<usize>, AllocError>
+    ensures { let names = names device.now objects.now in
+        IfOk result (λ p. p ≡ second (pointwise nat_eq) names) }
+{
+    let mut all = Vec::new(alloc);
+    all.push(device.name.as_str())?;
+    for object in objects {
+        all.push(object.name.as_str())?;
+    }
+    second_text(alloc, &all)
+}
+
 fn name_twice<'a>(
     alloc: Global,
     device: &Device,
@@ -199,27 +229,28 @@ fn name_twice<'a>(
         let found = option_map spec.name_twice (second (pointwise nat_eq) names) in
         IfOk result (λ l. option_map located_view l ≡ found) }
 {
-    let mut all = Vec::new(alloc);
-    all.push(device.name.as_str())?;
-    for object in objects {
-        all.push(object.name.as_str())?;
-    }
-    match second_text(alloc, &all)? {
+    match second_name(alloc, device, objects)? {
         Some(0) => Ok(Some(twice(Place::Device, "name"))),
         Some(index) => Ok(Some(twice(Place::Object(index - 1), "name"))),
         None => Ok(None),
     }
 }
 
-fn rule_twice<'a>(alloc: Global, rules: &[Rule]) -> Result<Option<Located<'a>>, AllocError>
-    ensures { let found = option_map spec.rule_twice (second (pointwise nat_eq) (rule_names rules.now)) in
-        IfOk result (λ l. option_map located_view l ≡ found) }
+fn second_rule(alloc: Global, rules: &[Rule]) -> Result<Option<usize>, AllocError>
+    ensures { IfOk result (λ p. p ≡ second (pointwise nat_eq) (rule_names rules.now)) }
 {
     let mut all = Vec::new(alloc);
     for rule in rules {
         all.push(rule.name.as_str())?;
     }
-    match second_text(alloc, &all)? {
+    second_text(alloc, &all)
+}
+
+fn rule_twice<'a>(alloc: Global, rules: &[Rule]) -> Result<Option<Located<'a>>, AllocError>
+    ensures { let found = option_map spec.rule_twice (second (pointwise nat_eq) (rule_names rules.now)) in
+        IfOk result (λ l. option_map located_view l ≡ found) }
+{
+    match second_rule(alloc, rules)? {
         Some(index) => Ok(Some(twice(Place::Rule(index), "name"))),
         None => Ok(None),
     }
