@@ -1,3 +1,4 @@
+pub mod Wholes
 pub mod Contents
 pub mod Parameters
 pub mod Bodies

@@ -3,6 +3,7 @@
 ghost use Rattle.std.specs.Prelude.{◌≡◌, ◌↔◌, ◌≤◌, IfOk, IsOkAnd, Err};
 ghost use Rattle.gw_addr.specs.Appending.{IsAppended, IsAppendedWhole};
 ghost use Rattle.gw_addr.specs.Reading.{Gives};
+ghost use Rattle.gw_tags.specs.Value.{enumerated, unsigned, value_encoding};
 ghost use Rattle.gw_services.specs.Body.{HasFault};
 ghost use Rattle.gw_services.specs.Limits.{last_segmentation};
 ghost use Rattle.gw_services.specs.IAm.{IAm as IAmFields, i_am_view, i_am_body, IsIAm, i_am_at, i_am_encoding, segmentation_number};
@@ -72,14 +73,26 @@ pub fn decode_i_am(octets: &[u8]) -> Result<IAm, BodyFault>
     read(octets)
 }
 
+fn put_number(out: &mut Vec<u8>, number: u16) -> Result<(), AllocError>
+    ensures { IsAppendedWhole (value_encoding (unsigned number)) out.old out.new result }
+{
+    write_value(out, AppValue::Unsigned(u32::from(number)))
+}
+
+fn put_segmentation(out: &mut Vec<u8>, choice: Segmentation) -> Result<(), AllocError>
+    ensures { let number = segmentation_number choice in
+        IsAppendedWhole (value_encoding (enumerated number)) out.old out.new result }
+{
+    write_value(out, AppValue::Enumerated(u32::from(choice.number())))
+}
+
 fn put(out: &mut Vec<u8>, announced: &IAm) -> Result<(), AllocError>
     ensures { IsAppended (i_am_encoding (i_am_view announced.now)) out.old out.new result }
 {
     write_value(out, AppValue::Object(announced.device))?;
-    write_value(out, AppValue::Unsigned(u32::from(announced.max_apdu)))?;
-    let segmentation = announced.segmentation.number();
-    write_value(out, AppValue::Enumerated(u32::from(segmentation)))?;
-    write_value(out, AppValue::Unsigned(u32::from(announced.vendor)))
+    put_number(out, announced.max_apdu)?;
+    put_segmentation(out, announced.segmentation)?;
+    put_number(out, announced.vendor)
 }
 
 /// Appends the body of an I-Am, in the fewest octets. The buffer keeps what it held, also after
