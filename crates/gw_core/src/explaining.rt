@@ -1,10 +1,12 @@
 //! What an event asks of the policy, allowed or denied, and a line for each ask.
 
-ghost use Rattle.std.specs.Prelude.{◌≡◌, ◌≤◌, ◌++◌, [], List, IfOk, IsOk, OnOk, vec_capacity};
+ghost use Rattle.std.specs.Prelude.{◌≡◌, ◌≤◌, ◌++◌, [], List, IfOk, IsOk, OnOk, false, vec_capacity};
 ghost use Rattle.std.specs.List.{flat_map};
 ghost use Rattle.gw_addr.specs.Appending.{IsAppended};
 ghost use Rattle.gw_rules.specs.declared.rule.Rule.{Rule};
-ghost use Rattle.gw_relay.specs.Cast.{goes_on};
+ghost use Rattle.gw_relay.specs.Cast.{cast_asks, goes_on, is_unregistered};
+ghost use Rattle.gw_relay.specs.Manage.{manage_asks};
+ghost use Rattle.gw_relay.specs.Route.{route_asks};
 ghost use Rattle.gw_relay.specs.Message.{message_view};
 ghost use Rattle.gw_core.specs.Asks.{asks_for, message_asks};
 ghost use Rattle.gw_core.specs.Effects.{message_sends, sends_for};
@@ -25,6 +27,57 @@ use gw_rule_index::Policy;
 use gw_rules::{Ask, Judge, RuleList};
 use std::alloc::{AllocError, Global};
 
+/// Adds what distribution asks about a message (step 6). It answers whether the message goes on to the network
+/// layer.
+fn put_cast_asks(
+    alloc: Global,
+    relay: &Relay,
+    message: &Message<'_>,
+    asks: &mut Asks,
+) -> Result<bool, AllocError>
+    ensures asks { OnOk result (asks.new ≡ asks.old ++ cast_asks (message_view message.now)) }
+    ensures goes_on { let m = message_view message.now in
+        IfOk result (λ goes. goes ≡ goes_on m.here m.from m.frame) }
+    ensures silent { let m = message_view message.now in
+        cast_asks m ≡ [] → is_unregistered m.here m.from m.frame ≡ false → IsOk result }
+{
+    let mut given = RelayResponse::nothing(alloc);
+    let goes_on = relay.cast(alloc, &NoRules, message, &mut given)?;
+    put_refused(asks, given.refusals.as_slice())?;
+    Ok(goes_on)
+}
+
+/// Adds what routing asks about a message (step 8).
+fn put_route_asks(
+    alloc: Global,
+    relay: &Relay,
+    message: &Message<'_>,
+    asks: &mut Asks,
+) -> Result<(), AllocError>
+    ensures asks { let due = route_asks relay.now (message_view message.now) in
+        OnOk result (asks.new ≡ asks.old ++ due) }
+    ensures silent { route_asks relay.now (message_view message.now) ≡ [] → IsOk result }
+{
+    let mut given = RelayResponse::nothing(alloc);
+    relay.route(alloc, &NoRules, message, &mut given)?;
+    put_refused(asks, given.refusals.as_slice())
+}
+
+/// Adds what the network layer asks about a message (step 9).
+fn put_manage_asks(
+    alloc: Global,
+    relay: &Relay,
+    message: &Message<'_>,
+    asks: &mut Asks,
+) -> Result<(), AllocError>
+    ensures asks { let due = manage_asks relay.now (message_view message.now) in
+        OnOk result (asks.new ≡ asks.old ++ due) }
+    ensures silent { manage_asks relay.now (message_view message.now) ≡ [] → IsOk result }
+{
+    let managed = relay.manage(alloc, &NoRules, message)?;
+    put_refused(asks, managed.refusals.as_slice())
+}
+
 /// Adds what is asked about a message but for the device (steps 4 and 6 to 9). It answers whether the
 /// message goes on to the network layer.
 fn put_passed_asks(
@@ -40,16 +93,12 @@ fn put_passed_asks(
     ensures silent { (rules : List Rule) → let m = message_view message.now in
         passed_asks relay.now m ≡ [] → passed_sends rules relay.now m ≡ [] → IsOk result }
 {
-    let mut given = RelayResponse::nothing(alloc);
-    let goes_on = relay.cast(alloc, &NoRules, message, &mut given)?;
-    put_refused(asks, given.refusals.as_slice())?;
+    let goes_on = put_cast_asks(alloc, relay, message, asks)?;
     if !goes_on {
         return Ok(false);
     }
-    relay.route(alloc, &NoRules, message, &mut given)?;
-    put_refused(asks, given.refusals.as_slice())?;
-    let managed = relay.manage(alloc, &NoRules, message)?;
-    put_refused(asks, managed.refusals.as_slice())?;
+    put_route_asks(alloc, relay, message, asks)?;
+    put_manage_asks(alloc, relay, message, asks)?;
     Ok(true)
 }
 
