@@ -90,6 +90,23 @@ pub fn denials_of(
     if refusals.is_empty() {
         return Ok(Denials::new(alloc));
     }
+    denials_with_origin(alloc, rules, number, tick, received, refusals)
+}
+
+/// The record of what was refused, which is seldom: the room for an origin is made only then.
+#[inline(never)]
+fn denials_with_origin(
+    alloc: Global,
+    rules: &RuleList,
+    number: u64,
+    tick: u64,
+    received: &Received<'_>,
+    refusals: &[Refusal],
+) -> Result<Denials, AllocError>
+    requires { number + length refusals.now < 2 ^ 64 }
+    ensures { let from = origin_of received.now in
+        IfOk result (λ denials. denials ≡ denials_of rules.now number tick from refusals.now) }
+{
     match origin_of(received) {
         Some(from) => denials_from(alloc, rules, number, tick, &from, refusals),
         None => Ok(Denials::new(alloc)),
@@ -97,7 +114,6 @@ pub fn denials_of(
 }
 
 /// The record of refusals, counted on from a number.
-#[inline(never)]
 fn denials_from(
     alloc: Global,
     rules: &RuleList,
