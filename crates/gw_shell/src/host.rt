@@ -75,7 +75,11 @@ fn last_octet<R: Files>(rt: &R, name: &str) -> io::Result<u8> {
     if !rt.metadata(name)?.is_file() {
         return Err(ErrorKind::NotSeekable.into());
     }
-    let mut file = fs::open(rt, name)?;
+    read_last(&mut fs::open(rt, name)?)
+}
+
+/// The last octet of what can be read from any place on, an `Err` where there is none.
+fn read_last<F: Read + Seek>(file: &mut F) -> io::Result<u8> {
     file.seek(SeekFrom::End(-1))?;
     let mut last = [0];
     file.read_exact(&mut last)?;

@@ -1,6 +1,6 @@
 //! Why a log or the sockets of `run` can't be opened, and how an operator is told of it.
 
-ghost use Rattle.std.specs.Prelude.{◌≡◌, ◌≤◌, ℕ, IfOk};
+ghost use Rattle.std.specs.Prelude.{◌≡◌, ◌≤◌, ◌++◌, ℕ, IfOk, OnOk};
 ghost use Rattle.gw_shell.specs.Host.{IsSocketFailure};
 ghost use Rattle.gw_shell.specs.Opening.{IsNote, IsNoteOf, failure_text, fault_of_opening, fault_of_sockets, reason_text, step_text};
 
@@ -86,20 +86,28 @@ pub struct FailedStep {
 }
 
 impl FailedStep {
-    /// The line on it: the port, what of it, the address, and the reason.
+    /// The line on it.
     fn line(&self, alloc: Global) -> Result<Vec<u8>, AllocError>
         ensures { IfOk result (λ line. line.items ≡ failure_text self.now) }
     {
         let mut line = Vec::new(alloc);
-        put_number(&mut line, "port ", self.port)?;
-        line.extend_from_slice(b": ")?;
-        line.extend_from_slice(self.step.text().as_bytes())?;
-        line.push(b' ')?;
-        self.address.put_text(&mut line)?;
-        line.extend_from_slice(b": ")?;
-        line.extend_from_slice(self.reason.text().as_bytes())?;
-        line.push(b'\n')?;
+        self.put_line(&mut line)?;
         Ok(line)
+    }
+
+    /// Appends the line on it: the port, what of it, the address, and the reason.
+    fn put_line(&self, out: &mut Vec<u8>) -> Result<(), AllocError>
+        ensures { OnOk result (out.new.items ≡ out.old.items ++ failure_text self.now) }
+    {
+        put_number(out, "port ", self.port)?;
+        out.extend_from_slice(b": ")?;
+        out.extend_from_slice(self.step.text().as_bytes())?;
+        out.push(b' ')?;
+        self.address.put_text(out)?;
+        out.extend_from_slice(b": ")?;
+        out.extend_from_slice(self.reason.text().as_bytes())?;
+        out.push(b'\n')?;
+        Ok(())
     }
 }
 

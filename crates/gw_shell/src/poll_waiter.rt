@@ -1,12 +1,12 @@
 //! What waits for datagrams at the sockets of the system.
 
-ghost use Rattle.std.specs.Prelude.{◌≡◌, ◌≤◌, false, length, ⊤};
+ghost use Rattle.std.specs.Prelude.{◌≡◌, ◌≤◌, ◌<◌, false, length, ⊤};
 ghost use Rattle.gw_shell.specs.Waiting.{has_event_of};
 
 use crate::udp::UdpSock;
 use gw_addr::MAX_PORTS;
 use gw_ports::{SockPair, Waiter, socket_number};
-use mio::{Events, Poll};
+use mio::{Events, Poll, Registry};
 use std::alloc::Global;
 use std::io;
 use std::net::Net;
@@ -30,15 +30,35 @@ impl PollWaiter {
     {
         let poll = Poll::new(net)?;
         let events = Events::with_capacity(alloc, MOST_SOCKETS)?;
-        for place in 0..pairs.len() {
-            let pair = &mut pairs[place];
-            let own = socket_number(place, true);
-            pair.own.socket.register(poll.registry(), own)?;
-            let broadcast = socket_number(place, false);
-            pair.broadcast.socket.register(poll.registry(), broadcast)?;
-        }
+        register_all(poll.registry(), pairs)?;
         Ok(PollWaiter { poll, events })
     }
+}
+
+/// Registers both sockets of each pair, under their numbers. An `Err` where the system doesn't take one.
+fn register_all(registry: &Registry, pairs: &mut [SockPair<UdpSock>]) -> io::Result<()>
+    requires { length pairs.old ≤ MAX_PORTS }
+{
+    for place in 0..pairs.len() {
+        register_pair(registry, place, &mut pairs[place])?;
+    }
+    Ok(())
+}
+
+/// Registers both sockets of the pair at this place, from 0.
+fn register_pair(
+    registry: &Registry,
+    place: usize,
+    pair: &mut SockPair<UdpSock>,
+) -> io::Result<()>
+    requires { place < MAX_PORTS }
+{
+    pair.own
+        .socket
+        .register(registry, socket_number(place, true))?;
+    pair.broadcast
+        .socket
+        .register(registry, socket_number(place, false))
 }
 
 /// Whether some event names the socket of this number.
