@@ -1,4 +1,5 @@
 pub mod Rows
+pub mod Gathered
 pub mod Halving
 pub mod Fields
 pub mod Ends

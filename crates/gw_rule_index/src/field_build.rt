@@ -46,10 +46,18 @@ fn add_ends(numbers: &mut Vec<u64>, ranges: &[Range]) -> Result<(), AllocError>
     ensures { OnOk result (numbers.new.items ≡ numbers.old.items ++ flat_map ends ranges.now) }
 {
     for range in ranges {
-        numbers.push(range.low)?;
-        if let Some(next) = range.high.checked_add(1) {
-            numbers.push(next)?;
-        }
+        add_ends_of(numbers, range)?;
+    }
+    Ok(())
+}
+
+/// Adds the number at which the range begins, and the one that it ends before.
+fn add_ends_of(numbers: &mut Vec<u64>, range: &Range) -> Result<(), AllocError>
+    ensures { OnOk result (numbers.new.items ≡ numbers.old.items ++ ends range.now) }
+{
+    numbers.push(range.low)?;
+    if let Some(next) = range.high.checked_add(1) {
+        numbers.push(next)?;
     }
     Ok(())
 }
