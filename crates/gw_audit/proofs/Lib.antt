@@ -1,3 +1,4 @@
+pub mod Refused
 pub mod Digits
 pub mod Pieces
 pub mod Fields
