@@ -1,16 +1,16 @@
 -- What an APDU asks is found in two ways: of a ReadPropertyMultiple by its references, of any other by what is refused
 -- where there are no rules.
-use Rattle.std.proofs.Common.{◌≡◌, ◌∙◌, sym, ap, subst, refl, ℕ, Bool, true, false, ◌&&◌, List, [], ◌∷◌, ◌++◌, append_assoc, filter, map, Option, Some, None, Result, Ok, Err}
+use Rattle.std.proofs.Common.{◌≡◌, ◌∙◌, sym, ap, refl, ℕ, Bool, true, false, ◌&&◌, List, [], ◌∷◌, ◌++◌, append_assoc, filter, map, Option, Some, None, Result, Ok, Err}
 use Rattle.std.specs.Prelude.{◌==◌, if◌then◌else◌, is_some, not}
 use Rattle.std.proofs.lemmas.Bool.{eqb-true}
 use Rattle.gw_apdu.specs.declared.fault.ApduFault.{ApduFault}
 use Rattle.gw_apdu.specs.declared.header.ConfirmedRequest.{ConfirmedRequest}
 use Rattle.gw_apdu.specs.declared.header.Header.{Header}
 use Rattle.gw_apdu.specs.declared.header.Header.TheVariants as header
-use Rattle.gw_apdu.specs.Answers.{abort, reject}
+use Rattle.gw_apdu.specs.Answers.{abort}
 use Rattle.gw_apdu.specs.Apdu.{Fields}
 use Rattle.gw_apdu.specs.Reading.{apdu_at}
-use Rattle.gw_apdu.specs.Reasons.{segmentation_not_supported, unrecognized_service}
+use Rattle.gw_apdu.specs.Reasons.{segmentation_not_supported}
 use Rattle.gw_objects.specs.declared.property.Property.{Property}
 use Rattle.gw_objects.specs.declared.property.ObjectType.{ObjectType}
 use Rattle.gw_objects.specs.declared.property.PropertySet.{PropertySet}
@@ -33,7 +33,7 @@ use Rattle.gw_services.specs.WhoIs.{who_is_at}
 use Rattle.gw_services.specs.Write.{write_at}
 use Rattle.gw_tags.specs.Object.{Object}
 use Rattle.gw_device.specs.declared.context.Context.{Context}
-use Rattle.gw_device.specs.Device.{apdu_response, confirmed_response, device_answer, device_asks, device_response, header_response, or_reject, or_silence, service_response, unconfirmed_response}
+use Rattle.gw_device.specs.Device.{apdu_response, confirmed_response, device_answer, device_asks, header_response, or_reject, or_silence, service_response, unconfirmed_response}
 use Rattle.gw_device.specs.Multi.{Part, asked, joined, multi_ask, multi_response, properties_part, set_part}
 use Rattle.gw_device.specs.Read.{read_response}
 use Rattle.gw_device.specs.Response.{Response, silence, turned_down}

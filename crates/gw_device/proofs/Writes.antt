@@ -1,5 +1,5 @@
 -- A write that the device makes is one that can be made: a request names a priority of 1 to 16, or none.
-use Rattle.std.proofs.Common.{◌≡◌, refl, subst, ap, ℕ, ◌≤◌, Bool, true, false, List, [], ◌∷◌, Option, Some, None, Result, Ok, Err}
+use Rattle.std.proofs.Common.{◌≡◌, refl, subst, ℕ, Bool, true, false, List, [], ◌∷◌, Option, Some, None, Result, Ok, Err}
 use Rattle.std.specs.Prelude.{◌==◌, if◌then◌else◌, is_some, nat_le}
 use Rattle.std.specs.Option.{ok_or}
 use Rattle.std.proofs.lemmas.Bool.{and_parts, leb-true}
@@ -31,7 +31,7 @@ use Rattle.gw_services.specs.Write.{Write as Request, write_at}
 use Rattle.gw_tags.specs.Number.{unsigned_of}
 use Rattle.gw_tags.specs.Object.{Object}
 use Rattle.gw_device.specs.declared.context.Context.{Context}
-use Rattle.gw_device.specs.Device.{apdu_response, device_response, header_response, or_reject, or_silence, service_response}
+use Rattle.gw_device.specs.Device.{apdu_response, header_response, or_reject, or_silence, service_response}
 use Rattle.gw_device.specs.Laws.{ChangesCanBeMade}
 use Rattle.gw_device.specs.Multi.{multi_response}
 use Rattle.gw_device.specs.Read.{read_response}
