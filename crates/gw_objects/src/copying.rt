@@ -1,11 +1,11 @@
 //! Copies of what is configured.
 ghost use Rattle.std.specs.Prelude.{◌≡◌, ◌≤◌, length, map, IfOk};
-ghost use Rattle.gw_objects.specs.Objects.{configured_of, default_of, details_of};
+ghost use Rattle.gw_objects.specs.Objects.{configured_of, database_of, default_of, details_of};
 ghost use Rattle.gw_priority.specs.Commandable.{no_command};
 
-use crate::{ConfiguredObject, Details, PropertyValue, States, ValueObjects};
+use crate::{Configured, ConfiguredObject, Details, PropertyValue, States, ValueObjects};
 use gw_addr::Sequence;
-use gw_configuration::{Device, Object, ObjectValue, Text};
+use gw_configuration::{Config, Device, Object, ObjectValue, Text};
 use gw_priority::PriorityArray;
 use std::alloc::{AllocError, Global};
 
@@ -31,7 +31,7 @@ fn texts(alloc: Global, texts: &[Text]) -> Result<Sequence<Text>, AllocError>
 }
 
 /// A copy of what the Device object says. `AllocError` where memory was refused.
-pub(crate) fn device(alloc: Global, device: &Device) -> Result<Device, AllocError>
+fn device(alloc: Global, device: &Device) -> Result<Device, AllocError>
     ensures { IfOk result (λ copy. copy ≡ device.now) }
 {
     Ok(Device {
@@ -86,10 +86,7 @@ fn object(alloc: Global, object: &Object) -> Result<ConfiguredObject, AllocError
 }
 
 /// What stays of the value objects, in their order. `AllocError` where memory was refused.
-pub(crate) fn objects(
-    alloc: Global,
-    objects: &[Object],
-) -> Result<Sequence<ConfiguredObject>, AllocError>
+fn objects(alloc: Global, objects: &[Object]) -> Result<Sequence<ConfiguredObject>, AllocError>
     ensures { IfOk result (λ copies. copies ≡ map configured_of objects.now) }
 {
     let mut copies = Sequence::new(alloc);
@@ -130,4 +127,14 @@ pub(crate) fn states(
         states.push(PriorityArray::new(default(alloc, &one.value)?))?;
     }
     Ok(states)
+}
+
+/// The device and what stays of the value objects. `AllocError` where memory was refused.
+pub(crate) fn configured(alloc: Global, config: &Config) -> Result<Configured, AllocError>
+    ensures { IfOk result (λ copy. copy ≡ (database_of config.now).configured) }
+{
+    Ok(Configured {
+        device: device(alloc, config.device())?,
+        objects: ValueObjects::new(alloc, objects(alloc, config.objects())?)?,
+    })
 }

@@ -24,8 +24,8 @@ use crate::table::{device_line, object_line};
 use crate::write::{Act, Put, check};
 use crate::writing::write_contents;
 use crate::{
-    Configured, ConfiguredObject, ObjectType, Property, PropertyValue, ReadFault, ValueObjects,
-    WriteFault, copying,
+    Configured, ConfiguredObject, ObjectType, Property, PropertyValue, ReadFault, WriteFault,
+    copying,
 };
 use gw_configuration::{Config, Text};
 use gw_priority::PriorityArray;
@@ -68,10 +68,7 @@ impl ObjectDb {
         ensures objects { IfOk result (λ db. db ≡ database_of config.now) }
         ensures stands { IfOk result (λ db. IsStateAfter (defaults_of config.now) [] db.states) }
     {
-        let configured = Configured {
-            device: copying::device(alloc, config.device())?,
-            objects: ValueObjects::new(alloc, copying::objects(alloc, config.objects())?)?,
-        };
+        let configured = copying::configured(alloc, config)?;
         let states = copying::states(alloc, config.objects())?;
         Ok(ObjectDb { configured, states })
     }

@@ -8,5 +8,5 @@ use Rattle.gw_objects.proofs.database.ObjectDb.from_config.Goals as goal
 
 pub returns-clause-stands : goal.returns-clause-stands
 returns-clause-stands c =
-    let made = c.in_ok-states.ensures ∙ ap (λ (objects : List Object). map (λ object. no_command (default_of object.value)) objects) c.objects-3.ensures.objects in
+    let made = c.in_ok-states.ensures ∙ ap (λ (objects : List Object). map (λ object. no_command (default_of object.value)) objects) c.objects.ensures.objects in
     subst (IsStateAfter (defaults_of c.args.config.now) []) (sym made) (start_states (λ (object : Object). default_of object.value) c.args.config.now.objects)
