@@ -1,5 +1,5 @@
 -- What a line shows.
-use Rattle.std.proofs.Common.{◌≡◌, Bool, true, false, ℕ, if◌then◌else◌, List, [], ◌∷◌, ◌++◌, map, length, nat_lt, codes, Result, Ok, Err, OnOk, rules, refl, ap, ◌∙◌}
+use Rattle.std.proofs.Common.{◌≡◌, ◌<◌, ◌+◌, Bool, true, false, ℕ, zero, suc, add-one, arith, get_or, take, if◌then◌else◌, List, [], ◌∷◌, ◌++◌, map, length, nat_lt, codes, Result, Ok, Err, OnOk, rules, refl, ap, ◌∙◌}
 use Rattle.std.specs.Prelude.{Float}
 use Rattle.std.specs.List.{list_all}
 use Rattle.std.specs.Result.{is_ok}
@@ -26,6 +26,16 @@ printed_shown octet = on (is_printed octet) refl
 pub all_shown : (octets : List ℕ) → list_all is_printed (map shown octets) ≡ true
 all_shown [] = refl
 all_shown (octet ∷ octets) = rw (printed_shown octet) (all_shown octets)
+
+-- one more octet is shown
+pub one_more : (octets : List ℕ) (place : ℕ) → place < length octets
+    → map shown (take (place + 1) octets) ≡ map shown (take place octets) ++ shown (get_or octets place 0) ∷ []
+one_more octets place h = rw add-one (on octets place h)
+  where
+    on : (os : List ℕ) (n : ℕ) → n < length os → map shown (take (suc n) os) ≡ map shown (take n os) ++ shown (get_or os n 0) ∷ []
+    on [] n h = absurd (omega arith)
+    on (o ∷ os) zero h = refl
+    on (o ∷ os) (suc n) h = ap (λ xs. shown o ∷ xs) (on os n (omega arith))
 
 pub fraction_words : (v : Value) (number : Float) → v ≡ value.Float number → single_words (view v) ≡ codes "a number with a fraction"
 fraction_words v number is = ap (λ (w : Value). single_words (view w)) is ∙ ap single_words (view-Float number)

@@ -63,20 +63,30 @@ fn of_text(
 fn text_wanted(alloc: Global, text: &[u8]) -> Result<Vec<u8>, AllocError> {
     let mut words = Vec::new(alloc);
     if text.len() > MAX_OCTETS {
-        words.extend_from_slice(b"at most ")?;
-        put_decimal(&mut words, MAX_OCTETS)?;
-        words.extend_from_slice(b" octets")?;
-        return Ok(words);
-    }
-    words.extend_from_slice(b"is no TOML document")?;
-    let Ok(document) = str::from_utf8(text) else {
-        words.extend_from_slice(b", since it isn't UTF-8")?;
-        return Ok(words);
-    };
-    if let Err(error) = toml::table_from_str(alloc, document) {
-        put_error(&mut words, text, &error)?;
+        put_limit(&mut words)?;
+    } else {
+        put_no_document(&mut words, alloc, text)?;
     }
     Ok(words)
+}
+
+/// Puts how long a text may be.
+fn put_limit(words: &mut Vec<u8>) -> Result<(), AllocError> {
+    words.extend_from_slice(b"at most ")?;
+    put_decimal(words, MAX_OCTETS)?;
+    words.extend_from_slice(b" octets")
+}
+
+/// Puts that a text is no document, and why.
+fn put_no_document(words: &mut Vec<u8>, alloc: Global, text: &[u8]) -> Result<(), AllocError> {
+    words.extend_from_slice(b"is no TOML document")?;
+    let Ok(document) = str::from_utf8(text) else {
+        return words.extend_from_slice(b", since it isn't UTF-8");
+    };
+    match toml::table_from_str(alloc, document) {
+        Ok(_) => Ok(()),
+        Err(error) => put_error(words, text, &error),
+    }
 }
 
 /// Puts why a text is no document, and where, by the line and the column that the reader tells.
