@@ -1,9 +1,9 @@
-use Rattle.std.proofs.Common.{Ok, ap, arith, get_or, length, ◌≡◌, ◌<◌, subst, ◌∙◌}
+use Rattle.std.proofs.Common.{Err, Ok, ap, refl, arith, get_or, length, ◌≡◌, ◌<◌, subst, ◌∙◌}
 use Rattle.std.proofs.lemmas.List.{get_or_default}
 use Rattle.gw_ports.specs.SockPair.{ArePassed}
 use Rattle.gw_ports.specs.Socket.{is_nothing}
 use Rattle.gw_ports.specs.Ports.{ArePassedFrom, Stay}
-use Rattle.gw_ports.proofs.PortLemmas.{each_set, stay_set}
+use Rattle.gw_ports.proofs.PortLemmas.{answered_set, each_set, stay_set}
 use Rattle.gw_ports.proofs.ports.Ports.ask_from.Goals as goal
 
 pub loop-place-preserved : goal.loop-place-preserved
@@ -30,3 +30,16 @@ returns-clause-each g c =
       subst (λ to. Stay c.args.from to c.args.self.now.pairs c.loop-place.self-inside.pairs.items) ends kept.stay,
       subst (λ to. ArePassedFrom g.S.Sock.look_count g.S.Sock.is_empty c.args.from to c.args.self.now.pairs c.loop-place.self-inside.pairs.items) ends kept.passed,
     )
+
+pub returns-in-Ok-Some-clause-each : goal.returns-in-Ok-Some-clause-each
+returns-in-Ok-Some-clause-each g c =
+    let kept = c.loop-place.invariant in
+    let answered = rw c.in-Ok-Some.field-0-is at c.in-Ok-Some.ensures.answered in
+    answered_set g.S.Sock.look_count g.S.Sock.is_empty g.S.Sock.Answered _ _ _ _ _ _ _ (Ok c.in-Ok-Some.came) _ kept.stay kept.passed
+    c.loop-place.auto.place c.loop-place-test.true c.requires.within c.index_mut.ensures.value (answered refl)
+
+pub returns-in-Err-clause-each : goal.returns-in-Err-clause-each
+returns-in-Err-clause-each g c =
+    let kept = c.loop-place.invariant in
+    answered_set g.S.Sock.look_count g.S.Sock.is_empty g.S.Sock.Answered _ _ _ _ _ _ _ (Err c.in-Err.fault) _ kept.stay kept.passed
+    c.loop-place.auto.place c.loop-place-test.true c.requires.within c.index_mut.ensures.value (c.in-Err.ensures.answered refl)

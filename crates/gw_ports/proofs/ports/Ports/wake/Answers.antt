@@ -1,7 +1,7 @@
-use Rattle.std.proofs.Common.{arith, get_or, length, ◌<◌, subst, ◌∙◌}
+use Rattle.std.proofs.Common.{arith, ◌≡◌, get_or, length, ◌<◌, subst, ◌∙◌}
 use Rattle.std.proofs.lemmas.List.{get_or_default}
 use Rattle.gw_ports.specs.SockPair.{AreWoken}
-use Rattle.gw_ports.proofs.PortLemmas.{each_set, stay_set}
+use Rattle.gw_ports.proofs.PortLemmas.{each_set, only_asked, stay_set}
 use Rattle.gw_ports.proofs.ports.Ports.wake.Goals as goal
 
 pub loop-place-preserved : goal.loop-place-preserved
@@ -19,4 +19,19 @@ loop-place-preserved g c =
       ticks = kept.ticks;
       last = kept.last;
       failures = kept.failures;
+    }
+
+pub returns : goal.returns
+returns g c =
+    let kept = c.loop-place.invariant in
+    let ends : c.loop-place.place ≡ length c.args.self.now.pairs = omega (arith, c.count-place-end.ensures.count, c.loop-place-test.false, c.loop-place.auto.place-end) in
+    record {
+      each = λ place below. kept.woken place (omega arith) (omega (arith, ends));
+      count = kept.stay.count;
+      rest = only_asked c.args.self.now (record {
+        pairs = c.loop-place.self-inside.pairs.items;
+        ticks = c.loop-place.self-inside.ticks;
+        last = c.loop-place.self-inside.last;
+        failures = c.loop-place.self-inside.failures;
+      }) kept.ticks kept.last kept.failures;
     }

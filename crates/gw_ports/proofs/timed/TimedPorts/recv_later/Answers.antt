@@ -1,6 +1,7 @@
-use Rattle.std.proofs.Common.{refl, inr}
+use Rattle.std.proofs.Common.{refl, inr, arith}
 use Rattle.std.specs.Duration.{as_nanos}
 use Rattle.gw_ports.proofs.TimedLemmas.{begun}
+use Rattle.std.proofs.lemmas.Grind.{common_steps}
 use Rattle.gw_ports.proofs.timed.TimedPorts.recv_later.Goals as goal
 
 pub returns-in_default-count_seconds-clause-unlooked : goal.returns-in_default-count_seconds-clause-unlooked
@@ -25,3 +26,10 @@ returns-clause-later g c = record {
   follows = c.in_ok-given.ensures.next;
   stays = refl;
 }
+
+pub returns-clause-failures : goal.returns-clause-failures
+returns-clause-failures g c =
+    omega (arith, c.in_ok-given.ensures.failures, c.count_seconds.ensures.failures, c.wait.ensures.failures)
+
+pub returns-in_err-given-clause-failures : goal.returns-in_err-given-clause-failures
+returns-in_err-given-clause-failures g c = grind (arith, common_steps)

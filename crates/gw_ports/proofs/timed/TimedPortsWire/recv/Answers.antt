@@ -1,6 +1,7 @@
-use Rattle.std.proofs.Common.{refl}
+use Rattle.std.proofs.Common.{arith, refl}
 use Rattle.std.specs.Duration.{as_nanos}
 use Rattle.gw_ports.proofs.TimedLemmas.{looked_in_time, received}
+use Rattle.std.proofs.lemmas.Grind.{common_steps}
 use Rattle.gw_ports.proofs.timed.TimedPortsWire.recv.Goals as goal
 
 pub returns-clause-received : goal.returns-clause-received
@@ -16,3 +17,6 @@ returns-clause-looked g c =
     looked_in_time g.C.Timepiece.Told g.P.Waiter.Waited g.P.Waiter.Quiet c.args.self.now
     c.count_seconds.new.self c.look.new.self c.recv_behind.new.self (as_nanos c.in-Ok.most)
     c.in-Ok.ensures.counts c.in-Ok-look.ensures.looks c.recv_behind.ensures.unlooked
+
+pub returns-clause-failures : goal.returns-clause-failures
+returns-clause-failures g c = grind (arith, common_steps)
