@@ -3,6 +3,8 @@
 ghost use Rattle.std.specs.Prelude.{◌≡◌, ◌≤◌, ◌++◌, [], List, IfOk, IsOk, OnOk, false, vec_capacity};
 ghost use Rattle.std.specs.List.{flat_map};
 ghost use Rattle.gw_addr.specs.Appending.{IsAppended};
+ghost use Rattle.gw_rules.specs.Ask.{Ask};
+ghost use Rattle.gw_rules.specs.Authorizer.{denied_of};
 ghost use Rattle.gw_rules.specs.declared.rule.Rule.{Rule};
 ghost use Rattle.gw_relay.specs.Cast.{cast_asks, goes_on, is_unregistered};
 ghost use Rattle.gw_relay.specs.Manage.{manage_asks};
@@ -27,6 +29,16 @@ use gw_rule_index::Policy;
 use gw_rules::{Ask, Judge, RuleList};
 use std::alloc::{AllocError, Global};
 
+/// Adds each ask that a response of the relay was denied. Where there is none it takes no memory.
+fn put_response_asks(asks: &mut Asks, response: RelayResponse) -> Result<(), AllocError>
+    ensures ok { (due : List Ask) → response.refusals ≡ denied_of [] due →
+        OnOk result (asks.new ≡ asks.old ++ due) }
+    ensures silent { (due : List Ask) → response.refusals ≡ denied_of [] due →
+        due ≡ [] → IsOk result }
+{
+    put_refused(asks, response.refusals.as_slice())
+}
+
 /// Adds what distribution asks about a message (step 6). It answers whether the message goes on to the network
 /// layer.
 fn put_cast_asks(
@@ -43,7 +55,7 @@ fn put_cast_asks(
 {
     let mut given = RelayResponse::nothing(alloc);
     let goes_on = relay.cast(alloc, &NoRules, message, &mut given)?;
-    put_refused(asks, given.refusals.as_slice())?;
+    put_response_asks(asks, given)?;
     Ok(goes_on)
 }
 
@@ -60,7 +72,7 @@ fn put_route_asks(
 {
     let mut given = RelayResponse::nothing(alloc);
     relay.route(alloc, &NoRules, message, &mut given)?;
-    put_refused(asks, given.refusals.as_slice())
+    put_response_asks(asks, given)
 }
 
 /// Adds what the network layer asks about a message (step 9).
@@ -75,7 +87,7 @@ fn put_manage_asks(
     ensures silent { manage_asks relay.now (message_view message.now) ≡ [] → IsOk result }
 {
     let managed = relay.manage(alloc, &NoRules, message)?;
-    put_refused(asks, managed.refusals.as_slice())
+    put_response_asks(asks, managed)
 }
 
 /// Adds what is asked about a message but for the device (steps 4 and 6 to 9). It answers whether the
@@ -168,7 +180,7 @@ fn put_asks<J: Judge>(
         Received::Managed { on, from, frame } => {
             let mut linked = RelayResponse::nothing(alloc);
             relay.link(alloc, &NoRules, on, *from, frame, &mut linked)?;
-            put_refused(asks, linked.refusals.as_slice())
+            put_response_asks(asks, linked)
         }
         Received::Message(message) => {
             put_message_asks(alloc, judge, relay, device, message, asks)

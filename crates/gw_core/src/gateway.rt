@@ -131,7 +131,6 @@ impl Gateway {
 
     /// A gateway of this configuration that goes on from these counts. The only fault is want of
     /// memory.
-    #[tactic(auto, using(crate::proofs::HistoryLemmas::after_none))]
     pub fn new(alloc: Global, config: Config, counts: Counts) -> Result<Self, AllocError>
         requires ticks { counts.ticks ≤ 2 ^ 63 }
         requires denials { counts.denials ≤ 2 ^ 63 }

@@ -4,21 +4,21 @@ use Rattle.gw_rules.specs.Ask.{Ask}
 use Rattle.gw_core.specs.Asks.{asks_for}
 use Rattle.gw_core.specs.View.{received_view}
 use Rattle.gw_core.specs.declared.receive.Received.{Received as LentReceived}
-use Rattle.gw_core.proofs.ExplainedLemmas.{four_none, refused_none, refused_part}
+use Rattle.gw_core.proofs.ExplainedLemmas.{four_none}
 use Rattle.gw_core.proofs.explaining.put_asks.Goals as goal
 
 pub returns-in_ok-link-in-Managed-clause-asks : goal.returns-in_ok-link-in-Managed-clause-asks
 returns-in_ok-link-in-Managed-clause-asks g c = λ rules stands.
     let linked = c.in_ok-link-in-Managed.ensures.relayed [] refl in
-    on_ok_weaker c.put_refused.result (λ added.
-    refused_part _ _ _ _ _ c.as_slice.ensures linked.refusals added
+    on_ok_weaker c.put_response_asks.result (λ added.
+    added
     ∙ ap (λ (l : List Ask). c.args.asks.now ++ l)
     (sym (four_none _) ∙ ap (λ (r : LentReceived). asks_for rules c.args.relay.now c.args.device.now (received_view r)) (sym c.in-Managed.is)))
-    c.put_refused.ensures.ok
+    (c.put_response_asks.ensures.ok _ linked.refusals)
 
 pub returns-in_ok-link-in-Managed-clause-silent : goal.returns-in_ok-link-in-Managed-clause-silent
 returns-in_ok-link-in-Managed-clause-silent g c = λ rules asks sends.
     let linked = c.in_ok-link-in-Managed.ensures.relayed [] refl in
-    c.put_refused.ensures.silent (refused_none _ _ _ c.as_slice.ensures linked.refusals
+    c.put_response_asks.ensures.silent _ linked.refusals
     (sym (four_none _) ∙ ap (λ (r : LentReceived). asks_for rules c.args.relay.now c.args.device.now (received_view r)) (sym c.in-Managed.is)
-    ∙ asks))
+    ∙ asks)

@@ -1,5 +1,6 @@
 use Rattle.std.proofs.Common.{◌≡◌, ◌+◌, ◌<◌, ◌∷◌, ◌++◌, [], ℕ, List, Result, true, false, length, map, take, get_or, sym, ap, ◌∙◌, arith}
 use Rattle.std.proofs.Common.{subst, add-zero}
+use Rattle.std.proofs.lemmas.Grind.{common_steps}
 use Rattle.std.proofs.lemmas.List.{map-append, take_more}
 use Rattle.gw_addr.specs.declared.bip.BipAddr.{BipAddr}
 use Rattle.gw_relay.specs.Sends.{Sending, sending, sendings}
@@ -47,3 +48,6 @@ loop-target-preserved g c =
         ports = c.send.ensures.ports ∙ so_far.ports;
       }
     ]
+
+pub returns-clause-tried : goal.returns-clause-tried
+returns-clause-tried g c = grind (arith, common_steps)

@@ -1,6 +1,6 @@
 use Rattle.std.proofs.Common.{◌≤◌, ℕ, length, subst, sym, ap, ◌∙◌, arith}
 use Rattle.gw_relay.specs.State.{Relay}
-use Rattle.gw_core.proofs.HistoryLemmas.{length_from}
+use Rattle.gw_core.proofs.HistoryLemmas.{after_none, length_from}
 use Rattle.gw_core.proofs.gateway.Gateway.new.Goals as goal
 
 pub invariant_of-result : goal.invariant_of-result
@@ -12,3 +12,15 @@ invariant_of-result c = record {
   ticks = c.requires.ticks;
   denials = c.requires.denials;
 }
+
+pub returns-clause-state : goal.returns-clause-state
+returns-clause-state c = grind (arith, after_none)
+
+pub returns-clause-writes : goal.returns-clause-writes
+returns-clause-writes c = grind (arith, after_none)
+
+pub returns-clause-tables : goal.returns-clause-tables
+returns-clause-tables c = grind (arith, after_none)
+
+pub returns-clause-routes : goal.returns-clause-routes
+returns-clause-routes c = grind (arith, after_none)

@@ -1,7 +1,8 @@
-use Rattle.std.proofs.Common.{◌≡◌, length, refl, ap, subst, arith}
+use Rattle.std.proofs.Common.{◌≡◌, [], length, refl, sym, ap, subst, arith}
 use Rattle.gw_rules.specs.Authorizer.{denied_of}
 use Rattle.gw_device.specs.Response.{HasPlace}
 use Rattle.gw_core.specs.Asks.{asks_for}
+use Rattle.gw_core.specs.Effects.{change_for, relay_change_for, sends_for}
 use Rattle.gw_core.specs.State.{State}
 use Rattle.gw_core.specs.View.{received_view}
 use Rattle.gw_core.proofs.DenialLemmas.{counted_for, recorded}
@@ -45,3 +46,21 @@ returns-then-len-left-clause-count_end c = λ h.
     let refusals = subst (λ (s : State). c.respond.new.given.refusals ≡ denied_of s.rules (asks_for s.rules s.relay s.device received))
     c.self.view_is r.refusals in
     omega (arith, c.if-len-left.true, c.len.ensures, c.left.ensures, ap length refusals, counted_for w received)
+
+pub returns-clause-change : goal.returns-clause-change
+returns-clause-change c =
+    let r = c.in_ok-write.ensures.response c.self.inside.policy refl in
+    subst (λ (s : State). c.respond.new.given.change ≡ relay_change_for s.rules (received_view c.args.received.now)) c.self.view_is r.change
+
+pub returns-clause-write : goal.returns-clause-write
+returns-clause-write c =
+    let r = c.in_ok-write.ensures.response c.self.inside.policy refl in
+    subst (λ (s : State). c.in_ok-write.write ≡ change_for s.rules s.device (received_view c.args.received.now)) c.self.view_is r.write
+
+pub returns-in_err-write-clause-silent : goal.returns-in_err-write-clause-silent
+returns-in_err-write-clause-silent c = λ asks sends.
+    let received = received_view c.args.received.now in
+    let ok = c.in_err-write.ensures.silent c.self.inside.policy refl
+    (subst (λ (s : State). asks_for s.rules s.relay s.device received ≡ []) (sym c.self.view_is) asks)
+    (subst (λ (s : State). sends_for s.rules s.relay s.device received ≡ []) (sym c.self.view_is) sends) in
+    absurd cc

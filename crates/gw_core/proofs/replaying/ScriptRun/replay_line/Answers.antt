@@ -1,4 +1,5 @@
-use Rattle.std.proofs.Common.{◌≡◌, ◌++◌, ◌∷◌, List, ℕ, length, take, drop, arith, refl, subst, sym, ap, ◌∙◌}
+use Rattle.std.proofs.Common.{◌≡◌, [], ◌++◌, ◌∷◌, List, ℕ, length, take, drop, arith, refl, subst, sym, ap, ◌∙◌}
+use Rattle.std.proofs.lemmas.Grind.{common_steps}
 use Rattle.std.specs.Io.KnownBytes.{prepend_known}
 use Rattle.std.proofs.lemmas.List.{length-append, length-drop}
 use Rattle.gw_script.specs.declared.reader.NextLine.{NextLine}
@@ -104,7 +105,7 @@ returns-in_default-write_whole-clause-outcome g c = λ text before known written
       lines = ap lines_of left.text_is ∙ lines;
       front = cut.0;
       unwritten = cut.1;
-      parts = sym c.in_ok-make_text.ensures.text ∙ sym c.deref.ensures.value ∙ cut.2;
+      parts = sym {A = List ℕ} c.in_ok-make_text.ensures.text ∙ sym {A = List ℕ} c.deref.ensures.value ∙ cut.2;
       appended = appended _ _ before cut.0 written cut.3;
     }
 
@@ -131,3 +132,21 @@ returns-clause-shorter g c = λ text known done.
         length-drop span front,
       ),
     )
+
+pub returns-in-Ok-Long-clause-outcome : goal.returns-in-Ok-Long-clause-outcome
+returns-in-Ok-Long-clause-outcome g c = grind (arith, common_steps)
+
+pub returns-in-Ok-End-clause-outcome : goal.returns-in-Ok-End-clause-outcome
+returns-in-Ok-End-clause-outcome g c = λ text before known written.
+    let front = c.find_line.new.self.unread in
+    let left = left_known _ _ _ front text c.in-Ok-End.ensures.text known in
+    let piece : IsNextLine front left.rest c.in-Ok-End.field-0 = if_known
+    (λ (r : List ℕ). IsNextLine front r c.in-Ok-End.field-0) _ left.rest left.is c.in-Ok-End.ensures.found in
+    let none : lines_of (front ++ left.rest) ≡ [] = subst (λ (p : NextLine). IsNextLine front left.rest p) c.in-Ok-End.field-0-is piece in
+    (ap lines_of left.text_is ∙ none, written)
+
+pub returns-in-Err-clause-outcome : goal.returns-in-Err-clause-outcome
+returns-in-Err-clause-outcome g c = λ text before known written. written
+
+pub returns-in-Ok-Long-clause-flaw : goal.returns-in-Ok-Long-clause-flaw
+returns-in-Ok-Long-clause-flaw g c = grind (arith, common_steps)

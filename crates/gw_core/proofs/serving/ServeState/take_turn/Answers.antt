@@ -1,4 +1,5 @@
 use Rattle.std.proofs.Common.{None, Some, Err, refl, ap, arith}
+use Rattle.std.proofs.lemmas.Grind.{common_steps}
 use Rattle.gw_script.specs.Event.{event_view}
 use Rattle.gw_core.specs.Serve.{empty_turn, failed_turn, lost_event, taken_event, scene}
 use Rattle.gw_core.proofs.ServeLemmas.{arrives, ends_by, lead_with, lead_without, tried_counted}
@@ -56,3 +57,18 @@ returns-clause-end g c =
 
 pub returns-clause-few : goal.returns-clause-few
 returns-clause-few g c = omega (arith, tried_counted _ _ _ _ _ _ _ c.try_sends.ensures.tried, c.try_sends.ensures.few)
+
+pub returns-in-Ok-None-clause-failures : goal.returns-in-Ok-None-clause-failures
+returns-in-Ok-None-clause-failures g c = grind (arith, common_steps)
+
+pub returns-in-Err-clause-failures : goal.returns-in-Err-clause-failures
+returns-in-Err-clause-failures g c = grind (arith, common_steps)
+
+pub returns-in-Err-Memory-clause-failures : goal.returns-in-Err-Memory-clause-failures
+returns-in-Err-Memory-clause-failures g c = grind (arith, common_steps)
+
+pub returns-in_err-log_denials-clause-failures : goal.returns-in_err-log_denials-clause-failures
+returns-in_err-log_denials-clause-failures g c = grind (arith, common_steps)
+
+pub returns-clause-failures : goal.returns-clause-failures
+returns-clause-failures g c = grind (arith, common_steps)
