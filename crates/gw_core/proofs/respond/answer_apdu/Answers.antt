@@ -1,6 +1,4 @@
-use Rattle.std.proofs.Common.{arith}
 use Rattle.std.proofs.Common.{◌∙◌}
-use Rattle.std.proofs.lemmas.Grind.{common_steps}
 use Rattle.gw_relay.specs.Message.{message_view}
 use Rattle.gw_core.proofs.SilenceLemmas.{none_mapped, silent_message}
 use Rattle.gw_core.proofs.respond.answer_apdu.Goals as goal
@@ -21,15 +19,3 @@ returns-in_err-put_answer-clause-silent g c = λ rules stands asks sends.
     let answered = c.in_ok-answer.ensures.answer rules stands ∙ silent.1 in
     let ok = c.in_err-put_answer.ensures.silent (none_mapped _ c.in_ok-answer.field-0.answer answered) in
     absurd cc
-
-pub returns-clause-sends : goal.returns-clause-sends
-returns-clause-sends g c = grind (arith, common_steps)
-
-pub returns-clause-refusals : goal.returns-clause-refusals
-returns-clause-refusals g c = grind (arith, common_steps)
-
-pub returns-clause-write : goal.returns-clause-write
-returns-clause-write g c = grind (arith, common_steps)
-
-pub returns-clause-place : goal.returns-clause-place
-returns-clause-place g c = grind (arith, common_steps)
