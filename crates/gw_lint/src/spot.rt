@@ -1,4 +1,5 @@
 //! Places of addresses and masks in a configuration.
+ghost use Rattle.std.specs.Prelude.{◌++◌, codes};
 ghost use Rattle.gw_addr.specs.Appending.{IsAppended};
 ghost use Rattle.gw_lint.specs.Warnings.{spot_words};
 ghost use Rattle.gw_configuration.specs.Located.{numbered};
@@ -34,32 +35,43 @@ pub(crate) fn put_numbered(
     put_decimal(out, position as u128 + 1)
 }
 
+/// Appends the place of a key in the table that a word and a position name.
+fn put_key(
+    out: &mut Vec<u8>,
+    word: &[u8],
+    position: usize,
+    key: &[u8],
+) -> Result<(), AllocError>
+    ensures { IsAppended (numbered word.now position ++ key.now) out.old out.new result }
+{
+    put_numbered(out, word, position)?;
+    put_slice(out, key)
+}
+
+/// Appends the place of a key in the table of a peer of a port.
+fn put_peer_key(
+    out: &mut Vec<u8>,
+    port: usize,
+    peer: usize,
+    key: &[u8],
+) -> Result<(), AllocError>
+    ensures { IsAppended
+        (numbered (codes "port ") port ++ numbered (codes ": peer ") peer ++ key.now) out.old out.new result }
+{
+    put_numbered(out, b"port ", port)?;
+    put_numbered(out, b": peer ", peer)?;
+    put_slice(out, key)
+}
+
 /// Appends a place, a colon behind each of its parts.
 pub(crate) fn put_spot(out: &mut Vec<u8>, spot: Spot) -> Result<(), AllocError>
     ensures { IsAppended (spot_words spot) out.old out.new result }
 {
     match spot {
-        Spot::Address(port) => {
-            put_numbered(out, b"port ", port)?;
-            put_slice(out, b": address: ")
-        }
-        Spot::Broadcast(port) => {
-            put_numbered(out, b"port ", port)?;
-            put_slice(out, b": broadcast: ")
-        }
-        Spot::PeerAddress { port, peer } => {
-            put_numbered(out, b"port ", port)?;
-            put_numbered(out, b": peer ", peer)?;
-            put_slice(out, b": address: ")
-        }
-        Spot::PeerMask { port, peer } => {
-            put_numbered(out, b"port ", port)?;
-            put_numbered(out, b": peer ", peer)?;
-            put_slice(out, b": mask: ")
-        }
-        Spot::Next(route) => {
-            put_numbered(out, b"route ", route)?;
-            put_slice(out, b": next: ")
-        }
+        Spot::Address(port) => put_key(out, b"port ", port, b": address: "),
+        Spot::Broadcast(port) => put_key(out, b"port ", port, b": broadcast: "),
+        Spot::PeerAddress { port, peer } => put_peer_key(out, port, peer, b": address: "),
+        Spot::PeerMask { port, peer } => put_peer_key(out, port, peer, b": mask: "),
+        Spot::Next(route) => put_key(out, b"route ", route, b": next: "),
     }
 }
