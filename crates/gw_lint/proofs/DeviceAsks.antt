@@ -32,7 +32,7 @@ use Rattle.gw_services.specs.Write.{write_at}
 use Rattle.gw_tags.specs.Object.{Object}
 use Rattle.gw_device.specs.declared.context.Context.{Context}
 use Rattle.gw_device.specs.Asks.{named_object, property_ask}
-use Rattle.gw_device.specs.Device.{apdu_response, device_asks, device_response, header_response, or_reject, or_silence, service_response}
+use Rattle.gw_device.specs.Device.{apdu_response, device_asks, header_response, or_reject, or_silence, service_response}
 use Rattle.gw_device.specs.Multi.{Part, members_part, multi_ask, multi_part, multi_response, named_part, properties_part, reference_part}
 use Rattle.gw_device.specs.Read.{named_read, read_response}
 use Rattle.gw_device.specs.Response.{Response}

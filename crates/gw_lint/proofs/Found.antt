@@ -1,5 +1,5 @@
 -- What findings say of the rules, and of the gateway.
-use Rattle.std.proofs.Common.{◌≡◌, ◌∙◌, inl, inr, ℕ, ◌+◌, ◌-◌, ◌<◌, true, List, [], ◌∷◌, ◌++◌, Some, None, length, sym, ap, subst, arith, slice_get}
+use Rattle.std.proofs.Common.{◌≡◌, ◌∙◌, inl, inr, ℕ, ◌+◌, ◌-◌, ◌<◌, true, List, [], ◌∷◌, ◌++◌, Some, None, get_or, length, sym, ap, subst, arith, slice_get}
 use Rattle.std.proofs.lemmas.Bool.{cases_order}
 use Rattle.std.proofs.lemmas.List.{get_or_append_left, get_or_at, length-append}
 use Rattle.std.proofs.lemmas.Option.{slice_get-get_or, slice_get_past}
@@ -67,6 +67,24 @@ each_next shapes rules findings place rule found ends has tells each n r f numbe
         | inr above ↦ absurd (past_end findings found f (n - 1) above there)
       ]
     ]
+
+-- one finding more, and how many there are
+pub all_next : (shapes : List Shape) (rules : List Rule) (findings more : List Finding) (place : ℕ) (rule : Rule) (found : Finding)
+    → more ≡ findings ++ found ∷ [] → HasNumber rules (place + 1) rule → Tells shapes rules (place + 1) rule found
+    → (length findings ≡ place) × Each shapes rules findings → (length more ≡ place + 1) × Each shapes rules more
+all_next shapes rules findings more place rule found grown has tells (count, each) = (
+  omega (arith, count, ap length grown, length-append findings (found ∷ [])),
+  subst (λ (xs : List Finding). Each shapes rules xs) (sym grown) (each_next shapes rules findings place rule found count has tells each),
+)
+
+-- the rule at a place has the number after it
+pub numbered : (rules all : List Rule) (place : ℕ) (rule : Rule) → all ≡ rules → place < length all → rule ≡ get_or all place rule
+    → HasNumber rules (place + 1) rule
+numbered rules all place rule same within there =
+    let back : place + 1 - 1 ≡ place = omega arith in record {
+      counted = omega arith;
+      there = ap (slice_get rules) back ∙ ap (λ (xs : List Rule). slice_get xs place) (sym same) ∙ slice_get-get_or all place rule within ∙ ap Some (sym there);
+    }
 
 -- ---- of the gateway
 

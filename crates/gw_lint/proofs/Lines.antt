@@ -1,6 +1,7 @@
 -- Lines that are appended one after the other.
-use Rattle.std.proofs.Common.{◌≡◌, ◌∙◌, ◌+◌, ◌<◌, ◌≤◌, ◌++◌, [], ℕ, List, Result, Ok, Err, ap, arith, refl, length, get_or, sym, subst, take}
+use Rattle.std.proofs.Common.{◌≡◌, ◌∙◌, ◌+◌, ◌<◌, ◌≤◌, ◌++◌, [], ℕ, List, Option, Result, Ok, Err, ap, arith, refl, length, get_or, sym, subst, take}
 use Rattle.std.proofs.lemmas.List.{append-nil, length-append, take_all, take_at}
+use Rattle.std.specs.Option.{option_map_or}
 use Rattle.std.specs.Prelude.{IsErr, vec_items}
 use Rattle.std.specs.Global.{Vec}
 use Rattle.gw_addr.specs.Appending.{IsAppended}
@@ -26,6 +27,15 @@ refused {a = a} {u = u} {w = w} (Err f) b is put = record {
   room = λ enough. put.room (omega (arith, enough, length-append a b));
   capacity = put.capacity;
 }
+
+pub nothing_put : {T F : Type 0} {x : T} {u : Vec ℕ} → IsAppended {T = T} {F = F} [] u u (Ok x)
+nothing_put {x = x} {u = u} = appended_by x [] u u (record { items = sym (append-nil (vec_items u)); capacity = omega arith })
+
+-- the lines of what is found, where it is found to be that
+pub looked_up : {A T F : Type 0} {r : Result T F} {u w : Vec ℕ} (lines : A → List ℕ) (found there : Option A) → found ≡ there
+    → IsAppended {T = T} {F = F} (option_map_or lines there []) u w r → IsAppended {T = T} {F = F} (option_map_or lines found []) u w r
+looked_up {T = T} {F = F} {r = r} {u = u} {w = w} lines found there same put =
+    subst (λ (o : Option _). IsAppended {T = T} {F = F} (option_map_or lines o []) u w r) (sym same) put
 
 -- ---- the lines of items in their order
 

@@ -1,11 +1,14 @@
 -- How the lists of shapes grow.
-use Rattle.std.proofs.Common.{◌≡◌, ◌∙◌, ap, sym, ℕ, ◌+◌, ◌<◌, add-one, append_assoc, arith, drop, drop-cons, get_or, length, suc, List, ◌∷◌, ◌++◌}
+use Rattle.std.proofs.Common.{◌≡◌, ◌∙◌, ap, sym, ℕ, ◌+◌, ◌<◌, add-one, append_assoc, arith, drop, drop-cons, get_or, length, suc, take, List, [], ◌∷◌, ◌++◌}
+use Rattle.std.proofs.Math.Seq.{take-suc}
+use Rattle.std.proofs.lemmas.Grind.{flat_map-append}
+use Rattle.std.proofs.lemmas.List.{append-nil}
 use Rattle.std.specs.List.{flat_map}
 use Rattle.gw_configuration.specs.declared.format.Format.{Format}
 use Rattle.gw_configuration.specs.declared.format.Format.TheVariants.{Two}
 use Rattle.gw_configuration.specs.declared.port.Port.{Port}
 use Rattle.gw_lint.specs.Shape.{Shape}
-use Rattle.gw_lint.specs.Shapes.{foreign_shapes, message_shapes, own, own_shapes, request_shapes, shapes_from, table_shapes}
+use Rattle.gw_lint.specs.Shapes.{foreign_shapes, gaps_between, message_shapes, own, own_shapes, request_shapes, shapes_from, split, table_shapes}
 use Rattle.gw_lint.specs.declared.shapes.Origin.{Origin}
 use Rattle.gw_lint.specs.declared.side.Side.{Side}
 
@@ -38,6 +41,10 @@ gap_step format device ports place networks d out new all within grown is =
 abbrev owned : Format → ℕ → ℕ → Port → List Shape
 owned format device number p = table_shapes (own number p.network) ++ shapes_from format device (own number p.network)
 
+port_next : (ports : List Port) (place : ℕ) (p : Port) → place < length ports → p ≡ get_or ports place p → drop place ports ≡ p ∷ drop (place + 1) ports
+port_next ports place p within there =
+    drop-cons ports place p within ∙ ap (λ q. q ∷ drop (suc place) ports) (sym there) ∙ ap (λ n. p ∷ drop n ports) (sym (add-one place))
+
 -- the shapes of one port more
 pub port_step : (format : Format) (device place : ℕ) (ports : List Port) (p : Port) (out new all : List Shape) → place < length ports
     → p ≡ get_or ports place p
@@ -45,8 +52,7 @@ pub port_step : (format : Format) (device place : ℕ) (ports : List Port) (p : 
     → out ++ own_shapes format device (1 + place) (drop place ports) ≡ all
     → new ++ own_shapes format device (1 + (place + 1)) (drop (place + 1) ports) ≡ all
 port_step format device place ports p out new all within there grown is =
-    let next : drop place ports ≡ p ∷ drop (place + 1) ports =
-    drop-cons ports place p within ∙ ap (λ q. q ∷ drop (suc place) ports) (sym there) ∙ ap (λ n. p ∷ drop n ports) (sym (add-one place)) in
+    let next = port_next ports place p within there in
     let same : 1 + place ≡ place + 1 = omega arith in
     let later : 1 + place + 1 ≡ 1 + (place + 1) = omega arith in
     step_on out new all (owned format device (place + 1) p) (own_shapes format device (1 + (place + 1)) (drop (place + 1) ports))
@@ -55,3 +61,19 @@ port_step format device place ports p out new all within there grown is =
     ∙ ap (λ n. owned format device n p ++ own_shapes format device (1 + place + 1) (drop (place + 1) ports)) same
     ∙ ap (λ n. owned format device (place + 1) p ++ own_shapes format device n (drop (place + 1) ports)) later)
     is
+
+-- the gaps between the ports that are left, where those of one more are made
+pub between_step : (sides made : List Side) (ports : List Port) (place : ℕ) (p : Port) → place < length ports → p ≡ get_or ports place p
+    → made ≡ flat_map (split p.network) sides → gaps_between made (drop (place + 1) ports) ≡ gaps_between sides (drop place ports)
+between_step sides made ports place p within there is =
+    ap (λ (xs : List Side). gaps_between xs (drop (place + 1) ports)) is ∙ sym (ap (gaps_between sides) (port_next ports place p within there))
+
+-- what is made of one side more
+pub flat_step : (make : Side → List Side) (sides : List Side) (place : ℕ) (d : Side) (out new : List Side) → place < length sides
+    → out ≡ flat_map make (take place sides) → new ≡ out ++ make (get_or sides place d) → new ≡ flat_map make (take (place + 1) sides)
+flat_step make sides place d out new within is grown =
+    let one = get_or sides place d in
+    let next : take (place + 1) sides ≡ take place sides ++ one ∷ [] = ap (λ n. take n sides) (add-one place) ∙ take-suc sides place d within in
+    grown ∙ ap (λ (xs : List Side). xs ++ make one) is
+    ∙ sym (ap (flat_map make) next ∙ flat_map-append make (take place sides) (one ∷ [])
+    ∙ ap (λ (xs : List Side). flat_map make (take place sides) ++ xs) (append-nil (make one)))

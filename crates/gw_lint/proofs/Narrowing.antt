@@ -1,8 +1,11 @@
 -- What a step of the search keeps of the asks that come to a rule.
-use Rattle.std.proofs.Common.{◌≡◌, inl, inr, ℕ, ◌-◌, ◌<◌, Bool, true, false, cond, ◌||◌, ◌==◌, List, [], ◌∷◌, ◌++◌, length, Option, Some, None, refl, sym, ap, subst, ◌∙◌, arith, find, slice_get, nat_le}
+use Rattle.std.proofs.Common.{◌≡◌, inl, inr, ℕ, ◌-◌, ◌<◌, Bool, true, false, cond, ◌||◌, ◌==◌, List, [], ◌∷◌, ◌++◌, length, Option, Some, None, refl, sym, ap, subst, ◌∙◌, arith, find, slice_get, nat_le, Vec}
 use Rattle.std.specs.List.{Any, AllByRecursion, list_any}
 use Rattle.std.specs.Option.{IsSomeAnd}
-use Rattle.std.proofs.lemmas.Bool.{and_from, and_parts, le-leb, leb-true, ne_eqb, or_left, or_right, both_ways}
+use Rattle.std.proofs.lemmas.List.{nil_from_length}
+use Rattle.std.specs.Prelude.{vec_items, vec_len}
+use Rattle.std.specs.Global.{Global}
+use Rattle.std.proofs.lemmas.Bool.{and_from, eqb-true, and_parts, le-leb, leb-true, ne_eqb, or_left, or_right, both_ways}
 use Rattle.std.proofs.lemmas.List.Folds.{Any-from_list_any, list_any-from_Any}
 use Rattle.gw_rules.specs.Ask.{Ask}
 use Rattle.gw_rules.specs.Fields.{value_of}
@@ -17,8 +20,8 @@ use Rattle.gw_rules.proofs.EachField.{each_field_from}
 use Rattle.gw_rules.proofs.First.{first_iff}
 use Rattle.gw_lint.specs.Meeting.{has_number, meets, meets_side, overlaps}
 use Rattle.gw_lint.specs.Pieces.{held_shape, held_side, no_range, pieces, range_of}
-use Rattle.gw_lint.specs.Search.{Keeps}
-use Rattle.gw_lint.specs.Shape.{IsIn, IsWithin, LiesIn, Shape}
+use Rattle.gw_lint.specs.Search.{IsNeverFirst, Keeps}
+use Rattle.gw_lint.specs.Shape.{IsIn, IsWithin, LiesIn, LiesInOne, Shape}
 use Rattle.gw_lint.specs.declared.side.Side.{Side}
 use Rattle.gw_lint.proofs.Lying.{in_either, in_front, in_rest, lies_by}
 use Rattle.gw_lint.proofs.Parting.{pieced}
@@ -164,3 +167,10 @@ no_rule rules number former latter none other is lies =
     let deciding = (first_iff rules other number).0 is in
     let both : Some deciding.rule ≡ None = sym deciding.numbered.there ∙ none in
     absurd cc
+
+-- where no shape is left, none of the asks had the rule as its first
+pub none_left : (rules : List Rule) (number : ℕ) (shapes : List Shape) (left : Vec Shape Global) → (vec_len left == 0) ≡ true
+    → Keeps rules number shapes (vec_items left) → IsNeverFirst shapes rules number
+none_left rules number shapes left none keeps ask lies is =
+    let empty : vec_items left ≡ [] = nil_from_length (vec_items left) (omega (arith, left.ok.0, eqb-true (vec_len left) 0 none)) in
+    subst (λ (shapes : List Shape). LiesInOne shapes ask) empty (keeps ask is lies)

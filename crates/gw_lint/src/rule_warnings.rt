@@ -1,5 +1,5 @@
 //! Warnings of rules.
-ghost use Rattle.std.specs.Prelude.{◌≡◌, codes};
+ghost use Rattle.std.specs.Prelude.{◌≡◌, ◌++◌, codes, decimal};
 ghost use Rattle.gw_addr.specs.Appending.{IsAppended};
 ghost use Rattle.gw_script.specs.Order.{in_order};
 ghost use Rattle.gw_lint.specs.Warnings.{address_of, cut_line, ends_words, is_cut, is_missing, item_words, missing_line, missing_lines, name_words, range_words, rule_lines, source_lines, with_udp};
@@ -96,6 +96,13 @@ fn put_range(out: &mut Vec<u8>, range: &Range) -> Result<(), AllocError>
     if range.low == range.high {
         return put_decimal(out, range.low);
     }
+    put_pair(out, range)
+}
+
+/// Appends the list of the two ends of a range.
+fn put_pair(out: &mut Vec<u8>, range: &Range) -> Result<(), AllocError>
+    ensures { IsAppended (codes "[" ++ decimal range.now.low ++ codes ", " ++ decimal range.now.high ++ codes "]") out.old out.new result }
+{
     put_octet(out, b'[')?;
     put_decimal(out, range.low)?;
     put_slice(out, b", ")?;

@@ -36,12 +36,7 @@ pub(crate) fn put_numbered(
 }
 
 /// Appends the place of a key in the table that a word and a position name.
-fn put_key(
-    out: &mut Vec<u8>,
-    word: &[u8],
-    position: usize,
-    key: &[u8],
-) -> Result<(), AllocError>
+fn put_key(out: &mut Vec<u8>, word: &[u8], position: usize, key: &[u8]) -> Result<(), AllocError>
     ensures { IsAppended (numbered word.now position ++ key.now) out.old out.new result }
 {
     put_numbered(out, word, position)?;
@@ -49,12 +44,7 @@ fn put_key(
 }
 
 /// Appends the place of a key in the table of a peer of a port.
-fn put_peer_key(
-    out: &mut Vec<u8>,
-    port: usize,
-    peer: usize,
-    key: &[u8],
-) -> Result<(), AllocError>
+fn put_peer_key(out: &mut Vec<u8>, port: usize, peer: usize, key: &[u8]) -> Result<(), AllocError>
     ensures { IsAppended
         (numbered (codes "port ") port ++ numbered (codes ": peer ") peer ++ key.now) out.old out.new result }
 {

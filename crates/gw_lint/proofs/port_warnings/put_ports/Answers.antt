@@ -1,5 +1,5 @@
 use Rattle.gw_lint.specs.Warnings.{port_lines}
-use Rattle.gw_lint.proofs.Lines.{item_failed, item_step, lines_start}
+use Rattle.gw_lint.proofs.Lines.{item_failed, item_step, lines_end, lines_start}
 use Rattle.gw_lint.proofs.port_warnings.put_ports.Goals as goal
 
 pub loop-place-init : goal.loop-place-init
@@ -14,3 +14,7 @@ pub loop-place-preserved : goal.loop-place-preserved
 loop-place-preserved c =
     item_step _ (port_lines c.args.ports.now) c.args.ports.now c.loop-place.place c.index-ports-place.result c.args.out.now c.loop-place.out c.put_port.new.out c.index-ports-place.is c.loop-place-test.true
     c.loop-place.invariant c.in_ok-put_port.ensures
+
+pub returns : goal.returns
+returns c =
+    lines_end _ (port_lines c.args.ports.now) c.args.ports.now c.loop-place.place c.args.out.now c.loop-place.out c.loop-place-test.false c.loop-place.invariant
