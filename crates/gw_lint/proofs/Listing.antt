@@ -1,8 +1,8 @@
 -- How the lists of shapes grow.
-use Rattle.std.proofs.Common.{◌≡◌, ◌∙◌, ap, sym, ℕ, ◌+◌, ◌<◌, add-one, append_assoc, arith, drop, drop-cons, get_or, length, suc, take, List, [], ◌∷◌, ◌++◌}
+use Rattle.std.proofs.Common.{◌≡◌, ◌∙◌, ap, sym, ℕ, ◌+◌, ◌<◌, ◌≤◌, add-one, append_assoc, arith, drop, drop-cons, get_or, length, suc, take, List, [], ◌∷◌, ◌++◌}
 use Rattle.std.proofs.Math.Seq.{take-suc}
 use Rattle.std.proofs.lemmas.Grind.{flat_map-append}
-use Rattle.std.proofs.lemmas.List.{append-nil}
+use Rattle.std.proofs.lemmas.List.{append-nil, take_all}
 use Rattle.std.specs.List.{flat_map}
 use Rattle.gw_configuration.specs.declared.format.Format.{Format}
 use Rattle.gw_configuration.specs.declared.format.Format.TheVariants.{Two}
@@ -68,12 +68,19 @@ pub between_step : (sides made : List Side) (ports : List Port) (place : ℕ) (p
 between_step sides made ports place p within there is =
     ap (λ (xs : List Side). gaps_between xs (drop (place + 1) ports)) is ∙ sym (ap (gaps_between sides) (port_next ports place p within there))
 
--- what is made of one side more
-pub flat_step : (make : Side → List Side) (sides : List Side) (place : ℕ) (d : Side) (out new : List Side) → place < length sides
-    → out ≡ flat_map make (take place sides) → new ≡ out ++ make (get_or sides place d) → new ≡ flat_map make (take (place + 1) sides)
-flat_step make sides place d out new within is grown =
-    let one = get_or sides place d in
-    let next : take (place + 1) sides ≡ take place sides ++ one ∷ [] = ap (λ n. take n sides) (add-one place) ∙ take-suc sides place d within in
-    grown ∙ ap (λ (xs : List Side). xs ++ make one) is
-    ∙ sym (ap (flat_map make) next ∙ flat_map-append make (take place sides) (one ∷ [])
-    ∙ ap (λ (xs : List Side). flat_map make (take place sides) ++ xs) (append-nil (make one)))
+-- what is made of one item more
+pub flat_step : {A B : Type 0} (make : A → List B) (items : List A) (place : ℕ) (d : A) (before out new : List B) → place < length items
+    → out ≡ before ++ flat_map make (take place items) → new ≡ out ++ make (get_or items place d)
+    → new ≡ before ++ flat_map make (take (place + 1) items)
+flat_step {A = A} {B = B} make items place d before out new within is grown =
+    let one = get_or items place d in
+    let next : take (place + 1) items ≡ take place items ++ one ∷ [] = ap (λ n. take n items) (add-one place) ∙ take-suc items place d within in
+    let made : flat_map make (take (place + 1) items) ≡ flat_map make (take place items) ++ make one =
+    ap (flat_map make) next ∙ flat_map-append make (take place items) (one ∷ [])
+    ∙ ap (λ (xs : List B). flat_map make (take place items) ++ xs) (append-nil (make one)) in
+    grown ∙ ap (λ (xs : List B). xs ++ make one) is ∙ append_assoc before (flat_map make (take place items)) (make one)
+    ∙ ap (λ (xs : List B). before ++ xs) (sym made)
+
+pub flat_end : {A B : Type 0} (make : A → List B) (items : List A) (place : ℕ) (before out : List B) → length items ≤ place
+    → out ≡ before ++ flat_map make (take place items) → out ≡ before ++ flat_map make items
+flat_end {B = B} make items place before out ends is = is ∙ ap (λ (xs : List _). before ++ flat_map make xs) (take_all place items ends)

@@ -101,7 +101,9 @@ fn put_range(out: &mut Vec<u8>, range: &Range) -> Result<(), AllocError>
 
 /// Appends the list of the two ends of a range.
 fn put_pair(out: &mut Vec<u8>, range: &Range) -> Result<(), AllocError>
-    ensures { IsAppended (codes "[" ++ decimal range.now.low ++ codes ", " ++ decimal range.now.high ++ codes "]") out.old out.new result }
+    ensures { IsAppended
+        (codes "[" ++ decimal range.now.low ++ codes ", " ++ decimal range.now.high ++ codes "]")
+        out.old out.new result }
 {
     put_octet(out, b'[')?;
     put_decimal(out, range.low)?;

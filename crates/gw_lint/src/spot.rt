@@ -46,7 +46,8 @@ fn put_key(out: &mut Vec<u8>, word: &[u8], position: usize, key: &[u8]) -> Resul
 /// Appends the place of a key in the table of a peer of a port.
 fn put_peer_key(out: &mut Vec<u8>, port: usize, peer: usize, key: &[u8]) -> Result<(), AllocError>
     ensures { IsAppended
-        (numbered (codes "port ") port ++ numbered (codes ": peer ") peer ++ key.now) out.old out.new result }
+        (numbered (codes "port ") port ++ numbered (codes ": peer ") peer ++ key.now)
+        out.old out.new result }
 {
     put_numbered(out, b"port ", port)?;
     put_numbered(out, b": peer ", peer)?;
