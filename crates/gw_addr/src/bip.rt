@@ -94,6 +94,7 @@ impl BipAddr {
 
     /// Reads an address from the octets of the text that it is written as, as [`BipAddr::parse`]
     /// does. `Text` where they are anything else.
+    #[inline(always)]
     pub fn parse_octets(text: &[u8]) -> Result<BipAddr, TextFault>
         ensures found { IfOk result (λ a. text.now ≡ text_of a) }
         ensures only { (a : BipAddr) → IsAddress a → text.now ≡ text_of a → result ≡ Ok a }
@@ -103,6 +104,7 @@ impl BipAddr {
 
     /// Appends the address as it is written, `a.b.c.d:port`. An `Err` only where the buffer had no
     /// room for it; then a front of it may stand there.
+    #[inline(always)]
     pub fn put_text(self, out: &mut Vec<u8>) -> Result<(), AllocError>
         ensures { IsAppended (text_of self) out.old out.new result }
     {

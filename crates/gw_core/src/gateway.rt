@@ -186,6 +186,7 @@ impl Gateway {
 
     /// What is done about what is received, while the gateway stays as it is. The faults are those of
     /// [`Gateway::step`].
+    #[inline(always)]
     fn outcome(&self, alloc: Global, received: &Received<'_>) -> Result<Outcome, StepFault>
         requires { self.now.denials ≤ 2 ^ 63 }
         ensures effects { let received = received_view received.now in

@@ -91,7 +91,7 @@ fn claims_direct(links: &[PortState], device: NetNum, source: &Option<AddressRef
 }
 
 /// What a frame is received as that brings the NPDU of these octets: that is heard, or the frame is dropped.
-#[inline(never)]
+#[inline(always)]
 #[tactic(auto, unfolding(crate::specs::Receive::npdu_of))]
 fn receive_npdu<'a>(
     links: &[PortState],

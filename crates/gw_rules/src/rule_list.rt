@@ -90,6 +90,7 @@ impl RuleList {
     }
 
     /// The number of the first rule that matches the ask, and whether it says allow.
+    #[inline(always)]
     #[tactic(auto, unfolding(crate::specs::RuleList::first, crate::specs::RuleList::allows))]
     fn verdict(&self, ask: &Ask) -> (Option<u16>, bool)
         ensures first { result.0 ≡ first self.now ask.now }
