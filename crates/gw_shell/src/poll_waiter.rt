@@ -46,11 +46,7 @@ fn register_all(registry: &Registry, pairs: &mut [SockPair<UdpSock>]) -> io::Res
 }
 
 /// Registers both sockets of the pair at this place, from 0.
-fn register_pair(
-    registry: &Registry,
-    place: usize,
-    pair: &mut SockPair<UdpSock>,
-) -> io::Result<()>
+fn register_pair(registry: &Registry, place: usize, pair: &mut SockPair<UdpSock>) -> io::Result<()>
     requires { place < MAX_PORTS }
 {
     pair.own
