@@ -1,5 +1,5 @@
 -- The lines of what is asked.
-use Rattle.std.proofs.Common.{◌≡◌, ◌∙◌, sym, ap, refl, ℕ, ◌+◌, Bool, true, false, List, [], ◌∷◌, ◌++◌, append_assoc, filter, map, not, Option, Some, None}
+use Rattle.std.proofs.Common.{◌≡◌, ◌∙◌, sym, ap, refl, ℕ, ◌+◌, Bool, true, false, List, [], ◌∷◌, ◌++◌, filter, map, not, Option, Some, None}
 use Rattle.std.specs.List.{flat_map}
 use Rattle.std.proofs.lemmas.List.{append-nil}
 use Rattle.gw_rules.specs.Ask.{Ask}
@@ -111,13 +111,6 @@ refused_part asked before after lent refusals same are is =
 pub refused_none : (asked : List Ask) (lent refusals : List Refusal) → lent ≡ refusals → refusals ≡ denied_of [] asked → asked ≡ []
     → lent ≡ []
 refused_none asked lent refusals same are none = same ∙ are ∙ ap (denied_of []) none
-
--- three parts behind one another
-pub three_parts : (before cast route manage one two three : List Ask) → one ≡ before ++ cast → two ≡ one ++ route → three ≡ two ++ manage
-    → three ≡ before ++ (cast ++ (route ++ manage))
-three_parts before cast route manage one two three first_is second_is third_is =
-    third_is ∙ ap (λ (l : List Ask). l ++ manage) (second_is ∙ ap (λ (l : List Ask). l ++ route) first_is)
-    ∙ append_assoc (before ++ cast) route manage ∙ append_assoc before cast (route ++ manage)
 
 -- nothing is asked behind what a managed table asks
 pub four_none : (asked : List Ask) → asked ++ [] ++ [] ++ [] ++ [] ≡ asked

@@ -1,10 +1,12 @@
 -- What is done about a message, by whether it goes on to the network layer.
 use Rattle.std.proofs.Common.{◌≡◌, ◌∙◌, sym, ap, refl, Bool, true, false, List, [], ◌∷◌, ◌++◌, map, append_assoc, Option, None}
 use Rattle.std.specs.Prelude.{if◌then◌else◌}
+use Rattle.std.specs.Option.{option_or}
 use Rattle.std.proofs.lemmas.List.{append-nil}
 use Rattle.gw_bvll.specs.Bvll.{Message as Frame}
 use Rattle.gw_bvll.specs.Bvll as bvll
 use Rattle.gw_objects.specs.Objects.{Database}
+use Rattle.gw_objects.specs.Write.{Write}
 use Rattle.gw_relay.specs.Cast.{cast_asks, cast_sends, goes_on, accepts, is_unregistered}
 use Rattle.gw_relay.specs.Link.{answer_to, refused}
 use Rattle.gw_relay.specs.Manage.{manage_asks, manage_change, manage_sends}
@@ -12,6 +14,7 @@ use Rattle.gw_relay.specs.Route.{route_asks, route_sends}
 use Rattle.gw_relay.specs.Sends.{Sending}
 use Rattle.gw_relay.specs.State.{Relay}
 use Rattle.gw_relay.specs.declared.change.Change.{Change}
+use Rattle.gw_relay.specs.declared.response.RelayResponse.{RelayResponse}
 use Rattle.gw_relay.proofs.Asking.{strange_asks, strange_sends, unheard_asks, unheard_sends}
 use Rattle.gw_rules.specs.Ask.{Ask}
 use Rattle.gw_rules.specs.Authorizer.{denied_of}
@@ -21,8 +24,8 @@ use Rattle.gw_rules.proofs.Denials.{denied_of-append}
 use Rattle.gw_core.specs.Asks.{asks_for, message_asks}
 use Rattle.gw_core.specs.Effects.{change_for, message_change, message_sends, relay_change_for, sends_for}
 use Rattle.gw_relay.specs.Message.{Message}
-use Rattle.gw_core.specs.Receive.{dropped, unregistered, message}
-use Rattle.gw_core.specs.Respond.{passed_asks, passed_change, passed_sends}
+use Rattle.gw_core.specs.Receive.{Received, dropped, unregistered, message}
+use Rattle.gw_core.specs.Respond.{IsResponse, passed_asks, passed_change, passed_sends}
 use Rattle.gw_core.specs.View.{judged}
 
 abbrev on : Message → Bool
@@ -72,6 +75,28 @@ denied_on rules relay m h =
     let manage = manage_asks relay m in
     ap (denied_of rules) (asks_on relay m h) ∙ denied_of-append rules cast (route ++ manage)
     ∙ ap (λ (l : List Refusal). denied_of rules cast ++ l) (denied_of-append rules route manage)
+
+-- ---- what is added one behind the other
+
+pub joined : {A : Type 0} (before first second third : List A)
+    → ((before ++ first) ++ second) ++ third ≡ before ++ (first ++ (second ++ third))
+joined before first second third =
+    append_assoc (before ++ first) second third ∙ append_assoc before first (second ++ third)
+
+-- what a response is where nothing was given before
+pub record Stands (rules : List Rule) (relay : Relay) (d : Database) (received : Received) (new : RelayResponse) : Type 0 where
+  pub sends : new.sends ≡ sends_for rules relay d received
+  pub refusals : new.refusals ≡ denied_of rules (asks_for rules relay d received)
+  pub change : new.change ≡ relay_change_for rules received
+
+pub stands_alone : (rules : List Rule) (relay : Relay) (d : Database) (received : Received) (old new : RelayResponse) (granted : Option Write)
+    → old.sends ≡ [] → old.refusals ≡ [] → old.change ≡ None → IsResponse rules relay d received old new granted
+    → Stands rules relay d received new
+stands_alone rules relay d received old new granted sends refusals change is = record {
+  sends = is.sends ∙ ap (λ (l : List Sending). l ++ sends_for rules relay d received) sends;
+  refusals = is.refusals ∙ ap (λ (l : List Refusal). l ++ denied_of rules (asks_for rules relay d received)) refusals;
+  change = is.change ∙ ap (λ (x : Option Change). option_or x (relay_change_for rules received)) change;
+}
 
 -- an unregistered sender is told so
 told_so : (rules : List Rule) (m : Message) (frame : Frame) → m.frame ≡ frame → is_unregistered m.here m.from frame ≡ true
@@ -161,6 +186,10 @@ yes_change : (b : Bool) (change : Option Change) → b ≡ true → change ≡ (
 yes_change true change e = refl
 yes_change false change e = absurd cc
 
+-- nothing changes of one that doesn't
+pub change_off : (rules : List Rule) (m : Message) → on m ≡ false → passed_change rules m ≡ None
+change_off rules m off = rw off refl
+
 -- what changes of a message that goes on
 pub change_on : (rules : List Rule) (m : Message) → on m ≡ true → passed_change rules m ≡ manage_change rules m
 change_on rules m is = rw is refl
@@ -201,22 +230,10 @@ goes_denied rules relay d m is =
 
 -- ---- nothing is asked or sent
 
-pub record Silent (rules : List Rule) (relay : Relay) (m : Message) : Type 0 where
-  pub route_asks : route_asks relay m ≡ []
-  pub manage_asks : manage_asks relay m ≡ []
-  pub route_sends : route_sends rules relay m ≡ []
-  pub manage_sends : manage_sends rules relay m ≡ []
-
-pub on_silent : (rules : List Rule) (relay : Relay) (m : Message) → on m ≡ true → passed_asks relay m ≡ [] → passed_sends rules relay m ≡ []
-    → Silent rules relay m
-on_silent rules relay m is asks sends =
-    let asked = both_empty (route_asks relay m)
-    (manage_asks relay m)
-    (empty_right (cast_asks m) _ (sym (asks_on relay m is) ∙ asks)) in
-    let sent = both_empty (route_sends rules relay m)
-    (manage_sends rules relay m)
-    (empty_right (cast_sends rules m) _ (sym (sends_on rules relay m is) ∙ sends)) in
-    record { route_asks = asked.0; manage_asks = asked.1; route_sends = sent.0; manage_sends = sent.1 }
+pub on_asks : (relay : Relay) (m : Message) → on m ≡ true → passed_asks relay m ≡ []
+    → (route_asks relay m ≡ []) × (manage_asks relay m ≡ [])
+on_asks relay m is asks =
+    both_empty (route_asks relay m) (manage_asks relay m) (empty_right (cast_asks m) _ (sym (asks_on relay m is) ∙ asks))
 
 -- a part of what is asked of what a message is received as is nothing where that is
 pub judged_silent : (rules : List Rule) (relay : Relay) (d : Database) (m : Message) (b : Bool) → on m ≡ b

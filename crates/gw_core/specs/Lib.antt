@@ -23,3 +23,4 @@ pub mod ServeTurn
 pub mod Reports
 pub mod ReportTurn
 pub mod NoLeak
+pub mod internal

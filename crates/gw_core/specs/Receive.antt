@@ -90,15 +90,19 @@ receive_npdu links device on from frame octets = elim (npdu_of links device octe
   | None ↦ dropped
 ]
 
--- a frame manages a table, or brings an NPDU where it is heard (Annex J.4)
-abbrev pub receive_frame : List PortState → ℕ → PortState → BipAddr → Frame → Received
-receive_frame links device on from frame =
-    if manages frame then managed on from frame
-    else if not (accepts on from frame) then dropped
+-- a frame brings an NPDU where it is heard (Annex J.4)
+abbrev pub receive_payload : List PortState → ℕ → PortState → BipAddr → Frame → Received
+receive_payload links device on from frame =
+    if not (accepts on from frame) then dropped
     else (elim (payload_of frame) [
       | Some octets ↦ receive_npdu links device on from frame octets
       | None ↦ dropped
     ])
+
+-- a frame manages a table, or brings an NPDU
+abbrev pub receive_frame : List PortState → ℕ → PortState → BipAddr → Frame → Received
+receive_frame links device on from frame =
+    if manages frame then managed on from frame else receive_payload links device on from frame
 
 abbrev pub receive_datagram : List PortState → ℕ → PortState → BipAddr → List ℕ → Received
 receive_datagram links device on from octets =

@@ -1,5 +1,6 @@
 -- What the code's steps do about a message, as far as they have come.
 use Rattle.std.specs.Prelude.{◌≡◌, Bool, true, false, ◌&&◌, List, [], ◌++◌, Option, None, if◌then◌else◌}
+use Rattle.std.specs.Option.{option_or}
 use Rattle.gw_bvll.specs.Bvll.{original_unicast}
 use Rattle.gw_bvll.specs.Bvll.{Message as Frame}
 use Rattle.gw_device.specs.Response.{HasPlace}
@@ -63,11 +64,12 @@ passed_response rules relay m = record {
   change = passed_change rules m;
 }
 
--- what is given, and the write that is granted if there is one, are what is due about what is received
+-- what is given behind what was before, and the write that is granted if there is one, are what is due about what is
+-- received
 pub record IsResponse (rules : List Rule) (relay : Relay) (d : Database) (received : Received)
-    (given : RelayResponse) (granted : Option Write) : Type 0 where
-  pub sends : given.sends ≡ sends_for rules relay d received
-  pub refusals : given.refusals ≡ denied_of rules (asks_for rules relay d received)
-  pub change : given.change ≡ relay_change_for rules received
+    (old new : RelayResponse) (granted : Option Write) : Type 0 where
+  pub sends : new.sends ≡ old.sends ++ sends_for rules relay d received
+  pub refusals : new.refusals ≡ old.refusals ++ denied_of rules (asks_for rules relay d received)
+  pub change : new.change ≡ option_or old.change (relay_change_for rules received)
   pub write : granted ≡ change_for rules d received
   pub place : HasPlace d granted

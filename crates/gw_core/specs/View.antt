@@ -17,7 +17,7 @@ judged m =
 
 abbrev pub received_view : LentReceived → Received
 received_view lent.Dropped = dropped
-received_view (lent.Managed on from frame) = managed on.now from (frame_view frame)
+received_view (lent.Managed on from frame) = managed on.now from (frame_view frame.now)
 received_view (lent.Message m) = judged (message_view m)
 
 -- whom the code takes a datagram to come from, unjudged

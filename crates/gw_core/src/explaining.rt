@@ -1,14 +1,12 @@
 //! What an event asks of the policy, allowed or denied, and a line for each ask.
 
-ghost use Rattle.std.specs.Prelude.{◌≡◌, ◌≤◌, ◌++◌, [], List, IfOk, IsOk, OnOk, false, vec_capacity};
+ghost use Rattle.std.specs.Prelude.{◌≡◌, ◌≤◌, ◌++◌, [], List, IfOk, IsOk, OnOk, vec_capacity};
 ghost use Rattle.std.specs.List.{flat_map};
 ghost use Rattle.gw_addr.specs.Appending.{IsAppended};
 ghost use Rattle.gw_rules.specs.Ask.{Ask};
 ghost use Rattle.gw_rules.specs.Authorizer.{denied_of};
 ghost use Rattle.gw_rules.specs.declared.rule.Rule.{Rule};
-ghost use Rattle.gw_relay.specs.Cast.{cast_asks, goes_on, is_unregistered};
-ghost use Rattle.gw_relay.specs.Manage.{manage_asks};
-ghost use Rattle.gw_relay.specs.Route.{route_asks};
+ghost use Rattle.gw_relay.specs.Cast.{goes_on};
 ghost use Rattle.gw_relay.specs.Message.{message_view};
 ghost use Rattle.gw_core.specs.Asks.{asks_for, message_asks};
 ghost use Rattle.gw_core.specs.Effects.{message_sends, sends_for};
@@ -20,7 +18,7 @@ ghost use Rattle.gw_core.specs.View.{judged, received_view};
 use crate::denial::{name_at, origin_of};
 use crate::receive::Received;
 use crate::reply::{apdu_for, context_of};
-use crate::respond::network_of;
+use crate::respond::{network_of, pass_on};
 use gw_addr::{Source, put_decimal, put_octet, put_slice};
 use gw_audit::put_ask;
 use gw_device::{Asks, Device, NoRules, put_refused};
@@ -39,57 +37,6 @@ fn put_response_asks(asks: &mut Asks, response: RelayResponse) -> Result<(), All
     put_refused(asks, response.refusals.as_slice())
 }
 
-/// Adds what distribution asks about a message (step 6). It answers whether the message goes on to the network
-/// layer.
-fn put_cast_asks(
-    alloc: Global,
-    relay: &Relay,
-    message: &Message<'_>,
-    asks: &mut Asks,
-) -> Result<bool, AllocError>
-    ensures asks { OnOk result (asks.new ≡ asks.old ++ cast_asks (message_view message.now)) }
-    ensures goes_on { let m = message_view message.now in
-        IfOk result (λ goes. goes ≡ goes_on m.here m.from m.frame) }
-    ensures silent { let m = message_view message.now in
-        cast_asks m ≡ [] → is_unregistered m.here m.from m.frame ≡ false → IsOk result }
-{
-    let mut given = RelayResponse::nothing(alloc);
-    let goes_on = relay.cast(alloc, &NoRules, message, &mut given)?;
-    put_response_asks(asks, given)?;
-    Ok(goes_on)
-}
-
-/// Adds what routing asks about a message (step 8).
-fn put_route_asks(
-    alloc: Global,
-    relay: &Relay,
-    message: &Message<'_>,
-    asks: &mut Asks,
-) -> Result<(), AllocError>
-    ensures asks { let due = route_asks relay.now (message_view message.now) in
-        OnOk result (asks.new ≡ asks.old ++ due) }
-    ensures silent { route_asks relay.now (message_view message.now) ≡ [] → IsOk result }
-{
-    let mut given = RelayResponse::nothing(alloc);
-    relay.route(alloc, &NoRules, message, &mut given)?;
-    put_response_asks(asks, given)
-}
-
-/// Adds what the network layer asks about a message (step 9).
-fn put_manage_asks(
-    alloc: Global,
-    relay: &Relay,
-    message: &Message<'_>,
-    asks: &mut Asks,
-) -> Result<(), AllocError>
-    ensures asks { let due = manage_asks relay.now (message_view message.now) in
-        OnOk result (asks.new ≡ asks.old ++ due) }
-    ensures silent { manage_asks relay.now (message_view message.now) ≡ [] → IsOk result }
-{
-    let managed = relay.manage(alloc, &NoRules, message)?;
-    put_response_asks(asks, managed)
-}
-
 /// Adds what is asked about a message but for the device (steps 4 and 6 to 9). It answers whether the
 /// message goes on to the network layer.
 fn put_passed_asks(
@@ -105,13 +52,10 @@ fn put_passed_asks(
     ensures silent { (rules : List Rule) → let m = message_view message.now in
         passed_asks relay.now m ≡ [] → passed_sends rules relay.now m ≡ [] → IsOk result }
 {
-    let goes_on = put_cast_asks(alloc, relay, message, asks)?;
-    if !goes_on {
-        return Ok(false);
-    }
-    put_route_asks(alloc, relay, message, asks)?;
-    put_manage_asks(alloc, relay, message, asks)?;
-    Ok(true)
+    let mut given = RelayResponse::nothing(alloc);
+    let goes_on = pass_on(alloc, &NoRules, relay, message, &mut given)?;
+    put_response_asks(asks, given)?;
+    Ok(goes_on)
 }
 
 /// Adds what the device asks about a message (step 10).
@@ -129,7 +73,7 @@ fn put_device_asks<J: Judge>(
         message_asks rules device.now m ≡ [] → message_sends rules device.now m ≡ [] → IsOk result }
 {
     let network = network_of(device);
-    let Some(apdu) = apdu_for(network, &message.npdu) else {
+    let Some(apdu) = apdu_for(network, message.npdu) else {
         return Ok(());
     };
     let context = context_of(network, message);

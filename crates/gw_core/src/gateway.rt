@@ -27,7 +27,7 @@ use crate::effects::Effects;
 use crate::event::Counts;
 use crate::explaining::append_asks;
 use crate::fault::StepFault;
-use crate::receive::{Received, receive_on};
+use crate::receive::{Received, npdu_in, receive};
 use crate::respond::{network_of, respond};
 use gw_addr::BipAddr;
 use gw_configuration::Config;
@@ -305,7 +305,17 @@ impl Gateway {
     {
         let now = &*self;
         let network = network_of(&now.device);
-        let received = receive_on(now.relay.links(), network, port, from, octets);
+        let frame = gw_bvll::decode(octets);
+        let npdu = npdu_in(&frame);
+        let received = receive(
+            now.relay.links(),
+            network,
+            port,
+            from,
+            octets,
+            &frame,
+            &npdu,
+        );
         let Outcome {
             effects,
             change,
@@ -331,7 +341,17 @@ impl Gateway {
         ensures capacity { vec_capacity out.old ≤ vec_capacity out.new }
     {
         let network = network_of(&self.device);
-        let received = receive_on(self.relay.links(), network, port, from, octets);
+        let frame = gw_bvll::decode(octets);
+        let npdu = npdu_in(&frame);
+        let received = receive(
+            self.relay.links(),
+            network,
+            port,
+            from,
+            octets,
+            &frame,
+            &npdu,
+        );
         append_asks(
             alloc,
             &self.policy,

@@ -1,18 +1,21 @@
 //! What the gateway makes of a datagram before any policy is asked (Annex J.2, clause 6.2).
 
-ghost use Rattle.std.specs.Prelude.{◌≡◌, ◌==◌, ◌<◌, ◌≤◌, length, not, if◌then◌else◌};
+ghost use Rattle.std.specs.Prelude.{◌≡◌, ◌==◌, [], unwrap_or};
 ghost use Rattle.std.specs.List.{list_any};
 ghost use Rattle.std.specs.Option.{option_map};
 ghost use Rattle.gw_bvll.specs.Bvll.{view as frame_view};
-ghost use Rattle.gw_npdu.specs.Npdu.{address_view};
+ghost use Rattle.gw_addr.specs.Reading.{Gives};
+ghost use Rattle.gw_bvll.specs.Reading.{bvll_at};
+ghost use Rattle.gw_npdu.specs.Npdu.{address_view, view as npdu_view};
+ghost use Rattle.gw_npdu.specs.Reading.{npdu_at};
 ghost use Rattle.gw_relay.specs.Claim.{local_source};
-ghost use Rattle.gw_relay.specs.Cast.{accepts};
-ghost use Rattle.gw_core.specs.Receive.{claims_direct, comes_in, dropped, is_direct, manages, payload_of, receive_npdu, receive_on};
+ghost use Rattle.gw_core.specs.Receive.{claims_direct, comes_in, is_direct, manages, payload_of, receive_on, receive_payload};
+ghost use Rattle.gw_core.specs.internal.Frame.{octets_in};
 ghost use Rattle.gw_core.specs.View.{received_view};
 
 use gw_addr::{BipAddr, NetNum};
-use gw_bvll::Bvll;
-use gw_npdu::AddressRef;
+use gw_bvll::{Bvll, BvllFault};
+use gw_npdu::{AddressRef, Npdu, NpduFault};
 use gw_relay::{Message, PortState, link_at};
 
 /// The longest datagram that is heard, in octets.
@@ -32,7 +35,7 @@ pub enum Received<'a> {
         /// Whom it came from.
         from: BipAddr,
         /// The frame.
-        frame: Bvll<'a>,
+        frame: &'a Bvll<'a>,
     },
     /// A message of the network layer. Whether it is heard, and no unregistered sender's, is judged when it is
     /// passed on.
@@ -90,44 +93,72 @@ fn claims_direct(links: &[PortState], device: NetNum, source: &Option<AddressRef
     }
 }
 
-/// What a frame is received as that brings the NPDU of these octets: that is heard, or the frame is dropped.
+/// The octets of the NPDU that a frame brings: none where there is no frame, or none that brings one.
+fn octets_in<'a>(frame: &Result<Bvll<'a>, BvllFault>) -> &'a [u8]
+    ensures { result.now ≡ octets_in frame.now }
+{
+    match frame {
+        Ok(frame) => payload_of(frame).unwrap_or(&[]),
+        Err(_) => &[],
+    }
+}
+
+/// The NPDU that a frame brings.
+#[inline(always)]
+pub(crate) fn npdu_in<'a>(frame: &Result<Bvll<'a>, BvllFault>) -> Result<Npdu<'a>, NpduFault>
+    ensures { Gives npdu_view result (npdu_at (octets_in frame.now)) }
+{
+    gw_npdu::decode(octets_in(frame))
+}
+
+/// What a frame is received as that manages no table, with the NPDU that it brings: that is heard, or the frame is
+/// dropped.
 #[inline(always)]
 #[tactic(auto, unfolding(crate::specs::Receive::npdu_of))]
-fn receive_npdu<'a>(
+fn receive_payload<'a>(
     links: &[PortState],
     device: NetNum,
     here: &'a PortState,
     from: BipAddr,
-    frame: &Bvll<'a>,
-    octets: &'a [u8],
+    frame: &'a Bvll<'a>,
+    npdu: &'a Result<Npdu<'a>, NpduFault>,
 ) -> Received<'a>
+    requires { let octets = unwrap_or (payload_of (frame_view frame.now)) [] in
+        Gives npdu_view npdu.now (npdu_at octets) }
     ensures { let frame = frame_view frame.now in
-        received_view result ≡ (if not (accepts here.now from frame) then dropped
-        else receive_npdu links.now device here.now from frame octets.now) }
+        received_view result ≡ receive_payload links.now device here.now from frame }
 {
+    let Some(octets) = payload_of(frame) else {
+        return Received::Dropped;
+    };
     if octets.len() > MAX_NPDU {
         return Received::Dropped;
     }
-    match gw_npdu::decode(octets) {
+    match npdu {
         Ok(npdu) if !claims_direct(links, device, &npdu.source) => Received::Message(Message {
             here,
             from,
-            frame: *frame,
+            frame,
             npdu,
         }),
         _ => Received::Dropped,
     }
 }
 
-/// What a datagram is received as on the port of this number.
+/// What a datagram is received as on the port of this number, with the frame that its octets are and the NPDU that this
+/// brings.
 #[inline(always)]
-pub fn receive_on<'a>(
+pub(crate) fn receive<'a>(
     links: &'a [PortState],
     device: NetNum,
     number: u8,
     from: BipAddr,
-    octets: &'a [u8],
+    octets: &[u8],
+    frame: &'a Result<Bvll<'a>, BvllFault>,
+    npdu: &'a Result<Npdu<'a>, NpduFault>,
 ) -> Received<'a>
+    requires frame { Gives frame_view frame.now (bvll_at octets.now) }
+    requires npdu { Gives npdu_view npdu.now (npdu_at (octets_in frame.now)) }
     ensures { received_view result ≡ receive_on links.now device number from octets.now }
 {
     let Some(on) = link_at(links, usize::from(number)) else {
@@ -136,14 +167,11 @@ pub fn receive_on<'a>(
     if !comes_in(on.port.address, from, octets) {
         return Received::Dropped;
     }
-    let Ok(frame) = gw_bvll::decode(octets) else {
+    let Ok(frame) = frame else {
         return Received::Dropped;
     };
-    if manages(&frame) {
+    if manages(frame) {
         return Received::Managed { on, from, frame };
     }
-    let Some(payload) = payload_of(&frame) else {
-        return Received::Dropped;
-    };
-    receive_npdu(links, device, on, from, &frame, payload)
+    receive_payload(links, device, on, from, frame, npdu)
 }

@@ -137,7 +137,7 @@ pub fn context_of(network: NetNum, message: &Message<'_>) -> Context
         source_network: message.source_network(),
         source_key: message.source_key(),
         broadcast: goes_to_all(network, &message.npdu.destination),
-        room: max_reply_apdu(network, &message.npdu),
+        room: max_reply_apdu(network, message.npdu),
     }
 }
 
@@ -280,8 +280,8 @@ fn put_reply(
     ensures { let due = reply_sends network (message_view message.now) (answer_view answer) in
         OnOk result (sends.new ≡ sends.old ++ due) }
 {
-    let goes_to_all = is_local_broadcast(&message.npdu, &answer);
-    let Some(octets) = reply_octets(alloc, network, &message.npdu, answer)? else {
+    let goes_to_all = is_local_broadcast(message.npdu, &answer);
+    let Some(octets) = reply_octets(alloc, network, message.npdu, answer)? else {
         return Ok(());
     };
     if goes_to_all {

@@ -1,22 +1,20 @@
 //! What is done about what is received, while the gateway stays as it is: what all its parts ask,
 //! send and change.
 
-ghost use Rattle.std.specs.Prelude.{◌≡◌, ◌++◌, [], List, None, IfOk, IsOk, OnOk};
-ghost use Rattle.std.specs.Option.{option_or};
+ghost use Rattle.std.specs.Prelude.{◌≡◌, ◌++◌, [], List, false, IfOk, IsOk, OnOk};
 ghost use Rattle.gw_bvll.specs.Bvll.{view as frame_view};
 ghost use Rattle.gw_objects.specs.Objects.{Database};
 ghost use Rattle.gw_device.specs.Response.{HasPlace};
 ghost use Rattle.gw_rules.specs.Authorizer.{denied_of};
 ghost use Rattle.gw_rules.specs.declared.rule.Rule.{Rule};
 ghost use Rattle.gw_npdu.specs.Npdu.{view as npdu_view};
-ghost use Rattle.gw_relay.specs.Cast.{goes_on};
-ghost use Rattle.gw_relay.specs.Manage.{manage_asks, manage_change, manage_sends};
-ghost use Rattle.gw_relay.specs.Route.{route_asks, route_sends};
+ghost use Rattle.gw_relay.specs.Cast.{goes_on, is_unregistered};
+ghost use Rattle.gw_relay.specs.Manage.{manage_asks, manage_response};
 ghost use Rattle.gw_core.specs.Asks.{asks_for, message_asks};
 ghost use Rattle.gw_core.specs.Effects.{message_change, message_sends, sends_for};
-ghost use Rattle.gw_relay.specs.Response.{IsRelayed};
+ghost use Rattle.gw_relay.specs.Response.{IsAdded};
 ghost use Rattle.gw_core.specs.Receive.{managed};
-ghost use Rattle.gw_core.specs.Respond.{IsResponse, is_apdu, is_plain, passed_response};
+ghost use Rattle.gw_core.specs.Respond.{IsResponse, is_apdu, is_plain, passed_asks, passed_response};
 ghost use Rattle.gw_core.specs.State.{device_network};
 ghost use Rattle.gw_relay.specs.Message.{message_view};
 ghost use Rattle.gw_core.specs.View.{judged, received_view};
@@ -40,38 +38,9 @@ pub(crate) fn network_of(device: &Device) -> NetNum
 
 /// Whether a message brings an APDU, and none of the network layer.
 fn is_apdu(message: &Message<'_>) -> bool
-    ensures { result ≡ is_apdu (npdu_view message.now.npdu).payload }
+    ensures { result ≡ is_apdu (npdu_view message.now.npdu.now).payload }
 {
     matches!(message.npdu.payload, Payload::Apdu(_))
-}
-
-/// Adds what routing gives of a message (step 8). One that names no destination isn't routed.
-fn put_routed<J: Judge>(
-    alloc: Global,
-    judge: &J,
-    relay: &Relay,
-    message: &Message<'_>,
-    given: &mut RelayResponse,
-) -> Result<(), AllocError>
-    ensures sends { (rules : List Rule) → J.StandsFor judge.now rules →
-        let due = route_sends rules relay.now (message_view message.now) in
-        OnOk result (given.new.sends ≡ given.old.sends ++ due) }
-    ensures refusals { (rules : List Rule) → J.StandsFor judge.now rules →
-        let due = denied_of rules (route_asks relay.now (message_view message.now)) in
-        OnOk result (given.new.refusals ≡ given.old.refusals ++ due) }
-    ensures change { (rules : List Rule) → J.StandsFor judge.now rules →
-        OnOk result (given.new.change ≡ given.old.change) }
-    ensures silent { (rules : List Rule) → J.StandsFor judge.now rules →
-        let m = message_view message.now in
-        route_asks relay.now m ≡ [] → route_sends rules relay.now m ≡ [] → IsOk result }
-{
-    if message.npdu.destination.is_none() {
-        return Ok(());
-    }
-    let mut routed = RelayResponse::nothing(alloc);
-    relay.route(alloc, judge, message, &mut routed)?;
-    given.append(routed)?;
-    Ok(())
 }
 
 /// Adds what the network layer answers to a message (step 9). It answers to no APDU.
@@ -82,29 +51,19 @@ fn put_managed<J: Judge>(
     message: &Message<'_>,
     given: &mut RelayResponse,
 ) -> Result<(), AllocError>
-    ensures sends { (rules : List Rule) → J.StandsFor judge.now rules →
-        let due = manage_sends rules relay.now (message_view message.now) in
-        OnOk result (given.new.sends ≡ given.old.sends ++ due) }
-    ensures refusals { (rules : List Rule) → J.StandsFor judge.now rules →
-        let due = denied_of rules (manage_asks relay.now (message_view message.now)) in
-        OnOk result (given.new.refusals ≡ given.old.refusals ++ due) }
-    ensures change { (rules : List Rule) → J.StandsFor judge.now rules →
-        let due = manage_change rules (message_view message.now) in
-        OnOk result (given.new.change ≡ option_or given.old.change due) }
-    ensures silent { (rules : List Rule) → J.StandsFor judge.now rules →
-        let m = message_view message.now in
-        manage_asks relay.now m ≡ [] → manage_sends rules relay.now m ≡ [] → IsOk result }
+    ensures relayed { (rules : List Rule) → J.StandsFor judge.now rules →
+        let due = manage_response rules relay.now (message_view message.now) in
+        OnOk result (IsAdded rules due given.old given.new) }
+    ensures silent { manage_asks relay.now (message_view message.now) ≡ [] → IsOk result }
 {
     if is_apdu(message) {
         return Ok(());
     }
-    let managed = relay.manage(alloc, judge, message)?;
-    given.append(managed)?;
-    Ok(())
+    relay.manage(alloc, judge, message, given)
 }
 
-/// What is done about any message but for the device, in the place of what is given: it is distributed; and
-/// where it goes on to the network layer, it is routed and answered there. It answers whether it goes on.
+/// Adds what is done about any message but for the device: it is distributed; and where it goes on to the network
+/// layer, it is routed and answered there. It answers whether it goes on.
 #[inline(never)]
 fn pass_on_each_way<J: Judge>(
     alloc: Global,
@@ -115,18 +74,17 @@ fn pass_on_each_way<J: Judge>(
 ) -> Result<bool, AllocError>
     ensures relayed { (rules : List Rule) → J.StandsFor judge.now rules →
         let due = passed_response rules relay.now (message_view message.now) in
-        OnOk result (IsRelayed rules due given.new) }
+        OnOk result (IsAdded rules due given.old given.new) }
     ensures goes_on { let m = message_view message.now in
         IfOk result (λ goes. goes ≡ goes_on m.here m.from m.frame) }
-    ensures silent { (rules : List Rule) → J.StandsFor judge.now rules →
-        let due = passed_response rules relay.now (message_view message.now) in
-        due.asks ≡ [] → due.sends ≡ [] → IsOk result }
+    ensures silent { let m = message_view message.now in
+        passed_asks relay.now m ≡ [] → is_unregistered m.here m.from m.frame ≡ false → IsOk result }
 {
     let goes_on = relay.cast(alloc, judge, message, given)?;
     if !goes_on {
         return Ok(false);
     }
-    put_routed(alloc, judge, relay, message, given)?;
+    relay.route(alloc, judge, message, given)?;
     put_managed(alloc, judge, relay, message, given)?;
     Ok(true)
 }
@@ -139,9 +97,9 @@ fn is_plain(message: &Message<'_>) -> bool
     matches!(message.frame, Bvll::OriginalUnicast(_)) && is_apdu(message)
 }
 
-/// What is done about a message but for the device (steps 4 and 6 to 9), in the place of what is given. It
-/// answers whether the message goes on to the network layer.
-fn pass_on<J: Judge>(
+/// Adds what is done about a message but for the device (steps 4 and 6 to 9). It answers whether the message goes
+/// on to the network layer. What asks nothing and tells no unregistered sender wants no memory.
+pub(crate) fn pass_on<J: Judge>(
     alloc: Global,
     judge: &J,
     relay: &Relay,
@@ -150,12 +108,11 @@ fn pass_on<J: Judge>(
 ) -> Result<bool, AllocError>
     ensures relayed { (rules : List Rule) → J.StandsFor judge.now rules →
         let due = passed_response rules relay.now (message_view message.now) in
-        OnOk result (IsRelayed rules due given.new) }
+        OnOk result (IsAdded rules due given.old given.new) }
     ensures goes_on { let m = message_view message.now in
         IfOk result (λ goes. goes ≡ goes_on m.here m.from m.frame) }
-    ensures silent { (rules : List Rule) → J.StandsFor judge.now rules →
-        let due = passed_response rules relay.now (message_view message.now) in
-        due.asks ≡ [] → due.sends ≡ [] → IsOk result }
+    ensures silent { let m = message_view message.now in
+        passed_asks relay.now m ≡ [] → is_unregistered m.here m.from m.frame ≡ false → IsOk result }
 {
     if is_plain(message) {
         relay.route(alloc, judge, message, given)?;
@@ -189,7 +146,7 @@ fn answer_apdu<J: Judge>(
         message_asks rules device.now m ≡ [] → message_sends rules device.now m ≡ [] → IsOk result }
 {
     let network = network_of(device);
-    let Some(apdu) = apdu_for(network, &message.npdu) else {
+    let Some(apdu) = apdu_for(network, message.npdu) else {
         return Ok(None);
     };
     let context = context_of(network, message);
@@ -203,8 +160,8 @@ fn answer_apdu<J: Judge>(
     Ok(change)
 }
 
-/// What is done about a message (steps 4 and 6 to 10), in the place of what is given; and the write to the
-/// device that is granted, if there is one.
+/// Adds what is done about a message (steps 4 and 6 to 10), and answers the write to the device that is granted, if
+/// there is one.
 fn respond_to_message<J: Judge>(
     alloc: Global,
     judge: &J,
@@ -215,7 +172,7 @@ fn respond_to_message<J: Judge>(
 ) -> Result<Option<Change>, AllocError>
     ensures response { (rules : List Rule) → J.StandsFor judge.now rules →
         let due = judged (message_view message.now) in
-        IfOk result (IsResponse rules relay.now device.now due given.new) }
+        IfOk result (IsResponse rules relay.now device.now due given.old given.new) }
     ensures silent { (rules : List Rule) → J.StandsFor judge.now rules →
         let due = judged (message_view message.now) in
         asks_for rules relay.now device.now due ≡ [] →
@@ -229,8 +186,7 @@ fn respond_to_message<J: Judge>(
     Ok(write)
 }
 
-/// What is done about a frame that manages a table (step 3), in the place of what is given. It writes nothing to
-/// the device.
+/// Adds what is done about a frame that manages a table (step 3). It writes nothing to the device.
 fn respond_to_managed<J: Judge>(
     alloc: Global,
     judge: &J,
@@ -242,7 +198,7 @@ fn respond_to_managed<J: Judge>(
 ) -> Result<Option<Change>, AllocError>
     ensures response { (rules : List Rule) (device : Database) → J.StandsFor judge.now rules →
         let due = managed on.now from (frame_view frame.now) in
-        IfOk result (IsResponse rules relay.now device due given.new) }
+        IfOk result (IsResponse rules relay.now device due given.old given.new) }
     ensures silent { (rules : List Rule) (device : Database) →
         let due = managed on.now from (frame_view frame.now) in
         asks_for rules relay.now device due ≡ [] → IsOk result }
@@ -251,8 +207,8 @@ fn respond_to_managed<J: Judge>(
     Ok(None)
 }
 
-/// What is done about what is received, in the place of what is given: what is sent, what the policy denied
-/// and what the relay commits; and the write to the device that is granted, if there is one.
+/// Adds what is done about what is received: what is sent, what the policy denied and what the relay commits. It
+/// answers the write to the device that is granted, if there is one. A part may be added where a growth was refused.
 pub(crate) fn respond<J: Judge>(
     alloc: Global,
     judge: &J,
@@ -263,17 +219,14 @@ pub(crate) fn respond<J: Judge>(
 ) -> Result<Option<Change>, AllocError>
     ensures response { (rules : List Rule) → J.StandsFor judge.now rules →
         let due = received_view received.now in
-        IfOk result (IsResponse rules relay.now device.now due given.new) }
+        IfOk result (IsResponse rules relay.now device.now due given.old given.new) }
     ensures silent { (rules : List Rule) → J.StandsFor judge.now rules →
         let due = received_view received.now in
         asks_for rules relay.now device.now due ≡ [] →
         sends_for rules relay.now device.now due ≡ [] → IsOk result }
 {
     match received {
-        Received::Dropped => {
-            *given = RelayResponse::nothing(alloc);
-            Ok(None)
-        }
+        Received::Dropped => Ok(None),
         Received::Managed { on, from, frame } => {
             respond_to_managed(alloc, judge, relay, on, *from, frame, given)
         }

@@ -32,4 +32,4 @@ message_of here from frame npdu = record {
 
 -- a message of the code, without where its octets lie in memory
 abbrev pub message_view : LentMessage → Message
-message_view m = message_of m.here.now m.from (frame_view m.frame) (npdu_view m.npdu)
+message_view m = message_of m.here.now m.from (frame_view m.frame.now) (npdu_view m.npdu.now)

@@ -1,5 +1,6 @@
 -- What a step of the relay answers to a message.
-use Rattle.std.specs.Prelude.{◌≡◌, List, Option}
+use Rattle.std.specs.Prelude.{◌≡◌, ◌++◌, List, Option}
+use Rattle.std.specs.Option.{option_or}
 use Rattle.gw_rules.specs.Ask.{Ask}
 use Rattle.gw_rules.specs.Authorizer.{denied_of}
 use Rattle.gw_rules.specs.declared.rule.Rule.{Rule}
@@ -13,8 +14,9 @@ pub record Response : Type 0 where
   pub sends : List Sending
   pub change : Option Change
 
--- A response of the code has these sends, the asks that the rules deny, in order, and this change.
-pub record IsRelayed (rules : List Rule) (due : Response) (given : RelayResponse) : Type 0 where
-  pub sends : given.sends ≡ due.sends
-  pub refusals : given.refusals ≡ denied_of rules due.asks
-  pub change : given.change ≡ due.change
+-- Behind what was given before stand these sends, and the asks that the rules deny, in order; and this change is to be
+-- committed where there was none.
+pub record IsAdded (rules : List Rule) (due : Response) (old new : RelayResponse) : Type 0 where
+  pub sends : new.sends ≡ old.sends ++ due.sends
+  pub refusals : new.refusals ≡ old.refusals ++ denied_of rules due.asks
+  pub change : new.change ≡ option_or old.change due.change

@@ -10,7 +10,7 @@ ghost use Rattle.gw_rules.specs.declared.rule.Rule.{Rule};
 ghost use Rattle.gw_relay.specs.Cast.{cast_ask, cast_asks, cast_response, devices, devices_but, directed, goes_on, is_broadcast, accepts, is_unregistered, managers, passed_on, spread, subnet, targets};
 ghost use Rattle.gw_relay.specs.Link.{answer_to, refused};
 ghost use Rattle.gw_relay.specs.Message.{message_view};
-ghost use Rattle.gw_relay.specs.Response.{IsRelayed};
+ghost use Rattle.gw_relay.specs.Response.{IsAdded};
 ghost use Rattle.gw_relay.specs.Sends.{sendings_of, sent};
 ghost use Rattle.gw_relay.specs.internal.Serving.{judged};
 
@@ -19,7 +19,7 @@ use crate::message::Message;
 use crate::octets::message_octets;
 use crate::outgoing::Outgoing;
 use crate::port::PortState;
-use crate::response::RelayResponse;
+use crate::response::{RelayResponse, put_refusals};
 use crate::sends::{Batch, Sends};
 use gw_addr::{BdtEntry, BipAddr};
 use gw_bvll::Bvll;
@@ -122,60 +122,44 @@ impl PortState {
         self.accepts(from, frame) && !self.is_unregistered(from, frame)
     }
 
-    /// An unregistered sender is told so, and nothing is asked.
-    fn refuse_unregistered(
-        &self,
-        alloc: Global,
-        from: BipAddr,
-        frame: &Bvll<'_>,
-    ) -> Result<RelayResponse, AllocError>
-        ensures sends { IfOk result (λ given. given.sends ≡
-            map (answer_to self.now.port from) (refused (frame_view frame.now))) }
-        ensures refusals { IfOk result (λ given. given.refusals ≡ []) }
-        ensures change { IfOk result (λ given. given.change ≡ None) }
-    {
-        Ok(RelayResponse {
-            sends: self.refuse(alloc, from, frame)?,
-            ..RelayResponse::nothing(alloc)
-        })
-    }
-
-    /// The sends of a broadcast that was judged.
-    fn judged_sends(
+    /// Adds the sends of a broadcast that was judged.
+    fn put_judged(
         &self,
         alloc: Global,
         from: BipAddr,
         frame: &Bvll<'_>,
         is_allowed: bool,
-    ) -> Result<Sends, AllocError>
-        ensures { IfOk result (λ sends.
-            sends ≡ judged self.now from (frame_view frame.now) is_allowed) }
+        sends: &mut Sends,
+    ) -> Result<(), AllocError>
+        ensures { let sent = judged self.now from (frame_view frame.now) is_allowed in
+            OnOk result (sends.new ≡ sends.old ++ sent) }
     {
         if is_allowed {
-            self.distribute(alloc, from, frame)
+            self.distribute(alloc, from, frame, sends)
         } else {
-            self.refuse(alloc, from, frame)
+            self.put_refusal(alloc, from, frame, sends)
         }
     }
 
-    /// The sends of a broadcast that is allowed: one message to all its targets.
+    /// Adds the sends of a broadcast that is allowed: one message to all its targets.
     fn distribute(
         &self,
         alloc: Global,
         from: BipAddr,
         frame: &Bvll<'_>,
-    ) -> Result<Sends, AllocError>
+        sends: &mut Sends,
+    ) -> Result<(), AllocError>
         ensures { let message = passed_on from (frame_view frame.now) in
             let targets = targets self.now from (frame_view frame.now) in
-            IfOk result (λ sends. sends ≡ sent self.now.port.number targets message) }
+            OnOk result (sends.new ≡ sends.old ++ sent self.now.port.number targets message) }
     {
         let mut targets = Vec::with_capacity(alloc, self.most_targets(frame))?;
         self.put_targets(from, frame, &mut targets)?;
         let message = passed_on(from, frame);
         let len = forwarded_len(frame);
         match batch_of(alloc, self.port.number, targets, &message, len)? {
-            Some(batch) => Sends::of(alloc, batch),
-            None => Ok(Sends::new(alloc)),
+            Some(batch) => sends.push(batch),
+            None => Ok(()),
         }
     }
 
@@ -318,8 +302,8 @@ impl PortState {
     }
 }
 
-/// Distributes the broadcast that brought a message, where the policy allows it. What that gives stands in
-/// the place of what is given. It answers whether the message goes on to the network layer.
+/// Distributes the broadcast that brought a message, where the policy allows it, and adds what that gives. It
+/// answers whether the message goes on to the network layer.
 pub(crate) fn cast<J: Judge>(
     alloc: Global,
     judge: &J,
@@ -328,25 +312,20 @@ pub(crate) fn cast<J: Judge>(
 ) -> Result<bool, AllocError>
     ensures relayed { (rules : List Rule) → J.StandsFor judge.now rules →
         let due = cast_response rules (message_view message.now) in
-        OnOk result (IsRelayed rules due given.new) }
+        OnOk result (IsAdded rules due given.old given.new) }
     ensures goes_on { let m = message_view message.now in
         IfOk result (λ goes. goes ≡ goes_on m.here m.from m.frame) }
     // What asks nothing and tells no unregistered sender wants no memory.
     ensures silent { let m = message_view message.now in
         cast_asks m ≡ [] → is_unregistered m.here m.from m.frame ≡ false → IsOk result }
 {
-    let Message {
-        here,
-        from,
-        frame,
-        ..
-    } = message;
-    if !here.accepts(*from, frame) {
-        *given = RelayResponse::nothing(alloc);
+    let here = message.here;
+    let from = message.from;
+    if !here.accepts(from, message.frame) {
         return Ok(false);
     }
-    if here.is_unregistered(*from, frame) {
-        *given = here.refuse_unregistered(alloc, *from, frame)?;
+    if here.is_unregistered(from, message.frame) {
+        here.put_refusal(alloc, from, message.frame, &mut given.sends)?;
         return Ok(false);
     }
     cast_accepted(alloc, judge, message, given)?;
@@ -357,11 +336,10 @@ pub(crate) fn cast<J: Judge>(
 fn cast_ask(message: &Message<'_>) -> Ask
     ensures { result ≡ cast_ask (message_view message.now) }
 {
-    message_ask(Operation::Cast, message, bound_for(&message.npdu))
+    message_ask(Operation::Cast, message, bound_for(message.npdu))
 }
 
-/// Distributes a broadcast that is accepted, and no unregistered sender's. What that gives stands in the
-/// place of what is given.
+/// Distributes a broadcast that is accepted, and no unregistered sender's, and adds what that gives.
 fn cast_accepted<J: Judge>(
     alloc: Global,
     judge: &J,
@@ -371,24 +349,24 @@ fn cast_accepted<J: Judge>(
     requires { let m = message_view message.now in goes_on m.here m.from m.frame ≡ true }
     ensures relayed { (rules : List Rule) → J.StandsFor judge.now rules →
         let due = cast_response rules (message_view message.now) in
-        OnOk result (IsRelayed rules due given.new) }
+        OnOk result (IsAdded rules due given.old given.new) }
     ensures silent { cast_asks (message_view message.now) ≡ [] → IsOk result }
 {
-    if !is_broadcast(&message.frame) {
-        *given = RelayResponse::nothing(alloc);
+    if !is_broadcast(message.frame) {
         return Ok(());
     }
     let mut authorizer = Authorizer::new(alloc, judge);
     let ask = cast_ask(message);
     let is_allowed = authorizer.authorize(&ask)?;
-    let sends = message
-        .here
-        .judged_sends(alloc, message.from, &message.frame, is_allowed)?;
-    *given = RelayResponse {
-        sends,
-        refusals: authorizer.into_refusals(),
-        change: None,
-    };
+    let here = message.here;
+    here.put_judged(
+        alloc,
+        message.from,
+        message.frame,
+        is_allowed,
+        &mut given.sends,
+    )?;
+    put_refusals(&mut given.refusals, authorizer.into_refusals())?;
     Ok(())
 }
 

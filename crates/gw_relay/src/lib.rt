@@ -23,7 +23,6 @@ mod relay;
 mod response;
 mod route;
 mod sends;
-mod step;
 
 pub use change::Change;
 pub use message::{Message, local_source};

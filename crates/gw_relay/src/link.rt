@@ -1,33 +1,31 @@
 //! The frames that read or change a table of their port (Annex J.2, J.4, J.5).
 
-ghost use Rattle.std.specs.Prelude.{◌≡◌, ◌||◌, ◌∷◌, [], List, not, map, IfOk, IsOk, OnOk, if◌then◌else◌, Some, None};
+ghost use Rattle.std.specs.Prelude.{◌≡◌, ◌||◌, ◌++◌, ◌∷◌, [], List, not, map, IfOk, IsOk, OnOk, if◌then◌else◌, Some, None};
 ghost use Rattle.gw_addr.specs.Entry.{bdt_entry};
 ghost use Rattle.gw_bdt_fdt.specs.Peers.{are_too_many, has_twice};
 ghost use Rattle.gw_bdt_fdt.specs.Registrations.{contains, has_room};
-ghost use Rattle.gw_bvll.specs.Bvll.{encoding, result_code, view};
+ghost use Rattle.std.specs.Option.{option_or};
+ghost use Rattle.gw_bvll.specs.Bvll.{view};
 ghost use Rattle.gw_bvll.specs.Entries.{lent};
 ghost use Rattle.gw_rules.specs.declared.rule.Rule.{Rule};
 ghost use Rattle.gw_relay.specs.Asks.{link_asks};
 ghost use Rattle.gw_relay.specs.Link.{answer_to, change_of, is_granted, link_response, refused, told};
-ghost use Rattle.gw_relay.specs.Response.{IsRelayed};
+ghost use Rattle.gw_relay.specs.Response.{IsAdded};
 ghost use Rattle.gw_relay.specs.Sends.{sending};
 ghost use Rattle.gw_relay.specs.internal.Grants.{granted_change};
 ghost use Rattle.gw_relay.specs.internal.Serving.{served, served_change};
 
 use crate::ask::{link_ask, management_of};
 use crate::change::Change;
-use crate::octets::{bdt_ack, fdt_ack};
+use crate::octets::{bdt_ack, fdt_ack, result_octets};
 use crate::port::PortState;
-use crate::response::RelayResponse;
+use crate::response::{RelayResponse, put_refusals};
 use crate::sends::{Batch, Sends};
 use gw_addr::{BdtEntry, BipAddr};
 use gw_bdt_fdt::{Bdt, MAX_REGISTRATIONS};
 use gw_bvll::{BdtEntries, Bvll, ResultCode};
 use gw_rules::{Authorizer, Judge};
 use std::alloc::{AllocError, Global};
-
-/// How many octets a BVLC-Result has (Annex J.2.1).
-const RESULT_LEN: usize = 6;
 
 /// Whether a frame is granted what it asks for.
 enum Grant {
@@ -39,8 +37,8 @@ enum Grant {
 
 impl PortState {
     /// Answers a frame that reads or changes a table of the port. The answer goes to the sender; a
-    /// frame of another kind gets none, and asks nothing. What that gives stands in the place of what is
-    /// given. The only fault is want of memory.
+    /// frame of another kind gets none, and asks nothing. What that gives is added. The only fault is want of
+    /// memory.
     pub(crate) fn handle_table_message<J: Judge>(
         &self,
         alloc: Global,
@@ -51,45 +49,46 @@ impl PortState {
     ) -> Result<(), AllocError>
         ensures relayed { (rules : List Rule) → J.StandsFor judge.now rules →
             let due = link_response rules self.now from (view frame.now) in
-            OnOk result (IsRelayed rules due given.new) }
+            OnOk result (IsAdded rules due given.old given.new) }
         ensures silent { link_asks self.now.port from (view frame.now) ≡ [] → IsOk result }
     {
         let Some(operation) = management_of(frame) else {
-            *given = RelayResponse::nothing(alloc);
             return Ok(());
         };
         let mut authorizer = Authorizer::new(alloc, judge);
         let ask = link_ask(&self.port, from, frame, operation);
         let is_allowed = authorizer.authorize(&ask)?;
-        let (sends, change) = self.answer_table_message(alloc, from, frame, is_allowed)?;
-        *given = RelayResponse {
-            sends,
-            refusals: authorizer.into_refusals(),
-            change,
-        };
+        self.put_table_answer(alloc, from, frame, is_allowed, given)?;
+        put_refusals(&mut given.refusals, authorizer.into_refusals())?;
         Ok(())
     }
 
-    /// The answer to a frame that was judged, and what it changes.
+    /// Adds the answer to a frame that was judged, and what it changes.
     #[inline(always)]
-    fn answer_table_message(
+    fn put_table_answer(
         &self,
         alloc: Global,
         from: BipAddr,
         frame: &Bvll<'_>,
         is_allowed: bool,
-    ) -> Result<(Sends, Option<Change>), AllocError>
-        ensures sends { IfOk result (λ given.
-            given.0 ≡ served self.now from (view frame.now) is_allowed) }
-        ensures change { IfOk result (λ given.
-            given.1 ≡ served_change self.now from (view frame.now) is_allowed) }
+        given: &mut RelayResponse,
+    ) -> Result<(), AllocError>
+        ensures sends { let sent = served self.now from (view frame.now) is_allowed in
+            OnOk result (given.new.sends ≡ given.old.sends ++ sent) }
+        ensures refusals { OnOk result (given.new.refusals ≡ given.old.refusals) }
+        ensures change { let due = served_change self.now from (view frame.now) is_allowed in
+            OnOk result (given.new.change ≡ option_or given.old.change due) }
     {
         if !is_allowed {
-            return Ok((self.refuse(alloc, from, frame)?, None));
+            return self.put_refusal(alloc, from, frame, &mut given.sends);
         }
         match self.grant(alloc, from, frame)? {
-            Grant::Granted(change) => Ok((self.tell(alloc, from, frame)?, change)),
-            Grant::Refused => Ok((self.refuse(alloc, from, frame)?, None)),
+            Grant::Granted(change) => {
+                self.put_told(alloc, from, frame, &mut given.sends)?;
+                given.put_change(change);
+                Ok(())
+            }
+            Grant::Refused => self.put_refusal(alloc, from, frame, &mut given.sends),
         }
     }
 
@@ -161,54 +160,55 @@ impl PortState {
         }))
     }
 
-    /// The answer to a frame that has what it asked for.
-    fn tell(&self, alloc: Global, from: BipAddr, frame: &Bvll<'_>) -> Result<Sends, AllocError>
-        ensures { IfOk result (λ sends.
-            sends ≡ map (answer_to self.now.port from) (told self.now (view frame.now))) }
-    {
-        match frame {
-            Bvll::ReadBdt => self.answer(alloc, from, bdt_ack(alloc, &self.bdt)?),
-            Bvll::ReadFdt => self.answer(alloc, from, fdt_ack(alloc, &self.fdt)?),
-            Bvll::WriteBdt(_) | Bvll::Register { .. } | Bvll::Delete(_) => {
-                self.answer(alloc, from, result_octets(alloc, ResultCode::SUCCESS)?)
-            }
-            _ => Ok(Sends::new(alloc)),
-        }
-    }
-
-    /// An answer of these octets.
-    fn answer(&self, alloc: Global, from: BipAddr, octets: Vec<u8>) -> Result<Sends, AllocError>
-        ensures { IfOk result (λ sends.
-            sends ≡ sending self.now.port.number octets.items from ∷ []) }
-    {
-        Sends::of(alloc, Batch::to_one(self.port.number, from, octets))
-    }
-
-    /// The answer to a frame that doesn't have what it asked for: the code of its function.
-    pub(crate) fn refuse(
+    /// Adds the answer to a frame that has what it asked for.
+    fn put_told(
         &self,
         alloc: Global,
         from: BipAddr,
         frame: &Bvll<'_>,
-    ) -> Result<Sends, AllocError>
-        ensures { IfOk result (λ sends.
-            sends ≡ map (answer_to self.now.port from) (refused (view frame.now))) }
+        sends: &mut Sends,
+    ) -> Result<(), AllocError>
+        ensures { let sent = map (answer_to self.now.port from) (told self.now (view frame.now)) in
+            OnOk result (sends.new ≡ sends.old ++ sent) }
+    {
+        match frame {
+            Bvll::ReadBdt => self.put_answer(from, bdt_ack(alloc, &self.bdt)?, sends),
+            Bvll::ReadFdt => self.put_answer(from, fdt_ack(alloc, &self.fdt)?, sends),
+            Bvll::WriteBdt(_) | Bvll::Register { .. } | Bvll::Delete(_) => {
+                self.put_answer(from, result_octets(alloc, ResultCode::SUCCESS)?, sends)
+            }
+            _ => Ok(()),
+        }
+    }
+
+    /// Adds an answer of these octets.
+    fn put_answer(
+        &self,
+        from: BipAddr,
+        octets: Vec<u8>,
+        sends: &mut Sends,
+    ) -> Result<(), AllocError>
+        ensures { let sent = sending self.now.port.number octets.items from ∷ [] in
+            OnOk result (sends.new ≡ sends.old ++ sent) }
+    {
+        sends.push(Batch::to_one(self.port.number, from, octets))
+    }
+
+    /// Adds the answer to a frame that doesn't have what it asked for: the code of its function.
+    pub(crate) fn put_refusal(
+        &self,
+        alloc: Global,
+        from: BipAddr,
+        frame: &Bvll<'_>,
+        sends: &mut Sends,
+    ) -> Result<(), AllocError>
+        ensures { let sent = map (answer_to self.now.port from) (refused (view frame.now)) in
+            OnOk result (sends.new ≡ sends.old ++ sent) }
     {
         let Some(code) = ResultCode::refusal(frame.function()) else {
-            return Ok(Sends::new(alloc));
+            return Ok(());
         };
-        self.answer(alloc, from, result_octets(alloc, code)?)
-    }
-}
-
-/// The octets of a BVLC-Result (Annex J.2.1).
-fn result_octets(alloc: Global, code: ResultCode) -> Result<Vec<u8>, AllocError>
-    ensures { IfOk result (λ octets. octets.items ≡ encoding (result_code code.0)) }
-{
-    let mut octets = Vec::with_capacity(alloc, RESULT_LEN)?;
-    match gw_bvll::encode(&Bvll::Result(code), &mut octets) {
-        Ok(()) => Ok(octets),
-        Err(_) => Err(AllocError),
+        self.put_answer(from, result_octets(alloc, code)?, sends)
     }
 }
 

@@ -8,7 +8,7 @@ ghost use Rattle.gw_rules.specs.declared.rule.Rule.{Rule};
 ghost use Rattle.gw_relay.specs.Asks.{message_ask};
 ghost use Rattle.gw_relay.specs.Manage.{answer_steps, are_networks, is_for_all, is_i_am_router, is_what_is_network_number, is_who_is_router, i_am_router, learn_ask, learned, manage_asks, manage_response, network_number_is, network_octets, networks_in, number_step, question_of, question_of_all, question_steps, told};
 ghost use Rattle.gw_relay.specs.Message.{message_view};
-ghost use Rattle.gw_relay.specs.Response.{IsRelayed};
+ghost use Rattle.gw_relay.specs.Response.{IsAdded};
 ghost use Rattle.gw_relay.specs.Route.{made};
 ghost use Rattle.gw_relay.specs.Steps.{asks_of, broadcast};
 ghost use Rattle.gw_relay.specs.internal.Serving.{learn_response};
@@ -22,10 +22,9 @@ use crate::npdu::{is_kind, message_of, put_broadcast};
 use crate::outgoing::Outgoing;
 use crate::port::PortState;
 use crate::relay::Relay;
-use crate::response::RelayResponse;
+use crate::response::{RelayResponse, put_refusals};
 use crate::route::put_who_is_router;
 use crate::sends::Sends;
-use crate::step::StepState;
 use gw_addr::{NetNum, Sequence, put_number};
 use gw_npdu::{AddressRef, Destination, MessageKind, Npdu};
 use gw_routes::Way;
@@ -223,18 +222,19 @@ fn put_answer<J: Judge>(
     relay: &Relay,
     message: &Message<'_>,
     network: NetNum,
-    state: &mut StepState<'_, J>,
+    authorizer: &mut Authorizer<'_, J>,
+    sends: &mut Sends,
 ) -> Result<(), AllocError>
-    ensures steps { (rules : List Rule) → J.StandsFor state.old.authorizer.judge rules →
+    ensures steps { (rules : List Rule) → J.StandsFor authorizer.old.judge rules →
         let step = question_of relay.now (message_view message.now) network in
-        OnOk result (AreTaken rules (step ∷ []) state.old state.new) }
+        OnOk result (AreTaken rules (step ∷ []) authorizer.old authorizer.new sends.old sends.new) }
 {
     let ask = ask_of(Operation::Network, message, Some(network));
-    if !state.authorizer.authorize(&ask)? {
+    if !authorizer.authorize(&ask)? {
         return Ok(());
     }
     let way = relay.routes().find(network.get());
-    answer_who_is_router(alloc, relay, message, network, &way, &mut state.sends)
+    answer_who_is_router(alloc, relay, message, network, &way, sends)
 }
 
 /// Asks, and answers a question for all networks.
@@ -242,19 +242,20 @@ fn put_answer_to_all<J: Judge>(
     alloc: Global,
     relay: &Relay,
     message: &Message<'_>,
-    state: &mut StepState<'_, J>,
+    authorizer: &mut Authorizer<'_, J>,
+    sends: &mut Sends,
 ) -> Result<(), AllocError>
-    ensures steps { (rules : List Rule) → J.StandsFor state.old.authorizer.judge rules →
+    ensures steps { (rules : List Rule) → J.StandsFor authorizer.old.judge rules →
         let step = question_of_all relay.now (message_view message.now) in
-        OnOk result (AreTaken rules (step ∷ []) state.old state.new) }
+        OnOk result (AreTaken rules (step ∷ []) authorizer.old authorizer.new sends.old sends.new) }
 {
     let ask = ask_of(Operation::Network, message, None);
-    if !state.authorizer.authorize(&ask)? {
+    if !authorizer.authorize(&ask)? {
         return Ok(());
     }
     let here = message.here;
     let networks = relay.routes().reachable_from(alloc, here.port.number)?;
-    put_i_am_router(alloc, here, networks.as_slice(), &mut state.sends)
+    put_i_am_router(alloc, here, networks.as_slice(), sends)
 }
 
 /// Asks, and answers a Who-Is-Router-To-Network by its octets.
@@ -263,19 +264,22 @@ fn put_answers<J: Judge>(
     relay: &Relay,
     message: &Message<'_>,
     octets: &[u8],
-    state: &mut StepState<'_, J>,
+    authorizer: &mut Authorizer<'_, J>,
+    sends: &mut Sends,
 ) -> Result<(), AllocError>
-    ensures steps { (rules : List Rule) → J.StandsFor state.old.authorizer.judge rules →
+    ensures steps { (rules : List Rule) → J.StandsFor authorizer.old.judge rules →
         let steps = question_steps relay.now (message_view message.now) octets.now in
-        OnOk result (AreTaken rules steps state.old state.new) }
+        OnOk result (AreTaken rules steps authorizer.old authorizer.new sends.old sends.new) }
     ensures silent { let steps = question_steps relay.now (message_view message.now) octets.now in
         asks_of steps ≡ [] → IsOk result }
+    ensures unasked { let steps = question_steps relay.now (message_view message.now) octets.now in
+        asks_of steps ≡ [] → authorizer.new ≡ authorizer.old }
 {
     match octets {
-        [] => put_answer_to_all(alloc, relay, message, state),
+        [] => put_answer_to_all(alloc, relay, message, authorizer, sends),
         [_] => Ok(()),
         [high, low] => match NetNum::new(u16::from_be_bytes([*high, *low])) {
-            Some(network) => put_answer(alloc, relay, message, network, state),
+            Some(network) => put_answer(alloc, relay, message, network, authorizer, sends),
             None => Ok(()),
         },
         [_, _, _, ..] => Ok(()),
@@ -286,15 +290,16 @@ fn put_answers<J: Judge>(
 fn put_number_answer<J: Judge>(
     alloc: Global,
     message: &Message<'_>,
-    state: &mut StepState<'_, J>,
+    authorizer: &mut Authorizer<'_, J>,
+    sends: &mut Sends,
 ) -> Result<(), AllocError>
-    ensures steps { (rules : List Rule) → J.StandsFor state.old.authorizer.judge rules →
+    ensures steps { (rules : List Rule) → J.StandsFor authorizer.old.judge rules →
         let step = number_step (message_view message.now) in
-        OnOk result (AreTaken rules (step ∷ []) state.old state.new) }
+        OnOk result (AreTaken rules (step ∷ []) authorizer.old authorizer.new sends.old sends.new) }
 {
     let ask = ask_of(Operation::Network, message, None);
-    if state.authorizer.authorize(&ask)? {
-        put_number_is(alloc, message.here, &mut state.sends)
+    if authorizer.authorize(&ask)? {
+        put_number_is(alloc, message.here, sends)
     } else {
         Ok(())
     }
@@ -327,29 +332,29 @@ fn keep_allowed<J: Judge>(
     keep_allowed(authorizer, message, rest, networks)
 }
 
-/// Asks for each network that a router names, and tells which may be learned.
+/// Asks for each network that a router names, and keeps those to be committed that may be learned.
 fn learn<J: Judge>(
     alloc: Global,
     judge: &J,
     message: &Message<'_>,
-) -> Result<RelayResponse, AllocError>
+    given: &mut RelayResponse,
+) -> Result<(), AllocError>
     requires { is_i_am_router (message_view message.now).npdu ≡ true }
     ensures { (rules : List Rule) → J.StandsFor judge.now rules →
-        IfOk result (IsRelayed rules (learn_response rules (message_view message.now))) }
+        let due = learn_response rules (message_view message.now) in
+        OnOk result (IsAdded rules due given.old given.new) }
 {
     let mut authorizer = Authorizer::new(alloc, judge);
     let mut networks = Sequence::new(alloc);
     let octets = message.npdu.payload.octets();
     keep_allowed(&mut authorizer, message, octets, &mut networks)?;
-    Ok(RelayResponse {
-        sends: Sends::new(alloc),
-        refusals: authorizer.into_refusals(),
-        change: Some(Change::Learnings {
-            port: message.here.port.number,
-            next: message.link(),
-            networks,
-        }),
-    })
+    put_refusals(&mut given.refusals, authorizer.into_refusals())?;
+    given.put_change(Some(Change::Learnings {
+        port: message.here.port.number,
+        next: message.link(),
+        networks,
+    }));
+    Ok(())
 }
 
 /// Asks, and answers a question by its type.
@@ -357,38 +362,44 @@ fn put_by_type<J: Judge>(
     alloc: Global,
     relay: &Relay,
     message: &Message<'_>,
-    state: &mut StepState<'_, J>,
+    authorizer: &mut Authorizer<'_, J>,
+    sends: &mut Sends,
 ) -> Result<(), AllocError>
-    ensures steps { (rules : List Rule) → J.StandsFor state.old.authorizer.judge rules →
+    ensures steps { (rules : List Rule) → J.StandsFor authorizer.old.judge rules →
         let steps = answer_steps relay.now (message_view message.now) in
-        OnOk result (AreTaken rules steps state.old state.new) }
+        OnOk result (AreTaken rules steps authorizer.old authorizer.new sends.old sends.new) }
     ensures silent { asks_of (answer_steps relay.now (message_view message.now)) ≡ [] → IsOk result }
+    ensures unasked { asks_of (answer_steps relay.now (message_view message.now)) ≡ [] →
+        authorizer.new ≡ authorizer.old }
 {
-    if is_who_is_router(&message.npdu) {
+    if is_who_is_router(message.npdu) {
         let octets = message.npdu.payload.octets();
-        return put_answers(alloc, relay, message, octets, state);
+        return put_answers(alloc, relay, message, octets, authorizer, sends);
     }
-    if is_what_is_network_number(&message.npdu) {
-        return put_number_answer(alloc, message, state);
+    if is_what_is_network_number(message.npdu) {
+        return put_number_answer(alloc, message, authorizer, sends);
     }
     Ok(())
 }
 
-/// Answers a network layer message, or learns from it.
+/// Answers a network layer message, or learns from it, and adds what that gives.
 pub(crate) fn manage<J: Judge>(
     alloc: Global,
     judge: &J,
     relay: &Relay,
     message: &Message<'_>,
-) -> Result<RelayResponse, AllocError>
+    given: &mut RelayResponse,
+) -> Result<(), AllocError>
     ensures relayed { (rules : List Rule) → J.StandsFor judge.now rules →
-        IfOk result (IsRelayed rules (manage_response rules relay.now (message_view message.now))) }
+        let due = manage_response rules relay.now (message_view message.now) in
+        OnOk result (IsAdded rules due given.old given.new) }
     ensures silent { manage_asks relay.now (message_view message.now) ≡ [] → IsOk result }
 {
-    if is_i_am_router(&message.npdu) {
-        return learn(alloc, judge, message);
+    if is_i_am_router(message.npdu) {
+        return learn(alloc, judge, message, given);
     }
-    let mut state = StepState::new(alloc, judge);
-    put_by_type(alloc, relay, message, &mut state)?;
-    Ok(state.into_response())
+    let mut authorizer = Authorizer::new(alloc, judge);
+    put_by_type(alloc, relay, message, &mut authorizer, &mut given.sends)?;
+    put_refusals(&mut given.refusals, authorizer.into_refusals())?;
+    Ok(())
 }

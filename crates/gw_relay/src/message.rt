@@ -21,18 +21,18 @@ pub struct Message<'a> {
     /// Whom its frame came from.
     pub from: BipAddr,
     /// The frame that brought it.
-    pub frame: Bvll<'a>,
+    pub frame: &'a Bvll<'a>,
     /// The message.
-    pub npdu: Npdu<'a>,
+    pub npdu: &'a Npdu<'a>,
 }
 
 impl Message<'_> {
     /// The link source: where it came from on the port's network, which is the originator of a
     /// Forwarded-NPDU, and else the sender (Annex J.2.5).
     pub fn link(&self) -> BipAddr
-        ensures { result ≡ link_source self.now.from (frame_view self.now.frame) }
+        ensures { result ≡ link_source self.now.from (frame_view self.now.frame.now) }
     {
-        match &self.frame {
+        match self.frame {
             Bvll::Forwarded { originator, .. } => *originator,
             _ => self.from,
         }

@@ -5,12 +5,12 @@ ghost use Rattle.std.specs.Int.{w16, to_be_bytes};
 ghost use Rattle.std.specs.Option.{option_map};
 ghost use Rattle.gw_addr.specs.Entry.{bdt_entry, fdt_entry};
 ghost use Rattle.gw_bdt_fdt.specs.Registrations.{shown};
-ghost use Rattle.gw_bvll.specs.Bvll.{encoding, octet_of, read_bdt_ack, read_fdt_ack, view};
+ghost use Rattle.gw_bvll.specs.Bvll.{encoding, octet_of, read_bdt_ack, read_fdt_ack, result_code, view};
 ghost use Rattle.gw_bvll.specs.Entries.{lent};
 ghost use Rattle.gw_relay.specs.internal.Octets.{within};
 
 use gw_bdt_fdt::{Bdt, Fdt};
-use gw_bvll::{BdtEntries, Bvll, EncodeFault, FdtEntries, Function};
+use gw_bvll::{BdtEntries, Bvll, EncodeFault, FdtEntries, Function, ResultCode};
 use std::alloc::{AllocError, Global};
 
 /// The first octet of every message: BACnet/IP (Annex J.2).
@@ -19,6 +19,8 @@ const BACNET_IP: u8 = 0x81;
 pub(crate) const HEADER_LEN: usize = 4;
 /// How many octets the entry of a table has (Annex J.2.2, J.2.8).
 const ENTRY_LEN: usize = 10;
+/// How many octets a BVLC-Result has (Annex J.2.1).
+const RESULT_LEN: usize = 6;
 
 /// The octets of a message, of which there are about so many. None where they would be over 1507.
 pub(crate) fn message_octets(
@@ -67,6 +69,17 @@ fn put_length(message: &mut [u8])
 {
     let len = (message.len() as u16).to_be_bytes();
     message[2..4].copy_from_slice(&len);
+}
+
+/// The octets of a BVLC-Result (Annex J.2.1).
+pub(crate) fn result_octets(alloc: Global, code: ResultCode) -> Result<Vec<u8>, AllocError>
+    ensures { IfOk result (λ octets. octets.items ≡ encoding (result_code code.0)) }
+{
+    let [high, low] = code.0.to_be_bytes();
+    let mut octets = Vec::with_capacity(alloc, RESULT_LEN)?;
+    octets.extend_from_slice(&[0, 0, 0, 0, high, low])?;
+    put_header(octets.as_mut_slice(), Function::Result);
+    Ok(octets)
 }
 
 /// No entry of a broadcast distribution table.

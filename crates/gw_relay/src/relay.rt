@@ -9,7 +9,7 @@ ghost use Rattle.gw_relay.specs.Cast.{cast_asks, cast_response, goes_on, is_unre
 ghost use Rattle.gw_relay.specs.Link.{link_response};
 ghost use Rattle.gw_relay.specs.Manage.{manage_asks, manage_response};
 ghost use Rattle.gw_relay.specs.Message.{message_view};
-ghost use Rattle.gw_relay.specs.Response.{IsRelayed};
+ghost use Rattle.gw_relay.specs.Response.{IsAdded};
 ghost use Rattle.gw_relay.specs.Route.{route_asks, route_response};
 ghost use Rattle.gw_relay.specs.Initial.{direct_of, initial, routed_of};
 ghost use Rattle.gw_routes.specs.History.{IsStateAfter};
@@ -106,8 +106,8 @@ impl Relay {
 
     /// Answers a frame that reads or changes a table of the port that it came on (Annex J.2, J.4,
     /// J.5): the policy is asked once, and the answer goes to the sender. A frame of another kind
-    /// asks nothing and gets no answer. What that gives stands in the place of what is given. It
-    /// changes nothing. The only fault is want of memory; what asks nothing wants none.
+    /// asks nothing and gets no answer. What that gives is added. It changes nothing. The only fault is
+    /// want of memory, and a part may then be added; what asks nothing wants none.
     pub fn link<J: Judge>(
         &self,
         alloc: Global,
@@ -119,16 +119,16 @@ impl Relay {
     ) -> Result<(), AllocError>
         ensures relayed { (rules : List Rule) → J.StandsFor judge.now rules →
             let due = link_response rules on.now from (frame_view frame.now) in
-            OnOk result (IsRelayed rules due given.new) }
+            OnOk result (IsAdded rules due given.old given.new) }
         ensures silent { link_asks on.now.port from (frame_view frame.now) ≡ [] → IsOk result }
     {
         on.handle_table_message(alloc, judge, from, frame, given)
     }
 
     /// Distributes the broadcast that brought a message (Annex J.4, J.5): where the policy allows it,
-    /// one message goes to all peers and foreign devices that are due. What that gives stands in the
-    /// place of what is given. It answers whether the message goes on to the network layer: to routing,
-    /// network messages and the device. It changes nothing. The only fault is want of memory.
+    /// one message goes to all peers and foreign devices that are due. What that gives is added. It answers
+    /// whether the message goes on to the network layer: to routing, network messages and the device. It
+    /// changes nothing. The only fault is want of memory, and a part may then be added.
     pub fn cast<J: Judge>(
         &self,
         alloc: Global,
@@ -138,7 +138,7 @@ impl Relay {
     ) -> Result<bool, AllocError>
         ensures relayed { (rules : List Rule) → J.StandsFor judge.now rules →
             let due = cast_response rules (message_view message.now) in
-            OnOk result (IsRelayed rules due given.new) }
+            OnOk result (IsAdded rules due given.old given.new) }
         ensures goes_on { let m = message_view message.now in
             IfOk result (λ goes. goes ≡ goes_on m.here m.from m.frame) }
         // What asks nothing and tells no unregistered sender wants no memory.
@@ -185,8 +185,8 @@ impl Relay {
     /// Routes a message (clause 6.5). By the way of its destination the policy is asked, and what is
     /// allowed is sent: to a station of another port's network or to all there, to the next router,
     /// or to all other ports. Where no way is known the link source is told so, and the other ports'
-    /// routers are asked for one. What that gives stands in the place of what is given. It changes
-    /// nothing. The only fault is want of memory; what asks nothing wants none.
+    /// routers are asked for one. What that gives is added. It changes nothing. The only fault is want of
+    /// memory, and a part may then be added; what asks nothing wants none.
     #[inline(always)]
     pub fn route<J: Judge>(
         &self,
@@ -197,7 +197,7 @@ impl Relay {
     ) -> Result<(), AllocError>
         ensures relayed { (rules : List Rule) → J.StandsFor judge.now rules →
             let m = message_view message.now in
-            OnOk result (IsRelayed rules (route_response rules self.now m) given.new) }
+            OnOk result (IsAdded rules (route_response rules self.now m) given.old given.new) }
         ensures silent { route_asks self.now (message_view message.now) ≡ [] → IsOk result }
     {
         route(alloc, judge, self, message, given)
@@ -205,20 +205,21 @@ impl Relay {
 
     /// Answers a network layer message (clause 6.4): a Who-Is-Router-To-Network and a
     /// What-Is-Network-Number get an answer, and of an I-Am-Router-To-Network each network that the
-    /// policy allows is to be learned. It changes nothing. The only fault is want of memory; what
-    /// asks nothing wants none.
+    /// policy allows is to be learned. What that gives is added. It changes nothing. The only fault is want of
+    /// memory, and a part may then be added; what asks nothing wants none.
     pub fn manage<J: Judge>(
         &self,
         alloc: Global,
         judge: &J,
         message: &Message<'_>,
-    ) -> Result<RelayResponse, AllocError>
+        given: &mut RelayResponse,
+    ) -> Result<(), AllocError>
         ensures relayed { (rules : List Rule) → J.StandsFor judge.now rules →
             let m = message_view message.now in
-            IfOk result (IsRelayed rules (manage_response rules self.now m)) }
+            OnOk result (IsAdded rules (manage_response rules self.now m) given.old given.new) }
         ensures silent { manage_asks self.now (message_view message.now) ≡ [] → IsOk result }
     {
-        manage(alloc, judge, self, message)
+        manage(alloc, judge, self, message, given)
     }
 
     /// Makes a change whole. Where a registration finds no room, a deletion no registration, or

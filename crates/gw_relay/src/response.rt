@@ -33,23 +33,16 @@ impl RelayResponse {
         }
     }
 
-    /// Adds what a later step answers behind this. What is to be committed stays, and where there is
-    /// nothing, it is the later one's. An `Err` where there is no memory for the lists, or where there
-    /// would be more than 2^64 - 1 datagrams, which no memory holds; a part may then be added. Where the
-    /// later one sends nothing and had nothing denied it takes no memory.
+    /// Keeps what is to be committed, where there is nothing yet.
     #[inline(always)]
-    pub fn append(&mut self, later: RelayResponse) -> Result<(), AllocError>
-        ensures sends { OnOk result (self.new.sends ≡ self.old.sends ++ later.sends) }
-        ensures refusals { OnOk result (self.new.refusals ≡ self.old.refusals ++ later.refusals) }
-        ensures change { OnOk result (self.new.change ≡ option_or self.old.change later.change) }
-        ensures silent { later.sends ≡ [] → later.refusals ≡ [] → IsOk result }
+    pub(crate) fn put_change(&mut self, change: Option<Change>)
+        ensures sends { self.new.sends ≡ self.old.sends }
+        ensures refusals { self.new.refusals ≡ self.old.refusals }
+        ensures change { self.new.change ≡ option_or self.old.change change }
     {
-        self.sends.append(later.sends)?;
-        put_refusals(&mut self.refusals, later.refusals)?;
         if self.change.is_none() {
-            self.change = later.change;
+            self.change = change;
         }
-        Ok(())
     }
 }
 

@@ -6,7 +6,7 @@ ghost use Rattle.std.specs.Option.{option_map};
 ghost use Rattle.gw_npdu.specs.Npdu.{view as npdu_view, address_view, destination_view, payload_view};
 ghost use Rattle.gw_rules.specs.declared.rule.Rule.{Rule};
 ghost use Rattle.gw_relay.specs.Message.{message_view};
-ghost use Rattle.gw_relay.specs.Response.{IsRelayed};
+ghost use Rattle.gw_relay.specs.Response.{IsAdded};
 ghost use Rattle.gw_relay.specs.Route.{copied, copy, delivered, has_hops, hop, is_local, last_hop, leaves, on_way, others, reject, route_ask, route_asks, route_response, routed, sent_on, sought, steps_by, who_is_router};
 ghost use Rattle.gw_relay.specs.Steps.{asks_of, broadcast, npdu_octets, taken, unicast};
 ghost use Rattle.gw_relay.specs.internal.Taken.{AreTaken};
@@ -18,13 +18,12 @@ use crate::npdu::{is_kind, message_of, put_broadcast, put_unicast};
 use crate::outgoing::Outgoing;
 use crate::port::{PortState, link_at};
 use crate::relay::Relay;
-use crate::response::RelayResponse;
+use crate::response::{RelayResponse, put_refusals};
 use crate::sends::Sends;
-use crate::step::StepState;
 use gw_configuration::Format;
 use gw_npdu::{AddressRef, Destination, MessageKind, Npdu, Onward, Payload};
 use gw_routes::{Route, Way};
-use gw_rules::{Ask, Judge, Operation};
+use gw_rules::{Ask, Authorizer, Judge, Operation};
 use std::alloc::{AllocError, Global};
 
 /// The hop count that a message begins with (clause 6.2.3).
@@ -85,7 +84,7 @@ fn outgoing_from(
         keeps_destination,
         source,
     };
-    Outgoing::onward(alloc, &message.npdu, &how)
+    Outgoing::onward(alloc, message.npdu, &how)
 }
 
 /// Adds a message on the destination's own network.
@@ -270,23 +269,26 @@ fn put_copies<J: Judge>(
     message: &Message<'_>,
     destination: &Destination<'_>,
     links: &[PortState],
-    state: &mut StepState<'_, J>,
+    authorizer: &mut Authorizer<'_, J>,
+    sends: &mut Sends,
 ) -> Result<(), AllocError>
-    ensures steps { (rules : List Rule) → J.StandsFor state.old.authorizer.judge rules →
+    ensures steps { (rules : List Rule) → J.StandsFor authorizer.old.judge rules →
         let copy = copy format (message_view message.now) (destination_view destination.now) in
         let steps = map copy (others message.now.here.now.port.number links.now) in
-        OnOk result (AreTaken rules steps state.old state.new) }
-    ensures judge { state.new.authorizer.judge ≡ state.old.authorizer.judge }
+        OnOk result (AreTaken rules steps authorizer.old authorizer.new sends.old sends.new) }
+    ensures judge { authorizer.new.judge ≡ authorizer.old.judge }
     ensures silent { others message.now.here.now.port.number links.now ≡ [] → IsOk result }
+    ensures unasked { others message.now.here.now.port.number links.now ≡ [] →
+        authorizer.new ≡ authorizer.old }
 {
     let Some((link, rest)) = links.split_first() else {
         return Ok(());
     };
     if link.port.number == message.here.port.number {
-        return put_copies(alloc, format, message, destination, rest, state);
+        return put_copies(alloc, format, message, destination, rest, authorizer, sends);
     }
-    put_copy(alloc, format, message, destination, link, state)?;
-    put_copies(alloc, format, message, destination, rest, state)
+    put_copy(alloc, format, message, destination, link, authorizer, sends)?;
+    put_copies(alloc, format, message, destination, rest, authorizer, sends)
 }
 
 /// Asks for another port, and adds the copy of a global broadcast where it is allowed.
@@ -296,18 +298,19 @@ fn put_copy<J: Judge>(
     message: &Message<'_>,
     destination: &Destination<'_>,
     link: &PortState,
-    state: &mut StepState<'_, J>,
+    authorizer: &mut Authorizer<'_, J>,
+    sends: &mut Sends,
 ) -> Result<(), AllocError>
-    ensures steps { (rules : List Rule) → J.StandsFor state.old.authorizer.judge rules →
+    ensures steps { (rules : List Rule) → J.StandsFor authorizer.old.judge rules →
         let d = destination_view destination.now in
         let copy = copy format (message_view message.now) d link.now in
-        OnOk result (AreTaken rules (copy ∷ []) state.old state.new) }
-    ensures judge { state.new.authorizer.judge ≡ state.old.authorizer.judge }
+        OnOk result (AreTaken rules (copy ∷ []) authorizer.old authorizer.new sends.old sends.new) }
+    ensures judge { authorizer.new.judge ≡ authorizer.old.judge }
 {
     let network = Some(u64::from(link.port.network.get()));
     let ask = route_ask(message, network);
-    if authorize_forward(&mut state.authorizer, format, &ask, &message.npdu.payload)? {
-        copy_to_port(alloc, message, destination, link, &mut state.sends)
+    if authorize_forward(authorizer, format, &ask, &message.npdu.payload)? {
+        copy_to_port(alloc, message, destination, link, sends)
     } else {
         Ok(())
     }
@@ -320,18 +323,19 @@ fn put_allowed<J: Judge>(
     message: &Message<'_>,
     destination: &Destination<'_>,
     way: &Way,
-    state: &mut StepState<'_, J>,
+    authorizer: &mut Authorizer<'_, J>,
+    sends: &mut Sends,
 ) -> Result<(), AllocError>
-    ensures steps { (rules : List Rule) → J.StandsFor state.old.authorizer.judge rules →
+    ensures steps { (rules : List Rule) → J.StandsFor authorizer.old.judge rules →
         let d = destination_view destination.now in
         let step = on_way relay.now (message_view message.now) d way.now in
-        OnOk result (AreTaken rules (step ∷ []) state.old state.new) }
-    ensures judge { state.new.authorizer.judge ≡ state.old.authorizer.judge }
+        OnOk result (AreTaken rules (step ∷ []) authorizer.old authorizer.new sends.old sends.new) }
+    ensures judge { authorizer.new.judge ≡ authorizer.old.judge }
 {
-    let ask = route_ask(message, bound_for(&message.npdu));
+    let ask = route_ask(message, bound_for(message.npdu));
     let payload = &message.npdu.payload;
-    if authorize_forward(&mut state.authorizer, relay.format(), &ask, payload)? {
-        forward(alloc, relay, message, destination, way, &mut state.sends)
+    if authorize_forward(authorizer, relay.format(), &ask, payload)? {
+        forward(alloc, relay, message, destination, way, sends)
     } else {
         Ok(())
     }
@@ -345,27 +349,39 @@ fn put_by_way<J: Judge>(
     message: &Message<'_>,
     destination: &Destination<'_>,
     way: &Way,
-    state: &mut StepState<'_, J>,
+    authorizer: &mut Authorizer<'_, J>,
+    sends: &mut Sends,
 ) -> Result<(), AllocError>
-    ensures steps { (rules : List Rule) → J.StandsFor state.old.authorizer.judge rules →
+    ensures steps { (rules : List Rule) → J.StandsFor authorizer.old.judge rules →
         let d = destination_view destination.now in
         let steps = steps_by relay.now (message_view message.now) d way.now in
-        OnOk result (AreTaken rules steps state.old state.new) }
+        OnOk result (AreTaken rules steps authorizer.old authorizer.new sends.old sends.new) }
     ensures silent { let d = destination_view destination.now in
         let steps = steps_by relay.now (message_view message.now) d way.now in
         asks_of steps ≡ [] → IsOk result }
+    ensures unasked { let d = destination_view destination.now in
+        let steps = steps_by relay.now (message_view message.now) d way.now in
+        asks_of steps ≡ [] → authorizer.new ≡ authorizer.old }
 {
     if *way == Way::Everywhere {
         let format = relay.format();
-        return put_copies(alloc, format, message, destination, relay.links(), state);
+        return put_copies(
+            alloc,
+            format,
+            message,
+            destination,
+            relay.links(),
+            authorizer,
+            sends,
+        );
     }
     if !leaves(message.here.port.number, way) {
         return Ok(());
     }
-    put_allowed(alloc, relay, message, destination, way, state)
+    put_allowed(alloc, relay, message, destination, way, authorizer, sends)
 }
 
-/// Routes a message by a way. What that gives stands in the place of what is given.
+/// Routes a message by a way, and adds what that gives.
 #[inline(never)]
 fn route_by_way<J: Judge>(
     alloc: Global,
@@ -379,18 +395,27 @@ fn route_by_way<J: Judge>(
     ensures relayed { (rules : List Rule) → J.StandsFor judge.now rules →
         let d = destination_view destination.now in
         let steps = steps_by relay.now (message_view message.now) d way.now in
-        OnOk result (IsRelayed rules (taken rules steps) given.new) }
+        OnOk result (IsAdded rules (taken rules steps) given.old given.new) }
     ensures silent { let d = destination_view destination.now in
         let steps = steps_by relay.now (message_view message.now) d way.now in
         asks_of steps ≡ [] → IsOk result }
 {
-    let mut state = StepState::new(alloc, judge);
-    put_by_way(alloc, relay, message, destination, way, &mut state)?;
-    *given = state.into_response();
+    let mut authorizer = Authorizer::new(alloc, judge);
+    let sends = &mut given.sends;
+    put_by_way(
+        alloc,
+        relay,
+        message,
+        destination,
+        way,
+        &mut authorizer,
+        sends,
+    )?;
+    put_refusals(&mut given.refusals, authorizer.into_refusals())?;
     Ok(())
 }
 
-/// Routes a message. What that gives stands in the place of what is given.
+/// Routes a message, and adds what that gives.
 #[inline(always)]
 pub(crate) fn route<J: Judge>(
     alloc: Global,
@@ -401,10 +426,9 @@ pub(crate) fn route<J: Judge>(
 ) -> Result<(), AllocError>
     ensures relayed { (rules : List Rule) → J.StandsFor judge.now rules →
         let due = route_response rules relay.now (message_view message.now) in
-        OnOk result (IsRelayed rules due given.new) }
+        OnOk result (IsAdded rules due given.old given.new) }
     ensures silent { route_asks relay.now (message_view message.now) ≡ [] → IsOk result }
 {
-    *given = RelayResponse::nothing(alloc);
     let Some(destination) = &message.npdu.destination else {
         return Ok(());
     };

@@ -200,16 +200,6 @@ impl Sends {
         }
     }
 
-    /// The datagrams of one message. It takes no memory.
-    #[inline(always)]
-    pub fn of(alloc: Global, batch: Batch) -> Result<Self, AllocError>
-        ensures { IfOk result (λ sends. sends ≡ sendings_of batch) }
-    {
-        let mut sends = Sends::new(alloc);
-        sends.push(batch)?;
-        Ok(sends)
-    }
-
     /// How many datagrams there are.
     pub fn len(&self) -> u64
         ensures { result ≡ length self.now }

@@ -7,11 +7,13 @@ use Rattle.gw_core.specs.State.{State}
 use Rattle.gw_core.specs.View.{received_view}
 use Rattle.gw_core.proofs.DenialLemmas.{counted_for, recorded}
 use Rattle.gw_core.proofs.EffectLemmas.{effects_are}
+use Rattle.gw_core.proofs.RespondLemmas.{stands_alone}
 use Rattle.gw_core.proofs.gateway.Gateway.outcome.Goals as goal
 
 pub returns-clause-effects : goal.returns-clause-effects
 returns-clause-effects c =
-    let r = c.in_ok-write.ensures.response c.self.inside.policy refl in
+    let r = stands_alone c.self.inside.policy _ _ _ _ _ _ c.nothing-relayed.ensures.sends c.nothing-relayed.ensures.refusals
+    c.nothing-relayed.ensures.change (c.in_ok-write.ensures.response c.self.inside.policy refl) in
     let refusals = c.respond.new.given.refusals in
     let w : State = record {
       relay = c.self.inside.relay;
@@ -33,7 +35,8 @@ pub returns-clause-room : goal.returns-clause-room
 returns-clause-room c = λ ok.
     let w = c.args.self.now in
     let received = received_view c.args.received.now in
-    let r = c.in_ok-write.ensures.response c.self.inside.policy refl in
+    let r = stands_alone c.self.inside.policy _ _ _ _ _ _ c.nothing-relayed.ensures.sends c.nothing-relayed.ensures.refusals
+    c.nothing-relayed.ensures.change (c.in_ok-write.ensures.response c.self.inside.policy refl) in
     let refusals = subst (λ (s : State). c.respond.new.given.refusals ≡ denied_of s.rules (asks_for s.rules s.relay s.device received))
     c.self.view_is r.refusals in
     omega (arith, c.if-len-left.false, c.len.ensures, c.left.ensures, ap length refusals, counted_for w received)
@@ -42,14 +45,16 @@ pub returns-then-len-left-clause-count_end : goal.returns-then-len-left-clause-c
 returns-then-len-left-clause-count_end c = λ h.
     let w = c.args.self.now in
     let received = received_view c.args.received.now in
-    let r = c.in_ok-write.ensures.response c.self.inside.policy refl in
+    let r = stands_alone c.self.inside.policy _ _ _ _ _ _ c.nothing-relayed.ensures.sends c.nothing-relayed.ensures.refusals
+    c.nothing-relayed.ensures.change (c.in_ok-write.ensures.response c.self.inside.policy refl) in
     let refusals = subst (λ (s : State). c.respond.new.given.refusals ≡ denied_of s.rules (asks_for s.rules s.relay s.device received))
     c.self.view_is r.refusals in
     omega (arith, c.if-len-left.true, c.len.ensures, c.left.ensures, ap length refusals, counted_for w received)
 
 pub returns-clause-change : goal.returns-clause-change
 returns-clause-change c =
-    let r = c.in_ok-write.ensures.response c.self.inside.policy refl in
+    let r = stands_alone c.self.inside.policy _ _ _ _ _ _ c.nothing-relayed.ensures.sends c.nothing-relayed.ensures.refusals
+    c.nothing-relayed.ensures.change (c.in_ok-write.ensures.response c.self.inside.policy refl) in
     subst (λ (s : State). c.respond.new.given.change ≡ relay_change_for s.rules (received_view c.args.received.now)) c.self.view_is r.change
 
 pub returns-clause-write : goal.returns-clause-write

@@ -17,11 +17,11 @@ pub returns-in_err-effects-clause-count_end : goal.returns-in_err-effects-clause
 returns-in_err-effects-clause-count_end c =
     let w = c.args.self.now in
     let event = Datagram c.args.port c.args.from c.args.octets.now in
-    let received : received_view c.receive_on-received.result ≡ receive w event =
-    received_as w c.links.result.now c.network_of-network.result c.args.port c.args.from c.args.octets.now _ c.receive_on-received.ensures
+    let received : received_view c.receive-received.result ≡ receive w event =
+    received_as w c.links.result.now c.network_of-network.result c.args.port c.args.from c.args.octets.now _ c.receive-received.ensures
     (c.links.ensures ∙ ap (λ (s : State). s.relay.links) c.now.view_is)
     (c.network_of-network.ensures ∙ ap (λ (s : State). device_network s.device) c.now.view_is) in
-    let counted = denials_received w event (received_view c.receive_on-received.result) received in
+    let counted = denials_received w event (received_view c.receive-received.result) received in
     λ h.
     let same = fault_of_call c.from_residual.result c.in_err-effects.field-0.0 CountEnd c.from_residual.ensures.1 h in
     passes_end-denials w event _ counted (c.in_err-effects.ensures.count_end (ap Err same))
@@ -30,8 +30,8 @@ pub returns-in_err-effects-clause-silent : goal.returns-in_err-effects-clause-si
 returns-in_err-effects-clause-silent c = λ none.
     let w = c.args.self.now in
     let event = Datagram c.args.port c.args.from c.args.octets.now in
-    let received : received_view c.receive_on-received.result ≡ receive w event =
-    received_as w c.links.result.now c.network_of-network.result c.args.port c.args.from c.args.octets.now _ c.receive_on-received.ensures
+    let received : received_view c.receive-received.result ≡ receive w event =
+    received_as w c.links.result.now c.network_of-network.result c.args.port c.args.from c.args.octets.now _ c.receive-received.ensures
     (c.links.ensures ∙ ap (λ (s : State). s.relay.links) c.now.view_is)
     (c.network_of-network.ensures ∙ ap (λ (s : State). device_network s.device) c.now.view_is) in
     let ok = c.in_err-effects.ensures.silent (sym (asks_received w event _ received) ∙ none.0)
@@ -42,11 +42,11 @@ pub returns-clause-step : goal.returns-clause-step
 returns-clause-step c =
     let w = c.args.self.now in
     let event = Datagram c.args.port c.args.from c.args.octets.now in
-    let received : received_view c.receive_on-received.result ≡ receive w event =
-    received_as w c.links.result.now c.network_of-network.result c.args.port c.args.from c.args.octets.now _ c.receive_on-received.ensures
+    let received : received_view c.receive-received.result ≡ receive w event =
+    received_as w c.links.result.now c.network_of-network.result c.args.port c.args.from c.args.octets.now _ c.receive-received.ensures
     (c.links.ensures ∙ ap (λ (s : State). s.relay.links) c.now.view_is)
     (c.network_of-network.ensures ∙ ap (λ (s : State). device_network s.device) c.now.view_is) in
-    let counted = denials_received w event (received_view c.receive_on-received.result) received in
+    let counted = denials_received w event (received_view c.receive-received.result) received in
     let ticks : w.ticks + 0 ≤ 2 ^ 63 = subst (λ (s : State). s.ticks + 0 ≤ 2 ^ 63) c.now.view_is (omega (arith, c.now.invariant.ticks)) in
     let sized = c.len.ensures ∙ ap (λ (x : Effects). length x.denials) c.in_ok-effects.ensures.effects ∙ counted in
     record {
@@ -62,8 +62,8 @@ pub returns-clause-writes : goal.returns-clause-writes
 returns-clause-writes c =
     let w = c.args.self.now in
     let event = Datagram c.args.port c.args.from c.args.octets.now in
-    let received : received_view c.receive_on-received.result ≡ receive w event =
-    received_as w c.links.result.now c.network_of-network.result c.args.port c.args.from c.args.octets.now _ c.receive_on-received.ensures
+    let received : received_view c.receive-received.result ≡ receive w event =
+    received_as w c.links.result.now c.network_of-network.result c.args.port c.args.from c.args.octets.now _ c.receive-received.ensures
     (c.links.ensures ∙ ap (λ (s : State). s.relay.links) c.now.view_is)
     (c.network_of-network.ensures ∙ ap (λ (s : State). device_network s.device) c.now.view_is) in
     writes_go_on w c.move_on.new.self event c.in_ok-effects.field-0.write
@@ -73,8 +73,8 @@ pub returns-clause-tables : goal.returns-clause-tables
 returns-clause-tables c =
     let w = c.args.self.now in
     let event = Datagram c.args.port c.args.from c.args.octets.now in
-    let received : received_view c.receive_on-received.result ≡ receive w event =
-    received_as w c.links.result.now c.network_of-network.result c.args.port c.args.from c.args.octets.now _ c.receive_on-received.ensures
+    let received : received_view c.receive-received.result ≡ receive w event =
+    received_as w c.links.result.now c.network_of-network.result c.args.port c.args.from c.args.octets.now _ c.receive-received.ensures
     (c.links.ensures ∙ ap (λ (s : State). s.relay.links) c.now.view_is)
     (c.network_of-network.ensures ∙ ap (λ (s : State). device_network s.device) c.now.view_is) in
     tables_go_on w c.move_on.new.self event (option_map Commit c.in_ok-effects.field-0.change)
@@ -85,8 +85,8 @@ pub returns-clause-routes : goal.returns-clause-routes
 returns-clause-routes c =
     let w = c.args.self.now in
     let event = Datagram c.args.port c.args.from c.args.octets.now in
-    let received : received_view c.receive_on-received.result ≡ receive w event =
-    received_as w c.links.result.now c.network_of-network.result c.args.port c.args.from c.args.octets.now _ c.receive_on-received.ensures
+    let received : received_view c.receive-received.result ≡ receive w event =
+    received_as w c.links.result.now c.network_of-network.result c.args.port c.args.from c.args.octets.now _ c.receive-received.ensures
     (c.links.ensures ∙ ap (λ (s : State). s.relay.links) c.now.view_is)
     (c.network_of-network.ensures ∙ ap (λ (s : State). device_network s.device) c.now.view_is) in
     routes_go_on w c.move_on.new.self event (option_map Commit c.in_ok-effects.field-0.change)
@@ -97,8 +97,8 @@ pub returns-in_err-move_on-clause-silent : goal.returns-in_err-move_on-clause-si
 returns-in_err-move_on-clause-silent c = λ none.
     let w = c.args.self.now in
     let event = Datagram c.args.port c.args.from c.args.octets.now in
-    let received : received_view c.receive_on-received.result ≡ receive w event =
-    received_as w c.links.result.now c.network_of-network.result c.args.port c.args.from c.args.octets.now _ c.receive_on-received.ensures
+    let received : received_view c.receive-received.result ≡ receive w event =
+    received_as w c.links.result.now c.network_of-network.result c.args.port c.args.from c.args.octets.now _ c.receive-received.ensures
     (c.links.ensures ∙ ap (λ (s : State). s.relay.links) c.now.view_is)
     (c.network_of-network.ensures ∙ ap (λ (s : State). device_network s.device) c.now.view_is) in
     let ok = c.in_err-move_on.ensures.no_growth (c.in_ok-effects.ensures.change
