@@ -27,7 +27,7 @@ use crate::effects::Effects;
 use crate::event::Counts;
 use crate::explaining::append_asks;
 use crate::fault::StepFault;
-use crate::receive::{Received, npdu_in, receive};
+use crate::receive::{Received, octets_in, receive};
 use crate::respond::{network_of, respond};
 use gw_addr::BipAddr;
 use gw_configuration::Config;
@@ -306,7 +306,7 @@ impl Gateway {
         let now = &*self;
         let network = network_of(&now.device);
         let frame = gw_bvll::decode(octets);
-        let npdu = npdu_in(&frame);
+        let npdu = gw_npdu::decode(octets_in(&frame));
         let received = receive(
             now.relay.links(),
             network,
@@ -342,7 +342,7 @@ impl Gateway {
     {
         let network = network_of(&self.device);
         let frame = gw_bvll::decode(octets);
-        let npdu = npdu_in(&frame);
+        let npdu = gw_npdu::decode(octets_in(&frame));
         let received = receive(
             self.relay.links(),
             network,

@@ -94,21 +94,13 @@ fn claims_direct(links: &[PortState], device: NetNum, source: &Option<AddressRef
 }
 
 /// The octets of the NPDU that a frame brings: none where there is no frame, or none that brings one.
-fn octets_in<'a>(frame: &Result<Bvll<'a>, BvllFault>) -> &'a [u8]
+pub(crate) fn octets_in<'a>(frame: &Result<Bvll<'a>, BvllFault>) -> &'a [u8]
     ensures { result.now ≡ octets_in frame.now }
 {
     match frame {
         Ok(frame) => payload_of(frame).unwrap_or(&[]),
         Err(_) => &[],
     }
-}
-
-/// The NPDU that a frame brings.
-#[inline(always)]
-pub(crate) fn npdu_in<'a>(frame: &Result<Bvll<'a>, BvllFault>) -> Result<Npdu<'a>, NpduFault>
-    ensures { Gives npdu_view result (npdu_at (octets_in frame.now)) }
-{
-    gw_npdu::decode(octets_in(frame))
 }
 
 /// What a frame is received as that manages no table, with the NPDU that it brings: that is heard, or the frame is
@@ -146,7 +138,7 @@ fn receive_payload<'a>(
 }
 
 /// What a datagram is received as on the port of this number, with the frame that its octets are and the NPDU that this
-/// brings.
+/// brings: both stay where they were read.
 #[inline(always)]
 pub(crate) fn receive<'a>(
     links: &'a [PortState],

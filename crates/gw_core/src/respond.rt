@@ -162,6 +162,7 @@ fn answer_apdu<J: Judge>(
 
 /// Adds what is done about a message (steps 4 and 6 to 10), and answers the write to the device that is granted, if
 /// there is one.
+#[inline(always)]
 fn respond_to_message<J: Judge>(
     alloc: Global,
     judge: &J,
@@ -209,6 +210,7 @@ fn respond_to_managed<J: Judge>(
 
 /// Adds what is done about what is received: what is sent, what the policy denied and what the relay commits. It
 /// answers the write to the device that is granted, if there is one. A part may be added where a growth was refused.
+#[inline(always)]
 pub(crate) fn respond<J: Judge>(
     alloc: Global,
     judge: &J,

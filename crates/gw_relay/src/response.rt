@@ -48,6 +48,7 @@ impl RelayResponse {
 
 /// Adds refusals behind others. An `Err` where there is no memory for the list; a part may then be added. Where there are
 /// none to add it takes no memory.
+#[inline(always)]
 pub fn put_refusals(refusals: &mut Refusals, later: Refusals) -> Result<(), AllocError>
     ensures ok { OnOk result (refusals.new ≡ refusals.old ++ later) }
     ensures silent { later ≡ [] → IsOk result }
