@@ -85,6 +85,7 @@ fn put_counts(out: &mut Vec<u8>, denial: &Denial) -> Result<(), AllocError>
 }
 
 /// Appends a station: its network and its octets, with a colon between.
+#[inline(always)]
 fn put_source(out: &mut Vec<u8>, source: &Source) -> Result<(), AllocError>
     ensures { IsAppended (source_text source.now) out.old out.new result }
 {

@@ -27,11 +27,12 @@ use crate::effects::Effects;
 use crate::event::Counts;
 use crate::explaining::append_asks;
 use crate::fault::StepFault;
-use crate::receive::{Received, octets_in, receive};
+use crate::receive::{Received, read_npdu, receive};
 use crate::respond::{network_of, respond};
 use gw_addr::BipAddr;
 use gw_configuration::Config;
 use gw_device::{Change, Device};
+use gw_npdu::NpduFault;
 use gw_relay::{Change as RelayChange, Relay, RelayResponse};
 use gw_rule_index::Policy;
 use std::alloc::{AllocError, Global};
@@ -306,7 +307,8 @@ impl Gateway {
         let now = &*self;
         let network = network_of(&now.device);
         let frame = gw_bvll::decode(octets);
-        let npdu = gw_npdu::decode(octets_in(&frame));
+        let mut npdu = Err(NpduFault::Short);
+        read_npdu(&frame, &mut npdu);
         let received = receive(
             now.relay.links(),
             network,
@@ -342,7 +344,8 @@ impl Gateway {
     {
         let network = network_of(&self.device);
         let frame = gw_bvll::decode(octets);
-        let npdu = gw_npdu::decode(octets_in(&frame));
+        let mut npdu = Err(NpduFault::Short);
+        read_npdu(&frame, &mut npdu);
         let received = receive(
             self.relay.links(),
             network,

@@ -94,12 +94,28 @@ fn claims_direct(links: &[PortState], device: NetNum, source: &Option<AddressRef
 }
 
 /// The octets of the NPDU that a frame brings: none where there is no frame, or none that brings one.
-pub(crate) fn octets_in<'a>(frame: &Result<Bvll<'a>, BvllFault>) -> &'a [u8]
+fn octets_in<'a>(frame: &Result<Bvll<'a>, BvllFault>) -> &'a [u8]
     ensures { result.now ≡ octets_in frame.now }
 {
     match frame {
         Ok(frame) => payload_of(frame).unwrap_or(&[]),
         Err(_) => &[],
+    }
+}
+
+/// Reads the NPDU that a frame brings into its place, where it stays; where there is none, nothing is read.
+#[inline(always)]
+pub(crate) fn read_npdu<'a>(
+    frame: &Result<Bvll<'a>, BvllFault>,
+    npdu: &mut Result<Npdu<'a>, NpduFault>,
+)
+    ensures { Gives npdu_view npdu.new (npdu_at (octets_in frame.now)) }
+{
+    let octets = octets_in(frame);
+    if octets.is_empty() {
+        *npdu = Err(NpduFault::Short);
+    } else {
+        *npdu = gw_npdu::decode(octets);
     }
 }
 
