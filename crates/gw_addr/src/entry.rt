@@ -13,7 +13,7 @@ use crate::bip::BipAddr;
 /// |          address            |       mask        |
 /// +----+----+----+----+----+----+----+----+----+----+
 /// ```
-#[derive(Clone, Copy, Debug, PartialEq, Eq)]
+#[derive(Clone, Copy, Debug)]
 pub struct BdtEntry {
     /// The address of the broadcast manager.
     pub address: BipAddr,
@@ -64,7 +64,7 @@ impl BdtEntry {
 /// |                             | to live |  left   |
 /// +----+----+----+----+----+----+----+----+----+----+
 /// ```
-#[derive(Clone, Copy, Debug, PartialEq, Eq)]
+#[derive(Clone, Copy, Debug)]
 pub struct FdtEntry {
     /// The address of the foreign device.
     pub address: BipAddr,

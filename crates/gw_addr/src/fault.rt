@@ -3,7 +3,7 @@
 use thiserror::Error;
 
 /// Why octets are no BACnet/IP address.
-#[derive(Clone, Copy, Debug, PartialEq, Eq, Error)]
+#[derive(Clone, Copy, Debug, Error)]
 pub enum OctetsFault {
     /// 1: not six octets.
     #[error("a BACnet/IP address has six octets")]
@@ -11,7 +11,7 @@ pub enum OctetsFault {
 }
 
 /// Why a text is no BACnet/IP address.
-#[derive(Clone, Copy, Debug, PartialEq, Eq, Error)]
+#[derive(Clone, Copy, Debug, Error)]
 pub enum TextFault {
     /// 1: not of the form `a.b.c.d:port`, in decimal digits without leading zeros and within range.
     #[error("a BACnet/IP address is written `a.b.c.d:port`")]

@@ -10,7 +10,7 @@ use std::fmt;
 
 /// The mask of an IPv4 address, four octets. Any four are one: a broadcast distribution mask need
 /// not be of ones and then zeros (Annex J.2.2 says no more of it).
-#[derive(Clone, Copy, Debug, PartialEq, Eq)]
+#[derive(Clone, Copy, Debug)]
 pub struct Mask {
     /// The four octets, as they are written from left to right.
     pub octets: [u8; 4],

@@ -12,7 +12,7 @@ use std::fmt;
 use std::marker::Model;
 
 /// The number of a network, 1 to 65534 (clause 6.1).
-#[derive(Clone, Copy, Debug, PartialEq, Eq, PartialOrd, Ord, Hash)]
+#[derive(Clone, Copy, Debug, PartialEq, Eq, Hash)]
 pub struct NetNum {
     number: u16,
 }

@@ -14,7 +14,7 @@ use std::marker::Model;
 
 /// The address of a station on its network: 1 to 255 octets, kept in place (clause 6.2.2). A
 /// BACnet/IP node has the six of its `BipAddr`.
-#[derive(Clone, Copy, Debug, PartialEq, Eq)]
+#[derive(Clone, Copy, PartialEq, Eq)]
 pub struct Mac {
     octets: [u8; 255],
     len: u8,
@@ -153,7 +153,7 @@ fn with_zeros(octets: &[u8]) -> [u8; 255]
 }
 
 /// A station anywhere: its network, and its address there (clause 6.2.2).
-#[derive(Clone, Copy, Debug, PartialEq, Eq)]
+#[derive(Clone, Copy, PartialEq, Eq)]
 pub struct Source {
     /// The network.
     pub net: NetNum,

@@ -3,7 +3,7 @@
 use thiserror::Error;
 
 /// Why octets are no APDU (ISO 16484-5, clause 20.1).
-#[derive(Clone, Copy, Debug, Drop, PartialEq, Eq, Error)]
+#[derive(Clone, Copy, Debug, Drop, Error)]
 pub enum ApduFault {
     /// 1: there is no octet, or the octets end within the header of a type that there is.
     #[error("the octets end within a header")]

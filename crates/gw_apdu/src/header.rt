@@ -3,7 +3,7 @@
 use crate::pdu_type::PduType;
 
 /// Which part of a segmented message this is (clauses 20.1.2.7 and 20.1.2.8).
-#[derive(Clone, Copy, Debug, PartialEq, Eq)]
+#[derive(Clone, Copy, Debug)]
 pub struct Segment {
     /// Whether more segments follow.
     pub more_follows: bool,
@@ -29,7 +29,7 @@ pub struct Segment {
 /// |        service choice         |
 /// +---+---+---+---+---+---+---+---+
 /// ```
-#[derive(Clone, Copy, Debug, PartialEq, Eq)]
+#[derive(Clone, Copy, Debug)]
 pub struct ConfirmedRequest {
     /// Which part of a segmented request this is. `None` where the request is whole.
     pub segment: Option<Segment>,
@@ -67,7 +67,7 @@ impl ConfirmedRequest {
 }
 
 /// The header of an APDU, by its type.
-#[derive(Clone, Copy, Debug, PartialEq, Eq)]
+#[derive(Clone, Copy, Debug)]
 pub enum Header {
     /// A request that is answered (clause 20.1.2).
     ConfirmedRequest(ConfirmedRequest),
@@ -159,7 +159,7 @@ impl Header {
 }
 
 /// An APDU: its header, and the octets behind it, lent.
-#[derive(Clone, Copy, Debug, PartialEq, Eq)]
+#[derive(Clone, Copy, Debug)]
 pub struct Apdu<'a> {
     /// The header.
     pub header: Header,

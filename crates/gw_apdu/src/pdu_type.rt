@@ -7,7 +7,7 @@ ghost use Rattle.gw_apdu.specs.Reading.{type_at};
 use crate::fault::ApduFault;
 
 /// A type of APDUs: the four high bits of the first octet.
-#[derive(Clone, Copy, Debug, PartialEq, Eq)]
+#[derive(Clone, Copy, Debug)]
 pub enum PduType {
     /// 0 BACnet-Confirmed-Request-PDU.
     ConfirmedRequest,

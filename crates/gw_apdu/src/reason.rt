@@ -2,7 +2,7 @@
 
 /// Why a request is rejected (clause 21, BACnetRejectReason). Each octet is one; the named ones are
 /// those that a server of this project gives.
-#[derive(Clone, Copy, Debug, PartialEq, Eq)]
+#[derive(Clone, Copy, Debug)]
 pub struct RejectReason(pub u8);
 
 impl RejectReason {
@@ -22,7 +22,7 @@ impl RejectReason {
 
 /// Why a transaction is over (clause 21, BACnetAbortReason). Each octet is one; the named one is
 /// that which a server of this project gives.
-#[derive(Clone, Copy, Debug, PartialEq, Eq)]
+#[derive(Clone, Copy, Debug)]
 pub struct AbortReason(pub u8);
 
 impl AbortReason {

@@ -10,7 +10,7 @@ use gw_tags::{AppValue, write_value};
 use std::alloc::AllocError;
 
 /// Why a service couldn't be done (clause 21, Error): a class and a code within it.
-#[derive(Clone, Copy, Debug, PartialEq, Eq)]
+#[derive(Clone, Copy, Debug)]
 pub struct ServiceError {
     /// The class (clause 18.1).
     pub class: u16,

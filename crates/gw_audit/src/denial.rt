@@ -4,7 +4,7 @@ use gw_addr::{Sequence, Source};
 use gw_rules::{Ask, RuleName};
 
 /// An ask that the policy denied.
-#[derive(Debug, Drop)]
+#[derive(Drop)]
 pub struct Denial {
     /// Its number, from 1.
     pub number: u64,

@@ -7,7 +7,7 @@ use gw_addr::Source;
 use gw_rules::Ask;
 
 /// What a line shows of a denial. The name of the rule is lent from the line.
-#[derive(Clone, Copy, Debug)]
+#[derive(Clone, Copy)]
 pub struct Shown<'a> {
     /// The number of the denial.
     pub number: u64,
@@ -22,7 +22,7 @@ pub struct Shown<'a> {
 /// What a line shows of an ask: the port, the station that it comes from, and its seven other
 /// fields. The ask's own port, source network and source key aren't shown; in the gateway's asks
 /// they are those of the line.
-#[derive(Clone, Copy, Debug)]
+#[derive(Clone, Copy)]
 pub struct ShownAsk {
     /// The number of the port that the datagram came on.
     pub port: u8,

@@ -11,7 +11,7 @@ use toml_datetime::{Date, Datetime, Offset, Time};
 const TICK: i128 = 1_000_000_000;
 
 /// A moment by a clock whose offset from UTC is known, in a year from 0 to 9999.
-#[derive(Clone, Copy, Debug)]
+#[derive(Clone, Copy)]
 pub struct Moment {
     /// What the clock shows. There are no leap seconds.
     pub local: civil::DateTime,

@@ -20,7 +20,7 @@ const ALL_ONES: [u8; 4] = [255, 255, 255, 255];
 
 /// The broadcast managers of a BACnet/IP network, each with its mask (Annex J.4.2): at most 64
 /// entries, of which no two have one address. Contracts see the list of them.
-#[derive(Debug, Drop)]
+#[derive(Drop)]
 pub struct Bdt {
     entries: Vec<BdtEntry>,
 }
@@ -120,7 +120,7 @@ impl Bdt {
 }
 
 /// The entries of a table but its own one.
-#[derive(Clone, Debug, Drop)]
+#[derive(Clone, Drop)]
 pub struct Peers<'a> {
     before: &'a [BdtEntry],
     behind: &'a [BdtEntry],

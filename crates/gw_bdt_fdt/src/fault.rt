@@ -2,7 +2,7 @@
 use thiserror::Error;
 
 /// Why entries are no broadcast distribution table.
-#[derive(Clone, Copy, Debug, Error, PartialEq, Eq)]
+#[derive(Clone, Copy, Debug, Error)]
 pub enum BdtFault {
     /// 1: there are more than 64 (a limit of our own).
     #[error("a broadcast distribution table has at most 64 entries")]
@@ -16,7 +16,7 @@ pub enum BdtFault {
 }
 
 /// Why a foreign device isn't registered.
-#[derive(Clone, Copy, Debug, Error, PartialEq, Eq)]
+#[derive(Clone, Copy, Debug, Error)]
 pub enum RegisterFault {
     /// 1: 128 other foreign devices are registered (a limit of our own).
     #[error("128 other foreign devices are registered")]
@@ -27,7 +27,7 @@ pub enum RegisterFault {
 }
 
 /// Why a foreign device isn't deleted.
-#[derive(Clone, Copy, Debug, Error, PartialEq, Eq)]
+#[derive(Clone, Copy, Debug, Error)]
 pub enum DeleteFault {
     /// 2: it isn't registered.
     #[error("the foreign device is not registered")]

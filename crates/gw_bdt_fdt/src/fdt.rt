@@ -28,7 +28,7 @@ pub const MAX_REMAINING: u64 = 65535;
 /// The foreign devices of a port, at most 128, each registered for its time to live and 30 seconds
 /// of grace from its last registration on (Annex J.5.2). They stand in the order in which their
 /// unbroken times of being registered began (our own rule). A tick is one second.
-#[derive(Debug, Drop)]
+#[derive(Drop)]
 pub struct Fdt {
     leases: Leases,
     ticks: u64,
@@ -172,7 +172,7 @@ impl Fdt {
 }
 
 /// The addresses of the foreign devices of a table.
-#[derive(Clone, Debug, Drop)]
+#[derive(Clone, Drop)]
 pub struct Addresses<'a> {
     keys: Keys<'a, BipAddr, Lease>,
 }

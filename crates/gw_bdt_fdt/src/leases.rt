@@ -15,7 +15,7 @@ use std::collections::BTreeSet;
 use std::marker::Model;
 
 /// How long a foreign device is registered.
-#[derive(Clone, Copy, Debug)]
+#[derive(Clone, Copy)]
 pub(crate) struct Lease {
     /// The time to live that it registered with.
     pub(crate) time_to_live: u16,
@@ -24,7 +24,7 @@ pub(crate) struct Lease {
 }
 
 /// The leases by address, in their order, and the end of each. Contracts see the list of them.
-#[derive(Debug, Drop)]
+#[derive(Drop)]
 pub(crate) struct Leases {
     by_address: IndexMap<BipAddr, Lease>,
     ends: BTreeSet<(u64, BipAddr)>,

@@ -13,7 +13,7 @@ use std::alloc::AllocError;
 use std::marker::PhantomData;
 
 /// The entries of a table, lent as their octets.
-#[derive_where(Debug, PartialEq, Eq)]
+#[derive_where(Debug)]
 pub struct Entries<'a, E> {
     octets: &'a [u8],
     kind: PhantomData<E>,
@@ -99,7 +99,7 @@ impl<'a, E: Entry> Entries<'a, E> {
 
 /// The iterator over the entries of a table.
 #[derive(Drop)]
-#[derive_where(Clone, Debug)]
+#[derive_where(Clone)]
 pub struct EntryIter<'a, E> {
     octets: &'a [u8],
     kind: PhantomData<E>,

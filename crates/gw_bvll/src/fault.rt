@@ -4,7 +4,7 @@ use thiserror::Error;
 
 /// Why a datagram is no message of the virtual link layer: the first of these that holds. A
 /// datagram of fewer than four octets is `Length`, whatever they are.
-#[derive(Clone, Copy, Debug, PartialEq, Eq, Error)]
+#[derive(Clone, Copy, Debug, Error)]
 pub enum BvllFault {
     /// 1: the first octet is not `81`.
     #[error("the message does not begin with 81")]
@@ -21,7 +21,7 @@ pub enum BvllFault {
 }
 
 /// Why a message could not be written.
-#[derive(Clone, Copy, Debug, PartialEq, Eq, Error)]
+#[derive(Clone, Copy, Debug, Error)]
 pub enum EncodeFault {
     /// 1: the message would have over 1507 octets.
     #[error("the message has over 1507 octets")]

@@ -7,7 +7,7 @@ ghost use Rattle.gw_bvll.specs.Reading.{function_at};
 use crate::fault::BvllFault;
 
 /// What a message of the virtual link layer is for (Annex J.2).
-#[derive(Clone, Copy, Debug, PartialEq, Eq)]
+#[derive(Clone, Copy, Debug)]
 pub enum Function {
     /// `00` BVLC-Result.
     Result,

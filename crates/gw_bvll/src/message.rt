@@ -1,6 +1,6 @@
 //! The messages of the virtual link layer (Annex J.2).
 
-ghost use Rattle.std.specs.Prelude.{◌≡◌, ◌↔◌, IsTrue, option_map};
+ghost use Rattle.std.specs.Prelude.{◌≡◌, option_map};
 
 use crate::entries::{BdtEntries, FdtEntries};
 use crate::function::Function;
@@ -11,11 +11,11 @@ pub(crate) const MARKER: u8 = 0x81;
 
 /// The code of a BVLC-Result (Annex J.2.1). Each number of two octets is one; the named ones are
 /// those of the standard.
-#[derive(Clone, Copy, Debug, PartialEq, Eq)]
+#[derive(Clone, Copy, Debug)]
 pub struct ResultCode(pub u16);
 
 impl ResultCode {
-    ghost use Rattle.gw_bvll.specs.Bvll.{refusal, success};
+    ghost use Rattle.gw_bvll.specs.Bvll.{refusal};
 
     /// Successful completion.
     pub const SUCCESS: ResultCode = ResultCode(0x0000);
@@ -47,13 +47,6 @@ impl ResultCode {
             _ => None,
         }
     }
-
-    /// Whether what was asked for was done.
-    pub fn is_success(self) -> bool
-        ensures { IsTrue result ↔ (self.0 ≡ success) }
-    {
-        self == ResultCode::SUCCESS
-    }
 }
 
 /// A message of the virtual link layer, by its function. NPDUs and tables are lent from where they
@@ -66,7 +59,7 @@ impl ResultCode {
 /// ```
 ///
 /// The length is that of the whole message.
-#[derive(Clone, Copy, Debug, PartialEq, Eq)]
+#[derive(Clone, Copy, Debug)]
 pub enum Bvll<'a> {
     /// `00` BVLC-Result: a code of two octets (Annex J.2.1).
     Result(ResultCode),

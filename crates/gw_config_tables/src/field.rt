@@ -13,7 +13,7 @@ use std::marker::Model;
 use toml::{Table, Value};
 
 /// A key of a table, whether it must be there, and what its value may be.
-#[derive(Debug, Drop)]
+#[derive(Drop)]
 pub struct Field {
     key: &'static str,
     required: bool,

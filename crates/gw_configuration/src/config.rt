@@ -14,7 +14,6 @@ use std::marker::Model;
 
 /// What a gateway is configured with: its parts, each in the order of the text, in which nothing
 /// stands twice that may stand only once. Contracts see the parts.
-#[derive(Debug)]
 pub struct Config {
     parts: Parts,
 }

@@ -5,7 +5,6 @@ use gw_addr::NetNum;
 
 /// What the gateway's own device says of itself in its Device object (clause 12.11), and where it
 /// is: the one station of a network of its own.
-#[derive(Debug)]
 pub struct Device {
     /// The number of its network.
     pub network: NetNum,

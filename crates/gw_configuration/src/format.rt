@@ -1,7 +1,7 @@
 //! The format of a policy.
 
 /// The format of a policy: by what a request is judged that goes on to another network.
-#[derive(Clone, Copy, Debug, PartialEq, Eq)]
+#[derive(Clone, Copy)]
 pub enum Format {
     /// 1: by its way alone.
     One,

@@ -8,7 +8,7 @@ use std::marker::Model;
 pub const MAX_INSTANCE: u32 = 4_194_302;
 
 /// The instance number of an object, 0 to 4194302. Contracts see the number.
-#[derive(Clone, Copy, Debug, PartialEq, Eq)]
+#[derive(Clone, Copy)]
 pub struct Instance {
     number: u32,
 }

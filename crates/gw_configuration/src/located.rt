@@ -7,7 +7,7 @@ use crate::{ConfigFault, Shape};
 use std::alloc::{AllocError, AllocFailed};
 
 /// A table of a configuration. Of several it is one by its position, from 0.
-#[derive(Clone, Copy, Debug)]
+#[derive(Clone, Copy)]
 pub enum Place {
     /// No table: the text as a whole.
     Text,
@@ -28,7 +28,7 @@ pub enum Place {
 }
 
 /// A fault with its place. `located_view` is what contracts see of it.
-#[derive(Clone, Copy, Debug)]
+#[derive(Clone, Copy)]
 pub struct Located<'a> {
     /// The fault.
     pub fault: ConfigFault,

@@ -10,7 +10,7 @@ use std::marker::Model;
 pub const MAX_STATES: usize = 64;
 
 /// The types of objects that a configuration may have, each with its number (clause 21).
-#[derive(Clone, Copy, Debug, PartialEq, Eq)]
+#[derive(Clone, Copy)]
 pub enum ObjectKind {
     /// Binary Value (clause 12.8).
     BinaryValue = 5,
@@ -25,7 +25,6 @@ pub enum ObjectKind {
 }
 
 /// An object as it is configured.
-#[derive(Debug)]
 pub struct Object {
     /// Its instance.
     pub instance: Instance,
@@ -51,7 +50,7 @@ impl Drop for Object {
 
 /// The type of an object with its Relinquish_Default, which is in the range of its Present_Value,
 /// and what else is configured of that type.
-#[derive(Debug, Drop)]
+#[derive(Drop)]
 pub enum ObjectValue {
     /// Binary Value: whether the default is active, and the texts of the two states.
     BinaryValue {
@@ -78,7 +77,6 @@ pub enum ObjectValue {
 }
 
 /// The states of a Multi-state Value, 1 to 64 of them, and which is the default, counted from 1.
-#[derive(Debug)]
 pub struct MultiState {
     default: u8,
     states: Sequence<Text>,

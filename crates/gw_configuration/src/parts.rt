@@ -15,7 +15,6 @@ pub const MAX_ROUTES: usize = 512;
 pub const MAX_OBJECTS: usize = 256;
 
 /// The parts of a configuration, each in the order of its text. Contracts see them.
-#[derive(Debug)]
 pub struct Parts {
     format: Format,
     device: Device,

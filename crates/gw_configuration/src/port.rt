@@ -8,7 +8,6 @@ use std::marker::Model;
 pub const MAX_PEERS: usize = 64;
 
 /// A port: the BACnet/IP network on one UDP port of the gateway.
-#[derive(Debug)]
 pub struct Port {
     /// The number of the network.
     pub network: NetNum,
@@ -34,7 +33,6 @@ impl Drop for Port {
 }
 
 /// Peers in order, at most 64. Contracts see the list of them.
-#[derive(Debug)]
 pub struct Peers {
     entries: Sequence<BdtEntry>,
 }

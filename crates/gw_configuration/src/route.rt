@@ -3,7 +3,7 @@
 use gw_addr::{BipAddr, NetNum};
 
 /// A network behind another router, and the way there (clause 6.5).
-#[derive(Clone, Copy, Debug, PartialEq, Eq)]
+#[derive(Clone, Copy)]
 pub struct Route {
     /// The network.
     pub network: NetNum,

@@ -1,7 +1,7 @@
 //! What the value at a key may be.
 
 /// What a single value may be.
-#[derive(Clone, Copy, Debug, PartialEq, Eq)]
+#[derive(Clone, Copy)]
 pub enum Scalar {
     /// A number in this range.
     Number { low: u64, high: u64 },
@@ -26,7 +26,7 @@ pub enum Scalar {
 }
 
 /// What the value at a key may be.
-#[derive(Clone, Copy, Debug, PartialEq, Eq)]
+#[derive(Clone, Copy)]
 pub enum Shape {
     /// One value.
     One(Scalar),

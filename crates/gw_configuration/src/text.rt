@@ -11,7 +11,6 @@ use std::marker::Model;
 pub const MAX_TEXT: usize = 255;
 
 /// A text of at most 255 octets of UTF-8. Contracts see the octets.
-#[derive(Debug)]
 pub struct Text {
     text: String,
 }

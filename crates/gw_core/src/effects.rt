@@ -7,7 +7,7 @@ use gw_relay::Sends;
 use std::alloc::Global;
 
 /// What an event does.
-#[derive(Debug, Drop)]
+#[derive(Drop)]
 pub struct Effects {
     /// The datagrams to send.
     pub sends: Sends,

@@ -1,7 +1,7 @@
 //! The counts that a gateway goes on from.
 
 /// The counts that a gateway goes on from, each at most 2^63.
-#[derive(Clone, Copy, Debug, Default, PartialEq, Eq)]
+#[derive(Clone, Copy, Default)]
 pub struct Counts {
     /// How many ticks came before.
     pub ticks: u64,

@@ -28,7 +28,7 @@ use thiserror::Error;
 const TEXT_ROOM: usize = 4096;
 
 /// Why a replay ends before its script does.
-#[derive(Clone, Copy, Debug, PartialEq, Eq, Error)]
+#[derive(Clone, Copy, Debug, Error)]
 pub enum RunFault {
     /// 1: a read failed, or there were 4,294,967,295 reads.
     #[error("read failed")]

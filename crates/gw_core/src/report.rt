@@ -16,7 +16,7 @@ use gw_script::{OctetSink, WriteFailed, write_whole};
 use itoa::Buffer;
 
 /// What is told of serving at a moment. What was done is counted from its beginning on.
-#[derive(Clone, Copy, Debug, PartialEq, Eq)]
+#[derive(Clone, Copy)]
 pub(crate) struct Report {
     /// How many seconds, which are the ticks that were taken.
     pub seconds: u64,

@@ -18,7 +18,7 @@ use std::alloc::{AllocError, Global};
 use thiserror::Error;
 
 /// What was done in some turns.
-#[derive(Clone, Copy, Debug, Default, PartialEq, Eq)]
+#[derive(Clone, Copy, Default)]
 pub struct Served {
     /// How many turns there were: receives, also those that failed or found nothing.
     pub turns: u64,
@@ -35,7 +35,7 @@ pub struct Served {
 }
 
 /// Why serving ends before its turns do.
-#[derive(Clone, Copy, Debug, PartialEq, Eq, Error)]
+#[derive(Clone, Copy, Debug, Error)]
 pub enum ServeFault {
     /// 1: a write to the log failed, or took nothing.
     #[error("log failed")]
@@ -49,7 +49,7 @@ pub enum ServeFault {
 }
 
 /// Where serving ended before its turns did.
-#[derive(Clone, Copy, Debug, PartialEq, Eq)]
+#[derive(Clone, Copy)]
 pub struct ServeStop {
     /// Why.
     pub fault: ServeFault,

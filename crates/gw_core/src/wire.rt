@@ -11,7 +11,7 @@ use thiserror::Error;
 pub const RECEIVE_ROOM: usize = gw_bvll::MAX_LEN + 1;
 
 /// What a wire hands in.
-#[derive(Clone, Copy, Debug, PartialEq, Eq)]
+#[derive(Clone, Copy)]
 pub enum Got {
     /// A datagram, which stands at the front of the buffer.
     Datagram {
@@ -29,7 +29,7 @@ pub enum Got {
 }
 
 /// A call of a wire failed.
-#[derive(Clone, Copy, Debug, PartialEq, Eq, Error)]
+#[derive(Clone, Copy, Debug, Error)]
 pub enum WireFault {
     /// A receive or a send failed.
     #[error("wire failed")]

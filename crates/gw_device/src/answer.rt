@@ -7,7 +7,7 @@ ghost use Rattle.std.specs.Prelude.{◌≡◌, ◌≤◌, drop, vec_len};
 pub const HEADER_ROOM: usize = 10;
 
 /// What the device answers: an APDU, in the buffer that the caller sends it from.
-#[derive(Debug, Drop)]
+#[derive(Drop)]
 pub struct Answer {
     /// [`HEADER_ROOM`] octets for headers, which say nothing yet, and the octets of the APDU.
     pub octets: Vec<u8>,

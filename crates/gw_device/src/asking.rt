@@ -30,7 +30,7 @@ use std::alloc::{AllocError, Global};
 pub type Asks = Sequence<Ask>;
 
 /// The judge of no rules, which allows nothing: each ask that is put to it is refused.
-#[derive(Clone, Copy, Debug)]
+#[derive(Clone, Copy)]
 pub struct NoRules;
 
 impl Judge for NoRules {

@@ -1,7 +1,7 @@
 //! What the device is told of an APDU beside its octets.
 
 /// What the device is told of an APDU beside its octets.
-#[derive(Clone, Copy, Debug)]
+#[derive(Clone, Copy)]
 pub struct Context {
     /// The number of the port that it came on, from 1.
     pub port: u8,

@@ -12,7 +12,7 @@ const LAST_CONTROL: u8 = 31;
 const DELETE: u8 = 127;
 
 /// A line for an operator, without its line feed. It has no control character. Contracts see its octets.
-#[derive(Debug, Drop)]
+#[derive(Drop)]
 pub struct Explanation {
     octets: Vec<u8>,
 }

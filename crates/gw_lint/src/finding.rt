@@ -13,7 +13,7 @@ use std::alloc::{AllocError, Global};
 pub const MAX_STEPS: u32 = 1024;
 
 /// What is found of a rule, over the asks of some shapes.
-#[derive(Clone, Copy, Debug, PartialEq, Eq)]
+#[derive(Clone, Copy)]
 pub enum Finding {
     /// The rule matches none of them.
     MatchesNothing,

@@ -10,7 +10,7 @@ use gw_addr::{BipAddr, Mask, put_octet, put_slice};
 use std::alloc::AllocError;
 
 /// What can't be meant of an address. The numbers of ports are positions, from 0.
-#[derive(Clone, Copy, Debug, PartialEq, Eq)]
+#[derive(Clone, Copy)]
 pub(crate) enum Oddity {
     /// Its UDP port is 0.
     ZeroPort,

@@ -12,7 +12,7 @@ use gw_rules::{Ask, Rule, RuleList};
 use std::alloc::{AllocError, Global};
 
 /// What a search for an ask that a rule decides comes to.
-#[derive(Clone, Copy, Debug, PartialEq, Eq)]
+#[derive(Clone, Copy)]
 pub enum Outcome {
     /// The rule is the first that matches this ask.
     Decides(Ask),

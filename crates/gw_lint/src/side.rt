@@ -7,7 +7,7 @@ use gw_rules::{Ask, FieldName, Fields, Range, Ranges, Rule};
 
 /// What a field of an ask may be: absent, or a number of a range. A range whose low end is above its
 /// high end has no number.
-#[derive(Clone, Copy, Debug, PartialEq, Eq)]
+#[derive(Clone, Copy)]
 pub struct Side {
     /// Whether the ask may be without the field.
     pub absent: bool,

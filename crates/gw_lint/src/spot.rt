@@ -9,7 +9,7 @@ use std::alloc::AllocError;
 
 /// A key in the table of a port, of a peer of a port, or of a route. The numbers are positions,
 /// from 0.
-#[derive(Clone, Copy, Debug, PartialEq, Eq)]
+#[derive(Clone, Copy)]
 pub(crate) enum Spot {
     /// The own address of this port.
     Address(usize),

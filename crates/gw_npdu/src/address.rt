@@ -15,7 +15,7 @@ use gw_addr::NetNum;
 /// ```
 ///
 /// The hop count stands behind the source.
-#[derive(Clone, Copy, Debug, PartialEq, Eq)]
+#[derive(Clone, Copy, Debug)]
 pub struct Destination<'a> {
     /// The number of the network, 1 to 65534, or 65535 for every network.
     pub network: u16,
@@ -50,7 +50,7 @@ impl Destination<'_> {
 /// |    SNET     | SLEN |  SADR  ..   |
 /// +------+------+------+------+--  --+
 /// ```
-#[derive(Clone, Copy, Debug, PartialEq, Eq)]
+#[derive(Clone, Copy, Debug)]
 pub struct AddressRef<'a> {
     /// The number of the network, 1 to 65534.
     pub network: u16,

@@ -17,7 +17,7 @@ use bitflags::{Flag, Flags, bitflag_items};
 ///
 /// M: a network layer message in place of an APDU. D: DNET, DLEN, DADR and the hop count. S: SNET, SLEN and SADR. R:
 /// the sender waits for an answer. Bits 6 and 4 are reserved: ignored on reading, zero on writing.
-#[derive(Clone, Copy, PartialEq, Eq, Debug)]
+#[derive(Clone, Copy)]
 pub struct Control(pub u8);
 
 bitflag_items! {

@@ -3,7 +3,7 @@
 use thiserror::Error;
 
 /// Why octets are no NPDU (ISO 16484-5, clause 6.2). The first fault by number is answered.
-#[derive(Clone, Copy, Debug, Drop, PartialEq, Eq, Error)]
+#[derive(Clone, Copy, Debug, Drop, Error)]
 pub enum NpduFault {
     /// 1: the octets end before a field that the control octet or the message type names.
     #[error("the message ends before a field that it names")]
@@ -17,7 +17,7 @@ pub enum NpduFault {
 }
 
 /// Why a message or a header was not written. The buffer's octets are as before.
-#[derive(Clone, Copy, Debug, Drop, PartialEq, Eq, Error)]
+#[derive(Clone, Copy, Debug, Drop, Error)]
 pub enum EncodeFault {
     /// 1: the whole message would be over 1497 octets, the most that BACnet/IP carries (Annex J).
     #[error("the message would be over 1497 octets")]

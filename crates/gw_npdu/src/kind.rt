@@ -7,7 +7,7 @@ ghost use Rattle.gw_npdu.specs.Kind.{kind_number};
 ///
 /// A message carries the number ([`NetMessage::kind`](crate::NetMessage)), since a number without a name can be sent
 /// and read too: the standard keeps 0A to 11 and 14 to 7F for itself, and vendors number from 80 on.
-#[derive(Clone, Copy, Debug, PartialEq, Eq)]
+#[derive(Clone, Copy, Debug)]
 pub enum MessageKind {
     /// `00` Who-Is-Router-To-Network.
     WhoIsRouterToNetwork,

@@ -12,7 +12,7 @@ ghost use Rattle.gw_npdu.specs.Numbers.{first_vendor_kind};
 /// ```
 ///
 /// The vendor stands behind a type from 80 hexadecimal on, and behind no other.
-#[derive(Clone, Copy, Debug, PartialEq, Eq)]
+#[derive(Clone, Copy, Debug)]
 pub struct NetMessage<'a> {
     /// The message type ([`MessageKind`](crate::MessageKind) has those that the standard names).
     pub kind: u8,

@@ -10,7 +10,7 @@ use crate::message::NetMessage;
 pub(crate) const PROTOCOL_VERSION: u8 = 1;
 
 /// How urgent a message is: bits 1 and 0 of the control octet.
-#[derive(Clone, Copy, Debug, PartialEq, Eq)]
+#[derive(Clone, Copy, Debug)]
 pub enum Priority {
     /// 0.
     Normal,
@@ -37,7 +37,7 @@ impl Priority {
 }
 
 /// What a message carries, behind all other parts.
-#[derive(Clone, Copy, Debug, PartialEq, Eq)]
+#[derive(Clone, Copy, Debug)]
 pub enum Payload<'a> {
     /// An APDU of the application layer.
     Apdu(&'a [u8]),
@@ -57,7 +57,7 @@ pub enum Payload<'a> {
 ///
 /// The version, the control octet, the destination and the source where the control octet names them, the hop count
 /// of the destination, and the payload. Each number has its high octet first.
-#[derive(Clone, Copy, Debug, PartialEq, Eq)]
+#[derive(Clone, Copy, Debug)]
 pub struct Npdu<'a> {
     /// Whom the message is bound for. None: a station of the network that it is on.
     pub destination: Option<Destination<'a>>,

@@ -13,7 +13,7 @@ use crate::npdu::Npdu;
 use crate::writing::{MAX_LEN, put_header};
 
 /// How a message goes on.
-#[derive(Clone, Copy, Debug)]
+#[derive(Clone, Copy)]
 pub struct Onward<'a> {
     /// Whether the destination stays, with one hop less. It is taken away on the destination's own network.
     pub keeps_destination: bool,

@@ -2,7 +2,7 @@
 use thiserror::Error;
 
 /// Why a property isn't read. The faults are judged in the order of their numbers (clause 15.5).
-#[derive(Clone, Copy, Debug, Error, PartialEq, Eq)]
+#[derive(Clone, Copy, Debug, Error)]
 pub enum ReadFault {
     /// 1: there is no such object.
     #[error("unknown object")]
@@ -22,7 +22,7 @@ pub enum ReadFault {
 }
 
 /// Why a property isn't written. The faults are judged in the order of their numbers (clause 15.9).
-#[derive(Clone, Copy, Debug, Error, PartialEq, Eq)]
+#[derive(Clone, Copy, Debug, Error)]
 pub enum WriteFault {
     /// 1: there is no such object.
     #[error("unknown object")]

@@ -4,7 +4,7 @@ ghost use Rattle.gw_objects.specs.Property.{properties, property_number, propert
 ghost use Rattle.gw_objects.specs.internal.Part.{part};
 
 /// The types of objects that a device of this gateway has, each with its number (clause 21).
-#[derive(Clone, Copy, PartialEq, Eq)]
+#[derive(Clone, Copy)]
 pub enum ObjectType {
     /// Binary Value (clause 12.8).
     BinaryValue = 5,

@@ -9,7 +9,7 @@ use gw_core::RECEIVE_ROOM;
 use thiserror::Error;
 
 /// A call of a socket failed.
-#[derive(Clone, Copy, Debug, PartialEq, Eq, Error)]
+#[derive(Clone, Copy, Debug, Error)]
 pub enum SockFault {
     /// A receive or a send failed.
     #[error("socket failed")]

@@ -146,13 +146,6 @@ impl<S: Sock> Ports<S> {
         }
     }
 
-    /// How many calls failed.
-    pub fn failure_total(&self) -> u128
-        ensures { result ≡ self.now.failures }
-    {
-        self.failures
-    }
-
     /// Counts a failed call, and answers its fault.
     pub fn fail(&mut self) -> WireFault
         requires { self.old.failures < 2 ^ 128 - 1 }

@@ -19,7 +19,7 @@ pub const RESERVED: u8 = 6;
 /// The commands of one property: a slot for each priority from 1 to 16, which holds the value that
 /// was commanded there or is empty, and the default, Relinquish_Default (clause 19.2). No call takes
 /// memory. Contracts see the slots, that of priority 1 first, and the default.
-#[derive(Debug, Drop)]
+#[derive(Drop)]
 pub struct PriorityArray<T> {
     slots: [Option<T>; PRIORITIES],
     default: T,

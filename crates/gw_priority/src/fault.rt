@@ -2,7 +2,7 @@
 use thiserror::Error;
 
 /// Why a slot isn't changed.
-#[derive(Clone, Copy, Debug, Error, PartialEq, Eq)]
+#[derive(Clone, Copy, Debug, Error)]
 pub enum PriorityFault {
     /// 1: the priority is 6, which clause 19.2.3 keeps for minimum on and off times. That nobody
     /// may command or relinquish there is this project's own rule.
@@ -11,7 +11,7 @@ pub enum PriorityFault {
 }
 
 /// A command that was refused, with the value that was to be commanded.
-#[derive(Debug, Drop, PartialEq, Eq)]
+#[derive(Drop)]
 pub struct RefusedCommand<T> {
     /// Why it was refused.
     pub fault: PriorityFault,

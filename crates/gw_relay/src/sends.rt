@@ -13,14 +13,14 @@ use std::marker::Model;
 use std::mem;
 
 /// Whom a message goes to. One address takes no memory.
-#[derive(Debug, Drop)]
+#[derive(Drop)]
 enum Targets {
     One([BipAddr; 1]),
     Many(Vec<BipAddr>),
 }
 
 /// One message, and whom it is sent to in order.
-#[derive(Debug, Drop)]
+#[derive(Drop)]
 pub struct Batch {
     port: u8,
     targets: Targets,
@@ -94,7 +94,7 @@ impl Batch {
 }
 
 /// The messages of a list. One message takes no memory.
-#[derive(Debug, Drop)]
+#[derive(Drop)]
 enum Batches {
     None,
     One([Batch; 1]),
@@ -167,7 +167,7 @@ impl Batches {
 
 /// Datagrams to send, in order, at most 2^64 - 1. Contracts see the list of them, each with its
 /// port, address and octets. One message takes no memory.
-#[derive(Debug, Drop)]
+#[derive(Drop)]
 pub struct Sends {
     alloc: Global,
     batches: Batches,

@@ -6,7 +6,7 @@ use std::alloc::AllocFailed;
 use thiserror::Error;
 
 /// Why a route isn't learned.
-#[derive(Clone, Copy, Debug, Error, PartialEq, Eq)]
+#[derive(Clone, Copy, Debug, Error)]
 pub enum LearnFault {
     /// 1: 512 other networks are held.
     #[error("512 other networks have a route")]

@@ -7,7 +7,7 @@ use gw_addr::BipAddr;
 pub const EVERYWHERE: u16 = 65535;
 
 /// A route to a network behind another router.
-#[derive(Clone, Copy, Debug, PartialEq, Eq)]
+#[derive(Clone, Copy, PartialEq, Eq)]
 pub struct Route {
     /// The number of the port on whose network the router is.
     pub port: u8,
@@ -16,7 +16,7 @@ pub struct Route {
 }
 
 /// Which way a network lies (clause 6.5).
-#[derive(Clone, Copy, Debug, PartialEq, Eq)]
+#[derive(Clone, Copy, PartialEq, Eq)]
 pub enum Way {
     /// It is the network of the port of this number, counted from 1.
     Port(usize),

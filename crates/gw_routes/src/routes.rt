@@ -24,14 +24,14 @@ pub const MAX_ROUTES: usize = 512;
 /// Which way each network lies: the direct networks, which the gateway reaches itself, the
 /// configured routes, and the learned ones, at most 512 routes in all. What is direct or configured
 /// never changes.
-#[derive(Debug, Drop)]
+#[derive(Drop)]
 pub struct Routes {
     fixed: Fixed,
     learned: IndexMap<NetNum, Route>,
 }
 
 /// The part that no learning changes.
-#[derive(Debug, Drop)]
+#[derive(Drop)]
 struct Fixed {
     direct: Vec<NetNum>,
     configured: IndexMap<NetNum, Route>,

@@ -11,7 +11,7 @@ pub const MAX_COMPARISONS: u32 = 130;
 pub const MAX_ANDS: u32 = 10;
 
 /// An answer, and how much work it took.
-#[derive(Clone, Copy, Debug, PartialEq, Eq)]
+#[derive(Clone, Copy)]
 pub struct Counted {
     /// The number of the first rule that matches, counted from 1, or none.
     pub rule: Option<u16>,

@@ -1,7 +1,7 @@
 //! What a policy says of an ask.
 
 /// What a policy says of an ask.
-#[derive(Clone, Copy, Debug, PartialEq, Eq)]
+#[derive(Clone, Copy, PartialEq, Eq)]
 pub enum Decision {
     /// The first rule that matches says allow.
     Allow,

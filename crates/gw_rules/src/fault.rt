@@ -6,7 +6,7 @@ use std::alloc::{AllocError, AllocFailed};
 use thiserror::Error;
 
 /// Why a rule or a rule list isn't made.
-#[derive(Clone, Copy, Debug, Error, PartialEq, Eq)]
+#[derive(Clone, Copy, Debug, Error)]
 pub enum RuleFault {
     /// 1: there are more than 512 rules, or one has more than four ranges for a field.
     #[error("too many rules or ranges")]

@@ -3,7 +3,7 @@ ghost use Rattle.std.specs.Prelude.{◌≡◌};
 ghost use Rattle.gw_rules.specs.Field.{field_number};
 
 /// A field of an ask, and of the rules that look at it. [`Fields`](crate::Fields) says what each is.
-#[derive(Clone, Copy, Debug, PartialEq, Eq)]
+#[derive(Clone, Copy)]
 pub enum FieldName {
     /// 1: the operation.
     Operation = 1,

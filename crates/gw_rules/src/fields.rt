@@ -6,7 +6,7 @@ use crate::FieldName;
 
 /// A value for each of the ten fields: an [`Ask`](crate::Ask) has one number or none for each, a
 /// [`Rule`](crate::Rule) some ranges for each.
-#[derive(Clone, Copy, Debug, Drop, PartialEq, Eq)]
+#[derive(Clone, Copy, Drop, PartialEq, Eq)]
 pub struct Fields<T> {
     /// 1: what is about to be done, by [`Operation`](crate::Operation)'s number.
     pub operation: T,

@@ -6,7 +6,7 @@ use std::alloc::Global;
 use std::marker::Model;
 
 /// The name of a rule, which the log shows where the rule denies. Contracts see its octets.
-#[derive(Debug, Drop)]
+#[derive(Drop)]
 pub struct RuleName {
     text: String,
 }

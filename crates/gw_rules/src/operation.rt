@@ -5,7 +5,7 @@ ghost use Rattle.gw_rules.specs.declared.operation.Operation.{Operation};
 ghost use Rattle.gw_rules.specs.Operation.{operation_name, operation_number};
 
 /// What the gateway is about to do when it asks. Names and numbers are this project's own.
-#[derive(Clone, Copy, Debug, PartialEq, Eq)]
+#[derive(Clone, Copy)]
 pub enum Operation {
     /// 1, `cast`: distribute a broadcast to peers, foreign devices and the own subnet (Annex J).
     Cast = 1,

@@ -4,7 +4,7 @@ use crate::Ask;
 use gw_addr::Sequence;
 
 /// An ask that a policy denies.
-#[derive(Clone, Copy, Debug, PartialEq, Eq)]
+#[derive(Clone, Copy, PartialEq, Eq)]
 pub struct Refusal {
     /// What was asked.
     pub ask: Ask,

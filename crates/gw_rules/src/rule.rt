@@ -15,7 +15,6 @@ pub const MAX_RANGES: usize = 4;
 /// one of the rule's ranges holds the value. A field with no range isn't named.
 ///
 /// Build one by [`Rule::new`] and [`Rule::with`], or as a struct.
-#[derive(Debug)]
 pub struct Rule {
     /// The name that the log shows where the rule denies.
     pub name: RuleName,

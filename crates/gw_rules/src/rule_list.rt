@@ -15,7 +15,7 @@ pub const MAX_RULES: usize = 512;
 /// A policy: at most 512 rules in order, each with at most four ranges for a field, none of which
 /// has its low end above its high end. The first rule that matches an ask decides; where none does,
 /// the ask is denied. Contracts see the list of the rules.
-#[derive(Debug, Drop)]
+#[derive(Drop)]
 pub struct RuleList {
     rules: Vec<Rule>,
 }

@@ -13,7 +13,7 @@ const PDU_TYPE: u64 = 1024;
 
 /// A service, or what stands in its place in a message that is no request. The standard numbers
 /// each kind from 0, so each kind has a base of its own. The bases are this project's own.
-#[derive(Clone, Copy, Debug, PartialEq, Eq)]
+#[derive(Clone, Copy)]
 pub enum Service {
     /// A confirmed service by its choice (clause 21): from 0.
     Confirmed(u8),

@@ -6,7 +6,7 @@ ghost use Rattle.gw_addr.specs.Address.{text_of};
 use gw_addr::BipAddr;
 
 /// An address, and the text that it is written as, lent from where it was read.
-#[derive(Clone, Copy, Debug)]
+#[derive(Clone, Copy)]
 pub struct SpelledAddr<'a> {
     /// The address.
     pub address: BipAddr,
@@ -17,7 +17,7 @@ pub struct SpelledAddr<'a> {
 }
 
 /// One event: a datagram on a port, or a tick.
-#[derive(Clone, Copy, Debug)]
+#[derive(Clone, Copy)]
 pub enum Event<'a> {
     /// A datagram that came on the port of this number, from 1.
     Datagram {

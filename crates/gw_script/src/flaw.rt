@@ -11,7 +11,7 @@ ghost use Rattle.gw_script.specs.Script.{IsLine};
 use crate::line::{address_of, port_of, split_at_space};
 
 /// What is wrong with a line that writes no event.
-#[derive(Clone, Copy, Debug, PartialEq, Eq)]
+#[derive(Clone, Copy)]
 pub enum LineFlaw {
     /// It has more than 4096 octets without its line feed.
     Long,

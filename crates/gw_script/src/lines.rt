@@ -17,7 +17,7 @@ use thiserror::Error;
 const TEXT_ROOM: usize = 256;
 
 /// Why the telling ends before the lines do.
-#[derive(Clone, Copy, Debug, PartialEq, Eq, Error)]
+#[derive(Clone, Copy, Debug, Error)]
 pub enum LinesFault {
     /// 1: a read failed, or there were 4,294,967,295 reads.
     #[error("read failed")]

@@ -16,7 +16,7 @@ const MAX_UNREAD: usize = 16_384;
 pub(crate) const MAX_LINE: usize = 4096;
 
 /// What stands first in the text that is left.
-#[derive(Debug, Drop)]
+#[derive(Drop)]
 pub enum NextLine {
     /// A line of at most 4096 octets.
     Line {
@@ -33,7 +33,7 @@ pub enum NextLine {
 
 /// Reads the lines of a text. Contracts see the octets that are unread, and how many calls of the source there were: at most
 /// 4,294,967,295 in all.
-#[derive(Debug, Drop)]
+#[derive(Drop)]
 pub struct LineReader {
     octets: [u8; MAX_UNREAD],
     start: usize,

@@ -6,7 +6,7 @@ ghost use Rattle.std.specs.Io.KnownBytes.{Appends, WriteAppends};
 use std::io::Write;
 
 /// A write failed, or took nothing.
-#[derive(Debug, Drop)]
+#[derive(Drop)]
 pub struct WriteFailed;
 
 /// What octets are written to. Each writer is one, and a contract knows nothing of its failures. What never fails can say so by an

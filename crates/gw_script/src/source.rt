@@ -6,7 +6,7 @@ ghost use Rattle.std.specs.Io.KnownBytes.{ReadConsumes};
 use std::io::Read;
 
 /// A read failed.
-#[derive(Debug, Drop)]
+#[derive(Drop)]
 pub struct ReadFailed;
 
 /// What octets are read from. Each reader is one, and a contract knows nothing of its failures. What never fails can say so by an

@@ -15,7 +15,7 @@ pub(crate) const LAST_INSTANCE: u32 = 4_194_303;
 /// |---|---|
 /// | 0 | low |
 /// | 1 | high |
-#[derive(Clone, Copy, Debug, PartialEq, Eq)]
+#[derive(Clone, Copy, Debug)]
 pub struct Limits {
     /// The lowest instance, 0 to 4194303.
     pub low: u32,
@@ -26,7 +26,7 @@ pub struct Limits {
 }
 
 /// A Who-Is request: limits, or none.
-#[derive(Clone, Copy, Debug, PartialEq, Eq)]
+#[derive(Clone, Copy, Debug)]
 pub struct WhoIs {
     /// The limits. `None` asks everyone.
     pub limits: Option<Limits>,
@@ -38,7 +38,7 @@ pub struct WhoIs {
 /// |---|---|
 /// | 2 | object |
 /// | 3 | name |
-#[derive(Clone, Copy, Debug, PartialEq, Eq)]
+#[derive(Clone, Copy, Debug)]
 pub enum Sought<'a> {
     /// An object.
     Object(ObjectId),
@@ -48,7 +48,7 @@ pub enum Sought<'a> {
 
 /// A Who-Has request: limits, or none, and what is sought. A name is lent from the octets that it
 /// was read from.
-#[derive(Clone, Copy, Debug, PartialEq, Eq)]
+#[derive(Clone, Copy, Debug)]
 pub struct WhoHas<'a> {
     /// The limits. `None` asks everyone.
     pub limits: Option<Limits>,
@@ -57,7 +57,7 @@ pub struct WhoHas<'a> {
 }
 
 /// An I-Am: four application values.
-#[derive(Clone, Copy, Debug, PartialEq, Eq)]
+#[derive(Clone, Copy, Debug)]
 pub struct IAm {
     /// The device.
     pub device: ObjectId,
@@ -70,7 +70,7 @@ pub struct IAm {
 }
 
 /// An I-Have: three application values. The name is lent from the octets that it was read from.
-#[derive(Clone, Copy, Debug, PartialEq, Eq)]
+#[derive(Clone, Copy, Debug)]
 pub struct IHave<'a> {
     /// The device.
     pub device: ObjectId,

@@ -3,7 +3,7 @@
 use thiserror::Error;
 
 /// Why octets are no body of a service: the first thing that is wrong, in the order of the octets.
-#[derive(Clone, Copy, Debug, PartialEq, Eq, Error)]
+#[derive(Clone, Copy, Debug, Error)]
 pub enum BodyFault {
     /// 1: where a parameter is due stands something else: no tag, another tag, a content that the
     /// parameter can't have, or values that aren't balanced or nest too deep. Where a parameter may

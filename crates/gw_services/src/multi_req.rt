@@ -6,7 +6,7 @@ ghost use Rattle.gw_services.specs.Limits.{last_property};
 use gw_tags::ObjectId;
 
 /// A property of an object, or one element of it, among those that a request asks for.
-#[derive(Clone, Copy, Debug, PartialEq, Eq)]
+#[derive(Clone, Copy, Debug)]
 pub struct Reference {
     /// Whether an object's list begins with this one. One object may have several lists, one
     /// behind the other.

@@ -3,7 +3,7 @@
 use gw_tags::ObjectId;
 
 /// The end of the body, or more: within the list of an object, or where a new object is due.
-#[derive(Clone, Copy, Debug)]
+#[derive(Clone, Copy)]
 pub enum Next<'a> {
     /// Nothing: the body ends here.
     Finished,

@@ -18,7 +18,7 @@ const LAST_PRIORITY: u8 = 16;
 /// | 0 | object |
 /// | 1 | property |
 /// | 2 | index, may be absent |
-#[derive(Clone, Copy, Debug, PartialEq, Eq)]
+#[derive(Clone, Copy, Debug)]
 pub struct ReadReq {
     /// The object.
     pub object: ObjectId,
@@ -39,7 +39,7 @@ pub struct ReadReq {
 /// | 2 | index, may be absent |
 /// | 3 | the value, between an opening and a closing tag |
 /// | 4 | priority, may be absent |
-#[derive(Clone, Copy, Debug, PartialEq, Eq)]
+#[derive(Clone, Copy, Debug)]
 pub struct WriteReq<'a> {
     /// The object.
     pub object: ObjectId,

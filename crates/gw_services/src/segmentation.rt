@@ -1,7 +1,7 @@
 //! Which segmented messages a device takes and sends.
 
 /// Which segmented messages a device takes and sends (clause 21, BACnetSegmentation).
-#[derive(Clone, Copy, Debug, PartialEq, Eq)]
+#[derive(Clone, Copy, Debug)]
 pub enum Segmentation {
     /// 0: it sends them and takes them.
     Both,

@@ -47,7 +47,7 @@ const LOG_EXAMPLE: &str = "Example:
   bacgw log < denials.log | sort | uniq -c";
 
 /// What the words ask for.
-#[derive(Debug, Drop)]
+#[derive(Drop)]
 pub enum Choice {
     /// Judge the configuration in the file of this name; explain it or its fault, and say which of its
     /// rules never decide, if that is asked for.

@@ -12,7 +12,7 @@ use std::alloc::AllocError;
 use std::io::ErrorKind;
 
 /// Why the program ends without success.
-#[derive(Clone, Copy, Debug, PartialEq, Eq)]
+#[derive(Clone, Copy)]
 pub enum Fault {
     /// The words that the program was called with are none that it takes.
     CommandLine,

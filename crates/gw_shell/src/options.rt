@@ -4,7 +4,7 @@ ghost use Rattle.std.proofs.Props.{props};
 ghost use Rattle.std.specs.Prelude.{◌<◌, ◌^◌, IfSome};
 
 /// What `run` is asked for.
-#[derive(Debug, Drop)]
+#[derive(Drop)]
 pub struct RunOptions {
     /// The file of the configuration.
     pub config: String,

@@ -1,7 +1,7 @@
 //! What is behind a value's tag.
 
 /// The octets behind a value's tag, and what the tag says of them.
-#[derive(Clone, Copy, Debug)]
+#[derive(Clone, Copy)]
 pub struct Body<'a> {
     /// The three low bits of the tag's first octet.
     pub low_bits: u8,

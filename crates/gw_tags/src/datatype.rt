@@ -6,7 +6,7 @@ ghost use Rattle.gw_tags.specs.Reading.{datatype_of};
 use crate::fault::ValueFault;
 
 /// A kind of value. Its place here is the number of its tag.
-#[derive(Clone, Copy, Debug, PartialEq, Eq)]
+#[derive(Clone, Copy)]
 pub enum Datatype {
     Null,
     Boolean,

@@ -1,7 +1,7 @@
 //! What stands at the front of a list.
 
 /// A value with its content, or the beginning or end of a list, and the octets behind it.
-#[derive(Clone, Copy, Debug)]
+#[derive(Clone, Copy)]
 pub enum Element<'a> {
     Value(&'a [u8]),
     Opened(u8, &'a [u8]),

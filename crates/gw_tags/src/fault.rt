@@ -3,7 +3,7 @@
 use thiserror::Error;
 
 /// What is wrong with the octets in a tag's place.
-#[derive(Clone, Copy, Debug, PartialEq, Eq, Error)]
+#[derive(Clone, Copy, Debug, Error)]
 pub enum TagFault {
     /// 1: the octets end within the tag, also where there are none.
     #[error("the octets end within a tag")]
@@ -15,7 +15,7 @@ pub enum TagFault {
 }
 
 /// What is wrong with the octets in a value's place.
-#[derive(Clone, Copy, Debug, PartialEq, Eq, Error)]
+#[derive(Clone, Copy, Debug, Error)]
 pub enum ValueFault {
     /// 1: the octets end within the tag or the content.
     #[error("the octets end within a value")]
@@ -46,7 +46,7 @@ impl From<TagFault> for ValueFault {
 }
 
 /// What is wrong with the octets in the place of a parameter under a context tag.
-#[derive(Clone, Copy, Debug, PartialEq, Eq, Error)]
+#[derive(Clone, Copy, Debug, Error)]
 pub enum ContextFault {
     /// 1: the octets end within the tag, or within the content of the parameter.
     #[error("the octets end within a parameter")]

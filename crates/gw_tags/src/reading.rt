@@ -10,7 +10,7 @@ use crate::tag::{Kind, Tag};
 use gw_addr::{long_number, number, octet};
 
 /// A tag at the front of octets.
-#[derive(Clone, Copy, Debug)]
+#[derive(Clone, Copy)]
 pub struct Header<'a> {
     /// The tag.
     pub tag: Tag,

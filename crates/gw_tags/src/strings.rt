@@ -13,7 +13,7 @@ use crate::utf8::is_utf8;
 /// | character set |  octets ..   |
 /// +---------------+--------------+
 /// ```
-#[derive(Clone, Copy, Debug, PartialEq, Eq)]
+#[derive(Clone, Copy, Debug)]
 pub struct CharacterString<'a> {
     /// The character set: 0 is UTF-8.
     pub charset: u8,
@@ -30,7 +30,7 @@ pub struct CharacterString<'a> {
 /// | unused bits |  octets ..   |
 /// +-------------+--------------+
 /// ```
-#[derive(Clone, Copy, Debug, PartialEq, Eq)]
+#[derive(Clone, Copy, Debug)]
 pub struct BitString<'a> {
     /// How many bits of the last octet are unused: 0 to 7, and 0 where there are no octets.
     pub unused: u8,

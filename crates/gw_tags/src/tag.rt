@@ -4,7 +4,7 @@ ghost use Rattle.std.specs.Prelude.{◌≡◌, ◌<◌, ◌||◌, IsTrue};
 ghost use Rattle.gw_tags.specs.Kind.{is_length};
 
 /// What a tag announces (clause 20.2.1.3).
-#[derive(Clone, Copy, Debug, PartialEq, Eq)]
+#[derive(Clone, Copy, Debug)]
 pub enum Kind {
     /// A content of so many octets.
     Length(u32),
@@ -34,7 +34,7 @@ impl Kind {
 /// C    1: context specific class, 0: application class
 /// LLL  0 to 4: a length; 5: a length in the octets that follow; 6: opening; 7: closing
 /// ```
-#[derive(Clone, Copy, Debug, PartialEq, Eq)]
+#[derive(Clone, Copy)]
 pub struct Tag {
     /// The number, 0 to 254.
     pub number: u8,

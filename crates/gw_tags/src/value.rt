@@ -4,7 +4,7 @@ use crate::object::ObjectId;
 use crate::strings::{BitString, CharacterString};
 
 /// A value of a property, by its kind. Octets are lent from where the value was read.
-#[derive(Clone, Copy, Debug, PartialEq, Eq)]
+#[derive(Clone, Copy, Debug)]
 pub enum AppValue<'a> {
     /// No value (clause 20.2.2).
     Null,

@@ -39,6 +39,18 @@ pub fn number_or_none(word: Option<&str>) -> io::Result<Option<u64>> {
     }
 }
 
+/// The number behind a word, in the first part of a text that begins with it.
+pub fn number_behind<T>(text: &str, separator: char, word: &str) -> Option<T>
+where
+    T: FromStr + Drop,
+    T::Err: Drop,
+{
+    let text = text
+        .split(separator)
+        .find_map(|part| part.strip_prefix(word))?;
+    text.parse().ok()
+}
+
 /// Appends a text, with a line feed for `~` and a carriage return for `^`.
 fn put_text(text: &str, out: &mut Vec<u8>) -> io::Result<()> {
     for octet in text.bytes() {

@@ -6,6 +6,8 @@
 
 ghost use Rattle.std.specs.Prelude.{◌≡◌, ⊤, None, Some};
 
+use crate::case::number_behind;
+use crate::streams::{Narrow, Source};
 use crate::words::{call, put, status_text};
 use gw_addr::BipAddr;
 use gw_configuration::Port;
@@ -14,7 +16,7 @@ use gw_shell::{ConfigFiles, FailedStep, Fault, Host, Reason, SocketFailure, Step
 use itoa::Buffer;
 use std::alloc::{AllocError, Global};
 use std::io;
-use std::io::{BufWriter, ErrorKind, Read, Write};
+use std::io::{BufWriter, ErrorKind};
 use std::process::ExitCode;
 
 /// The name of the one file that can't be read.
@@ -40,60 +42,6 @@ impl ConfigFiles for MemFiles<'_> {
             return Err(Fault::Unreadable);
         }
         Ok(Vec::from_slice(alloc, self.text.as_bytes())?)
-    }
-}
-
-/// Standard input in memory, which may fail at once.
-#[derive(Drop)]
-struct MemInput<'a> {
-    octets: &'a [u8],
-    fails: bool,
-}
-
-impl Read for MemInput<'_> {
-    fn read(&mut self, buf: &mut [u8]) -> io::Result<usize> {
-        if self.fails {
-            return Err(ErrorKind::Other.into());
-        }
-        self.octets.read(buf)
-    }
-}
-
-/// A stream or a log in memory, which takes so many octets and then fails, and may fail at a flush. It
-/// has room for them from the start, so no write of it wants memory.
-#[derive(Drop)]
-pub struct Narrow {
-    held: Vec<u8>,
-    left: usize,
-    flushes: bool,
-}
-
-impl Narrow {
-    fn with(alloc: Global, left: usize, flushes: bool) -> Result<Self, AllocError> {
-        Ok(Narrow {
-            held: Vec::with_capacity(alloc, left)?,
-            left,
-            flushes,
-        })
-    }
-}
-
-impl Write for Narrow {
-    fn write(&mut self, buf: &[u8]) -> io::Result<usize> {
-        let count = buf.len().min(self.left);
-        if count == 0 || self.held.extend_from_slice(&buf[..count]).is_err() {
-            return Err(ErrorKind::Other.into());
-        }
-        self.left -= count;
-        Ok(count)
-    }
-
-    fn flush(&mut self) -> io::Result<()> {
-        if self.flushes {
-            Ok(())
-        } else {
-            Err(ErrorKind::Other.into())
-        }
     }
 }
 
@@ -180,7 +128,7 @@ impl Host for MemHost {
 
     fn open_log(&self, _name: &str) -> Result<Narrow, Fault> {
         match self.log {
-            Some(left) => Ok(Narrow::with(self.alloc, left, true)?),
+            Some(room) => Ok(Narrow::with_room(self.alloc, room, true)?),
             None => Err(Fault::Log),
         }
     }
@@ -218,15 +166,9 @@ impl Host for MemHost {
 #[derive(Drop)]
 struct Left {
     code: ExitCode,
-    output: Vec<u8>,
-    errors: Vec<u8>,
+    output: Narrow,
+    errors: Narrow,
     closed: Option<Closed>,
-}
-
-/// The number behind a word on a line of its own.
-fn number_of(lines: &str, word: &str) -> Option<usize> {
-    let text = lines.lines().find_map(|line| line.strip_prefix(word))?;
-    text.trim().parse().ok()
 }
 
 /// Whether a line is there.
@@ -248,8 +190,8 @@ fn words_of(
 
 /// The output of a section, which has room for so many octets behind its buffer.
 fn output_of(alloc: Global, lines: &str, room: usize) -> Result<BufWriter<Narrow>, AllocError> {
-    let narrow = Narrow::with(alloc, room, !has_line(lines, "flushes fail"))?;
-    let capacity = number_of(lines, "buffer ").unwrap_or(CAPACITY);
+    let narrow = Narrow::with_room(alloc, room, !has_line(lines, "flushes fail"))?;
+    let capacity = number_behind(lines, '\n', "buffer ").unwrap_or(CAPACITY);
     match BufWriter::with_capacity(alloc, capacity, narrow) {
         Ok(output) => Ok(output),
         Err(_) => Err(AllocError),
@@ -263,17 +205,23 @@ fn run_with(alloc: Global, config: &str, section: &str, room: usize) -> Result<L
     let words = words_of(alloc, line, lines)?;
     let mut host = MemHost {
         alloc,
-        log: number_of(lines, "log "),
+        log: number_behind(lines, '\n', "log "),
         is_cut: has_line(lines, "cut log"),
-        failing: number_of(lines, "failing port "),
+        failing: number_behind(lines, '\n', "failing port "),
         closed: None,
     };
-    let mut input = MemInput {
+    let fails = has_line(lines, "input fails");
+    let mut input = Source {
         octets: input.as_bytes(),
-        fails: has_line(lines, "input fails"),
+        is_slow: false,
+        fails: if fails { Some(0) } else { None },
     };
     let mut output = output_of(alloc, lines, room)?;
-    let mut errors = Narrow::with(alloc, number_of(lines, "errors ").unwrap_or(AMPLE), true)?;
+    let mut errors = Narrow::with_room(
+        alloc,
+        number_behind(lines, '\n', "errors ").unwrap_or(AMPLE),
+        true,
+    )?;
     let files = MemFiles { text: config };
     let code = run(
         alloc,
@@ -287,8 +235,8 @@ fn run_with(alloc: Global, config: &str, section: &str, room: usize) -> Result<L
     let (output, _unwritten) = output.into_parts();
     Ok(Left {
         code,
-        output: output.held,
-        errors: errors.held,
+        output,
+        errors,
         closed: host.closed,
     })
 }
@@ -297,11 +245,11 @@ fn run_with(alloc: Global, config: &str, section: &str, room: usize) -> Result<L
 /// machine closed.
 pub fn machine(alloc: Global, config: &str, section: &str, out: &mut Vec<u8>) -> io::Result<()> {
     let (_, lines) = section.split_once('\n').unwrap_or((section, ""));
-    let room = number_of(lines, "output ").unwrap_or(AMPLE);
+    let room = number_behind(lines, '\n', "output ").unwrap_or(AMPLE);
     let left = run_with(alloc, config, section, room)?;
     put(out, &["status ", status_text(left.code), "\n"])?;
-    put_lines("out ", &left.output, out)?;
-    put_lines("err ", &left.errors, out)?;
+    put_lines("out ", left.output.held(), out)?;
+    put_lines("err ", left.errors.held(), out)?;
     match &left.closed {
         Some(closed) => Ok(put_closed(closed, out)?),
         None => Ok(()),
@@ -312,7 +260,7 @@ pub fn machine(alloc: Global, config: &str, section: &str, out: &mut Vec<u8>) ->
 fn put_closed(closed: &Closed, out: &mut Vec<u8>) -> Result<(), AllocError> {
     let (sockets, log) = closed;
     if let Some(log) = log {
-        put_lines("log ", &log.held, out)?;
+        put_lines("log ", log.held(), out)?;
     }
     put(out, &["receives ", Buffer::new().format(sockets.receives)])?;
     put(out, &[" sends ", Buffer::new().format(sockets.sends), "\n"])
@@ -339,7 +287,8 @@ fn put_lines(word: &str, text: &[u8], out: &mut Vec<u8>) -> Result<(), AllocErro
 /// how many octets it is. Each run with less that doesn't leave a front of them and tell that a
 /// write failed has a line of its own.
 pub fn fronts(alloc: Global, config: &str, section: &str, out: &mut Vec<u8>) -> io::Result<()> {
-    let whole = run_with(alloc, config, section, AMPLE)?.output;
+    let ample = run_with(alloc, config, section, AMPLE)?;
+    let whole = ample.output.held();
     for room in 0..whole.len() {
         let left = run_with(alloc, config, section, room)?;
         if !is_front(&left, &whole[..room]) {
@@ -355,6 +304,6 @@ pub fn fronts(alloc: Global, config: &str, section: &str, out: &mut Vec<u8>) -> 
 /// Whether a run left this front and told that a write failed.
 fn is_front(left: &Left, front: &[u8]) -> bool {
     left.code == ExitCode::FAILURE
-        && left.output.as_slice() == front
-        && left.errors.as_slice() == b"bacgw: write failed\n".as_slice()
+        && left.output.held() == front
+        && left.errors.held() == b"bacgw: write failed\n".as_slice()
 }

@@ -72,9 +72,12 @@ pub fn explained(alloc: Global, config: &str, body: &str, out: &mut Vec<u8>) -> 
     writeln!(out)
 }
 
-/// A gateway to which nothing has come yet.
-fn make_gateway(alloc: Global, config: &str) -> io::Result<Gateway> {
-    Ok(Gateway::new(alloc, read(alloc, config)?, Counts::default())?)
+/// A gateway that goes on from these counts.
+pub fn make_gateway(alloc: Global, config: &str, counts: Counts) -> io::Result<Gateway> {
+    if counts.ticks > 1 << 63 || counts.denials > 1 << 63 {
+        return Err(ErrorKind::InvalidData.into());
+    }
+    Ok(Gateway::new(alloc, read(alloc, config)?, counts)?)
 }
 
 /// The event that a line writes under so many ports, if it writes one.
@@ -181,7 +184,7 @@ fn take_lines(
 
 /// What a script does where each event that found no memory is given again: with memory, what its replay writes.
 pub fn again(alloc: Global, config: &str, body: &str, out: &mut Vec<u8>) -> io::Result<()> {
-    let mut gateway = make_gateway(alloc, config)?;
+    let mut gateway = make_gateway(alloc, config, Counts::default())?;
     take_lines(alloc, &mut gateway, body, out)?;
     writeln!(out, "ok")
 }
@@ -206,7 +209,7 @@ fn put_all(all: &[Effects], out: &mut Vec<u8>) -> io::Result<()> {
 
 /// A line's event, a tick, and that event again, given as one list.
 pub fn list(alloc: Global, config: &str, body: &str, out: &mut Vec<u8>) -> io::Result<()> {
-    let mut gateway = make_gateway(alloc, config)?;
+    let mut gateway = make_gateway(alloc, config, Counts::default())?;
     run_list(alloc, &mut gateway, body.trim(), out)?;
     writeln!(out, "ok")
 }

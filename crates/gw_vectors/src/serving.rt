@@ -2,7 +2,7 @@
 //! fails.
 
 use crate::case::{number, number_or_none, put_word, unfolded};
-use crate::configurations::read;
+use crate::replays::make_gateway;
 use crate::streams::Narrow;
 use crate::wire::MemWire;
 use gw_core::{Counts, Gateway, ServeStop, Served, Wire, serve, serve_with_reports};
@@ -46,14 +46,6 @@ fn put_end(end: &Result<Served, ServeStop>, out: &mut Vec<u8>) -> io::Result<()>
             put_served(&stop.served, out)
         },
     }
-}
-
-/// A gateway that goes on from these counts.
-fn make_gateway(alloc: Global, config: &str, counts: Counts) -> io::Result<Gateway> {
-    if counts.ticks > 1 << 63 || counts.denials > 1 << 63 {
-        return Err(ErrorKind::InvalidData.into());
-    }
-    Ok(Gateway::new(alloc, read(alloc, config)?, counts)?)
 }
 
 /// Serves a wire, and appends how that ends, a letter for each call of the wire, and the log.

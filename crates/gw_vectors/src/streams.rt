@@ -1,4 +1,4 @@
-//! Replays, and logs told in words, from a reader of one octet a call, to a writer of some octets a call, each of which fails at a call of the case's choice.
+//! Replays, and logs told in words, from a reader of one octet a call, to a writer of some octets a call, each of which fails at a call of the case's choice; and these two, which other cases read from and write to as well.
 
 ghost use Rattle.std.specs.Prelude.{Some};
 
@@ -12,14 +12,15 @@ use std::io::{ErrorKind, Read, Write};
 /// For how many octets a writer has room at the start.
 const ROOM: usize = 4096;
 
-/// Gives one octet a call, and fails at the call of this number, from 0.
+/// Gives one octet a call where it is slow, and fails at the call of this number, from 0.
 #[derive(Drop)]
-struct Slow<'a> {
-    octets: &'a [u8],
-    fails: Option<u64>,
+pub struct Source<'a> {
+    pub octets: &'a [u8],
+    pub is_slow: bool,
+    pub fails: Option<u64>,
 }
 
-impl Read for Slow<'_> {
+impl Read for Source<'_> {
     ghost remaining = { λ reader. Some reader.octets.now };
 
     fn read(&mut self, buf: &mut [u8]) -> io::Result<usize> {
@@ -27,26 +28,45 @@ impl Read for Slow<'_> {
             return Err(ErrorKind::Other.into());
         }
         self.fails = self.fails.map(|number| number.saturating_sub(1));
-        let count = buf.len().min(1);
-        self.octets.read(&mut buf[..count])
+        if self.is_slow {
+            let count = buf.len().min(1);
+            return self.octets.read(&mut buf[..count]);
+        }
+        self.octets.read(buf)
     }
 }
 
-/// Takes so many octets a call at most, and fails at the call of this number, from 0.
+/// Takes so many octets a call at most, and so many in all. It fails then, at the call of this number,
+/// from 0, and at a flush where it doesn't flush.
 #[derive(Drop)]
 pub struct Narrow {
     held: Vec<u8>,
     fails: Option<u64>,
     octets: usize,
+    left: usize,
+    flushes: bool,
 }
 
 impl Narrow {
-    /// One that holds nothing yet, and has room.
+    /// One that takes so many octets a call, and may fail at one. It has room for what a case writes.
     pub fn new(alloc: Global, fails: Option<u64>, octets: usize) -> Result<Self, AllocError> {
         Ok(Narrow {
             held: Vec::with_capacity(alloc, ROOM)?,
             fails,
             octets,
+            left: usize::MAX,
+            flushes: true,
+        })
+    }
+
+    /// One that takes so many octets in all. It has room for them, so no write of it wants memory.
+    pub fn with_room(alloc: Global, room: usize, flushes: bool) -> Result<Self, AllocError> {
+        Ok(Narrow {
+            held: Vec::with_capacity(alloc, room)?,
+            fails: None,
+            octets: room,
+            left: room,
+            flushes,
         })
     }
 
@@ -60,19 +80,24 @@ impl Write for Narrow {
     ghost contents = { λ writer. Some writer.held.items };
 
     fn write(&mut self, buf: &[u8]) -> io::Result<usize> {
-        if self.fails == Some(0) {
+        if self.fails == Some(0) || self.left == 0 {
             return Err(ErrorKind::Other.into());
         }
         self.fails = self.fails.map(|number| number.saturating_sub(1));
-        let count = buf.len().min(self.octets);
+        let count = buf.len().min(self.octets).min(self.left);
         if self.held.extend_from_slice(&buf[..count]).is_err() {
             return Err(ErrorKind::OutOfMemory.into());
         }
+        self.left -= count;
         Ok(count)
     }
 
     fn flush(&mut self) -> io::Result<()> {
-        Ok(())
+        if self.flushes {
+            Ok(())
+        } else {
+            Err(ErrorKind::Other.into())
+        }
     }
 }
 
@@ -84,8 +109,9 @@ pub fn stream(alloc: Global, config: &str, line: &str, out: &mut Vec<u8>) -> io:
     let write = number_or_none(words.next())?;
     let octets = number(words.next())?;
     let script = unfolded(alloc, words.next().unwrap_or(""))?;
-    let mut reader = Slow {
+    let mut reader = Source {
         octets: &script,
+        is_slow: true,
         fails,
     };
     let mut writer = Narrow::new(alloc, write, octets)?;
@@ -96,7 +122,7 @@ pub fn stream(alloc: Global, config: &str, line: &str, out: &mut Vec<u8>) -> io:
 fn put_replay(
     alloc: Global,
     config: &str,
-    reader: &mut Slow<'_>,
+    reader: &mut Source<'_>,
     writer: &mut Narrow,
     out: &mut Vec<u8>,
 ) -> io::Result<()> {
@@ -125,8 +151,9 @@ fn tell(alloc: Global, start: Option<Moment>, line: &str, out: &mut Vec<u8>) -> 
     let write = number_or_none(words.next())?;
     let octets = number(words.next())?;
     let log = unfolded(alloc, words.next().unwrap_or(""))?;
-    let mut reader = Slow {
+    let mut reader = Source {
         octets: &log,
+        is_slow: true,
         fails,
     };
     let mut writer = Narrow::new(alloc, write, octets)?;
@@ -137,7 +164,7 @@ fn tell(alloc: Global, start: Option<Moment>, line: &str, out: &mut Vec<u8>) -> 
 fn put_told(
     alloc: Global,
     start: Option<Moment>,
-    reader: &mut Slow<'_>,
+    reader: &mut Source<'_>,
     writer: &mut Narrow,
     out: &mut Vec<u8>,
 ) -> io::Result<()> {

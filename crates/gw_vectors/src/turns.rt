@@ -4,6 +4,7 @@ ghost use Rattle.std.specs.Prelude.{◌≡◌, ⊤};
 ghost use Rattle.std.specs.Duration.{as_nanos};
 ghost use Rattle.gw_ports.specs.Socket.{FitsBuffer};
 
+use crate::case::number_behind;
 use gw_addr::BipAddr;
 use gw_core::{Got, RECEIVE_ROOM, Wire, WireFault};
 use gw_ports::{Ports, Sock, SockFault, SockPair, TimedPorts, Timepiece, Waiter};
@@ -142,23 +143,24 @@ fn put_course(wire: &mut impl Wire, calls: u64, out: &mut Vec<u8>) -> io::Result
     Ok(())
 }
 
-/// The number behind a name and an equals sign, in a line of such.
-fn number_of(line: &str, name: &str) -> Option<u64> {
-    let text = line.split(' ').find_map(|word| word.strip_prefix(name))?;
-    text.parse().ok()
-}
-
 /// The socket that fails, and at which of its calls.
 fn failing_of(line: &str) -> Option<(u64, u64)> {
-    Some((number_of(line, "socket=")?, number_of(line, "fails=")?))
+    Some((
+        number_behind(line, ' ', "socket=")?,
+        number_behind(line, ' ', "fails=")?,
+    ))
 }
 
 /// What comes of two ports, with so many datagrams waiting and ticks due as the line says.
 pub fn turns(alloc: Global, line: &str, out: &mut Vec<u8>) -> io::Result<()> {
-    let waiting = number_of(line, "waiting=").unwrap_or(0);
+    let waiting = number_behind(line, ' ', "waiting=").unwrap_or(0);
     let mut ports = two_ports(alloc, waiting, 0, failing_of(line))?;
-    ports.due(number_of(line, "ticks=").unwrap_or(0));
-    put_course(&mut ports, number_of(line, "calls=").unwrap_or(0), out)
+    ports.due(number_behind(line, ' ', "ticks=").unwrap_or(0));
+    put_course(
+        &mut ports,
+        number_behind(line, ' ', "calls=").unwrap_or(0),
+        out,
+    )
 }
 
 /// A clock on which 0.3 seconds pass from each look to the next, and which fails at one of them.
@@ -211,23 +213,23 @@ impl Waiter for MemWaiter {
 /// and how often it was waited, and without time. The looks at the clock are at 0.0, 0.3, 0.6, ..
 /// seconds; a receive looks once, and where nothing waits again.
 pub fn seconds(alloc: Global, line: &str, out: &mut Vec<u8>) -> io::Result<()> {
-    let waiting = number_of(line, "waiting=").unwrap_or(TIMED_WAITING);
-    let late = number_of(line, "late=").unwrap_or(0);
+    let waiting = number_behind(line, ' ', "waiting=").unwrap_or(TIMED_WAITING);
+    let late = number_behind(line, ' ', "late=").unwrap_or(0);
     let clock = SlowClock {
         looks: 0,
-        failing: number_of(line, "look="),
+        failing: number_behind(line, ' ', "look="),
     };
     let waiter = MemWaiter {
         waits: 0,
         looks: 0,
-        failing: number_of(line, "wait="),
+        failing: number_behind(line, ' ', "wait="),
         last: Duration::from_secs(0),
     };
     let ports = two_ports(alloc, waiting, late, None)?;
     let Ok(mut timed) = TimedPorts::start(ports, clock, waiter) else {
         return Ok(out.extend_from_slice(b"not started")?);
     };
-    let calls = number_of(line, "calls=").unwrap_or(TIMED_CALLS);
+    let calls = number_behind(line, ' ', "calls=").unwrap_or(TIMED_CALLS);
     put_course(&mut timed, calls, out)?;
     let waiter = &timed.waiter;
     write!(out, " waits={} looks={}", waiter.waits, waiter.looks)
