@@ -6,9 +6,10 @@ ghost use Rattle.gw_addr.specs.Address.{octets_of, address_of, address_in, IsAdd
 ghost use Rattle.gw_addr.specs.Address.{big_endian, text_of};
 ghost use Rattle.gw_addr.specs.Appending.{IsAppended};
 
-use crate::digits::{number_in, octet_before, put_octet_text, put_port_text};
+use crate::digits::{MAX_TEXT, number_in, octet_before, write_four, write_port};
 use crate::fault::{OctetsFault, TextFault};
 use crate::station::Mac;
+use crate::writers::put_slice;
 use std::alloc::AllocError;
 use std::fmt;
 
@@ -108,12 +109,10 @@ impl BipAddr {
     pub fn put_text(self, out: &mut Vec<u8>) -> Result<(), AllocError>
         ensures { IsAppended (text_of self) out.old out.new result }
     {
-        let [a, b, c, d] = self.ip;
-        put_octet_text(out, a, b'.')?;
-        put_octet_text(out, b, b'.')?;
-        put_octet_text(out, c, b'.')?;
-        put_octet_text(out, d, b':')?;
-        put_port_text(out, self.udp)
+        let mut text = [0; MAX_TEXT];
+        let place = write_four(&mut text, self.ip, b':');
+        let end = write_port(&mut text, place, self.udp);
+        put_slice(out, &text[..end])
     }
 }
 

@@ -1,6 +1,6 @@
 //! Numbers in decimal digits without leading zeros, as addresses and masks are written with them.
 
-ghost use Rattle.std.specs.Prelude.{◌≡◌, ◌<◌, ◌≤◌, ◌+◌, ◌^◌, ◌++◌, ◌∷◌, ◌↔◌, ◌%◌, [], ℕ, List, length};
+ghost use Rattle.std.specs.Prelude.{◌≡◌, ◌<◌, ◌≤◌, ◌+◌, ◌*◌, ◌^◌, ◌++◌, ◌∷◌, ◌↔◌, ◌%◌, [], ℕ, List, length};
 ghost use Rattle.std.specs.Prelude.{take, drop, slice_index, IsTrue};
 ghost use Rattle.std.specs.Prelude.{Some, IfSome, IsSomeAnd};
 ghost use Rattle.std.specs.Char.{IsAsciiDigit};
@@ -9,16 +9,36 @@ ghost use Rattle.gw_addr.specs.internal.Digits.{begins_canonical_of};
 ghost use Rattle.gw_addr.specs.Appending.{IsAppended};
 ghost use Rattle.gw_addr.specs.Text.{four_text};
 
-use crate::writers::{put_decimal, put_slice};
-use arrayvec::ArrayVec;
+use itoa::Buffer;
 use std::alloc::AllocError;
 
 /// How many digits a number below 65536 has at most.
 const MAX_DIGITS: usize = 5;
 /// How many digits a number below 256 has at most.
 const MAX_OCTET_DIGITS: usize = 3;
-/// How many octets four such numbers take at most, with points between them.
-const MAX_FOUR: usize = 4 * MAX_OCTET_DIGITS + 3;
+/// How many octets such a number takes at most with a character behind it.
+const MAX_PART: usize = MAX_OCTET_DIGITS + 1;
+/// How many octets the text of an address takes at most: four such numbers, and a port.
+pub const MAX_TEXT: usize = 4 * MAX_PART + MAX_DIGITS;
+
+/// Each number below 256 in decimal, with points behind it that make four octets of it.
+static OCTETS: [u8; 1024] = *b"\
+    0...1...2...3...4...5...6...7...8...9...10..11..12..13..14..15..\
+    16..17..18..19..20..21..22..23..24..25..26..27..28..29..30..31..\
+    32..33..34..35..36..37..38..39..40..41..42..43..44..45..46..47..\
+    48..49..50..51..52..53..54..55..56..57..58..59..60..61..62..63..\
+    64..65..66..67..68..69..70..71..72..73..74..75..76..77..78..79..\
+    80..81..82..83..84..85..86..87..88..89..90..91..92..93..94..95..\
+    96..97..98..99..100.101.102.103.104.105.106.107.108.109.110.111.\
+    112.113.114.115.116.117.118.119.120.121.122.123.124.125.126.127.\
+    128.129.130.131.132.133.134.135.136.137.138.139.140.141.142.143.\
+    144.145.146.147.148.149.150.151.152.153.154.155.156.157.158.159.\
+    160.161.162.163.164.165.166.167.168.169.170.171.172.173.174.175.\
+    176.177.178.179.180.181.182.183.184.185.186.187.188.189.190.191.\
+    192.193.194.195.196.197.198.199.200.201.202.203.204.205.206.207.\
+    208.209.210.211.212.213.214.215.216.217.218.219.220.221.222.223.\
+    224.225.226.227.228.229.230.231.232.233.234.235.236.237.238.239.\
+    240.241.242.243.244.245.246.247.248.249.250.251.252.253.254.255.";
 
 /// Whether digits begin as a number does that has no leading zeros.
 fn begins_canonical(digits: &[u8]) -> bool
@@ -111,79 +131,85 @@ fn digit(number: u16) -> u8
     b'0' + (number % 10) as u8
 }
 
-/// Adds a number below 256 in decimal digits.
-fn push_decimal(text: &mut ArrayVec<u8, MAX_FOUR>, number: u8)
-    requires { length text.old.items + MAX_OCTET_DIGITS ≤ MAX_FOUR }
-    ensures text { text.new.items ≡ text.old.items ++ decimal number }
-    ensures digits { length text.new.items ≤ length text.old.items + MAX_OCTET_DIGITS }
+/// How many digits a number below 256 has in decimal.
+#[inline(always)]
+#[tactic(auto, using(crate::proofs::Written::one_counted, crate::proofs::Written::two_counted, crate::proofs::Written::three_counted))]
+fn digit_count(number: u8) -> usize
+    ensures digits { result ≡ length (decimal number) }
+    ensures few { result ≤ MAX_OCTET_DIGITS }
 {
-    if number >= 100 {
-        text.push(b'0' + number / 100);
+    if number < 10 {
+        1
+    } else if number < 100 {
+        2
+    } else {
+        3
     }
-    if number >= 10 {
-        text.push(b'0' + number / 10 % 10);
-    }
-    text.push(b'0' + number % 10);
 }
 
-/// Appends four numbers in decimal, with points between them. An `Err` only where the buffer had no
-/// room for them; then a front of them may stand there.
-pub fn put_four(out: &mut Vec<u8>, octets: [u8; 4]) -> Result<(), AllocError>
-    ensures { IsAppended (four_text octets) out.old out.new result }
+/// Writes a number in decimal at a place, and a character behind it, and answers the place behind that. Of
+/// the octets behind it some may change.
+#[inline(always)]
+fn write_octet(text: &mut [u8; MAX_TEXT], place: usize, number: u8, behind: u8) -> usize
+    requires { place + MAX_PART ≤ MAX_TEXT }
+    ensures text { take result text.new ≡ take place text.old ++ (decimal number ++ behind ∷ []) }
+    ensures some { 0 < result }
+    ensures within { result ≤ place + MAX_PART }
+{
+    let start = MAX_PART * usize::from(number);
+    text[place..place + MAX_PART].copy_from_slice(&OCTETS[start..start + MAX_PART]);
+    let end = place + digit_count(number);
+    text[end] = behind;
+    end + 1
+}
+
+/// Writes four numbers in decimal, with points between them, and a character behind them, and answers the
+/// place behind that.
+#[inline(always)]
+pub fn write_four(text: &mut [u8; MAX_TEXT], octets: [u8; 4], behind: u8) -> usize
+    ensures text { take result text.new ≡ four_text octets ++ behind ∷ [] }
+    ensures some { 0 < result }
+    ensures within { result ≤ 4 * MAX_PART }
 {
     let [a, b, c, d] = octets;
-    let mut text = ArrayVec::new();
-    push_decimal(&mut text, a);
-    text.push(b'.');
-    push_decimal(&mut text, b);
-    text.push(b'.');
-    push_decimal(&mut text, c);
-    text.push(b'.');
-    push_decimal(&mut text, d);
-    out.extend_from_slice(text.as_slice())
+    let place = write_octet(text, 0, a, b'.');
+    let place = write_octet(text, place, b, b'.');
+    let place = write_octet(text, place, c, b'.');
+    write_octet(text, place, d, behind)
 }
 
-/// Appends a number in decimal, and a character behind it.
+/// Writes a number in decimal at a place, and answers the place behind it. Those of five digits, as most
+/// ports have, are written as they are.
 #[inline(always)]
-#[tactic(auto, using(crate::proofs::Written::one_digit, crate::proofs::Written::two_digits, crate::proofs::Written::three_digits))]
-pub fn put_octet_text(out: &mut Vec<u8>, number: u8, behind: u8) -> Result<(), AllocError>
-    ensures { IsAppended (decimal number ++ behind ∷ []) out.old out.new result }
-{
-    let number = u16::from(number);
-    if number < 10 {
-        put_slice(out, &[digit(number), behind])
-    } else if number < 100 {
-        put_slice(out, &[digit(number / 10), digit(number), behind])
-    } else {
-        put_slice(
-            out,
-            &[
-                digit(number / 100),
-                digit(number / 10),
-                digit(number),
-                behind,
-            ],
-        )
-    }
-}
-
-/// Appends a number in decimal. Those of five digits, as most ports have, are written as they are.
-#[inline(always)]
-#[tactic(auto, using(crate::proofs::Written::five_digits))]
-pub fn put_port_text(out: &mut Vec<u8>, number: u16) -> Result<(), AllocError>
-    ensures { IsAppended (decimal number) out.old out.new result }
+pub fn write_port(text: &mut [u8; MAX_TEXT], place: usize, number: u16) -> usize
+    requires { place + MAX_DIGITS ≤ MAX_TEXT }
+    ensures text { take result text.new ≡ take place text.old ++ decimal number }
+    ensures within { result ≤ MAX_TEXT }
 {
     if number < 10_000 {
-        return put_decimal(out, number);
+        return write_short_port(text, place, number);
     }
-    put_slice(
-        out,
-        &[
-            digit(number / 10_000),
-            digit(number / 1000),
-            digit(number / 100),
-            digit(number / 10),
-            digit(number),
-        ],
-    )
+    let digits = [
+        digit(number / 10_000),
+        digit(number / 1000),
+        digit(number / 100),
+        digit(number / 10),
+        digit(number),
+    ];
+    let end = place + MAX_DIGITS;
+    text[place..end].copy_from_slice(&digits);
+    end
+}
+
+/// Writes a number of fewer digits in decimal at a place, and answers the place behind it.
+fn write_short_port(text: &mut [u8; MAX_TEXT], place: usize, number: u16) -> usize
+    requires { place + MAX_DIGITS ≤ MAX_TEXT }
+    ensures text { take result text.new ≡ take place text.old ++ decimal number }
+    ensures within { result ≤ MAX_TEXT }
+{
+    let mut buffer = Buffer::new();
+    let digits = buffer.format(number).as_bytes();
+    let end = place + digits.len();
+    text[place..end].copy_from_slice(digits);
+    end
 }

@@ -4,7 +4,8 @@ ghost use Rattle.std.specs.Prelude.{◌≡◌, Some, IfSome};
 ghost use Rattle.gw_addr.specs.Mask.{mask_text, IsMask};
 ghost use Rattle.gw_addr.specs.Appending.{IsAppended};
 
-use crate::digits::{octet_before, octet_in, put_four};
+use crate::digits::{MAX_TEXT, octet_before, octet_in, write_four};
+use crate::writers::put_slice;
 use std::alloc::AllocError;
 use std::fmt;
 
@@ -38,7 +39,10 @@ impl Mask {
     pub fn put_text(self, out: &mut Vec<u8>) -> Result<(), AllocError>
         ensures { IsAppended (mask_text self) out.old out.new result }
     {
-        put_four(out, self.octets)
+        let mut text = [0; MAX_TEXT];
+        let end = write_four(&mut text, self.octets, b'.');
+        // Without the point behind the last number.
+        put_slice(out, &text[..end - 1])
     }
 }
 

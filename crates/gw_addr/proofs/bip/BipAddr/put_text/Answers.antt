@@ -1,8 +1,16 @@
-use Rattle.gw_addr.proofs.Appended.{then_put}
-use Rattle.gw_addr.proofs.Writing.{address_in_turn}
+use Rattle.std.proofs.Common.{◌∙◌, ◌++◌, ◌∷◌, [], ℕ, List, append_assoc, ap, sym, subst}
+use Rattle.std.specs.Fmt.{decimal}
+use Rattle.gw_addr.specs.Appending.{IsAppended}
+use Rattle.gw_addr.specs.Text.{four_text}
+use Rattle.gw_addr.proofs.Writing.{address_text}
 use Rattle.gw_addr.proofs.bip.BipAddr.put_text.Goals as goal
 
 pub returns : goal.returns
 returns c =
-    rw (address_in_turn c.args.self) (then_put (then_put (then_put (then_put c.in_ok-put_octet_text.ensures c.in_ok-put_octet_text-2.ensures)
-    c.in_ok-put_octet_text-3.ensures) c.in_ok-put_octet_text-4.ensures) c.put_port_text.ensures)
+    let port = decimal c.args.self.udp in
+    subst (λ (t : List ℕ). IsAppended t c.args.out.now c.put_slice.new.out c.put_slice.result)
+    (c.write_port-end.ensures.text
+    ∙ ap (λ (t : List ℕ). t ++ port) c.write_four-place.ensures.text
+    ∙ append_assoc (four_text c.args.self.ip) (58 ∷ []) port
+    ∙ sym (address_text c.args.self))
+    c.put_slice.ensures
