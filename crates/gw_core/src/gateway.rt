@@ -30,6 +30,7 @@ use crate::fault::StepFault;
 use crate::receive::{Received, read_npdu, receive};
 use crate::respond::{network_of, respond};
 use gw_addr::BipAddr;
+use gw_audit::Denials;
 use gw_configuration::Config;
 use gw_device::{Change, Device};
 use gw_npdu::NpduFault;
@@ -41,12 +42,11 @@ use std::marker::Model;
 /// Where each count of a gateway ends.
 const LAST_COUNT: u64 = 1 << 63;
 
-/// What is done about a datagram, before the gateway moves on: what it does; the change of the ports'
-/// tables or of the routes that it makes, and the write to the device, where it is granted one.
+/// What is done about a datagram beside what the relay's answer has: the policy's denials, and the
+/// write to the device, where it is granted one.
 #[derive(Drop)]
 struct Outcome {
-    effects: Effects,
-    change: Option<RelayChange>,
+    denials: Denials,
     write: Option<Change>,
 }
 
@@ -126,7 +126,7 @@ impl Model for Gateway {
 impl Gateway {
     ghost use Rattle.gw_core.specs.Asks.{asks_for};
     ghost use Rattle.gw_core.specs.Denials.{denials_for};
-    ghost use Rattle.gw_core.specs.Effects.{NeedsNoMemory, change_for, effects_for, nothing, passes_end, relay_change_for, sends_for};
+    ghost use Rattle.gw_core.specs.Effects.{NeedsNoMemory, change_for, nothing, passes_end, relay_change_for, sends_for};
     ghost use Rattle.gw_core.specs.History.{IsStateAfter, IsStep, RoutesGoOn, RoutesStand, TablesGoOn, TablesStand, WritesGoOn, WritesStand};
     ghost use Rattle.gw_core.specs.View.{received_view};
 
@@ -185,16 +185,27 @@ impl Gateway {
         LAST_COUNT - self.counts.denials
     }
 
-    /// What is done about what is received, while the gateway stays as it is. The faults are those of
+    /// What is done about what is received, while the gateway stays as it is: what is sent and what the
+    /// relay is to commit is added to an answer that has nothing. The faults are those of
     /// [`Gateway::step`].
     #[inline(always)]
-    fn outcome(&self, alloc: Global, received: &Received<'_>) -> Result<Outcome, StepFault>
-        requires { self.now.denials ≤ 2 ^ 63 }
-        ensures effects { let received = received_view received.now in
-            IfOk result (λ outcome. outcome.effects ≡ effects_for self.now received) }
+    fn outcome(
+        &self,
+        alloc: Global,
+        received: &Received<'_>,
+        given: &mut RelayResponse,
+    ) -> Result<Outcome, StepFault>
+        requires denials { self.now.denials ≤ 2 ^ 63 }
+        requires sends { given.old.sends ≡ [] }
+        requires refusals { given.old.refusals ≡ [] }
+        requires change { given.old.change ≡ None }
+        ensures sends { let received = received_view received.now in
+            let due = sends_for self.now.rules self.now.relay self.now.device received in
+            OnOk result (given.new.sends ≡ due) }
+        ensures denials { let due = denials_for self.now (received_view received.now) in
+            IfOk result (λ outcome. outcome.denials ≡ due) }
         ensures change { let received = received_view received.now in
-            let due = relay_change_for self.now.rules received in
-            IfOk result (λ outcome. outcome.change ≡ due) }
+            OnOk result (given.new.change ≡ relay_change_for self.now.rules received) }
         ensures write { let received = received_view received.now in
             let due = change_for self.now.rules self.now.device received in
             IfOk result (λ outcome. outcome.write ≡ due) }
@@ -208,16 +219,15 @@ impl Gateway {
             sends_for self.now.rules self.now.relay self.now.device received ≡ [] → IsOk result }
     {
         let rules = self.policy.rules();
-        let mut relayed = RelayResponse::nothing(alloc);
         let write = respond(
             alloc,
             &self.policy,
             &self.relay,
             &self.device,
             received,
-            &mut relayed,
+            given,
         )?;
-        if relayed.refusals.len() as u64 > self.left() {
+        if given.refusals.len() as u64 > self.left() {
             return Err(StepFault::CountEnd);
         }
         let denials = denials_of(
@@ -226,16 +236,9 @@ impl Gateway {
             self.counts.denials + 1,
             self.counts.ticks,
             received,
-            relayed.refusals.as_slice(),
+            given.refusals.as_slice(),
         )?;
-        Ok(Outcome {
-            effects: Effects {
-                sends: relayed.sends,
-                denials,
-            },
-            change: relayed.change,
-            write,
-        })
+        Ok(Outcome { denials, write })
     }
 
     /// Moves on by a datagram: makes its change of the relay and its write to the device, where there
@@ -318,13 +321,13 @@ impl Gateway {
             &frame,
             &npdu,
         );
-        let Outcome {
-            effects,
-            change,
-            write,
-        } = now.outcome(alloc, &received)?;
-        self.move_on(change, write, effects.denials.len() as u64)?;
-        Ok(effects)
+        let mut given = RelayResponse::nothing(alloc);
+        let Outcome { denials, write } = now.outcome(alloc, &received, &mut given)?;
+        self.move_on(given.change, write, denials.len() as u64)?;
+        Ok(Effects {
+            sends: given.sends,
+            denials,
+        })
     }
 
     /// Appends a line for each ask that a datagram raises, allowed or denied, with the rule that decides

@@ -6,14 +6,20 @@ use Rattle.gw_core.specs.Effects.{change_for, relay_change_for, sends_for}
 use Rattle.gw_core.specs.State.{State}
 use Rattle.gw_core.specs.View.{received_view}
 use Rattle.gw_core.proofs.DenialLemmas.{counted_for, recorded}
-use Rattle.gw_core.proofs.EffectLemmas.{effects_are}
 use Rattle.gw_core.proofs.RespondLemmas.{stands_alone}
 use Rattle.gw_core.proofs.gateway.Gateway.outcome.Goals as goal
 
-pub returns-clause-effects : goal.returns-clause-effects
-returns-clause-effects c =
-    let r = stands_alone c.self.inside.policy _ _ _ _ _ _ c.nothing-relayed.ensures.sends c.nothing-relayed.ensures.refusals
-    c.nothing-relayed.ensures.change (c.in_ok-write.ensures.response c.self.inside.policy refl) in
+pub returns-clause-sends : goal.returns-clause-sends
+returns-clause-sends c =
+    let r = stands_alone c.self.inside.policy _ _ _ _ _ _ c.requires.sends c.requires.refusals c.requires.change
+    (c.in_ok-write.ensures.response c.self.inside.policy refl) in
+    subst (λ (s : State). c.respond.new.given.sends ≡ sends_for s.rules s.relay s.device (received_view c.args.received.now))
+    c.self.view_is r.sends
+
+pub returns-clause-denials : goal.returns-clause-denials
+returns-clause-denials c =
+    let r = stands_alone c.self.inside.policy _ _ _ _ _ _ c.requires.sends c.requires.refusals c.requires.change
+    (c.in_ok-write.ensures.response c.self.inside.policy refl) in
     let refusals = c.respond.new.given.refusals in
     let w : State = record {
       relay = c.self.inside.relay;
@@ -22,9 +28,8 @@ returns-clause-effects c =
       ticks = c.self.inside.counts.ticks;
       denials = c.self.inside.counts.denials;
     } in
-    rw (← c.self.view_is) (effects_are _ _ _ _ r.sends
-    (recorded w c.args.received.now c.rules-rules.result.now c.as_slice.result.now refusals c.in_ok-denials.denials c.rules-rules.ensures
-    c.as_slice.ensures r.refusals c.in_ok-denials.ensures.denials))
+    rw (← c.self.view_is) (recorded w c.args.received.now c.rules-rules.result.now c.as_slice.result.now refusals c.in_ok-denials.denials
+    c.rules-rules.ensures c.as_slice.ensures r.refusals c.in_ok-denials.ensures.denials)
 
 pub returns-clause-place : goal.returns-clause-place
 returns-clause-place c =
@@ -35,8 +40,8 @@ pub returns-clause-room : goal.returns-clause-room
 returns-clause-room c = λ ok.
     let w = c.args.self.now in
     let received = received_view c.args.received.now in
-    let r = stands_alone c.self.inside.policy _ _ _ _ _ _ c.nothing-relayed.ensures.sends c.nothing-relayed.ensures.refusals
-    c.nothing-relayed.ensures.change (c.in_ok-write.ensures.response c.self.inside.policy refl) in
+    let r = stands_alone c.self.inside.policy _ _ _ _ _ _ c.requires.sends c.requires.refusals c.requires.change
+    (c.in_ok-write.ensures.response c.self.inside.policy refl) in
     let refusals = subst (λ (s : State). c.respond.new.given.refusals ≡ denied_of s.rules (asks_for s.rules s.relay s.device received))
     c.self.view_is r.refusals in
     omega (arith, c.if-len-left.false, c.len.ensures, c.left.ensures, ap length refusals, counted_for w received)
@@ -45,16 +50,16 @@ pub returns-then-len-left-clause-count_end : goal.returns-then-len-left-clause-c
 returns-then-len-left-clause-count_end c = λ h.
     let w = c.args.self.now in
     let received = received_view c.args.received.now in
-    let r = stands_alone c.self.inside.policy _ _ _ _ _ _ c.nothing-relayed.ensures.sends c.nothing-relayed.ensures.refusals
-    c.nothing-relayed.ensures.change (c.in_ok-write.ensures.response c.self.inside.policy refl) in
+    let r = stands_alone c.self.inside.policy _ _ _ _ _ _ c.requires.sends c.requires.refusals c.requires.change
+    (c.in_ok-write.ensures.response c.self.inside.policy refl) in
     let refusals = subst (λ (s : State). c.respond.new.given.refusals ≡ denied_of s.rules (asks_for s.rules s.relay s.device received))
     c.self.view_is r.refusals in
     omega (arith, c.if-len-left.true, c.len.ensures, c.left.ensures, ap length refusals, counted_for w received)
 
 pub returns-clause-change : goal.returns-clause-change
 returns-clause-change c =
-    let r = stands_alone c.self.inside.policy _ _ _ _ _ _ c.nothing-relayed.ensures.sends c.nothing-relayed.ensures.refusals
-    c.nothing-relayed.ensures.change (c.in_ok-write.ensures.response c.self.inside.policy refl) in
+    let r = stands_alone c.self.inside.policy _ _ _ _ _ _ c.requires.sends c.requires.refusals c.requires.change
+    (c.in_ok-write.ensures.response c.self.inside.policy refl) in
     subst (λ (s : State). c.respond.new.given.change ≡ relay_change_for s.rules (received_view c.args.received.now)) c.self.view_is r.change
 
 pub returns-clause-write : goal.returns-clause-write

@@ -1,20 +1,19 @@
 use Rattle.std.proofs.Common.{◌≡◌, ◌+◌, ◌^◌, ◌≤◌, length, Err, refl, sym, ap, subst, ◌∙◌, arith}
 use Rattle.std.specs.Option.{option_map}
 use Rattle.gw_relay.specs.State.{Commit}
-use Rattle.gw_core.specs.declared.effects.Effects.{Effects}
 use Rattle.gw_core.specs.declared.fault.StepFault.TheVariants.{CountEnd}
 use Rattle.gw_script.specs.Event.{Datagram}
 use Rattle.gw_core.specs.Receive.{receive}
 use Rattle.gw_core.specs.State.{State, device_network}
 use Rattle.gw_core.specs.View.{received_view}
 use Rattle.gw_core.proofs.DenialLemmas.{asks_received, denials_received}
-use Rattle.gw_core.proofs.EffectLemmas.{change_received, effects_received, move_received, passes_end-within, passes_end-denials, received_as, sends_received}
+use Rattle.gw_core.proofs.EffectLemmas.{change_received, effects_are, effects_received, move_received, passes_end-within, passes_end-denials, received_as, sends_received}
 use Rattle.gw_core.proofs.HistoryLemmas.{fault_of_call, moves_on, routes_go_on, tables_go_on, writes_go_on}
 use Rattle.gw_core.proofs.SilenceLemmas.{unchanged}
 use Rattle.gw_core.proofs.gateway.Gateway.step.Goals as goal
 
-pub returns-in_err-effects-clause-count_end : goal.returns-in_err-effects-clause-count_end
-returns-in_err-effects-clause-count_end c =
+pub returns-in_err-denials-clause-count_end : goal.returns-in_err-denials-clause-count_end
+returns-in_err-denials-clause-count_end c =
     let w = c.args.self.now in
     let event = Datagram c.args.port c.args.from c.args.octets.now in
     let received : received_view c.receive-received.result ≡ receive w event =
@@ -23,18 +22,18 @@ returns-in_err-effects-clause-count_end c =
     (c.network_of-network.ensures ∙ ap (λ (s : State). device_network s.device) c.now.view_is) in
     let counted = denials_received w event (received_view c.receive-received.result) received in
     λ h.
-    let same = fault_of_call c.from_residual.result c.in_err-effects.field-0.0 CountEnd c.from_residual.ensures.1 h in
-    passes_end-denials w event _ counted (c.in_err-effects.ensures.count_end (ap Err same))
+    let same = fault_of_call c.from_residual.result c.in_err-denials.field-0.0 CountEnd c.from_residual.ensures.1 h in
+    passes_end-denials w event _ counted (c.in_err-denials.ensures.count_end (ap Err same))
 
-pub returns-in_err-effects-clause-silent : goal.returns-in_err-effects-clause-silent
-returns-in_err-effects-clause-silent c = λ none.
+pub returns-in_err-denials-clause-silent : goal.returns-in_err-denials-clause-silent
+returns-in_err-denials-clause-silent c = λ none.
     let w = c.args.self.now in
     let event = Datagram c.args.port c.args.from c.args.octets.now in
     let received : received_view c.receive-received.result ≡ receive w event =
     received_as w c.links.result.now c.network_of-network.result c.args.port c.args.from c.args.octets.now _ c.receive-received.ensures
     (c.links.ensures ∙ ap (λ (s : State). s.relay.links) c.now.view_is)
     (c.network_of-network.ensures ∙ ap (λ (s : State). device_network s.device) c.now.view_is) in
-    let ok = c.in_err-effects.ensures.silent (sym (asks_received w event _ received) ∙ none.0)
+    let ok = c.in_err-denials.ensures.silent (sym (asks_received w event _ received) ∙ none.0)
     (sym (sends_received w event _ received) ∙ none.1) in
     absurd cc
 
@@ -48,14 +47,14 @@ returns-clause-step c =
     (c.network_of-network.ensures ∙ ap (λ (s : State). device_network s.device) c.now.view_is) in
     let counted = denials_received w event (received_view c.receive-received.result) received in
     let ticks : w.ticks + 0 ≤ 2 ^ 63 = subst (λ (s : State). s.ticks + 0 ≤ 2 ^ 63) c.now.view_is (omega (arith, c.now.invariant.ticks)) in
-    let sized = c.len.ensures ∙ ap (λ (x : Effects). length x.denials) c.in_ok-effects.ensures.effects ∙ counted in
+    let sized = c.len.ensures ∙ ap length c.in_ok-denials.ensures.denials ∙ counted in
     record {
-      effects = c.in_ok-effects.ensures.effects ∙ effects_received w event _ received;
+      effects = effects_are _ _ _ _ c.in_ok-denials.ensures.sends c.in_ok-denials.ensures.denials ∙ effects_received w event _ received;
       state = moves_on w _ c.args.port c.args.from c.args.octets.now
-          (option_map Commit c.in_ok-effects.field-0.change) c.in_ok-effects.field-0.write c.len.result c.in_ok-move_on.ensures.state
-          (move_received w c.args.port c.args.from c.args.octets.now _ c.in_ok-effects.field-0.change received c.in_ok-effects.ensures.change)
-          (c.in_ok-effects.ensures.write ∙ change_received w event _ received) sized;
-      counts = passes_end-within w event _ counted ticks (c.in_ok-effects.ensures.room refl);
+          (option_map Commit c.outcome.new.given.change) c.in_ok-denials.field-0.write c.len.result c.in_ok-move_on.ensures.state
+          (move_received w c.args.port c.args.from c.args.octets.now _ c.outcome.new.given.change received c.in_ok-denials.ensures.change)
+          (c.in_ok-denials.ensures.write ∙ change_received w event _ received) sized;
+      counts = passes_end-within w event _ counted ticks (c.in_ok-denials.ensures.room refl);
     }
 
 pub returns-clause-writes : goal.returns-clause-writes
@@ -66,8 +65,8 @@ returns-clause-writes c =
     received_as w c.links.result.now c.network_of-network.result c.args.port c.args.from c.args.octets.now _ c.receive-received.ensures
     (c.links.ensures ∙ ap (λ (s : State). s.relay.links) c.now.view_is)
     (c.network_of-network.ensures ∙ ap (λ (s : State). device_network s.device) c.now.view_is) in
-    writes_go_on w c.move_on.new.self event c.in_ok-effects.field-0.write
-    (c.in_ok-effects.ensures.write ∙ change_received w event _ received) c.in_ok-move_on.ensures.writes
+    writes_go_on w c.move_on.new.self event c.in_ok-denials.field-0.write
+    (c.in_ok-denials.ensures.write ∙ change_received w event _ received) c.in_ok-move_on.ensures.writes
 
 pub returns-clause-tables : goal.returns-clause-tables
 returns-clause-tables c =
@@ -77,8 +76,8 @@ returns-clause-tables c =
     received_as w c.links.result.now c.network_of-network.result c.args.port c.args.from c.args.octets.now _ c.receive-received.ensures
     (c.links.ensures ∙ ap (λ (s : State). s.relay.links) c.now.view_is)
     (c.network_of-network.ensures ∙ ap (λ (s : State). device_network s.device) c.now.view_is) in
-    tables_go_on w c.move_on.new.self event (option_map Commit c.in_ok-effects.field-0.change)
-    (move_received w c.args.port c.args.from c.args.octets.now _ c.in_ok-effects.field-0.change received c.in_ok-effects.ensures.change)
+    tables_go_on w c.move_on.new.self event (option_map Commit c.outcome.new.given.change)
+    (move_received w c.args.port c.args.from c.args.octets.now _ c.outcome.new.given.change received c.in_ok-denials.ensures.change)
     c.in_ok-move_on.ensures.tables
 
 pub returns-clause-routes : goal.returns-clause-routes
@@ -89,8 +88,8 @@ returns-clause-routes c =
     received_as w c.links.result.now c.network_of-network.result c.args.port c.args.from c.args.octets.now _ c.receive-received.ensures
     (c.links.ensures ∙ ap (λ (s : State). s.relay.links) c.now.view_is)
     (c.network_of-network.ensures ∙ ap (λ (s : State). device_network s.device) c.now.view_is) in
-    routes_go_on w c.move_on.new.self event (option_map Commit c.in_ok-effects.field-0.change)
-    (move_received w c.args.port c.args.from c.args.octets.now _ c.in_ok-effects.field-0.change received c.in_ok-effects.ensures.change)
+    routes_go_on w c.move_on.new.self event (option_map Commit c.outcome.new.given.change)
+    (move_received w c.args.port c.args.from c.args.octets.now _ c.outcome.new.given.change received c.in_ok-denials.ensures.change)
     c.in_ok-move_on.ensures.routes
 
 pub returns-in_err-move_on-clause-silent : goal.returns-in_err-move_on-clause-silent
@@ -101,6 +100,6 @@ returns-in_err-move_on-clause-silent c = λ none.
     received_as w c.links.result.now c.network_of-network.result c.args.port c.args.from c.args.octets.now _ c.receive-received.ensures
     (c.links.ensures ∙ ap (λ (s : State). s.relay.links) c.now.view_is)
     (c.network_of-network.ensures ∙ ap (λ (s : State). device_network s.device) c.now.view_is) in
-    let ok = c.in_err-move_on.ensures.no_growth (c.in_ok-effects.ensures.change
+    let ok = c.in_err-move_on.ensures.no_growth (c.in_ok-denials.ensures.change
     ∙ unchanged w.rules w.relay w.device _ (sym (asks_received w event _ received) ∙ none.0)) in
     absurd cc
