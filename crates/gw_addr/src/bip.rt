@@ -13,6 +13,9 @@ use crate::writers::put_slice;
 use std::alloc::AllocError;
 use std::fmt;
 
+/// How many UDP ports there are.
+const PORTS: u64 = 1 << 16;
+
 /// A BACnet/IP address: the IPv4 address of a node and its UDP port, six octets in all.
 ///
 /// ```text
@@ -66,8 +69,7 @@ impl BipAddr {
     pub fn key48(self) -> u64
         ensures { result ≡ big_endian (octets_of self) }
     {
-        let [a, b, c, d, high, low] = self.to_octets();
-        u64::from_be_bytes([0, 0, a, b, c, d, high, low])
+        u64::from(u32::from_be_bytes(self.ip)) * PORTS + u64::from(self.udp)
     }
 
     /// The address as that of a station on its network: its six octets (clause 6.2.2).
