@@ -13,6 +13,7 @@ ghost use Rattle.gw_core.specs.Receive.{claims_direct, comes_in, is_direct, mana
 ghost use Rattle.gw_core.specs.internal.Frame.{octets_in};
 ghost use Rattle.gw_core.specs.View.{received_view};
 
+use gw_addr::laws::one_to_one;
 use gw_addr::{BipAddr, NetNum};
 use gw_bvll::{Bvll, BvllFault};
 use gw_npdu::{AddressRef, Npdu, NpduFault};
@@ -46,7 +47,8 @@ pub enum Received<'a> {
 fn comes_in(own: BipAddr, from: BipAddr, octets: &[u8]) -> bool
     ensures { result ≡ comes_in own from octets.now }
 {
-    octets.len() <= MAX_DATAGRAM && own.key48() != from.key48()
+    one_to_one();
+    octets.len() <= MAX_DATAGRAM && !own.is_same(from)
 }
 
 /// Whether a frame reads or changes a table of its port.
