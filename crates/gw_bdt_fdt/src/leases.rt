@@ -116,7 +116,8 @@ fn has_end_by(ends: &BTreeSet<(u64, BipAddr)>, now: u64) -> bool
     }
 }
 
-/// Takes the leases that end with a tick or before it, with their ends.
+/// Takes the leases that end with a tick or before it, with their ends, which is seldom.
+#[inline(never)]
 fn take_ended(
     by_address: &mut IndexMap<BipAddr, Lease>,
     ends: &mut BTreeSet<(u64, BipAddr)>,

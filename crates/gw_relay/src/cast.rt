@@ -7,14 +7,14 @@ ghost use Rattle.gw_bdt_fdt.specs.Peers.{is_of, peers};
 ghost use Rattle.gw_bvll.specs.Bvll.{forwarded};
 ghost use Rattle.gw_bvll.specs.Bvll.{view as frame_view};
 ghost use Rattle.gw_rules.specs.declared.rule.Rule.{Rule};
-ghost use Rattle.gw_relay.specs.Cast.{cast_ask, cast_asks, cast_response, devices, devices_but, directed, goes_on, is_broadcast, accepts, is_unregistered, managers, passed_on, spread, subnet, targets};
+ghost use Rattle.gw_relay.specs.Cast.{cast_asks, cast_response, devices, devices_but, directed, goes_on, is_broadcast, accepts, is_unregistered, managers, passed_on, spread, subnet, targets};
 ghost use Rattle.gw_relay.specs.Link.{answer_to, refused};
 ghost use Rattle.gw_relay.specs.Message.{message_view};
 ghost use Rattle.gw_relay.specs.Response.{IsAdded};
 ghost use Rattle.gw_relay.specs.Sends.{sendings_of, sent};
 ghost use Rattle.gw_relay.specs.internal.Serving.{judged};
 
-use crate::ask::{bound_for, message_ask};
+use crate::ask::{bound_for, put_message_fields};
 use crate::message::Message;
 use crate::octets::message_octets;
 use crate::outgoing::Outgoing;
@@ -332,13 +332,6 @@ pub(crate) fn cast<J: Judge>(
     Ok(true)
 }
 
-/// The ask of a broadcast.
-fn cast_ask(message: &Message<'_>) -> Ask
-    ensures { result ≡ cast_ask (message_view message.now) }
-{
-    message_ask(Operation::Cast, message, bound_for(message.npdu))
-}
-
 /// Distributes a broadcast that is accepted, and no unregistered sender's, and adds what that gives.
 fn cast_accepted<J: Judge>(
     alloc: Global,
@@ -356,7 +349,8 @@ fn cast_accepted<J: Judge>(
         return Ok(());
     }
     let mut authorizer = Authorizer::new(alloc, judge);
-    let ask = cast_ask(message);
+    let mut ask = Ask::new(Operation::Cast);
+    put_message_fields(&mut ask, message, bound_for(message.npdu));
     let is_allowed = authorizer.authorize(&ask)?;
     let here = message.here;
     here.put_judged(

@@ -15,7 +15,7 @@ ghost use Rattle.gw_relay.specs.internal.Serving.{learn_response};
 ghost use Rattle.gw_relay.specs.internal.Taken.{AreTaken};
 ghost use Rattle.gw_npdu.specs.Kind.{kind_number};
 
-use crate::ask::message_ask;
+use crate::ask::put_message_fields;
 use crate::change::Change;
 use crate::message::Message;
 use crate::npdu::{is_kind, message_of, put_broadcast};
@@ -94,7 +94,9 @@ fn ask_of(operation: Operation, message: &Message<'_>, network: Option<NetNum>) 
         Some(network) => Some(u64::from(network.get())),
         None => None,
     };
-    message_ask(operation, message, destination)
+    let mut ask = Ask::new(operation);
+    put_message_fields(&mut ask, message, destination);
+    ask
 }
 
 /// Appends networks, each two octets.

@@ -7,11 +7,11 @@ ghost use Rattle.gw_npdu.specs.Npdu.{view as npdu_view, address_view, destinatio
 ghost use Rattle.gw_rules.specs.declared.rule.Rule.{Rule};
 ghost use Rattle.gw_relay.specs.Message.{message_view};
 ghost use Rattle.gw_relay.specs.Response.{IsAdded};
-ghost use Rattle.gw_relay.specs.Route.{copied, copy, delivered, has_hops, hop, is_local, last_hop, leaves, on_way, others, reject, route_ask, route_asks, route_response, routed, sent_on, sought, steps_by, who_is_router};
+ghost use Rattle.gw_relay.specs.Route.{copied, copy, delivered, has_hops, hop, is_local, last_hop, leaves, on_way, others, reject, route_asks, route_response, routed, sent_on, sought, steps_by, who_is_router};
 ghost use Rattle.gw_relay.specs.Steps.{asks_of, broadcast, npdu_octets, taken, unicast};
 ghost use Rattle.gw_relay.specs.internal.Taken.{AreTaken};
 
-use crate::ask::{bound_for, message_ask};
+use crate::ask::{bound_for, put_message_fields};
 use crate::message::Message;
 use crate::named::authorize_forward;
 use crate::npdu::{is_kind, message_of, put_broadcast, put_unicast};
@@ -56,13 +56,6 @@ fn is_local(payload: &Payload<'_>) -> bool
 {
     is_kind(payload, MessageKind::WhatIsNetworkNumber)
         || is_kind(payload, MessageKind::NetworkNumberIs)
-}
-
-/// The ask of a message that goes to a network.
-fn route_ask(message: &Message<'_>, network: Option<u64>) -> Ask
-    ensures { result ≡ route_ask (message_view message.now) network }
-{
-    message_ask(Operation::Route, message, network)
 }
 
 /// A message for its next hop, whose destination stays or goes; the node that it came from is added
@@ -308,7 +301,8 @@ fn put_copy<J: Judge>(
     ensures judge { authorizer.new.judge ≡ authorizer.old.judge }
 {
     let network = Some(u64::from(link.port.network.get()));
-    let ask = route_ask(message, network);
+    let mut ask = Ask::new(Operation::Route);
+    put_message_fields(&mut ask, message, network);
     if authorize_forward(authorizer, format, &ask, &message.npdu.payload)? {
         copy_to_port(alloc, message, destination, link, sends)
     } else {
@@ -332,7 +326,8 @@ fn put_allowed<J: Judge>(
         OnOk result (AreTaken rules (step ∷ []) authorizer.old authorizer.new sends.old sends.new) }
     ensures judge { authorizer.new.judge ≡ authorizer.old.judge }
 {
-    let ask = route_ask(message, bound_for(message.npdu));
+    let mut ask = Ask::new(Operation::Route);
+    put_message_fields(&mut ask, message, bound_for(message.npdu));
     let payload = &message.npdu.payload;
     if authorize_forward(authorizer, relay.format(), &ask, payload)? {
         forward(alloc, relay, message, destination, way, sends)

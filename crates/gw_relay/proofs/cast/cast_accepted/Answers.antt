@@ -1,9 +1,9 @@
-use Rattle.std.proofs.Common.{◌∙◌, sym, ap, refl, List, [], ◌∷◌, ◌++◌}
+use Rattle.std.proofs.Common.{◌≡◌, ◌∙◌, sym, ap, refl, List, [], ◌∷◌, ◌++◌}
 use Rattle.gw_rules.specs.Ask.{Ask}
 use Rattle.gw_rules.specs.Authorizer.{denied_of}
 use Rattle.gw_rules.specs.RuleList.{allows}
 use Rattle.gw_rules.specs.declared.refusal.Refusal.{Refusal}
-use Rattle.gw_relay.specs.Cast.{cast_response}
+use Rattle.gw_relay.specs.Cast.{cast_ask, cast_response}
 use Rattle.gw_relay.specs.Message.{message_view}
 use Rattle.gw_relay.specs.Sends.{Sending}
 use Rattle.gw_relay.proofs.Adding.{none_added, or_none}
@@ -25,11 +25,12 @@ returns-clause-relayed g c = λ rules stands.
     let heard = goes_on_accepted m c.requires in
     let known = goes_on_registered m c.requires in
     let broadcast = sym c.is_broadcast.ensures ∙ c.if-not-is_broadcast.false in
+    let own : c.put_message_fields.new.ask ≡ cast_ask m = rw (c.put_message_fields.ensures, c.new-ask.ensures, c.bound_for.ensures) refl in
     let judges = c.in_ok-is_allowed.ensures.answer rules (rw c.new-authorizer.ensures.judge stands)
-    ∙ ap (allows rules) c.cast_ask-ask.ensures in
+    ∙ ap (allows rules) own in
     let denied = c.into_refusals.ensures ∙ c.in_ok-is_allowed.ensures.denied rules (rw c.new-authorizer.ensures.judge stands)
-    ∙ ap (λ (before : List Refusal). before ++ denied_of rules (c.cast_ask-ask.result ∷ [])) c.new-authorizer.ensures.denied
-    ∙ ap (λ (ask : Ask). denied_of rules (ask ∷ [])) c.cast_ask-ask.ensures in record {
+    ∙ ap (λ (before : List Refusal). before ++ denied_of rules (c.put_message_fields.new.ask ∷ [])) c.new-authorizer.ensures.denied
+    ∙ ap (λ (ask : Ask). denied_of rules (ask ∷ [])) own in record {
       sends = c.in_ok-put_judged.ensures ∙ ap (λ (l : List Sending). given.sends ++ l)
           (sym (cast_judged rules m c.in_ok-is_allowed.is_allowed heard known broadcast judges));
       refusals = rw (cast_asked m heard known broadcast)
