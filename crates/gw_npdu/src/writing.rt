@@ -110,8 +110,8 @@ fn put_address(out: &mut Vec<u8>, network: u16, mac: &[u8]) -> Result<(), AllocE
     ensures { let a : Address = record { network = network; mac = mac.now } in
         IsAppended (address_part a) out.old out.new result }
 {
-    put_number(out, network)?;
-    put_octet(out, mac.len() as u8)?;
+    let [high, low] = network.to_be_bytes();
+    put_slice(out, &[high, low, mac.len() as u8])?;
     put_slice(out, mac)
 }
 
@@ -180,8 +180,7 @@ fn put_addresses(out: &mut Vec<u8>, npdu: &Npdu<'_>) -> Result<(), AllocError>
 pub(crate) fn put_header(out: &mut Vec<u8>, npdu: &Npdu<'_>) -> Result<(), AllocError>
     ensures { IsAppended (header (view npdu.now)) out.old out.new result }
 {
-    put_octet(out, PROTOCOL_VERSION)?;
-    put_octet(out, npdu.control().bits())?;
+    put_slice(out, &[PROTOCOL_VERSION, npdu.control().bits()])?;
     put_addresses(out, npdu)?;
     put_hops(out, &npdu.destination)?;
     put_payload_part(out, &npdu.payload)

@@ -1,5 +1,5 @@
 -- The lines of a text, one by one.
-use Rattle.std.proofs.Common.{◌≡◌, ◌≢◌, ℕ, suc, ◌+◌, ◌<◌, false, ◌==◌, List, [], ◌∷◌, ◌++◌, length, take, drop, Some, refl, ap, ◌∙◌, arith, append_assoc}
+use Rattle.std.proofs.Common.{◌≡◌, ◌≢◌, ℕ, suc, ◌+◌, ◌<◌, false, ◌==◌, List, [], ◌∷◌, ◌++◌, length, codes, take, drop, Some, refl, sym, ap, ◌∙◌, arith, append_assoc}
 use Rattle.std.proofs.lemmas.List.{length-take-le, length-append}
 use Rattle.std.proofs.lemmas.Bool.Decides.{nat_tests}
 use Rattle.memchr.specs.Find.{IsFirstByte, is_byte}
@@ -18,6 +18,13 @@ unfolding lines_of
 lines_of-line [] rest lacks = refl
 lines_of-line (c ∷ line) rest lacks =
     rw (other c line lacks) (ap (onto_first c) (lines_of-line line rest (λ i lt. lacks (suc i) (omega arith))))
+
+-- the line of a tick stands first
+pub tick_line : (text rest : List ℕ) → text ≡ codes "tick" ++ 10 ∷ drop 5 text → lines_of (text ++ rest) ≡ take 4 text ∷ lines_of (drop 5 text ++ rest)
+unfolding lines_of
+tick_line text rest begins =
+    ap (λ (t : List ℕ). lines_of (t ++ rest)) begins
+    ∙ ap (λ (t : List ℕ). t ∷ lines_of (drop 5 text ++ rest)) (sym (ap (take 4) begins))
 
 pub lines_of-last : (line : List ℕ) → Lacks 10 line → 0 < length line → lines_of line ≡ line ∷ []
 unfolding lines_of

@@ -1,6 +1,7 @@
 //! The lines of a text, one by one, lent from what was read of it.
 
-ghost use Rattle.std.specs.Prelude.{◌≡◌, ◌+◌, ◌-◌, ◌≤◌, ◌<◌, ℕ, List, [], length, slice_range, take, drop, IsOk, OnErr, IfOk, IfSome, IsNone};
+ghost use Rattle.std.specs.Prelude.{◌≡◌, ◌+◌, ◌-◌, ◌≤◌, ◌<◌, ◌∷◌, ◌++◌, ℕ, List, [], length, codes, slice_range, take, drop, IsOk, OnErr, IfOk, IfSome, IsNone};
+ghost use Rattle.std.specs.Bool.{OnTrue};
 ghost use Rattle.std.specs.Io.KnownBytes.{Keeps, IsAtEnd, prepend_known};
 ghost use Rattle.gw_addr.specs.Text.{Lacks};
 ghost use Rattle.gw_script.specs.Reader.{IsAtHand, IsGiven, IsNextLine, IsPaid, IsWithin};
@@ -14,6 +15,9 @@ const MAX_UNREAD: usize = 16_384;
 
 /// How many octets a line has at most, without its line feed.
 pub(crate) const MAX_LINE: usize = 4096;
+
+/// How many octets the line of a tick has, without its line feed.
+const TICK_LEN: usize = 4;
 
 /// What stands first in the text that is left.
 #[derive(Drop)]
@@ -59,6 +63,14 @@ fn move_to_front(octets: &mut [u8; MAX_UNREAD], start: usize, end: usize)
     ensures { slice_range octets.new 0 (end - start) ≡ slice_range octets.old start end }
 {
     octets.copy_within(start..end, 0);
+}
+
+/// Whether a text begins with the whole line of a tick.
+#[inline(always)]
+fn begins_with_tick(text: &[u8]) -> bool
+    ensures { OnTrue result (text.now ≡ codes "tick" ++ 10 ∷ drop 5 text.now) }
+{
+    matches!(text, [b't', b'i', b'c', b'k', b'\n', ..])
 }
 
 impl LineReader {
@@ -109,6 +121,10 @@ impl LineReader {
         ensures open { IsNone result → Lacks 10 self.now.unread }
     {
         let unread = self.as_slice();
+        // The line of a tick, the shortest, is told without a search.
+        if begins_with_tick(unread) {
+            return Some(NextLine::Line { len: TICK_LEN, span: TICK_LEN + 1 });
+        }
         match memchr(b'\n', unread) {
             Some(len) if len <= MAX_LINE => Some(NextLine::Line { len, span: len + 1 }),
             Some(_) => Some(NextLine::Long),

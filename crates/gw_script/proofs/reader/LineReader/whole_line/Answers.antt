@@ -1,8 +1,13 @@
 use Rattle.std.proofs.Common.{length, Some, None, ap, arith}
 use Rattle.memchr.specs.Find.{IsFirstByte, is_byte}
 use Rattle.gw_script.proofs.SearchLemmas.{none_lacks}
-use Rattle.gw_script.proofs.LineLemmas.{first_line, first_line_long, begins_long}
+use Rattle.gw_script.proofs.LineLemmas.{tick_line, first_line, first_line_long, begins_long}
 use Rattle.gw_script.proofs.reader.LineReader.whole_line.Goals as goal
+
+pub returns-then-begins_with_tick-clause-found : goal.returns-then-begins_with_tick-clause-found
+returns-then-begins_with_tick-clause-found c = λ rest.
+    let begins = rw c.as_slice-unread.ensures at c.if-begins_with_tick.ensures in
+    tick_line c.args.self.now.unread rest begins
 
 pub returns-in-Some-clause-found : goal.returns-in-Some-clause-found
 returns-in-Some-clause-found c =
