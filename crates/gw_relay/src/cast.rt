@@ -293,6 +293,9 @@ impl PortState {
         let others = self.bdt.entries().len() + self.fdt.count();
         let mut targets = Vec::with_capacity(alloc, others)?;
         self.put_all(&mut targets)?;
+        if targets.is_empty() {
+            return Ok(None);
+        }
         let message = Bvll::Forwarded {
             originator: self.port.address,
             npdu,

@@ -24,6 +24,7 @@ pub(crate) fn is_kind(payload: &Payload<'_>, kind: MessageKind) -> bool
 }
 
 /// A network layer message that the gateway makes, without destination and source (clause 6.4).
+#[inline(always)]
 pub(crate) fn message_of<'a>(kind: MessageKind, octets: &'a [u8]) -> Npdu<'a>
     requires { nat_le 128 (kind_number kind) ≡ false }
     ensures { npdu_view result ≡ made None None kind octets.now }
