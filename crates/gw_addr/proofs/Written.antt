@@ -1,8 +1,8 @@
 -- Numbers that are written digit by digit.
-use Rattle.std.proofs.Common.{◌≡◌, ℕ, zero, suc, ◌/◌, ◌%◌, ◌+◌, ◌-◌, ◌*◌, ◌<◌, ◌≤◌, Bool, true, false, ◌&&◌, T, eqb, List, [], ◌∷◌, ◌++◌, length, take, drop, get_or, set, append_assoc, nat_lt, if◌then◌else◌, refl, sym, ap, subst, ◌∙◌, inl, inr, arith, eq-zero-or-pos, eqb→eq}
+use Rattle.std.proofs.Common.{◌≡◌, ℕ, zero, suc, ◌/◌, ◌%◌, ◌+◌, ◌-◌, ◌*◌, ◌^◌, ◌<◌, ◌≤◌, Bool, true, false, ◌&&◌, T, eqb, List, [], ◌∷◌, ◌++◌, length, codes, take, drop, get_or, set, append_assoc, nat_lt, if◌then◌else◌, refl, sym, ap, subst, ◌∙◌, inl, inr, arith, eq-zero-or-pos, eqb→eq}
 use Rattle.std.specs.Fmt.{decimal}
 use Rattle.std.proofs.lemmas.Bool.Decides.{nat_tests}
-use Rattle.std.proofs.lemmas.Fmt.{decimal_digit, decimal_step}
+use Rattle.std.proofs.lemmas.Fmt.{decimal_digit, decimal_injective, decimal_step}
 use Rattle.std.proofs.lemmas.List.{length-append, length-take, take-take, take_more_set}
 use Rattle.std.proofs.lemmas.Slice.{take-put_mid}
 use Rattle.std.proofs.Math.Seq.{take-append-add}
@@ -162,3 +162,11 @@ five_digits n some few =
       decimal_digit (n / 10000 % 10) (omega arith),
     )
     refl
+
+-- the digits of the port of BACnet/IP
+pub bacnet_digits : decimal 47808 ≡ codes "47808"
+bacnet_digits = five_digits 47808 (omega arith) (omega arith)
+
+-- and no other number has them
+pub bacnet_port : (n : ℕ) → n < 2 ^ 16 → codes "47808" ≡ decimal n → 47808 ≡ n
+bacnet_port n small is = decimal_injective 47808 n (omega arith) (omega arith) (bacnet_digits ∙ is)

@@ -6,7 +6,7 @@ ghost use Rattle.gw_addr.specs.Address.{octets_of, address_of, address_in, IsAdd
 ghost use Rattle.gw_addr.specs.Address.{big_endian, text_of};
 ghost use Rattle.gw_addr.specs.Appending.{IsAppended};
 
-use crate::digits::{MAX_TEXT, number_in, octet_before, write_four, write_port};
+use crate::digits::{MAX_TEXT, octet_before, port_in, write_four, write_port};
 use crate::fault::{OctetsFault, TextFault};
 use crate::station::Mac;
 use crate::writers::put_slice;
@@ -137,7 +137,7 @@ fn address_written(text: &[u8]) -> Option<BipAddr>
     let (b, rest) = octet_before(rest, b'.')?;
     let (c, rest) = octet_before(rest, b'.')?;
     let (d, port) = octet_before(rest, b':')?;
-    let udp = number_in(port)?;
+    let udp = port_in(port)?;
     Some(BipAddr {
         ip: [a, b, c, d],
         udp,

@@ -1,7 +1,8 @@
 //! Numbers in decimal digits without leading zeros, as addresses and masks are written with them.
 
 ghost use Rattle.std.specs.Prelude.{◌≡◌, ◌<◌, ◌≤◌, ◌+◌, ◌*◌, ◌^◌, ◌++◌, ◌∷◌, ◌↔◌, ◌%◌, [], ℕ, List, length};
-ghost use Rattle.std.specs.Prelude.{take, drop, slice_index, IsTrue};
+ghost use Rattle.std.specs.Prelude.{codes, take, drop, slice_index, IsTrue};
+ghost use Rattle.std.specs.Bool.{OnTrue};
 ghost use Rattle.std.specs.Prelude.{Some, IfSome, IsSomeAnd};
 ghost use Rattle.std.specs.Char.{IsAsciiDigit};
 ghost use Rattle.std.specs.Fmt.{decimal};
@@ -20,6 +21,11 @@ const MAX_OCTET_DIGITS: usize = 3;
 const MAX_PART: usize = MAX_OCTET_DIGITS + 1;
 /// How many octets the text of an address takes at most: four such numbers, and a port.
 pub const MAX_TEXT: usize = 4 * MAX_PART + MAX_DIGITS;
+
+/// The UDP port of BACnet/IP, X'BAC0', which most nodes have (Annex J.1.2).
+const BACNET_PORT: u16 = 0xBAC0;
+/// Its digits.
+const BACNET_DIGITS: [u8; MAX_DIGITS] = *b"47808";
 
 /// Each number below 256 in decimal, with points behind it that make four octets of it.
 static OCTETS: [u8; 1024] = *b"\
@@ -72,6 +78,27 @@ pub fn number_in(text: &[u8]) -> Option<u16>
         number = 10 * number + u32::from(value);
     }
     u16::try_from(number).ok()
+}
+
+/// The number below 65536 that the text is, as [`number_in`] answers it. The port of BACnet/IP is told
+/// at once.
+#[inline(always)]
+pub fn port_in(text: &[u8]) -> Option<u16>
+    ensures found { IfSome result (λ n. text.now ≡ decimal n) }
+    ensures only { (n : ℕ) → n < 2 ^ 16 → text.now ≡ decimal n → result ≡ Some n }
+{
+    if is_bacnet_port(text) {
+        return Some(BACNET_PORT);
+    }
+    number_in(text)
+}
+
+/// Whether the text is the digits of the port of BACnet/IP.
+#[inline(always)]
+fn is_bacnet_port(text: &[u8]) -> bool
+    ensures { OnTrue result (text.now ≡ codes "47808") }
+{
+    matches!(text, [b'4', b'7', b'8', b'0', b'8'])
 }
 
 /// The number below 256 that the text is.
@@ -178,6 +205,24 @@ pub fn write_four(text: &mut [u8; MAX_TEXT], octets: [u8; 4], behind: u8) -> usi
     write_octet(text, place, d, behind)
 }
 
+/// The digits of a number that has five. Those of the port of BACnet/IP are at hand.
+#[inline(always)]
+fn five_digits(number: u16) -> [u8; MAX_DIGITS]
+    requires { 10000 ≤ number }
+    ensures { result ≡ decimal number }
+{
+    if number == BACNET_PORT {
+        return BACNET_DIGITS;
+    }
+    [
+        digit(number / 10_000),
+        digit(number / 1000),
+        digit(number / 100),
+        digit(number / 10),
+        digit(number),
+    ]
+}
+
 /// Writes a number in decimal at a place, and answers the place behind it. Those of five digits, as most
 /// ports have, are written as they are.
 #[inline(always)]
@@ -189,15 +234,8 @@ pub fn write_port(text: &mut [u8; MAX_TEXT], place: usize, number: u16) -> usize
     if number < 10_000 {
         return write_short_port(text, place, number);
     }
-    let digits = [
-        digit(number / 10_000),
-        digit(number / 1000),
-        digit(number / 100),
-        digit(number / 10),
-        digit(number),
-    ];
     let end = place + MAX_DIGITS;
-    text[place..end].copy_from_slice(&digits);
+    text[place..end].copy_from_slice(&five_digits(number));
     end
 }
 
