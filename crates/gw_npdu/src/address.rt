@@ -17,11 +17,11 @@ use gw_addr::NetNum;
 /// The hop count stands behind the source.
 #[derive(Clone, Copy, Debug)]
 pub struct Destination<'a> {
-    /// The number of the network, 1 to 65534, or 65535 for every network.
-    pub network: u16,
     /// The station's address on that network, at most 255 octets. None: every station there. For every network there
     /// is none.
     pub mac: &'a [u8],
+    /// The number of the network, 1 to 65534, or 65535 for every network.
+    pub network: u16,
     /// The hop count: a router takes one from it, and passes on no message whose count is or becomes 0.
     pub hops: u8,
 
@@ -52,10 +52,10 @@ impl Destination<'_> {
 /// ```
 #[derive(Clone, Copy, Debug)]
 pub struct AddressRef<'a> {
-    /// The number of the network, 1 to 65534.
-    pub network: u16,
     /// The station's address on that network, 1 to 255 octets.
     pub mac: &'a [u8],
+    /// The number of the network, 1 to 65534.
+    pub network: u16,
 
     pub ghost numbered: { 0 < network },
     pub ghost single: { network < every_network },

@@ -7,8 +7,8 @@ use crate::npdu::{Payload, Priority};
 /// A network and the address of a station there, whatever they are.
 #[derive(Clone, Copy)]
 pub struct RawAddress<'a> {
-    pub network: u16,
     pub mac: &'a [u8],
+    pub network: u16,
 
     pub ghost short: { length mac.now < 2 ^ 8 },
 }

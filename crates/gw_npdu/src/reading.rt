@@ -182,6 +182,7 @@ fn whole(octets: &[u8]) -> Result<Npdu<'_>, NpduFault>
 ///
 /// The addresses and the octets of the payload are slices of `octets`. Reserved bits are ignored. Faults are judged
 /// in the order of their numbers: `Short` over the whole shape, then `Version`, then `Address`.
+#[inline(always)]
 pub fn decode(octets: &[u8]) -> Result<Npdu<'_>, NpduFault>
     // What is read is what the octets are.
     ensures found { IfOk result (λ n. IsNpdu octets.now (view n)) }
