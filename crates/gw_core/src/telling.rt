@@ -101,16 +101,16 @@ fn append_step(
     ensures fault { IfErr result (IsEventFault gateway.old (event_view event.now)) }
     ensures capacity { vec_capacity text.old ≤ vec_capacity text.new }
 {
-    let effects = match take_event(alloc, gateway, event) {
+    let taken = take_event(alloc, gateway, event);
+    let effects = match &taken {
         Ok(effects) => effects,
         Err(StepFault::Memory) => return Err(RunFault::Memory),
         Err(StepFault::CountEnd) => return Err(RunFault::CountEnd),
     };
-    match append_effects(text, &effects, sender) {
-        Ok(()) => {}
-        Err(_) => return Err(RunFault::Memory),
+    match append_effects(text, effects, sender) {
+        Ok(()) => Ok(()),
+        Err(_) => Err(RunFault::Memory),
     }
-    Ok(())
 }
 
 /// Has the gateway take an event, and appends the lines of what it does.

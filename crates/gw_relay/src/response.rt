@@ -5,7 +5,7 @@ ghost use Rattle.std.specs.Option.{option_or};
 
 use crate::change::Change;
 use crate::sends::Sends;
-use gw_rules::Refusals;
+use gw_rules::{Refusal, Refusals};
 use std::alloc::{AllocError, Global};
 
 /// What a relay answers to a frame or to its message: it changed nothing yet.
@@ -57,7 +57,16 @@ pub fn put_refusals(refusals: &mut Refusals, later: Refusals) -> Result<(), Allo
         *refusals = later;
         return Ok(());
     }
-    for refusal in later.as_slice() {
+    append_refusals(refusals, later.as_slice())
+}
+
+/// Adds refusals behind others, which is seldom: the room for one is made only then.
+#[inline(never)]
+fn append_refusals(refusals: &mut Refusals, later: &[Refusal]) -> Result<(), AllocError>
+    ensures ok { OnOk result (refusals.new ≡ refusals.old ++ later.now) }
+    ensures silent { later.now ≡ [] → IsOk result }
+{
+    for refusal in later {
         refusals.push(*refusal)?;
     }
     Ok(())
