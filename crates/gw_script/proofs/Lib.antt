@@ -12,3 +12,4 @@ pub mod KnownTexts
 pub mod Calls
 pub mod Passing
 pub mod LinesLemmas
+pub mod DigitLemmas

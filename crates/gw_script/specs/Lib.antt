@@ -6,3 +6,4 @@ pub mod Flaw
 pub mod Order
 pub mod Known
 pub mod Lines
+pub mod internal

@@ -123,7 +123,10 @@ impl LineReader {
         let unread = self.as_slice();
         // The line of a tick, the shortest, is told without a search.
         if begins_with_tick(unread) {
-            return Some(NextLine::Line { len: TICK_LEN, span: TICK_LEN + 1 });
+            return Some(NextLine::Line {
+                len: TICK_LEN,
+                span: TICK_LEN + 1,
+            });
         }
         match memchr(b'\n', unread) {
             Some(len) if len <= MAX_LINE => Some(NextLine::Line { len, span: len + 1 }),

@@ -5,10 +5,14 @@ ghost use Rattle.hex.specs.Hex.{encode_upper, upper_digits};
 ghost use Rattle.gw_addr.specs.Address.{text_of};
 ghost use Rattle.gw_addr.specs.Appending.{IsAppended, IsAppendedWhole};
 ghost use Rattle.gw_script.specs.Text.{EndsWith, end_line, send_head, send_line, send_lines, send_port, send_tail};
+ghost use Rattle.gw_script.specs.internal.Digits.{AreDigits, AreWritten};
 
 use crate::event::SpelledAddr;
 use gw_addr::{BipAddr, keep_whole, put_decimal, put_octet, put_slice};
 use std::alloc::AllocError;
+
+/// How many octets are written at once.
+const BLOCK: usize = 8;
 
 /// Appends the line of a datagram that is sent. An `Err` only where the buffer had no room for it;
 /// the buffer then holds what it held.
@@ -202,14 +206,70 @@ fn upper_digit(number: u8) -> u8
     }
 }
 
+/// The digits of the octets of a block, whose first octet this is.
+#[inline(always)]
+fn block_digits(octets: &[u8], start: usize) -> [u8; 2 * BLOCK]
+    requires { start + BLOCK ≤ length octets.now }
+    ensures { AreDigits octets.now (2 * start) result (2 * BLOCK) }
+{
+    let mut digits = [0; 2 * BLOCK];
+    for i in 0..BLOCK {
+        let octet = octets[start + i];
+        digits[2 * i] = upper_digit(octet >> 4);
+        digits[2 * i + 1] = upper_digit(octet & 15);
+    }
+    digits
+}
+
+/// Writes the digits of the octets of a block, whose first octet this is, behind those before it.
+#[inline(always)]
+fn write_block(octets: &[u8], digits: &mut [u8], start: usize)
+    requires pairs { length digits.old ≡ 2 * length octets.now }
+    requires within { start + BLOCK ≤ length octets.now }
+    requires before { AreWritten octets.now digits.old (2 * start) }
+    ensures { AreWritten octets.now digits.new (2 * (start + BLOCK)) }
+{
+    let block = block_digits(octets, start);
+    for i in 0..2 * BLOCK {
+        digits[2 * start + i] = block[i];
+    }
+}
+
+/// Writes octets block by block. The last block ends with the last octet: octets that the block before it
+/// has, too, are written once more.
+#[inline(always)]
+fn write_blocks(octets: &[u8], digits: &mut [u8])
+    requires pairs { length digits.old ≡ 2 * length octets.now }
+    requires some { BLOCK ≤ length octets.now }
+    ensures { AreWritten octets.now digits.new (2 * length octets.now) }
+{
+    let last = octets.len() - BLOCK;
+    for block in 0..octets.len().div_ceil(BLOCK) {
+        write_block(octets, digits, last.min(BLOCK * block));
+    }
+}
+
+/// Writes octets one by one.
+#[inline(always)]
+fn write_each(octets: &[u8], digits: &mut [u8])
+    requires { length digits.old ≡ 2 * length octets.now }
+    ensures { AreWritten octets.now digits.new (2 * length octets.now) }
+{
+    for i in 0..octets.len() {
+        digits[2 * i] = upper_digit(octets[i] >> 4);
+        digits[2 * i + 1] = upper_digit(octets[i] & 15);
+    }
+}
+
 /// Writes octets in upper-case digits over as many digits as they have.
 #[inline(never)]
 fn write_digits(octets: &[u8], digits: &mut [u8])
     requires { length digits.old ≡ 2 * length octets.now }
     ensures { digits.new ≡ encode_upper octets.now }
 {
-    for i in 0..octets.len() {
-        digits[2 * i] = upper_digit(octets[i] >> 4);
-        digits[2 * i + 1] = upper_digit(octets[i] & 15);
+    if octets.len() < BLOCK {
+        write_each(octets, digits);
+    } else {
+        write_blocks(octets, digits);
     }
 }
