@@ -1,16 +1,17 @@
 //! The grammar of a line: `tick`, or a datagram as `<port> <address> <hex>`.
 
 ghost use Rattle.std.specs.Prelude.{◌≡◌, ◌≢◌, ◌+◌, ◌*◌, ◌<◌, ◌≤◌, ◌++◌, ◌∷◌, ℕ, List, length};
-ghost use Rattle.std.specs.Prelude.{Ok, None, Some, IsErr, IfSome, IsNone};
+ghost use Rattle.std.specs.Prelude.{Ok, None, Some, IsErr, IfSome, IsNone, slice_index};
 ghost use Rattle.std.specs.Bool.{OnTrue, OnFalse};
 ghost use Rattle.std.specs.Option.{option_map};
-ghost use Rattle.hex.specs.Hex.{decode_of, hex_digit_value};
+ghost use Rattle.hex.specs.Hex.{decode_of};
 ghost use Rattle.gw_addr.specs.declared.TheConstants.{MAX_PORTS};
 ghost use Rattle.gw_addr.specs.declared.bip.BipAddr.{BipAddr};
 ghost use Rattle.gw_addr.specs.Address.{IsAddress, text_of};
 ghost use Rattle.gw_script.specs.Event.{Event as PlainEvent, IsOnPort, event_view, sender_of};
 ghost use Rattle.gw_script.specs.Script.{IsLine, Writes, WritesDatagram, WritesOctets};
 ghost use Rattle.gw_addr.specs.Text.{Lacks};
+ghost use Rattle.gw_script.specs.internal.Pairs.{IsReadTo, IsValue};
 
 use crate::event::{Event, SpelledAddr};
 use gw_addr::BipAddr;
@@ -18,6 +19,33 @@ use memchr::memchr;
 
 /// How many octets the datagram of a line has at most.
 pub const MAX_DATAGRAM: usize = 2048;
+
+/// How many values a digit has.
+const BASE: u8 = 16;
+/// How many octets are read from their digits, or written in them, at once.
+pub(crate) const BLOCK: usize = 8;
+
+/// What stands in the table for a character that is no digit.
+const X: u8 = u8::MAX;
+/// The value of each character as a digit of either case: sixteen in a row, which ends with the first of them.
+static VALUES: [u8; 256] = [
+    X, X, X, X, X, X, X, X, X, X, X, X, X, X, X, X, // 0x00
+    X, X, X, X, X, X, X, X, X, X, X, X, X, X, X, X, // 0x10
+    X, X, X, X, X, X, X, X, X, X, X, X, X, X, X, X, // 0x20
+    0, 1, 2, 3, 4, 5, 6, 7, 8, 9, X, X, X, X, X, X, // 0x30
+    X, 10, 11, 12, 13, 14, 15, X, X, X, X, X, X, X, X, X, // 0x40
+    X, X, X, X, X, X, X, X, X, X, X, X, X, X, X, X, // 0x50
+    X, 10, 11, 12, 13, 14, 15, X, X, X, X, X, X, X, X, X, // 0x60
+    X, X, X, X, X, X, X, X, X, X, X, X, X, X, X, X, // 0x70
+    X, X, X, X, X, X, X, X, X, X, X, X, X, X, X, X, // 0x80
+    X, X, X, X, X, X, X, X, X, X, X, X, X, X, X, X, // 0x90
+    X, X, X, X, X, X, X, X, X, X, X, X, X, X, X, X, // 0xA0
+    X, X, X, X, X, X, X, X, X, X, X, X, X, X, X, X, // 0xB0
+    X, X, X, X, X, X, X, X, X, X, X, X, X, X, X, X, // 0xC0
+    X, X, X, X, X, X, X, X, X, X, X, X, X, X, X, X, // 0xD0
+    X, X, X, X, X, X, X, X, X, X, X, X, X, X, X, X, // 0xE0
+    X, X, X, X, X, X, X, X, X, X, X, X, X, X, X, X, // 0xF0
+];
 
 /// The event that a line of at most 4096 octets writes, or `None` where it writes none. The octets of a datagram are lent from the
 /// buffer.
@@ -121,31 +149,102 @@ pub(crate) fn address_of(text: &[u8]) -> Option<BipAddr>
 }
 
 /// The value of a digit of either case, or a number over 15 where the character is none.
+#[inline(always)]
 fn digit_value(digit: u8) -> u8
-    ensures digit { result < 16 → hex_digit_value digit ≡ Some result }
-    ensures other { 16 ≤ result → hex_digit_value digit ≡ None }
+    ensures { IsValue digit result }
 {
     let number = digit.wrapping_sub(b'0');
     let letter = (digit | 0x20).wrapping_sub(b'a').saturating_add(10);
-    if number < 10 { number } else { letter }
+    let number = if number < 10 { number } else { u8::MAX };
+    number.min(letter)
+}
+
+/// The same out of a table, for a digit that is read by itself, where the compiler would make branches of [`digit_value`].
+#[inline(always)]
+fn value_in_table(digit: u8) -> u8
+    ensures { IsValue digit result }
+{
+    VALUES[usize::from(digit)]
+}
+
+/// The values of the digits of the block that starts with this octet.
+#[inline(always)]
+fn block_values(text: &[u8], start: usize) -> [u8; 2 * BLOCK]
+    requires { 2 * (start + BLOCK) ≤ length text.now }
+    ensures { (k : ℕ) → k < 2 * BLOCK → IsValue (slice_index text.now (2 * start + k)) (slice_index result k) }
+{
+    let mut values = [0; 2 * BLOCK];
+    for k in 0..2 * BLOCK {
+        values[k] = digit_value(text[2 * start + k]);
+    }
+    values
+}
+
+/// Reads the octets of the block that starts with this one, and answers the largest value of a digit up to its end.
+#[inline(always)]
+fn read_block(text: &[u8], octets: &mut [u8], start: usize, largest: u8) -> u8
+    requires pairs { length text.now ≡ 2 * length octets.old }
+    requires within { start + BLOCK ≤ length octets.old }
+    requires before { IsReadTo text.now octets.old start largest }
+    ensures { IsReadTo text.now octets.new (start + BLOCK) result }
+{
+    let values = block_values(text, start);
+    let mut largest = largest;
+    for k in 0..BLOCK {
+        let high = values[2 * k];
+        let low = values[2 * k + 1];
+        largest = largest.max(high).max(low);
+        octets[start + k] = high.wrapping_mul(BASE).wrapping_add(low);
+    }
+    largest
+}
+
+/// Reads the octets of digit pairs block by block, and answers the largest value of a digit. The last block ends with the last
+/// octet, so it may read octets of the block before it once more.
+#[inline(always)]
+fn read_blocks(text: &[u8], octets: &mut [u8]) -> u8
+    requires pairs { length text.now ≡ 2 * length octets.old }
+    requires some { BLOCK ≤ length octets.old }
+    ensures { IsReadTo text.now octets.new (length octets.new) result }
+{
+    let last = octets.len() - BLOCK;
+    let mut largest = 0;
+    for block in 0..octets.len().div_ceil(BLOCK) {
+        largest = read_block(text, octets, last.min(BLOCK * block), largest);
+    }
+    largest
+}
+
+/// Reads the octets of digit pairs one by one, and answers the largest value of a digit.
+#[inline(always)]
+fn read_each(text: &[u8], octets: &mut [u8]) -> u8
+    requires { length text.now ≡ 2 * length octets.old }
+    ensures { IsReadTo text.now octets.new (length octets.new) result }
+{
+    let mut largest = 0u8;
+    for i in 0..octets.len() {
+        let high = value_in_table(text[2 * i]);
+        let low = value_in_table(text[2 * i + 1]);
+        largest = largest.max(high).max(low);
+        octets[i] = high.wrapping_mul(BASE).wrapping_add(low);
+    }
+    largest
 }
 
 /// Reads the octets of digit pairs, and answers whether all of them were digits. It tells that at the end alone, so that no digit
-/// is waited for: the loop has no branch.
+/// is waited for.
 #[inline(never)]
 fn read_pairs(text: &[u8], octets: &mut [u8]) -> bool
     requires { length text.now ≡ 2 * length octets.old }
     ensures read { OnTrue result (decode_of text.now ≡ Ok octets.new) }
     ensures only { OnFalse result (IsErr (decode_of text.now)) }
 {
-    let mut largest = 0u8;
-    for i in 0..octets.len() {
-        let high = digit_value(text[2 * i]);
-        let low = digit_value(text[2 * i + 1]);
-        largest = largest.max(high).max(low);
-        octets[i] = high.wrapping_mul(16).wrapping_add(low);
-    }
-    largest < 16
+    let largest = if octets.len() < BLOCK {
+        read_each(text, octets)
+    } else {
+        read_blocks(text, octets)
+    };
+    largest < BASE
 }
 
 /// The octets that a text writes, lent from the buffer.

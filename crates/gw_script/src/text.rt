@@ -8,11 +8,9 @@ ghost use Rattle.gw_script.specs.Text.{EndsWith, end_line, send_head, send_line,
 ghost use Rattle.gw_script.specs.internal.Digits.{AreDigits, AreWritten};
 
 use crate::event::SpelledAddr;
+use crate::line::BLOCK;
 use gw_addr::{BipAddr, keep_whole, put_decimal, put_octet, put_slice};
 use std::alloc::AllocError;
-
-/// How many octets are written at once.
-const BLOCK: usize = 8;
 
 /// Appends the line of a datagram that is sent. An `Err` only where the buffer had no room for it;
 /// the buffer then holds what it held.

@@ -1,9 +1,12 @@
-use Rattle.std.proofs.Common.{arith}
-use Rattle.gw_script.proofs.PairLemmas.{letter_is, letter_is_none}
+use Rattle.std.proofs.Common.{min, ap, ◌∙◌, arith}
+use Rattle.gw_script.proofs.PairLemmas.{letter_is, number_is}
+use Rattle.gw_script.proofs.line.digit_value.Goals.{then-number-lt10, else-number-lt10}
 use Rattle.gw_script.proofs.line.digit_value.Goals as goal
 
-pub returns-else-number-lt10-clause-digit : goal.returns-else-number-lt10-clause-digit
-returns-else-number-lt10-clause-digit c = letter_is c.args.digit c.saturating_add-letter.result (omega arith) (omega arith) c.saturating_add-letter.ensures
-
-pub returns-else-number-lt10-clause-other : goal.returns-else-number-lt10-clause-other
-returns-else-number-lt10-clause-other c = letter_is_none c.args.digit c.saturating_add-letter.result (omega arith) (omega arith) c.saturating_add-letter.ensures
+pub returns : goal.returns
+returns c =
+    let is = c.min.ensures ∙ ap (min c.if-number-lt10.number) c.saturating_add-letter.ensures in
+    elim c.if-number-lt10.branch [
+      | then-number-lt10 w ↦ number_is c.args.digit c.if-number-lt10.number c.min.result (omega arith) (omega arith) w.number-is is
+      | else-number-lt10 w ↦ letter_is c.args.digit c.if-number-lt10.number c.min.result (omega arith) (omega arith) w.number-is is
+    ]

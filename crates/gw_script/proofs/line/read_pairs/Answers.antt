@@ -1,19 +1,18 @@
-use Rattle.std.proofs.Common.{◌*◌, ◌+◌, ◌%◌, refl, arith}
-use Rattle.gw_script.proofs.PairLemmas.{read_none, read_more, is_read, is_refused}
+use Rattle.std.proofs.Common.{length, arith}
+use Rattle.gw_script.specs.internal.Pairs.{IsReadTo}
+use Rattle.gw_script.proofs.PairLemmas.{is_read, is_refused}
+use Rattle.gw_script.proofs.line.read_pairs.Goals.{Joined-octets-lt-BLOCK, then-octets-lt-BLOCK, else-octets-lt-BLOCK}
 use Rattle.gw_script.proofs.line.read_pairs.Goals as goal
 
-pub loop-i-init : goal.loop-i-init
-loop-i-init c = read_none c.args.text.now c.args.octets.now
-
-pub loop-i-preserved : goal.loop-i-preserved
-loop-i-preserved c =
-    let high = c.digit_value-high.result in
-    let low = c.digit_value-low.result in
-    rw (c.max-largest.ensures, c.max.ensures)
-    (read_more c.args.text.now c.loop-i.octets c.loop-i.i c.loop-i.largest high low ((high * 16 % 256 + low) % 256) (omega arith) (omega arith) c.digit_value-high.ensures.digit c.digit_value-high.ensures.other c.digit_value-low.ensures.digit c.digit_value-low.ensures.other refl c.loop-i.invariant)
+all_read : (c : Joined-octets-lt-BLOCK) → IsReadTo c.args.text.now c.if-octets-lt-BLOCK.octets (length c.if-octets-lt-BLOCK.octets) c.if-octets-lt-BLOCK.largest
+all_read c =
+    elim c.if-octets-lt-BLOCK.branch [
+      | then-octets-lt-BLOCK w ↦ rw (w.octets-is, w.largest-is) w.read_each-largest.ensures
+      | else-octets-lt-BLOCK w ↦ rw (w.octets-is, w.largest-is) w.read_blocks-largest.ensures
+    ]
 
 pub returns-clause-read : goal.returns-clause-read
-returns-clause-read c = is_read c.args.text.now c.loop-i.octets c.loop-i.i c.loop-i.largest (omega arith) (omega arith) c.loop-i.invariant
+returns-clause-read c = is_read c.args.text.now c.if-octets-lt-BLOCK.octets c.if-octets-lt-BLOCK.largest (omega arith) (all_read c)
 
 pub returns-clause-only : goal.returns-clause-only
-returns-clause-only c = is_refused c.args.text.now c.loop-i.octets c.loop-i.i c.loop-i.largest (omega arith) c.loop-i.invariant
+returns-clause-only c = is_refused c.args.text.now c.if-octets-lt-BLOCK.octets c.if-octets-lt-BLOCK.largest (all_read c)
