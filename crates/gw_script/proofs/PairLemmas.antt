@@ -8,7 +8,6 @@ use Rattle.hex.specs.declared.error.FromHexError.TheVariants.{InvalidHexCharacte
 use Rattle.hex.specs.Hex.{decode_of, decode_pairs, hex_digit_value, pair_value}
 use Rattle.hex.proofs.HexLemmas.{decode_of-even}
 use Rattle.hex.proofs.Pairs.{prepend, decode_start, decode_step, decode_err, decode_done}
-use Rattle.gw_script.specs.declared.line.TheConstants.{VALUES}
 use Rattle.gw_script.specs.internal.Pairs.{IsPair, IsReadTo, IsValue}
 
 -- ---- one digit
@@ -60,20 +59,6 @@ number_is c n r lt small is e =
 pub letter_is : (c n r : ℕ) → c < 256 → 10 ≤ number_of c → n ≡ 255 → r ≡ min n (letter_of c) → IsValue c r
 letter_is c n r lt over is e =
     is_value c r lt (ap (λ (m : ℕ). min m (letter_of c)) (cond-false _ _ _ (le-ltb _ _ over) ∙ sym is) ∙ sym e)
-
--- the table, held against the values by computing
-abbrev is_in_table : ℕ → Bool
-is_in_table c = eqb (unwrap_or (hex_digit_value c) 255) (get_or VALUES c 0)
-
-in_table : (c : ℕ) → c < 256 → unwrap_or (hex_digit_value c) 255 ≡ get_or VALUES c 0
-in_table c lt = eqb-true _ _ (agree_below_at is_in_table (λ n. true) 256 c refl lt)
-
-pub table_is : (c : ℕ) → c < 256 → IsValue c (get_or VALUES c 0)
-table_is c lt =
-    let well = in_table c lt in record {
-      digit = λ small. some_of (hex_digit_value c) (get_or VALUES c 0) small well;
-      other = λ over. none_of (hex_digit_value c) (small_value c) (omega (arith, well));
-    }
 
 -- ---- pairs
 

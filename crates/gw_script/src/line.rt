@@ -25,28 +25,6 @@ const BASE: u8 = 16;
 /// How many octets are read from their digits, or written in them, at once.
 pub(crate) const BLOCK: usize = 8;
 
-/// What stands in the table for a character that is no digit.
-const X: u8 = u8::MAX;
-/// The value of each character as a digit of either case: sixteen in a row, which ends with the first of them.
-static VALUES: [u8; 256] = [
-    X, X, X, X, X, X, X, X, X, X, X, X, X, X, X, X, // 0x00
-    X, X, X, X, X, X, X, X, X, X, X, X, X, X, X, X, // 0x10
-    X, X, X, X, X, X, X, X, X, X, X, X, X, X, X, X, // 0x20
-    0, 1, 2, 3, 4, 5, 6, 7, 8, 9, X, X, X, X, X, X, // 0x30
-    X, 10, 11, 12, 13, 14, 15, X, X, X, X, X, X, X, X, X, // 0x40
-    X, X, X, X, X, X, X, X, X, X, X, X, X, X, X, X, // 0x50
-    X, 10, 11, 12, 13, 14, 15, X, X, X, X, X, X, X, X, X, // 0x60
-    X, X, X, X, X, X, X, X, X, X, X, X, X, X, X, X, // 0x70
-    X, X, X, X, X, X, X, X, X, X, X, X, X, X, X, X, // 0x80
-    X, X, X, X, X, X, X, X, X, X, X, X, X, X, X, X, // 0x90
-    X, X, X, X, X, X, X, X, X, X, X, X, X, X, X, X, // 0xA0
-    X, X, X, X, X, X, X, X, X, X, X, X, X, X, X, X, // 0xB0
-    X, X, X, X, X, X, X, X, X, X, X, X, X, X, X, X, // 0xC0
-    X, X, X, X, X, X, X, X, X, X, X, X, X, X, X, X, // 0xD0
-    X, X, X, X, X, X, X, X, X, X, X, X, X, X, X, X, // 0xE0
-    X, X, X, X, X, X, X, X, X, X, X, X, X, X, X, X, // 0xF0
-];
-
 /// The event that a line of at most 4096 octets writes, or `None` where it writes none. The octets of a datagram are lent from the
 /// buffer.
 pub fn parse_line<'a>(
@@ -159,14 +137,6 @@ fn digit_value(digit: u8) -> u8
     number.min(letter)
 }
 
-/// The same out of a table, for a digit that is read by itself, where the compiler would make branches of [`digit_value`].
-#[inline(always)]
-fn value_in_table(digit: u8) -> u8
-    ensures { IsValue digit result }
-{
-    VALUES[usize::from(digit)]
-}
-
 /// The values of the digits of the block that starts with this octet.
 #[inline(always)]
 fn block_values(text: &[u8], start: usize) -> [u8; 2 * BLOCK]
@@ -223,8 +193,8 @@ fn read_each(text: &[u8], octets: &mut [u8]) -> u8
 {
     let mut largest = 0u8;
     for i in 0..octets.len() {
-        let high = value_in_table(text[2 * i]);
-        let low = value_in_table(text[2 * i + 1]);
+        let high = digit_value(text[2 * i]);
+        let low = digit_value(text[2 * i + 1]);
         largest = largest.max(high).max(low);
         octets[i] = high.wrapping_mul(BASE).wrapping_add(low);
     }
