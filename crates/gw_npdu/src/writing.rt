@@ -196,6 +196,7 @@ fn put(out: &mut Vec<u8>, npdu: &Npdu<'_>) -> Result<(), AllocError>
 /// Appends the canonical encoding of a message, which is valid.
 ///
 /// The faults are those of [`EncodeFault`]. The buffer keeps its room, also after a fault.
+#[inline(always)]
 pub fn encode(npdu: &Npdu<'_>, out: &mut Vec<u8>) -> Result<(), EncodeFault>
     ensures ok { OnOk result (out.new.items ≡ out.old.items ++ encoding (view npdu.now)) }
     ensures valid { IsValid (view npdu.now) }

@@ -60,6 +60,7 @@ impl Outgoing {
     }
 
     /// A message that the gateway makes; none where it would be over 1497 octets.
+    #[inline(always)]
     pub(crate) fn made(alloc: Global, npdu: &Npdu<'_>) -> Result<Option<Self>, AllocError>
         ensures { IfOk result (λ made. made ≡ npdu_octets (npdu_view npdu.now)) }
     {

@@ -148,6 +148,7 @@ impl Batches {
 
     /// Moves the messages behind those of a list. An `Err` where it has no room and gets no memory:
     /// it is as before.
+    #[inline(always)]
     fn move_to(self, all: &mut Vec<Batch>) -> Result<(), AllocError>
         ensures ok { OnOk result (all.new.items ≡ all.old.items ++ batches_of self) }
         ensures err { OnErr result (all.new.items ≡ all.old.items) }
