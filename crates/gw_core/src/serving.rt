@@ -173,6 +173,7 @@ impl ServeState {
 }
 
 /// Receives what comes next, and gives the event that it is, lent from the buffer.
+#[inline(always)]
 fn receive<'a, W: Wire>(
     wire: &mut W,
     datagram: &'a mut [u8; RECEIVE_ROOM],

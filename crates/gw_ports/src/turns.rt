@@ -72,6 +72,7 @@ impl<S: Sock> Ports<S> {
     /// nothing. The ports behind the one that answered last come first, and itself at the end. Of
     /// each port the two sockets take turns as well. `Failed` where that port's socket answers a
     /// fault, which is counted.
+    #[inline(always)]
     pub fn next(&mut self, buf: &mut [u8; RECEIVE_ROOM]) -> Result<Got, WireFault>
         requires { self.old.failures < 2 ^ 128 - 1 }
         ensures next { IsNext S.look_count S.is_empty S.Answered self.old self.new buf.new result }
@@ -120,6 +121,7 @@ impl<S: Sock> Ports<S> {
     }
 
     /// Asks the ports in turn, until one answers.
+    #[inline(always)]
     fn ask_all(&mut self, buf: &mut [u8; RECEIVE_ROOM]) -> Option<Answered>
         ensures turns { AreAskedInTurn S.look_count S.is_empty S.Answered self.old.pairs
             (last_number self.old.last) self.new.pairs result buf.new }
@@ -184,6 +186,7 @@ impl<S: Sock> Ports<S> {
     }
 
     /// Asks the ports at these places in turn, until one answers. It tells the place too.
+    #[inline(always)]
     fn ask_from(&mut self, from: usize, to: usize, buf: &mut [u8; RECEIVE_ROOM]) -> Option<Answered>
         requires order { from ≤ to }
         requires within { to ≤ length self.old.pairs }

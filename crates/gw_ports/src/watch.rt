@@ -41,6 +41,7 @@ impl<S: Sock> Watch<S> {
     /// Receives from the socket, where something may wait there; else nothing waits, and it isn't
     /// asked. From the first time that nothing waits it isn't asked again; a fault says nothing of
     /// what waits.
+    #[inline(always)]
     pub(crate) fn receive(
         &mut self,
         buf: &mut [u8; RECEIVE_ROOM],
