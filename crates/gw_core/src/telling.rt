@@ -108,9 +108,10 @@ fn append_step(
         Err(StepFault::CountEnd) => return Err(RunFault::CountEnd),
     };
     match append_effects(text, effects, sender) {
-        Ok(()) => Ok(()),
-        Err(_) => Err(RunFault::Memory),
+        Ok(()) => {}
+        Err(_) => return Err(RunFault::Memory),
     }
+    Ok(())
 }
 
 /// Has the gateway take an event, and appends the lines of what it does.
