@@ -16,12 +16,11 @@ use Rattle.gw_objects.specs.declared.property.ObjectType.{ObjectType}
 use Rattle.gw_objects.specs.declared.property.PropertySet.{PropertySet}
 use Rattle.gw_objects.specs.Objects.{Database, type_at}
 use Rattle.gw_objects.specs.Property.{properties, property_number}
-use Rattle.gw_rules.specs.declared.decision.Decision.TheVariants.{Deny}
 use Rattle.gw_rules.specs.declared.rule.Rule.{Rule}
 use Rattle.gw_rules.specs.declared.refusal.Refusal.{Refusal}
 use Rattle.gw_rules.specs.Ask.{Ask}
 use Rattle.gw_rules.specs.Authorizer.{denied_of}
-use Rattle.gw_rules.specs.RuleList.{allows, decide, first}
+use Rattle.gw_rules.specs.RuleList.{allows, first}
 use Rattle.gw_rules.proofs.Denials.{refused_asks}
 use Rattle.gw_services.specs.declared.fault.BodyFault.{BodyFault}
 use Rattle.gw_services.specs.Choices.{read_property, read_property_multiple, write_property, who_has, who_is}
@@ -61,10 +60,6 @@ none_first rules ask none = sym (ap (λ (l : List Rule). first l ask) none)
 pub none_allowed : (rules : List Rule) (ask : Ask) → rules ≡ [] → false ≡ allows rules ask
 unfolding allows first
 none_allowed rules ask none = sym (ap (λ (l : List Rule). allows l ask) none)
-
-pub none_decided : (rules : List Rule) (ask : Ask) → rules ≡ [] → Deny None ≡ decide rules ask
-unfolding allows first
-none_decided rules ask none = sym (ap (λ (l : List Rule). decide l ask) none)
 
 -- ---- the properties of a set
 

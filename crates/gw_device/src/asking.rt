@@ -21,7 +21,7 @@ use crate::services::set_of;
 use gw_addr::Sequence;
 use gw_apdu::{ConfirmedRequest, Header, decode};
 use gw_objects::{ObjectDb, Property, PropertySet, properties};
-use gw_rules::{Ask, Decision, Judge, Refusal};
+use gw_rules::{Ask, Judge, Refusal};
 use gw_services::{READ_PROPERTY_MULTIPLE, Reference, decode_multi};
 use gw_tags::ObjectId;
 use std::alloc::{AllocError, Global};
@@ -44,10 +44,6 @@ impl Judge for NoRules {
 
     fn allows(&self, _ask: &Ask) -> bool {
         false
-    }
-
-    fn decide(&self, _ask: &Ask) -> Decision {
-        Decision::Deny { by: None }
     }
 }
 

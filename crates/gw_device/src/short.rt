@@ -1,6 +1,6 @@
 //! Short answers: errors, rejects and aborts, and the abort in the place of what is too long.
 
-ghost use Rattle.std.specs.Prelude.{◌≡◌, ◌≤◌, ℕ, List, length, vec_len, IfOk, OnOk};
+ghost use Rattle.std.specs.Prelude.{◌≡◌, ◌+◌, ◌≤◌, ℕ, List, length, vec_len, IfOk, OnOk};
 ghost use Rattle.gw_apdu.specs.Answers.{abort, error, reject, simple_ack};
 ghost use Rattle.gw_device.specs.Response.{fits, fitted, header_room, with_room};
 
@@ -17,12 +17,21 @@ const MOST_OCTETS: usize = 9;
 /// How many octets an answer with values has room for at first, so that the allocator serves it quickly; it grows where it has more.
 const FIRST_ROOM: usize = 480;
 
+/// How many octets a buffer has for an APDU of so many.
+fn buffer_len(apdu_len: usize) -> usize
+    requires { apdu_len ≤ 480 }
+    ensures { result ≡ 10 + apdu_len }
+{
+    HEADER_ROOM + apdu_len
+}
+
 /// A buffer with the room for headers, and with memory for an APDU of so many octets. `AllocError` where it was
 /// refused.
 pub(crate) fn begin_apdu(alloc: Global, apdu_len: usize) -> Result<Vec<u8>, AllocError>
+    requires { apdu_len ≤ 480 }
     ensures { IfOk result (λ octets. octets.items ≡ header_room) }
 {
-    let mut octets = Vec::with_capacity(alloc, apdu_len.saturating_add(HEADER_ROOM))?;
+    let mut octets = Vec::with_capacity(alloc, buffer_len(apdu_len))?;
     put_slice(&mut octets, &[0; HEADER_ROOM])?;
     Ok(octets)
 }
@@ -69,7 +78,9 @@ pub(crate) fn simple_ack(alloc: Global, invoke: u8, service: u8) -> Result<Vec<u
 }
 
 /// How many octets a ComplexACK has room for at first: as many as most answers have.
-pub(crate) fn first_room(request: &ConfirmedRequest, context: &Context) -> usize {
+pub(crate) fn first_room(request: &ConfirmedRequest, context: &Context) -> usize
+    ensures { result ≤ 480 }
+{
     request.max_apdu_len().min(context.room).min(FIRST_ROOM)
 }
 

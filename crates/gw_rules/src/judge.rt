@@ -20,9 +20,19 @@ pub trait Judge {
     fn allows(&self, ask: &Ask) -> bool
         ensures { (rules : List Rule) → StandsFor self.now rules → result ≡ allows rules ask.now };
 
-    /// Both at once, by one walk: whether the ask is allowed, and which rule denies it.
+    /// Both at once: whether the ask is allowed, and which rule denies it. A judge that finds both by
+    /// one walk says so by a body of its own.
     fn decide(&self, ask: &Ask) -> Decision
-        ensures { (rules : List Rule) → StandsFor self.now rules → result ≡ decide rules ask.now };
+        ensures { (rules : List Rule) → StandsFor self.now rules → result ≡ decide rules ask.now }
+    {
+        if self.allows(ask) {
+            Decision::Allow
+        } else {
+            Decision::Deny {
+                by: self.first(ask),
+            }
+        }
+    }
 }
 
 impl Judge for RuleList {
