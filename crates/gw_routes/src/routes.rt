@@ -170,9 +170,10 @@ impl Routes {
     /// The networks that lie another way than by this port, which a Who-Is-Router-To-Network without
     /// a network asks for there (clause 6.4): the other ports' in order of ports, the device's, then
     /// those of the routes by other ports, the configured before the learned. The order is our own.
-    /// The only fault is want of memory for the list.
+    /// The only fault is want of memory for the list, if it isn't empty.
     pub fn reachable_from(&self, alloc: Global, port: u8) -> Result<Vec<NetNum>, AllocError>
-        ensures { IfOk result (λ nets. nets.items ≡ reachable_from self.now port) }
+        ensures reachable { IfOk result (λ nets. nets.items ≡ reachable_from self.now port) }
+        ensures none { reachable_from self.now port ≡ [] → IsOk result }
     {
         let mut nets = Vec::new(alloc);
         push_direct(&mut nets, &self.fixed.direct, port)?;
@@ -181,13 +182,14 @@ impl Routes {
         Ok(nets)
     }
 
-    /// An equal table. The only fault is want of memory for it.
+    /// An equal table. The only fault is want of memory for it, if it isn't empty.
     pub fn copy(&self) -> Result<Routes, AllocError>
-        ensures { IfOk result (λ copy. copy ≡ self.now) }
+        ensures equal { IfOk result (λ copy. copy ≡ self.now) }
+        ensures none { self.now.direct ≡ [] → routes_held self.now ≡ 0 → IsOk result }
     {
-        let direct = self.fixed.direct.clone()?;
-        let configured = copied(&self.fixed.configured)?;
-        let learned = copied(&self.learned)?;
+        let direct = copied_networks(&self.fixed.direct)?;
+        let configured = copied_routes(&self.fixed.configured)?;
+        let learned = copied_routes(&self.learned)?;
         Ok(Routes {
             fixed: Fixed { direct, configured },
             learned,
@@ -307,7 +309,8 @@ fn route_to(
 
 /// Adds the direct networks but the port's own.
 fn push_direct(nets: &mut Vec<NetNum>, direct: &[NetNum], port: u8) -> Result<(), AllocError>
-    ensures { OnOk result (nets.new.items ≡ nets.old.items ++ direct_but port direct.now) }
+    ensures added { OnOk result (nets.new.items ≡ nets.old.items ++ direct_but port direct.now) }
+    ensures none { direct_but port direct.now ≡ [] → IsOk result }
 {
     let port = usize::from(port);
     if 1 <= port && port < direct.len() {
@@ -325,7 +328,9 @@ fn push_routed(
     routes: &IndexMap<NetNum, Route>,
     port: u8,
 ) -> Result<(), AllocError>
-    ensures { OnOk result (nets.new.items ≡ nets.old.items ++ routed_but port routes.now.entries) }
+    ensures added { OnOk result
+        (nets.new.items ≡ nets.old.items ++ routed_but port routes.now.entries) }
+    ensures none { routed_but port routes.now.entries ≡ [] → IsOk result }
 {
     for (net, route) in routes {
         if route.port != port {
@@ -335,9 +340,23 @@ fn push_routed(
     Ok(())
 }
 
-/// A map with equal entries in the same order.
-fn copied(map: &IndexMap<NetNum, Route>) -> Result<IndexMap<NetNum, Route>, AllocError>
-    ensures { IfOk result (λ copy. copy.entries ≡ map.now.entries) }
+/// A list of the same networks. An empty one takes no memory.
+fn copied_networks(nets: &Vec<NetNum>) -> Result<Vec<NetNum>, AllocError>
+    ensures same { IfOk result (λ copy. copy.items ≡ nets.now.items) }
+    ensures none { nets.now.items ≡ [] → IsOk result }
 {
-    map.clone()
+    let mut copy = Vec::with_capacity(*nets.allocator(), nets.len())?;
+    copy.extend_from_slice(nets)?;
+    Ok(copy)
+}
+
+/// A map with equal entries in the same order. An empty one takes no memory.
+fn copied_routes(routes: &IndexMap<NetNum, Route>) -> Result<IndexMap<NetNum, Route>, AllocError>
+    ensures same { IfOk result (λ copy. copy.entries ≡ routes.now.entries) }
+    ensures none { routes.now.entries ≡ [] → IsOk result }
+{
+    if routes.is_empty() {
+        return Ok(IndexMap::new(*routes.allocator()));
+    }
+    routes.clone()
 }
