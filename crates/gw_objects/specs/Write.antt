@@ -1,7 +1,7 @@
 -- Writes: what a write does, or the first fault, by the configuration and the write alone. No slot
 -- and no default is looked at (ISO 16484-5 clauses 15.9 and 19.2).
 use Rattle.std.specs.Prelude.{◌≡◌, ◌≢◌, ℕ, ◌==◌, ◌&&◌, nat_le, nat_lt, not, Bool, true, false, if◌then◌else◌, List, []}
-use Rattle.std.specs.Prelude.{◌∷◌, length, slice_get, Option, Some, None, Result, Ok, Err}
+use Rattle.std.specs.Prelude.{◌∷◌, length, slice_get, IsTrue, Option, Some, None, Result, Ok, Err}
 use Rattle.std.specs.Option.{ok_or}
 use Rattle.gw_addr.specs.Reading.{◌>>=◌}
 use Rattle.gw_priority.specs.declared.array.TheConstants.{RESERVED}
@@ -143,9 +143,22 @@ CanAct (Command priority value) = IsPriority priority × (priority ≢ RESERVED)
 CanAct (Relinquish priority) = IsPriority priority × (priority ≢ RESERVED)
 CanAct (SetDefault value) = Unit {0}
 
+-- a value, and what a write puts, is a text, which alone takes memory
+abbrev pub is_text : PropertyValue → Bool
+is_text (Text octets) = true
+is_text _ = false
+
+abbrev pub puts_text : Act PropertyValue → Bool
+puts_text (Command priority value) = is_text value
+puts_text (Relinquish priority) = false
+puts_text (SetDefault value) = is_text value
+
+abbrev pub writes_text : Write → Bool
+writes_text write = puts_text write.act
+
 -- what a call returned, seen by view, is what is due, or the fault that is due; want of memory only
--- where no fault is due
-abbrev pub Decides : {X Y : Type 0} → (X → Y) → Result X WriteFault → Result Y WriteFault → Type 0
-Decides view (Ok x) due = due ≡ Ok (view x)
-Decides view (Err fault) (Ok y) = fault ≡ Memory
-Decides view (Err fault) (Err due) = due ≡ fault
+-- where no fault is due, and what is due has a text
+abbrev pub Decides : {X Y : Type 0} → (X → Y) → (Y → Bool) → Result X WriteFault → Result Y WriteFault → Type 0
+Decides view has_text (Ok x) due = due ≡ Ok (view x)
+Decides view has_text (Err fault) (Ok y) = (fault ≡ Memory) × IsTrue (has_text y)
+Decides view has_text (Err fault) (Err due) = due ≡ fault

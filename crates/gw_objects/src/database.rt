@@ -11,21 +11,21 @@ ghost use Rattle.gw_objects.specs.Objects.{database_of, defaults_of, is_name, na
 ghost use Rattle.gw_objects.specs.Objects.{place_of, same, type_at};
 ghost use Rattle.gw_objects.specs.Table.{contents_of, object_at, read_of};
 ghost use Rattle.gw_objects.specs.Contents.{octets_of};
-ghost use Rattle.gw_objects.specs.Property.{property_of};
+ghost use Rattle.gw_objects.specs.Property.{properties, property_of};
 ghost use Rattle.gw_objects.specs.History.{IsStateAfter, acted, put_at, with_write};
-ghost use Rattle.gw_objects.specs.Write.{CanAct, Decides, Write, write_of};
+ghost use Rattle.gw_objects.specs.Write.{CanAct, Decides, Write, write_of, writes_text};
 ghost use Rattle.gw_objects.specs.internal.Act.{act_view};
 ghost use Rattle.gw_objects.specs.Answer.{Answers, HasRoom};
 ghost use Rattle.gw_objects.specs.internal.View.{contents_view, database_with};
 
 use crate::contents::Contents;
-use crate::property::property_of;
+use crate::property::{properties, property_of};
 use crate::table::{device_line, object_line};
 use crate::write::{Act, Put, check};
 use crate::writing::write_contents;
 use crate::{
-    Configured, ConfiguredObject, ObjectType, Property, PropertyValue, ReadFault, WriteFault,
-    copying,
+    Configured, ConfiguredObject, ObjectType, Property, PropertySet, PropertyValue, ReadFault,
+    WriteFault, copying,
 };
 use gw_configuration::{Config, Text};
 use gw_priority::PriorityArray;
@@ -101,6 +101,14 @@ impl ObjectDb {
         &self.configured
     }
 
+    /// The properties that a set has of a type of object, in the order in which they are answered
+    /// (clause 15.7.3.1.2). It takes no memory.
+    pub fn properties(kind: ObjectType, set: PropertySet) -> &'static [Property]
+        ensures { result.now ≡ properties kind set }
+    {
+        properties(kind, set)
+    }
+
     /// Appends the octets of a property of an object, or of one element of an array, counted from
     /// 1; index 0 is how many elements there are (clause 15.5).
     ///
@@ -135,7 +143,7 @@ impl ObjectDb {
     ///
     /// 1 `UnknownObject`, 2 `UnknownProperty`, 3 `NotWritable`, 4 `NotArray`, 5 `Reserved`, 6
     /// `WrongKind`, 7 `CharacterSet`, 8 `OutOfRange`, 9 `NoSpace` and 10 `Memory`, as
-    /// [`WriteFault`] says. `Memory` comes only where no other fault is due.
+    /// [`WriteFault`] says. `Memory` comes only where no other fault is due and the value is a text.
     pub fn check(
         &self,
         alloc: Global,
@@ -146,7 +154,7 @@ impl ObjectDb {
         value: &[u8],
     ) -> Result<Put, WriteFault>
         requires { IsPriority priority }
-        ensures write { Decides (λ put. put) result
+        ensures write { Decides (λ put. put) writes_text result
             (write_of self.now.configured (object_view id) property index priority value.now) }
         ensures place { IfOk result (λ put. put.place < length self.now.configured.objects) }
     {

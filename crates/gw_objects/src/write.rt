@@ -7,8 +7,8 @@ ghost use Rattle.gw_tags.specs.Reading.{value_at};
 ghost use Rattle.gw_tags.specs.Value.{value_view};
 ghost use Rattle.gw_objects.specs.Write.{CanAct, Decides, act_for, act_of, binary_value};
 ghost use Rattle.gw_objects.specs.Write.{device_write, is_reserved, is_writable, object_write};
-ghost use Rattle.gw_objects.specs.Write.{present_act, property_for, state_value, text_in};
-ghost use Rattle.gw_objects.specs.Write.{value_for, whole, write_of};
+ghost use Rattle.gw_objects.specs.Write.{is_text, present_act, property_for, puts_text, state_value, text_in};
+ghost use Rattle.gw_objects.specs.Write.{value_for, whole, write_of, writes_text};
 ghost use Rattle.gw_objects.specs.internal.Act.{act_view};
 
 use crate::database::{place_of, same};
@@ -78,7 +78,7 @@ pub(crate) fn check(
     value: &[u8],
 ) -> Result<Put, WriteFault>
     requires { IsPriority priority }
-    ensures write { Decides (λ put. put) result
+    ensures write { Decides (λ put. put) writes_text result
         (write_of configured.now (object_view id) property index priority value.now) }
     ensures place { IfOk result (λ put. put.place < length configured.now.objects) }
 {
@@ -103,7 +103,7 @@ fn object_write(
     value: &[u8],
 ) -> Result<Put, WriteFault>
     requires { IsPriority priority }
-    ensures write { Decides (λ put. put) result
+    ensures write { Decides (λ put. put) writes_text result
         (object_write place object.now property index priority value.now) }
     ensures place { IfOk result (λ put. put.place ≡ place) }
 {
@@ -131,7 +131,7 @@ fn object_act(
     value: &[u8],
 ) -> Result<Act, WriteFault>
     requires { IsPriority priority }
-    ensures act { Decides (λ act. act_view act) result
+    ensures act { Decides (λ act. act_view act) puts_text result
         (act_of object.now property index priority value.now) }
     ensures can { IfOk result (λ act. CanAct (act_view act)) }
 {
@@ -205,7 +205,7 @@ fn act_for(
 ) -> Result<Act, WriteFault>
     requires priority { IsPriority priority }
     requires reserved { IsFalse (is_reserved property priority) }
-    ensures act { Decides (λ act. act_view act) result
+    ensures act { Decides (λ act. act_view act) puts_text result
         (act_for details.now property priority (value_view value.now)) }
     ensures can { IfOk result (λ act. CanAct (act_view act)) }
 {
@@ -225,7 +225,7 @@ fn present_act(
 ) -> Result<Act, WriteFault>
     requires priority { IsPriority priority }
     requires reserved { priority ≢ RESERVED }
-    ensures act { Decides (λ act. act_view act) result
+    ensures act { Decides (λ act. act_view act) puts_text result
         (present_act details.now priority (value_view value.now)) }
     ensures can { IfOk result (λ act. CanAct (act_view act)) }
 {
@@ -241,7 +241,7 @@ fn value_for(
     details: &Details,
     value: &AppValue<'_>,
 ) -> Result<PropertyValue, WriteFault>
-    ensures { Decides (λ v. v) result (value_for details.now (value_view value.now)) }
+    ensures { Decides (λ v. v) is_text result (value_for details.now (value_view value.now)) }
 {
     match (details, value) {
         (Details::BinaryValue { .. }, AppValue::Enumerated(number)) => binary(*number),
@@ -281,7 +281,7 @@ fn state(count: u32, number: u32) -> Result<PropertyValue, WriteFault>
 
 /// A text in character set 0, of at most 255 octets.
 fn text_in(alloc: Global, text: &CharacterString<'_>) -> Result<PropertyValue, WriteFault>
-    ensures { Decides (λ v. v) result (text_in text.now.charset text.now.octets.now) }
+    ensures { Decides (λ v. v) is_text result (text_in text.now.charset text.now.octets.now) }
 {
     if text.charset != 0 {
         return Err(WriteFault::CharacterSet);
