@@ -1,11 +1,12 @@
 //! A configuration as it is read from its text.
-ghost use Rattle.std.specs.Prelude.{◌≡◌, ◌<◌, Err, length};
+ghost use Rattle.std.specs.Prelude.{◌≡◌, ◌<◌, ◌≤◌, Err, length};
+ghost use Rattle.std.specs.Str.{IsUtf8};
 ghost use Rattle.toml.specs.View.{table_view};
 ghost use Rattle.gw_policy_text.specs.Document.{configuration, configuration_of, document};
 ghost use Rattle.gw_config_tables.specs.Field.{located_in};
 ghost use Rattle.gw_configuration.specs.Reading.{Finds, Gives, TellsFault};
 ghost use Rattle.gw_config_tables.specs.Tables.{top_fields};
-ghost use Rattle.gw_configuration.specs.declared.fault.ConfigFault.TheVariants.{TooMany};
+ghost use Rattle.gw_configuration.specs.declared.fault.ConfigFault.TheVariants.{NotToml, TooMany};
 ghost use Rattle.gw_configuration.specs.declared.located.Place.TheVariants as places;
 
 use crate::parts::parts;
@@ -25,10 +26,11 @@ pub const MAX_OCTETS: usize = 1_048_576;
 /// the device, each port followed by its peers, each route, each object and each rule, and of each
 /// are judged in this order `UnknownKey`, `Missing`, `Kind`, `Range` and `TooMany`, each for the
 /// whole table; last of all `Duplicate`. `Memory` where there is none for what would be judged
-/// next.
+/// next: a text that is too long, or isn't UTF-8, takes none.
 pub fn read_config(alloc: Global, text: &[u8]) -> Result<Config, ConfigFault>
     ensures configuration { Gives (λ c. c) result (configuration text.now) }
     ensures too_long { 1048576 < length text.now → result ≡ Err TooMany }
+    ensures no_text { length text.now ≤ 1048576 → ¬ (IsUtf8 text.now) → result ≡ Err NotToml }
 {
     if text.len() > MAX_OCTETS {
         return Err(ConfigFault::TooMany);
@@ -40,9 +42,11 @@ pub fn read_config(alloc: Global, text: &[u8]) -> Result<Config, ConfigFault>
     }
 }
 
-/// The TOML document that a text is, of any length. `NotToml` where it is none, or `Memory`.
+/// The TOML document that a text is, of any length. `NotToml` where it is none, or `Memory`: not where
+/// it isn't UTF-8, which is judged without.
 pub fn document(alloc: Global, text: &[u8]) -> Result<Table, ConfigFault>
-    ensures { Gives (λ t. table_view t) result (document text.now) }
+    ensures document { Gives (λ t. table_view t) result (document text.now) }
+    ensures no_text { ¬ (IsUtf8 text.now) → result ≡ Err NotToml }
 {
     let Ok(text) = str::from_utf8(text) else {
         return Err(ConfigFault::NotToml);
