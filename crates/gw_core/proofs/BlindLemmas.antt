@@ -27,7 +27,7 @@ use Rattle.gw_rules.proofs.EachAsk.{each_both, each_weaker, none_allowed, none_b
 use Rattle.gw_script.specs.Event.{Event, Datagram, Tick}
 use Rattle.gw_tags.specs.Object.{Object}
 use Rattle.gw_core.specs.Asks.{apdu_asks, asks, asks_for, cast_asks_for, link_asks_for, manage_asks_for, message_asks, route_asks_for}
-use Rattle.gw_core.specs.NoLeak.{AreBlind, AsksCarryTheirClaim, WritesAreHidden, claim, kept, state_before}
+use Rattle.gw_core.specs.NoLeak.{AreBlind, AsksCarryTheirClaim, AsksToReadOn, WritesAreHidden, claim, kept, state_before}
 use Rattle.gw_relay.specs.Message.{Message, message_of}
 use Rattle.gw_core.specs.Receive.{Received, comes_in, dropped, managed, unregistered, manages, message, npdu_of, payload_of, receive, receive_datagram, receive_frame, receive_npdu, receive_on}
 use Rattle.gw_core.specs.Reply.{apdu_for, context_of}
@@ -179,4 +179,6 @@ blind_at w sources o e blind claims = blind_asks w.rules sources o w.relay w.dev
 pub writes_are_hidden : WritesAreHidden
 writes_are_hidden c k sources o marks l blind out place e there claims =
     writes_are_unread c k o marks l out place e there
-    (blind_at (state_before c k (kept marks l) place) sources o e blind claims)
+    (each_weaker (λ ask. AsksToRead o ask → allows c.rules ask ≡ false) (λ ask. AsksToReadOn c.device.network o ask → allows c.rules ask ≡ false)
+    (λ ask none reads. none reads.reads) (asks (state_before c k (kept marks l) place) e)
+    (blind_at (state_before c k (kept marks l) place) sources o e blind claims))

@@ -18,3 +18,5 @@ pub mod QuietLemmas
 pub mod WriteLemmas
 pub mod BlindLemmas
 pub mod FormatLemmas
+pub mod DeviceAskLemmas
+pub mod RefusedLemmas

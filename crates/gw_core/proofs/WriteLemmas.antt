@@ -1,10 +1,11 @@
 -- A write of an object changes the slots and the default of that object alone, and nothing rests on those but a read of it.
 use Rattle.std.proofs.Common.{◌≡◌, ◌∙◌, sym, ap, refl, subst, ℕ, zero, suc, ◌+◌, add-zero, Bool, true, false, List, [], ◌∷◌, ◌++◌, map, length, take, Option, Some, None}
 use Rattle.std.specs.Prelude.{if◌then◌else◌, slice_get}
+use Rattle.std.specs.List.{AllByRecursion}
 use Rattle.std.specs.Option.{option_map, option_and_then}
 use Rattle.gw_audit.specs.declared.denial.Denial.{Denial}
 use Rattle.gw_device.specs.declared.context.Context.{Context}
-use Rattle.gw_device.specs.Laws.{AsksToRead, NoReadAllowed, object_written}
+use Rattle.gw_device.specs.Laws.{NoReadAllowed, object_written}
 use Rattle.gw_device.proofs.Changes.{changes_are_in_place, changes_rest_on_requests}
 use Rattle.gw_device.specs.Response.{Answer, Response}
 use Rattle.gw_device.proofs.Unread.{unread}
@@ -30,12 +31,13 @@ use Rattle.gw_core.specs.Asks.{apdu_asks, asks, asks_for, cast_asks_for, manage_
 use Rattle.gw_core.specs.Denials.{denials_at, denials_of}
 use Rattle.gw_core.specs.Effects.{answer_sends, apdu_answer, apdu_change, cast_sends_for, change_at, change_for, changed, effects_at, effects_for, manage_sends_for, message_change, move_at, relay_change_for, route_sends_for, sends_for}
 use Rattle.gw_core.specs.History.{next, run_from, state_after, state_from}
-use Rattle.gw_core.specs.NoLeak.{IsWriteOf, WritesAreUnread, kept, object_of, seen, unnumbered}
+use Rattle.gw_core.specs.NoLeak.{AsksToReadOn, IsWriteOf, NoReadAllowedOn, WritesAreUnread, kept, object_of, seen, unnumbered}
 use Rattle.gw_relay.specs.Message.{Message}
 use Rattle.gw_core.specs.Receive.{Received, dropped, managed, unregistered, message, origin, receive}
 use Rattle.gw_core.specs.Reply.{apdu_for, apdu_towards, context_of}
 use Rattle.gw_core.specs.State.{State}
-use Rattle.gw_core.proofs.HistoryLemmas.{run_from-after, state_from-after}
+use Rattle.gw_core.proofs.DeviceAskLemmas.{own_network}
+use Rattle.gw_core.proofs.HistoryLemmas.{configuration_stays, run_from-after, state_from-after}
 use Rattle.gw_core.proofs.QuietLemmas.{LeavesOutFrom, left_from, unnumbered_of}
 
 no_some : {A : Type 0} (x : A) → ◌≡◌ {A = Option A} None (Some x) → ⊥
@@ -57,18 +59,26 @@ change_alike rules c s t (unregistered m) = refl
 change_alike rules c s t (message m) =
     alike_change rules c s t (context_of c.device.network m) (apdu_for c.device.network m.npdu)
 
+-- where no read of the device's own object is allowed, the device allows none of it: its asks are for its network
+own_reads : (network : ℕ) (rules : List Rule) (o : Object) (xs : List Ask) → AllByRecursion (λ ask. ask.destination_network ≡ Some network) xs
+    → NoReadAllowedOn network rules o xs → NoReadAllowed rules o xs
+own_reads network rules o [] own none = tt
+own_reads network rules o (x ∷ xs) own none =
+    (λ reads. none.0 (record { reads = reads; destination = own.0 }), own_reads network rules o xs own.1 none.1)
+
 -- the answer and the asks don't, where no ask to read the object is allowed
 answer_alike : (rules : List Rule) (o : Object) (c : Configured) (s t : List Slots) (context : Context) (x : Option (List ℕ)) → AgreeBut o c s t
-    → NoReadAllowed rules o (apdu_asks rules (standing c t) context x)
+    → NoReadAllowedOn c.device.network rules o (apdu_asks rules (standing c t) context x)
     → (apdu_asks rules (standing c t) context x ≡ apdu_asks rules (standing c s) context x)
     × (apdu_answer rules (standing c t) context x ≡ apdu_answer rules (standing c s) context x)
 answer_alike rules o c s t context None agree h = (refl, refl)
 answer_alike rules o c s t context (Some octets) agree h =
-    let same = unread rules c t s o context octets (differ o c t s (λ i apart. sym (agree i apart))) h in
+    let same = unread rules c t s o context octets (differ o c t s (λ i apart. sym (agree i apart)))
+    (own_reads c.device.network rules o _ (own_network rules (standing c t) context octets) h) in
     (ap (λ (r : Response). r.asks) same, ap (λ (r : Response). r.answer) same)
 
 received_alike : (rules : List Rule) (o : Object) (relay : Relay) (c : Configured) (s t : List Slots) (received : Received) → AgreeBut o c s t
-    → NoReadAllowed rules o (asks_for rules relay (standing c t) received)
+    → NoReadAllowedOn c.device.network rules o (asks_for rules relay (standing c t) received)
     → (asks_for rules relay (standing c t) received ≡ asks_for rules relay (standing c s) received)
     × (sends_for rules relay (standing c t) received ≡ sends_for rules relay (standing c s) received)
 received_alike rules o relay c s t dropped agree h = (refl, refl)
@@ -79,7 +89,7 @@ received_alike rules o relay c s t (message m) agree h =
     let asked = cast_asks_for (message m) ++ route_asks_for relay (message m) ++ asks_managed relay (message m) in
     let sent = cast_sends_for rules (message m) ++ route_sends_for rules relay (message m) ++ manage_sends_for rules relay (message m) in
     let same = answer_alike rules o c s t (context_of network m) (apdu_for network m.npdu) agree
-    (none_rest (AsksToRead o) rules asked (message_asks rules (standing c t) m) h) in
+    (none_rest (AsksToReadOn network o) rules asked (message_asks rules (standing c t) m) h) in
     (ap (λ (xs : List Ask). asked ++ xs) same.0, ap (λ (x : Option Answer). sent ++ answer_sends network m x) same.1)
 
 -- ---- one event
@@ -92,7 +102,7 @@ abbrev made : List Sending → List Denial → Effects
 made sends denials = record { sends = sends; denials = denials }
 
 seen_by : (w : State) (t : List Slots) (n : ℕ) (o : Object) (received : Received) → AgreeBut o w.device.configured w.device.states t
-    → NoReadAllowed w.rules o (asks_for w.rules w.relay (standing w.device.configured t) received)
+    → NoReadAllowedOn w.device.configured.device.network w.rules o (asks_for w.rules w.relay (standing w.device.configured t) received)
     → seen (effects_for (with_slots w t n) received) ≡ seen (effects_for w received)
 seen_by w t n o received agree h =
     let same = received_alike w.rules o w.relay w.device.configured w.device.states t received agree h in
@@ -103,7 +113,7 @@ seen_by w t n o received agree h =
     ∙ ap (λ (xs : List Ask). made (sends_for w.rules w.relay w.device received) (map unnumbered (denials_of w.rules (w.denials + 1) w.ticks (origin received) (denied_of w.rules xs)))) same.0
 
 seen_with : (w : State) (t : List Slots) (n : ℕ) (o : Object) (e : Event) → AgreeBut o w.device.configured w.device.states t
-    → NoReadAllowed w.rules o (asks (with_slots w t n) e) → seen (effects_at (with_slots w t n) e) ≡ seen (effects_at w e)
+    → NoReadAllowedOn w.device.configured.device.network w.rules o (asks (with_slots w t n) e) → seen (effects_at (with_slots w t n) e) ≡ seen (effects_at w e)
 unfolding effects_at asks receive
 seen_with w t n o (Datagram port from octets) agree h = seen_by w t n o (receive w (Datagram port from octets)) agree h
 seen_with w t n o Tick agree h = refl
@@ -228,42 +238,60 @@ alike_left : (o : Object) (w v : State) (e : Event) → IsWriteOf o w e → Alik
 alike_left o w v e names a =
     subst (λ (x : State). Alike o (next w e) x) (sym a.is) (left_with w a.states a.number o e names a.agree)
 
-alike_seen : (o : Object) (w v : State) (e : Event) → Alike o w v → NoReadAllowed w.rules o (asks v e) → seen (effects_at v e) ≡ seen (effects_at w e)
-alike_seen o w v e a h =
+-- the device stays on its network
+abbrev IsOn : ℕ → State → Type 0
+IsOn network w = w.device.configured.device.network ≡ network
+
+is_on-next : (network : ℕ) (w : State) (e : Event) → IsOn network w → IsOn network (next w e)
+unfolding next
+is_on-next network w e is = ap (λ (c : Configured). c.device.network) (stays (change_at w e)) ∙ is
+  where
+    stays : (change : Option Write) → (changed change w.device).configured ≡ w.device.configured
+    stays None = refl
+    stays (Some write) = refl
+
+alike_seen : (network : ℕ) (o : Object) (w v : State) (e : Event) → IsOn network w → Alike o w v → NoReadAllowedOn network w.rules o (asks v e)
+    → seen (effects_at v e) ≡ seen (effects_at w e)
+alike_seen network o w v e on a h =
     ap (λ (x : State). seen (effects_at x e)) a.is
-    ∙ seen_with w a.states a.number o e a.agree (subst (λ (x : State). NoReadAllowed w.rules o (asks x e)) a.is h)
+    ∙ seen_with w a.states a.number o e a.agree
+    (subst (λ (n : ℕ). NoReadAllowedOn n w.rules o (asks (with_slots w a.states a.number) e)) (sym on)
+    (subst (λ (x : State). NoReadAllowedOn network w.rules o (asks x e)) a.is h))
 
 -- the event at a place of the list that leaves some out
 SeenFrom : State → State → List Bool → List Event → ℕ → Type 0
 SeenFrom w v marks l place = option_map seen (slice_get (run_from v (kept marks l)) place) ≡ option_map seen (slice_get (kept marks (run_from w l)) place)
 
--- it raises no ask to read the object that is allowed
-UnreadAt : Object → List Rule → State → List Event → ℕ → Type 0
-UnreadAt o rules v m place = (e : Event) → slice_get m place ≡ Some e → NoReadAllowed rules o (asks (state_from v (take place m)) e)
+-- it raises no ask to read the object of the network that is allowed
+UnreadAt : ℕ → Object → List Rule → State → List Event → ℕ → Type 0
+UnreadAt network o rules v m place = (e : Event) → slice_get m place ≡ Some e → NoReadAllowedOn network rules o (asks (state_from v (take place m)) e)
 
-kept_seen : (o : Object) (w v : State) (marks : List Bool) (e : Event) (l : List Event) → Alike o w v
-    → ((place : ℕ) → UnreadAt o w.rules (next v e) (kept marks l) place → SeenFrom (next w e) (next v e) marks l place)
-    → (place : ℕ) → UnreadAt o w.rules v (e ∷ kept marks l) place
+kept_seen : (network : ℕ) (o : Object) (w v : State) (marks : List Bool) (e : Event) (l : List Event) → IsOn network w → Alike o w v
+    → ((place : ℕ) → UnreadAt network o w.rules (next v e) (kept marks l) place → SeenFrom (next w e) (next v e) marks l place)
+    → (place : ℕ) → UnreadAt network o w.rules v (e ∷ kept marks l) place
     → option_map seen (slice_get (effects_at v e ∷ run_from (next v e) (kept marks l)) place)
     ≡ option_map seen (slice_get (effects_at w e ∷ kept marks (run_from (next w e) l)) place)
 unfolding SeenFrom UnreadAt state_from
-kept_seen o w v marks e l a more zero unread = ap (λ (x : Effects). Some x) (alike_seen o w v e a (unread e refl))
-kept_seen o w v marks e l a more (suc place) unread = more place unread
+kept_seen network o w v marks e l on a more zero unread = ap (λ (x : Effects). Some x) (alike_seen network o w v e on a (unread e refl))
+kept_seen network o w v marks e l on a more (suc place) unread = more place unread
 
-seen_from : (o : Object) (w v : State) (marks : List Bool) (l : List Event) → Alike o w v → LeavesOutFrom (IsWriteOf o) w marks l
-    → (place : ℕ) → UnreadAt o w.rules v (kept marks l) place → SeenFrom w v marks l place
+seen_from : (network : ℕ) (o : Object) (w v : State) (marks : List Bool) (l : List Event) → IsOn network w → Alike o w v
+    → LeavesOutFrom (IsWriteOf o) w marks l → (place : ℕ) → UnreadAt network o w.rules v (kept marks l) place → SeenFrom w v marks l place
 unfolding SeenFrom run_from next
-seen_from o w v marks [] a out place unread = refl
-seen_from o w v [] (e ∷ l) a out place unread =
-    kept_seen o w v [] e l a (λ p u. seen_from o (next w e) (next v e) [] l (alike_next o w v e a) (none_left (next w e) l) p u) place unread
+seen_from network o w v marks [] on a out place unread = refl
+seen_from network o w v [] (e ∷ l) on a out place unread =
+    kept_seen network o w v [] e l on a
+    (λ p u. seen_from network o (next w e) (next v e) [] l (is_on-next network w e on) (alike_next o w v e a) (none_left (next w e) l) p u)
+    place unread
   where
     none_left : (w : State) (l : List Event) → LeavesOutFrom (IsWriteOf o) w [] l
     none_left w [] = tt
     none_left w (e ∷ l) = tt
-seen_from o w v (false ∷ marks) (e ∷ l) a out place unread =
-    kept_seen o w v marks e l a (λ p u. seen_from o (next w e) (next v e) marks l (alike_next o w v e a) out p u) place unread
-seen_from o w v (true ∷ marks) (e ∷ l) a out place unread =
-    seen_from o (next w e) v marks l (alike_left o w v e out.0 a) out.1 place unread
+seen_from network o w v (false ∷ marks) (e ∷ l) on a out place unread =
+    kept_seen network o w v marks e l on a
+    (λ p u. seen_from network o (next w e) (next v e) marks l (is_on-next network w e on) (alike_next o w v e a) out p u) place unread
+seen_from network o w v (true ∷ marks) (e ∷ l) on a out place unread =
+    seen_from network o (next w e) v marks l (is_on-next network w e on) (alike_left o w v e out.0 a) out.1 place unread
 
 alike_self : (o : Object) (w : State) → Alike o w w
 alike_self o w = record { states = w.device.states; number = w.denials; is = refl; agree = λ i apart. refl }
@@ -273,10 +301,12 @@ unfolding SeenFrom UnreadAt
 writes_are_unread c k o marks l out place e there none =
     let w = state_after c k [] in
     let m = kept marks l in
+    let network = c.device.network in
+    let on : IsOn network w = ap (λ (x : Configured). x.device.network) (configuration_stays c k []) in
     ap (λ (given : List Effects). option_map seen (slice_get given place)) (sym (run_from-after c k [] m))
-    ∙ seen_from o w w marks l (alike_self o w) (left_from (IsWriteOf o) c k [] marks l out) place
-    (λ d at. subst (λ (x : Event). NoReadAllowed c.rules o (asks (state_from w (take place m)) x)) (same_event e d (sym there ∙ at))
-    (subst (λ (v : State). NoReadAllowed c.rules o (asks v e)) (sym (state_from-after c k [] (take place m))) none))
+    ∙ seen_from network o w w marks l on (alike_self o w) (left_from (IsWriteOf o) c k [] marks l out) place
+    (λ d at. subst (λ (x : Event). NoReadAllowedOn network c.rules o (asks (state_from w (take place m)) x)) (same_event e d (sym there ∙ at))
+    (subst (λ (v : State). NoReadAllowedOn network c.rules o (asks v e)) (sym (state_from-after c k [] (take place m))) none))
     ∙ ap (λ (given : List Effects). option_map seen (slice_get (kept marks given) place)) (run_from-after c k [] l)
   where
     same_event : (e d : Event) → Some e ≡ Some d → e ≡ d

@@ -23,4 +23,5 @@ pub mod ServeTurn
 pub mod Reports
 pub mod ReportTurn
 pub mod NoLeak
+pub mod Refused
 pub mod internal

@@ -6,12 +6,13 @@ use Rattle.std.specs.Option.{option_map, option_and_then}
 use Rattle.gw_addr.specs.declared.station.Source.{Source}
 use Rattle.gw_addr.specs.Station.{key_of}
 use Rattle.gw_audit.specs.declared.denial.Denial.{Denial}
-use Rattle.gw_device.specs.Laws.{NoReadAllowed, object_written}
+use Rattle.gw_device.specs.Laws.{AsksToRead, object_written}
 use Rattle.gw_objects.specs.Objects.{Database}
 use Rattle.gw_configuration.specs.Configuration.{Configuration}
 use Rattle.gw_relay.specs.Claim.{claimed, link_source, local_source}
 use Rattle.gw_relay.specs.Laws.{AreFrom}
-use Rattle.gw_rules.specs.Allowed.{NoChangeAllowed}
+use Rattle.gw_rules.specs.Allowed.{NoChangeAllowed, NoneAllowed}
+use Rattle.gw_rules.specs.Ask.{Ask}
 use Rattle.gw_rules.specs.declared.rule.Rule.{Rule}
 use Rattle.gw_rules.specs.Hides.{IsHidden}
 use Rattle.gw_script.specs.Event.{Event, Datagram, Tick}
@@ -61,6 +62,17 @@ abbrev pub SeenAlike : Configuration → Counts → List Bool → List Event →
 SeenAlike c k marks l place =
     option_map seen (slice_get (run c k (kept marks l)) place)
     ≡ option_map seen (slice_get (kept marks (run c k l)) place)
+
+-- ---- who reads an object
+
+-- an ask to read the object of a network, and not that of another network
+pub record AsksToReadOn (network : ℕ) (o : Object) (ask : Ask) : Type 0 where
+  pub reads : AsksToRead o ask
+  pub destination : ask.destination_network ≡ Some network
+
+-- no ask among these to read the object of the network is allowed
+abbrev pub NoReadAllowedOn : ℕ → List Rule → Object → List Ask → Type 0
+NoReadAllowedOn network rules o asks = NoneAllowed (AsksToReadOn network o) rules asks
 
 -- ---- what is left out: writes of an object
 
@@ -115,13 +127,14 @@ WritesAreHidden =
     IfSome (claim (receive (state_before c k (kept marks l) place) e)) (Contains sources) →
     SeenAlike c k marks l place
 
--- And so is each event, whoever claims it, that raises no ask to read the object that is allowed.
+-- And so is each event, whoever claims it, that raises no ask to read the object of the device's own network that is
+-- allowed. An allowed read of the same object of another network, which goes on there, is no read of it.
 abbrev pub WritesAreUnread : Type 0
 WritesAreUnread =
     (c : Configuration) (k : Counts) (o : Object) (marks : List Bool) (l : List Event) →
     LeavesOut (IsWriteOf o) c k [] marks l →
     (place : ℕ) (e : Event) → slice_get (kept marks l) place ≡ Some e →
-    NoReadAllowed c.rules o (asks (state_before c k (kept marks l) place) e) →
+    NoReadAllowedOn c.device.network c.rules o (asks (state_before c k (kept marks l) place) e) →
     SeenAlike c k marks l place
 
 -- Where all that is left out are datagrams that may change nothing, every event is seen to do the same.

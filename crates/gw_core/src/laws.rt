@@ -4,6 +4,7 @@ ghost use Rattle.std.specs.Prelude.{◌≡◌};
 ghost use Rattle.gw_core.specs.Examples.{AllArePlaced, BroadcastIsDistributed, CountsEnd, DeniedWriteIsUnseen, DenialsAreCountedOn, EachCutIsDropped, GlobalWhoIsGoesOn, HiddenObjectIsUntold, HiddenReadIsDenied, HiddenWriteIsUnseen, HidingIsSeen, LearnedRouteIsTaken, LocalReadIsUnheard, ReadIsAnswered, RegistrationEnds, RelinquishIsSeen, RoutedReadIsAnswered, UnknownNetworkIsSought, UnknownObjectIsTold, WhoIsIsAnswered, WriteIsSeen, WrongLengthsAreDropped};
 ghost use Rattle.gw_core.specs.NoLeak.{AsksCarryTheirClaim, QuietIsUnseen, WritesAreHidden, WritesAreUnread};
 ghost use Rattle.gw_core.specs.Laws.{ActsLeaveTheTables, AllowedTrafficIsSent, ConfigurationStays, DeniedAsksAreLogged, DeniedBroadcastsAreKept, DeniedLinesAreLogged, DeniedReadsAreRefused, DeniedWritesAreRefused, DenialsAreCounted, DenialsHaveTheirTick, DroppedNeedsNoMemory, FormatOneIsAsBefore, FormatStays, LearningsLeaveTheRoutes, LogIsNumbered, NothingAskedIsChanged, NothingAskedIsLogged, NothingAskedIsWritten, PortsStay, RelayTicksAreCounted, RunsAreTold, RunsExtendHistories, StepsExtendHistories, TicksAreCounted, TicksOnlyCount, WritesLeaveTheSlots};
+ghost use Rattle.gw_core.specs.Refused.{DeniedListingsAreSilent, DeniedManagementIsRefused, DeniedMembersAreRefused, DeniedPropertiesAreRefused, OthersAreAnswered, RepliesAreTheirParts};
 
 use crate::wire::RECEIVE_ROOM;
 
@@ -40,6 +41,18 @@ pub fn events()
     ensures dropped { DroppedNeedsNoMemory }
     ensures traffic { AllowedTrafficIsSent }
     ensures kept { DeniedBroadcastsAreKept }
+{}
+
+/// What is answered where the policy denies: in a ReadPropertyMultiple the access error in the place of each denied
+/// property, whatever the object holds, and the others as ever; nothing to a Who-Is or Who-Has; and to a frame that
+/// manages a table the negative code of its function, which changes nothing.
+pub fn refusals()
+    ensures parts { RepliesAreTheirParts }
+    ensures properties { DeniedPropertiesAreRefused }
+    ensures others { OthersAreAnswered }
+    ensures members { DeniedMembersAreRefused }
+    ensures listings { DeniedListingsAreSilent }
+    ensures tables { DeniedManagementIsRefused }
 {}
 
 /// What the format of a policy changes. In a state of the first format an event does what it did before there was a

@@ -1,0 +1,287 @@
+-- What is answered where the policy denies.
+use Rattle.std.proofs.Common.{◌≡◌, ◌∙◌, sym, ap, ap₂, refl, subst, append_assoc, add-one, ℕ, zero, suc, ◌+◌, ◌<◌, arith, Bool, true, false, List, [], ◌∷◌, ◌++◌, length, take, drop, Option, Some, None, Result, Ok, Err}
+use Rattle.std.specs.Prelude.{◌==◌, ◌&&◌, if◌then◌else◌, is_some, slice_get}
+use Rattle.std.specs.List.{AllByRecursion, Contains, flat_map, list_all, slice_index_or}
+use Rattle.std.specs.Option.{option_map}
+use Rattle.std.proofs.lemmas.List.{append-nil}
+use Rattle.std.proofs.lemmas.List.Concat.{flat_map-cons}
+use Rattle.gw_addr.specs.declared.bip.BipAddr.{BipAddr}
+use Rattle.gw_apdu.specs.declared.fault.ApduFault.{ApduFault}
+use Rattle.gw_apdu.specs.declared.header.ConfirmedRequest.{ConfirmedRequest}
+use Rattle.gw_apdu.specs.declared.header.Header.{Header}
+use Rattle.gw_apdu.specs.declared.header.Header.TheVariants as header
+use Rattle.gw_apdu.specs.Apdu.{Fields as Apdu}
+use Rattle.gw_apdu.specs.Answers.{abort}
+use Rattle.gw_apdu.specs.Reading.{apdu_at}
+use Rattle.gw_apdu.specs.Reasons.{segmentation_not_supported}
+use Rattle.gw_bvll.specs.Bvll as bvll
+use Rattle.gw_bvll.specs.Bvll.{Message as Frame}
+use Rattle.gw_device.specs.declared.context.Context.{Context}
+use Rattle.gw_device.specs.Asks.{named_object}
+use Rattle.gw_device.specs.Device.{apdu_response, header_response, or_silence, service_response}
+use Rattle.gw_device.specs.Read.{read_value}
+use Rattle.gw_device.specs.Multi.{Part, item, multi_ack, multi_ask, multi_part, properties_part, property_part, reference_part, set_part}
+use Rattle.gw_device.specs.Response.{Answer, Response, fitted, silence, to_client, told, turned_down, unchanged}
+use Rattle.gw_device.specs.Services.{set_of}
+use Rattle.gw_device.specs.WhoHas.{i_have_apdu, object_response, sought_object, who_has_ask, who_has_response}
+use Rattle.gw_device.specs.WhoIs.{i_am_apdu, if_allowed, is_within, who_is_ask, who_is_response}
+use Rattle.gw_objects.specs.declared.property.ObjectType.{ObjectType}
+use Rattle.gw_objects.specs.declared.property.Property.{Property}
+use Rattle.gw_objects.specs.declared.property.PropertySet.{PropertySet}
+use Rattle.gw_objects.specs.Objects.{Database, name_at, type_at}
+use Rattle.gw_objects.specs.Property.{properties, property_number}
+use Rattle.gw_relay.specs.Asks.{link_asks}
+use Rattle.gw_relay.specs.Link.{link_answer, link_change}
+use Rattle.gw_relay.specs.Message.{Message}
+use Rattle.gw_relay.specs.Sends.{Sending, sending}
+use Rattle.gw_relay.specs.State.{Commit, Relay, moved}
+use Rattle.gw_relay.specs.declared.change.Change.{Change}
+use Rattle.gw_relay.specs.declared.port.PortState.{PortState}
+use Rattle.gw_rules.specs.Ask.{Ask, IsFor}
+use Rattle.gw_rules.specs.declared.operation.Operation.TheVariants as operations
+use Rattle.gw_rules.specs.declared.rule.Rule.{Rule}
+use Rattle.gw_rules.specs.RuleList.{allows}
+use Rattle.gw_script.specs.Event.{Event, Datagram, Tick}
+use Rattle.gw_services.specs.Choices.{who_has, who_is}
+use Rattle.gw_services.specs.Multi.{Reference, list_ends}
+use Rattle.gw_services.specs.Reply.{error_item}
+use Rattle.gw_services.specs.WhoHas.{who_has_at}
+use Rattle.gw_services.specs.WhoIs.{who_is_at}
+use Rattle.gw_services.specs.declared.fault.BodyFault.{BodyFault}
+use Rattle.gw_tags.specs.Object.{Object}
+use Rattle.gw_core.specs.Asks.{apdu_asks, asks, asks_for, message_asks, serve_asks_for}
+use Rattle.gw_core.specs.Effects.{answer_sends, apdu_answer, change_at, change_for, changed, effects_at, message_sends, move_at, relay_change_for, sends_for, serve_sends_for}
+use Rattle.gw_core.specs.History.{next}
+use Rattle.gw_core.specs.Receive.{Received, dropped, managed, message, receive, unregistered}
+use Rattle.gw_core.specs.Refused.{DeniedListingsAreSilent, DeniedManagementIsRefused, DeniedMembersAreRefused, DeniedPropertiesAreRefused, OthersAreAnswered, RepliesAreTheirParts, access_error, ask_for, negative, parts, refused_part}
+use Rattle.gw_core.specs.Reply.{apdu_for, context_of}
+use Rattle.gw_core.specs.State.{State, device_network}
+use Rattle.gw_core.proofs.DeviceAskLemmas.{ReadsAndWrites, each_service}
+
+-- ---- ReadPropertyMultiple
+
+abbrev part_of : List Ask → List ℕ → Part
+part_of asks octets = record { asks = asks; octets = octets }
+
+-- all parts, one behind the other
+joined_parts : (rules : List Rule) (d : Database) (context : Context) (rs : List Reference)
+    → multi_part rules d context rs
+    ≡ part_of (flat_map (λ (part : Part). part.asks) (parts rules d context rs)) (flat_map (λ (part : Part). part.octets) (parts rules d context rs))
+joined_parts rules d context [] = refl
+joined_parts rules d context (r ∷ rs) =
+    let first = reference_part rules d context r (list_ends rs) in
+    let others = parts rules d context rs in
+    ap (λ (part : Part). part_of (first.asks ++ part.asks) (first.octets ++ part.octets)) (joined_parts rules d context rs)
+    ∙ ap₂ part_of (sym (flat_map-cons (λ (part : Part). part.asks) first others)) (sym (flat_map-cons (λ (part : Part). part.octets) first others))
+
+pub replies_are_their_parts : RepliesAreTheirParts
+replies_are_their_parts rules d context request rs = ap (reply request context) (joined_parts rules d context rs)
+  where
+    reply : ConfirmedRequest → Context → Part → Response
+    reply request context part = unchanged part.asks (to_client (fitted request context (multi_ack request.invoke part.octets)))
+
+-- what stands in the place of a denied one
+refused_named : (rules : List Rule) (d : Database) (context : Context) (r : Reference) (ends : Bool) → allows rules (ask_for d context r) ≡ false
+    → reference_part rules d context r ends ≡ refused_part d context r ends
+refused_named rules d context r ends denied = by (set_of r.property) refl
+  where
+    by : (set : Option PropertySet) → set_of r.property ≡ set → reference_part rules d context r ends ≡ refused_part d context r ends
+    by None is = rw (is, denied) refl
+    by (Some set) is = rw (is, denied) refl
+
+at_place : (rules : List Rule) (d : Database) (context : Context) (front rest : List Reference) (r : Reference)
+    → slice_get (parts rules d context (front ++ r ∷ rest)) (length front) ≡ Some (reference_part rules d context r (list_ends rest))
+at_place rules d context [] rest r = refl
+at_place rules d context (f ∷ front) rest r = at_place rules d context front rest r
+
+pub denied_properties_are_refused : DeniedPropertiesAreRefused
+denied_properties_are_refused rules d context front rest r denied =
+    at_place rules d context front rest r ∙ ap (λ (part : Part). Some part) (refused_named rules d context r (list_ends rest) denied)
+
+ends_alike : (front rest : List Reference) (r s : Reference) → r.begins ≡ s.begins → list_ends (front ++ r ∷ rest) ≡ list_ends (front ++ s ∷ rest)
+ends_alike [] rest r s is = is
+ends_alike (f ∷ front) rest r s is = refl
+
+front_alike : (rules : List Rule) (d : Database) (context : Context) (front rest : List Reference) (r s : Reference) → r.begins ≡ s.begins
+    → take (length front) (parts rules d context (front ++ r ∷ rest)) ≡ take (length front) (parts rules d context (front ++ s ∷ rest))
+front_alike rules d context [] rest r s is = refl
+front_alike rules d context (f ∷ front) rest r s is =
+    ap₂ (λ (part : Part) (more : List Part). part ∷ more)
+    (ap (reference_part rules d context f) (ends_alike front rest r s is)) (front_alike rules d context front rest r s is)
+
+rest_alike : (rules : List Rule) (d : Database) (context : Context) (front rest : List Reference) (r : Reference)
+    → drop (suc (length front)) (parts rules d context (front ++ r ∷ rest)) ≡ parts rules d context rest
+rest_alike rules d context [] rest r = refl
+rest_alike rules d context (f ∷ front) rest r = rest_alike rules d context front rest r
+
+pub others_are_answered : OthersAreAnswered
+others_are_answered rules d context front rest r s is =
+    (
+      front_alike rules d context front rest r s is,
+      ap (λ (n : ℕ). drop n (parts rules d context (front ++ r ∷ rest))) (add-one (length front)) ∙ rest_alike rules d context front rest r,
+    )
+
+-- the properties of a set, those before one and those behind it
+members_along : (rules : List Rule) (d : Database) (context : Context) (object : Object) (front rest : List Property) (p : Property)
+    → (properties_part rules d context object (front ++ p ∷ rest)).octets
+    ≡ (properties_part rules d context object front).octets ++ (properties_part rules d context object (p ∷ rest)).octets
+members_along rules d context object [] rest p = refl
+members_along rules d context object (f ∷ front) rest p =
+    let first = (property_part rules d context object (property_number f) None).octets in
+    ap (λ (octets : List ℕ). first ++ octets) (members_along rules d context object front rest p)
+    ∙ sym (append_assoc first (properties_part rules d context object front).octets (properties_part rules d context object (p ∷ rest)).octets)
+
+-- the item of a denied property
+refused_item : (rules : List Rule) (d : Database) (context : Context) (object : Object) (p : ℕ) (index : Option ℕ)
+    → allows rules (multi_ask d context object p) ≡ false
+    → item p index (read_value rules d (multi_ask d context object p) object p index) ≡ error_item p index access_error
+refused_item rules d context object p index denied = rw denied refl
+
+-- an allowed set is its properties
+allowed_set : (rules : List Rule) (d : Database) (context : Context) (object : Object) (number : ℕ) (set : PropertySet) (kind : ObjectType)
+    → allows rules (multi_ask d context object number) ≡ true → type_at d.configured object ≡ Some kind
+    → (set_part rules d context object number set).octets ≡ (properties_part rules d context object (properties kind set)).octets
+allowed_set rules d context object number set kind allowed found = rw (allowed, found) refl
+
+pub denied_members_are_refused : DeniedMembersAreRefused
+denied_members_are_refused rules d context object number set kind front rest p allowed found are denied =
+    let before = (properties_part rules d context object front).octets in
+    let behind = (properties_part rules d context object rest).octets in
+    let last : (properties_part rules d context object (p ∷ rest)).octets ≡ error_item (property_number p) None access_error ++ behind =
+    ap (λ (octets : List ℕ). octets ++ behind) (refused_item rules d context object (property_number p) None denied) in
+    allowed_set rules d context object number set kind allowed found
+    ∙ ap (λ (ps : List Property). (properties_part rules d context object ps).octets) are
+    ∙ members_along rules d context object front rest p
+    ∙ ap (λ (octets : List ℕ). before ++ octets) last
+    ∙ sym (append_assoc before (error_item (property_number p) None access_error) behind)
+
+-- ---- listings
+
+-- what holds of each holds of one of them
+of_place : (P : Ask → Type 0) (xs : List Ask) (k : ℕ) (x : Ask) → k < length xs → AllByRecursion P xs → P (slice_index_or xs k x)
+of_place P [] k x below each = absurd (omega arith)
+of_place P (a ∷ xs) zero x below each = each.0
+of_place P (a ∷ xs) (suc k) x below each = of_place P xs k x (omega (arith, below)) each.1
+
+of_held : (P : Ask → Type 0) (xs : List Ask) (x : Ask) → Contains xs x → AllByRecursion P xs → P x
+of_held P xs x held each = subst P held.2 (of_place P xs held.0 x held.1 each)
+
+-- where an ask to list is denied there is no answer
+abbrev Silent : List Rule → Response → Type 0
+Silent rules due = (ask : Ask) → Contains due.asks ask → IsFor operations.List ask → allows rules ask ≡ false → due.answer ≡ None
+
+-- where none is to list there is none to be denied
+unlisted : (rules : List Rule) (due : Response) → AllByRecursion (λ ask. IsFor operations.List ask → ⊥) due.asks → Silent rules due
+unlisted rules due each ask held lists denied = absurd (of_held (λ ask. IsFor operations.List ask → ⊥) due.asks ask held each lists)
+
+silent_if : (rules : List Rule) (b : Bool) (x y : Response) → Silent rules x → Silent rules y → Silent rules (if b then x else y)
+silent_if rules true x y f g = f
+silent_if rules false x y f g = g
+
+silent_body : {B : Type 0} (rules : List Rule) (respond : B → Response) (body : Result B BodyFault) → ((b : B) → Silent rules (respond b))
+    → Silent rules (or_silence respond body)
+silent_body rules respond (Ok b) each = each b
+silent_body rules respond (Err fault) each = unlisted rules silence tt
+
+no_answer : (b : Bool) (x : Option Answer) → b ≡ false → ◌≡◌ {A = Option Answer} (if b then x else None) None
+no_answer true x is = absurd cc
+no_answer false x is = refl
+
+silent_one : (rules : List Rule) (ask : Ask) (apdu : Option (List ℕ)) → Silent rules (if_allowed rules ask apdu)
+silent_one rules ask apdu other held lists denied =
+    no_answer (allows rules ask) (told apdu)
+    (ap (allows rules) (of_held (λ (x : Ask). ask ≡ x) (ask ∷ []) other held (refl, tt)) ∙ denied)
+
+silent_object : (rules : List Rule) (d : Database) (context : Context) (sought : Option Object) → Silent rules (object_response rules d context sought)
+silent_object rules d context None = unlisted rules silence tt
+silent_object rules d context (Some object) = silent_one rules (who_has_ask d.configured context object) (option_map (i_have_apdu d.configured object) (name_at d.configured object))
+
+silent_header : (rules : List Rule) (d : Database) (context : Context) (by : Header) (body : List ℕ) → Silent rules (header_response rules d context by body)
+silent_header rules d context (header.ConfirmedRequest request) body =
+    let nothing = unlisted rules silence tt in
+    silent_if rules context.broadcast _ _ nothing
+    (silent_if rules (is_some request.segment) _ _ (unlisted rules (turned_down (abort request.invoke segmentation_not_supported)) tt)
+    (unlisted rules (service_response rules d context request body)
+    (each_service (λ ask. IsFor operations.List ask → ⊥) rules d context
+    (record { reads = λ service object p e. absurd cc; writes = λ write e. absurd cc }) request body)))
+silent_header rules d context (header.UnconfirmedRequest service) body =
+    let nothing = unlisted rules silence tt in
+    silent_if rules (service == who_has) _ _ (silent_body rules (who_has_response rules d context) (who_has_at body)
+    (λ request. silent_if rules (is_within request.limits d.configured.device.instance) _ _
+    (silent_object rules d context (sought_object d.configured request.sought)) nothing))
+    (silent_if rules (service == who_is) _ _ (silent_body rules (who_is_response rules d context) (who_is_at body)
+    (λ request. silent_if rules (is_within request.limits d.configured.device.instance) _ _
+    (silent_one rules (who_is_ask d.configured context) (Some (i_am_apdu d.configured))) nothing))
+    nothing)
+silent_header rules d context (header.SimpleAck invoke service) body = unlisted rules silence tt
+silent_header rules d context (header.ComplexAck segment invoke service) body = unlisted rules silence tt
+silent_header rules d context (header.SegmentAck invoke sequence window) body = unlisted rules silence tt
+silent_header rules d context (header.Error invoke service) body = unlisted rules silence tt
+silent_header rules d context (header.Reject invoke reason) body = unlisted rules silence tt
+silent_header rules d context (header.Abort invoke reason) body = unlisted rules silence tt
+
+silent_apdu : (rules : List Rule) (d : Database) (context : Context) (x : Result Apdu ApduFault) → Silent rules (apdu_response rules d context x)
+silent_apdu rules d context (Ok x) = silent_header rules d context x.header x.rest
+silent_apdu rules d context (Err fault) = unlisted rules silence tt
+
+no_place : (x : Ask) → Contains [] x → ⊥
+no_place x held = let below = held.1 in omega (arith, below)
+
+silent_octets : (rules : List Rule) (d : Database) (m : Message) (context : Context) (octets : Option (List ℕ)) (ask : Ask)
+    → Contains (apdu_asks rules d context octets) ask → IsFor operations.List ask → allows rules ask ≡ false
+    → answer_sends (device_network d) m (apdu_answer rules d context octets) ≡ []
+silent_octets rules d m context None ask held lists denied = refl
+silent_octets rules d m context (Some octets) ask held lists denied =
+    ap (answer_sends (device_network d) m) (silent_apdu rules d context (apdu_at octets) ask held lists denied)
+
+silent_received : (rules : List Rule) (d : Database) (received : Received) (ask : Ask) → Contains (serve_asks_for rules d received) ask
+    → IsFor operations.List ask → allows rules ask ≡ false → serve_sends_for rules d received ≡ []
+silent_received rules d dropped ask held lists denied = refl
+silent_received rules d (managed on from frame) ask held lists denied = refl
+silent_received rules d (unregistered m) ask held lists denied = refl
+silent_received rules d (message m) ask held lists denied =
+    let network = device_network d in
+    silent_octets rules d m (context_of network m) (apdu_for network m.npdu) ask held lists denied
+
+pub denied_listings_are_silent : DeniedListingsAreSilent
+denied_listings_are_silent w e ask held lists denied = silent_received w.rules w.device (receive w e) ask held lists denied
+
+-- ---- tables
+
+one_denied : (rules : List Rule) (a : Ask) → list_all (allows rules) (a ∷ []) ≡ false → allows rules a ≡ false
+one_denied rules a denied = by (allows rules a) denied
+  where
+    by : (b : Bool) → (b && true) ≡ false → b ≡ false
+    by true is = absurd cc
+    by false is = refl
+
+managed_refused : (rules : List Rule) (relay : Relay) (d : Database) (on : PortState) (from : BipAddr) (frame : Frame)
+    → list_all (allows rules) (asks_for rules relay d (managed on from frame)) ≡ false
+    → (sends_for rules relay d (managed on from frame) ≡ sending on.port.number (negative frame) from ∷ [])
+    × (relay_change_for rules (managed on from frame) ≡ None)
+unfolding link_answer link_change
+managed_refused rules relay d on from (bvll.write_bdt entries) denied = rw denied (refl, refl)
+managed_refused rules relay d on from bvll.read_bdt denied = rw denied (refl, refl)
+managed_refused rules relay d on from (bvll.register time_to_live) denied = rw denied (refl, refl)
+managed_refused rules relay d on from bvll.read_fdt denied = rw denied (refl, refl)
+managed_refused rules relay d on from (bvll.delete address) denied = rw denied (refl, refl)
+managed_refused rules relay d on from (bvll.result_code code) denied = absurd cc
+managed_refused rules relay d on from (bvll.read_bdt_ack entries) denied = absurd cc
+managed_refused rules relay d on from (bvll.forwarded originator npdu) denied = absurd cc
+managed_refused rules relay d on from (bvll.read_fdt_ack entries) denied = absurd cc
+managed_refused rules relay d on from (bvll.distribute npdu) denied = absurd cc
+managed_refused rules relay d on from (bvll.original_unicast npdu) denied = absurd cc
+managed_refused rules relay d on from (bvll.original_broadcast npdu) denied = absurd cc
+
+pub denied_management_is_refused : DeniedManagementIsRefused
+unfolding effects_at next move_at change_at asks receive
+denied_management_is_refused w Tick on from frame is denied = absurd cc
+denied_management_is_refused w (Datagram port by octets) on from frame is denied =
+    let e = Datagram port by octets in
+    let refused = managed_refused w.rules w.relay w.device on from frame
+    (ap (λ (received : Received). list_all (allows w.rules) (asks_for w.rules w.relay w.device received)) (sym is) ∙ denied) in (
+      ap (sends_for w.rules w.relay w.device) is ∙ refused.0,
+      ap (λ (received : Received). moved (option_map Commit (relay_change_for w.rules received)) w.relay) is
+          ∙ ap (λ (change : Option Change). moved (option_map Commit change) w.relay) refused.1,
+      ap (λ (received : Received). changed (change_for w.rules w.device received) w.device) is,
+    )
