@@ -1,6 +1,7 @@
--- What an event does under the first format of a policy, as it was before there was a second: a message that goes
--- on is judged by its way alone. Routing stands here in full; nothing else looks at the format.
-use Rattle.std.specs.Prelude.{◌+◌, List, [], ◌∷◌, ◌++◌, map, Some, if◌then◌else◌}
+-- What events ask and do under the first format of a policy, as it was before there was a second, and the state that
+-- they leave: a message that goes on is judged by its way alone. Routing is here in full; nothing else looks at the
+-- format.
+use Rattle.std.specs.Prelude.{◌+◌, List, [], ◌∷◌, ◌++◌, length, map, Some, if◌then◌else◌}
 use Rattle.std.specs.Option.{option_map_or}
 use Rattle.gw_npdu.specs.Npdu.{Destination}
 use Rattle.gw_routes.specs.Table.{way}
@@ -14,14 +15,16 @@ use Rattle.gw_relay.specs.Asks.{bound_for, message_ask}
 use Rattle.gw_relay.specs.Message.{Message}
 use Rattle.gw_relay.specs.Route.{has_hops, is_local, leaves, next_hop, others, sent_on}
 use Rattle.gw_relay.specs.Sends.{Sending}
-use Rattle.gw_relay.specs.State.{Relay}
+use Rattle.gw_relay.specs.State.{Relay, moved}
 use Rattle.gw_relay.specs.Steps.{Step, asks_of, broadcast, sends_of, step}
 use Rattle.gw_relay.specs.declared.port.PortState.{PortState}
 use Rattle.gw_script.specs.Event.{Event}
 use Rattle.gw_core.specs.declared.effects.Effects.{Effects}
-use Rattle.gw_core.specs.Asks.{cast_asks_for, link_asks_for, manage_asks_for, serve_asks_for}
+use Rattle.gw_core.specs.Asks.{asks, cast_asks_for, link_asks_for, manage_asks_for, serve_asks_for}
 use Rattle.gw_core.specs.Denials.{denials_of}
-use Rattle.gw_core.specs.Effects.{cast_sends_for, link_sends_for, manage_sends_for, serve_sends_for}
+use Rattle.gw_core.specs.Effects.{cast_sends_for, change_at, changed, link_sends_for, manage_sends_for, move_at, serve_sends_for}
+use Rattle.gw_core.specs.Effects.{ticks_of}
+use Rattle.gw_core.specs.History.{next}
 use Rattle.gw_core.specs.Receive.{Received, dropped, managed, unregistered, message, origin, receive}
 use Rattle.gw_core.specs.State.{State}
 
@@ -76,3 +79,34 @@ effects_before w e = record {
   denials = denials_of w.rules (w.denials + 1) w.ticks (origin (receive w e))
       (denied_of w.rules (asks_before w (receive w e)));
 }
+
+-- what changes: the tables and the routes, the slots, and the counts; no change looks at the format
+abbrev pub next_before : State → Event → State
+next_before w e = record w {
+  relay = moved (move_at w e) w.relay;
+  device = changed (change_at w e) w.device;
+  ticks = w.ticks + ticks_of e;
+  denials = w.denials + length (effects_before w e).denials;
+}
+
+-- ---- a list of events, one after the other
+
+-- what each of them asks
+unfoldable pub asked_before : State → List Event → List (List Ask)
+asked_before w [] = []
+asked_before w (e ∷ l) = asks_before w (receive w e) ∷ asked_before (next_before w e) l
+
+-- what each of them does
+unfoldable pub run_before : State → List Event → List Effects
+run_before w [] = []
+run_before w (e ∷ l) = effects_before w e ∷ run_before (next_before w e) l
+
+-- the state that they leave
+unfoldable pub left_before : State → List Event → State
+left_before w [] = w
+left_before w (e ∷ l) = left_before (next_before w e) l
+
+-- what each of them asks by the definitions of today, which look at the format
+unfoldable pub asked_from : State → List Event → List (List Ask)
+asked_from w [] = []
+asked_from w (e ∷ l) = asks w e ∷ asked_from (next w e) l

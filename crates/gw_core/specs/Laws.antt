@@ -15,6 +15,7 @@ use Rattle.gw_core.specs.declared.event.Counts.{Counts}
 use Rattle.gw_script.specs.Event.{Event}
 use Rattle.gw_script.specs.Event.{Datagram, Tick}
 use Rattle.gw_configuration.specs.Configuration.{Configuration}
+use Rattle.gw_configuration.specs.declared.format.Format.{Format}
 use Rattle.gw_configuration.specs.declared.format.Format.TheVariants.{One}
 use Rattle.gw_core.specs.History.{RoutesStand, TablesStand, WritesStand, learnings, port_acts, writes, state_after, run}
 use Rattle.gw_core.specs.History.{history_after, IsStep, IsStateAfter, effects, run_after, run_from, state_from, next}
@@ -36,7 +37,7 @@ use Rattle.gw_core.specs.Asks.{asks, cast_asks_for, manage_asks_for, route_asks_
 use Rattle.gw_core.specs.Denials.{rule_name}
 use Rattle.gw_core.specs.Replay.{no_counts, run_text}
 use Rattle.gw_core.specs.Shown.{event_text, text_of_run}
-use Rattle.gw_core.specs.FormatOne.{effects_before}
+use Rattle.gw_core.specs.FormatOne.{asked_before, asked_from, effects_before, left_before, run_before}
 use Rattle.gw_core.specs.Effects.{NeedsNoMemory, cast_sends_for, change_at, effects_at, manage_sends_for, move_at}
 use Rattle.gw_core.specs.Effects.{nothing, route_sends_for}
 use Rattle.gw_relay.specs.Message.{Message}
@@ -216,6 +217,24 @@ DeniedLinesAreLogged = (w : State) (e : Event) →
 -- In a state of the first format an event does what it did before there was a second (FormatOne.antt).
 abbrev pub FormatOneIsAsBefore : Type 0
 FormatOneIsAsBefore = (w : State) (e : Event) → w.relay.format ≡ One → effects_at w e ≡ effects_before w e
+
+-- Under a configuration of the first format every list of events asks and does what it did before there was a second,
+-- and leaves the state that it left.
+abbrev pub FormatOneRunsAsBefore : Type 0
+FormatOneRunsAsBefore = (c : Configuration) (k : Counts) (l : List Event) → c.format ≡ One →
+    let fresh = state_after c k [] in
+    (asked_from fresh l ≡ asked_before fresh l) × (run c k l ≡ run_before fresh l)
+    × (state_after c k (history_after [] l) ≡ left_before fresh l)
+
+-- a state under another format
+abbrev pub under : Format → State → State
+under format w = record w { relay = record w.relay { format = format } }
+
+-- And what they did then looks at no format.
+abbrev pub FormatWasUnread : Type 0
+FormatWasUnread = (format : Format) (w : State) (l : List Event) →
+    (asked_before (under format w) l ≡ asked_before w l) × (run_before (under format w) l ≡ run_before w l)
+    × (left_before (under format w) l ≡ under format (left_before w l))
 
 -- After every history the format is that of the configuration.
 abbrev pub FormatStays : Type 0

@@ -3,7 +3,7 @@
 ghost use Rattle.std.specs.Prelude.{◌≡◌};
 ghost use Rattle.gw_core.specs.Examples.{AllArePlaced, BroadcastIsDistributed, CountsEnd, DeniedWriteIsUnseen, DenialsAreCountedOn, EachCutIsDropped, GlobalWhoIsGoesOn, HiddenObjectIsUntold, HiddenReadIsDenied, HiddenWriteIsUnseen, HidingIsSeen, LearnedRouteIsTaken, LocalReadIsUnheard, ReadIsAnswered, RegistrationEnds, RelinquishIsSeen, RoutedReadIsAnswered, UnknownNetworkIsSought, UnknownObjectIsTold, WhoIsIsAnswered, WriteIsSeen, WrongLengthsAreDropped};
 ghost use Rattle.gw_core.specs.NoLeak.{AsksCarryTheirClaim, QuietIsUnseen, WritesAreHidden, WritesAreUnread};
-ghost use Rattle.gw_core.specs.Laws.{ActsLeaveTheTables, AllowedTrafficIsSent, ConfigurationStays, DeniedAsksAreLogged, DeniedBroadcastsAreKept, DeniedLinesAreLogged, DeniedReadsAreRefused, DeniedWritesAreRefused, DenialsAreCounted, DenialsHaveTheirTick, DroppedNeedsNoMemory, FormatOneIsAsBefore, FormatStays, LearningsLeaveTheRoutes, LogIsNumbered, NothingAskedIsChanged, NothingAskedIsLogged, NothingAskedIsWritten, PortsStay, RelayTicksAreCounted, RunsAreTold, RunsExtendHistories, StepsExtendHistories, TicksAreCounted, TicksOnlyCount, WritesLeaveTheSlots};
+ghost use Rattle.gw_core.specs.Laws.{ActsLeaveTheTables, AllowedTrafficIsSent, ConfigurationStays, DeniedAsksAreLogged, DeniedBroadcastsAreKept, DeniedLinesAreLogged, DeniedReadsAreRefused, DeniedWritesAreRefused, DenialsAreCounted, DenialsHaveTheirTick, DroppedNeedsNoMemory, FormatOneIsAsBefore, FormatOneRunsAsBefore, FormatStays, FormatWasUnread, LearningsLeaveTheRoutes, LogIsNumbered, NothingAskedIsChanged, NothingAskedIsLogged, NothingAskedIsWritten, PortsStay, RelayTicksAreCounted, RunsAreTold, RunsExtendHistories, StepsExtendHistories, TicksAreCounted, TicksOnlyCount, WritesLeaveTheSlots};
 ghost use Rattle.gw_core.specs.Refused.{DeniedListingsAreSilent, DeniedManagementIsRefused, DeniedMembersAreRefused, DeniedPropertiesAreRefused, OthersAreAnswered, RepliesAreTheirParts};
 
 use crate::wire::RECEIVE_ROOM;
@@ -55,10 +55,12 @@ pub fn refusals()
     ensures tables { DeniedManagementIsRefused }
 {}
 
-/// What the format of a policy changes. In a state of the first format an event does what it did before there was a
-/// second, and no event changes the format of the configuration.
+/// What the format of a policy changes. Under a configuration of the first format every list of events asks and does
+/// what a definition without formats says, and leaves its state; and no event changes the format of the configuration.
 pub fn formats()
     ensures first { FormatOneIsAsBefore }
+    ensures runs { FormatOneRunsAsBefore }
+    ensures unread { FormatWasUnread }
     ensures stays { FormatStays }
 {}
 

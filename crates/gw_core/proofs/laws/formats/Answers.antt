@@ -1,4 +1,4 @@
-use Rattle.gw_core.proofs.FormatLemmas.{format_one_is_as_before, format_stays}
+use Rattle.gw_core.proofs.FormatLemmas.{format_one_is_as_before, format_one_runs_as_before, format_stays, format_was_unread}
 use Rattle.gw_core.proofs.laws.formats.Goals as goal
 
 pub returns-clause-first : goal.returns-clause-first
@@ -6,3 +6,9 @@ returns-clause-first c = format_one_is_as_before
 
 pub returns-clause-stays : goal.returns-clause-stays
 returns-clause-stays c = format_stays
+
+pub returns-clause-runs : goal.returns-clause-runs
+returns-clause-runs c = format_one_runs_as_before
+
+pub returns-clause-unread : goal.returns-clause-unread
+returns-clause-unread c = format_was_unread
