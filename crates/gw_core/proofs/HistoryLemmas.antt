@@ -113,7 +113,7 @@ moves_ticks w = ap (λ (d : ℕ). record w { relay = later w.relay; ticks = w.ti
 
 -- ---- a list of events, one after the other
 
-state_from-append : (w : State) (l : List Event) (e : Event) → state_from w (l ++ e ∷ []) ≡ next (state_from w l) e
+pub state_from-append : (w : State) (l : List Event) (e : Event) → state_from w (l ++ e ∷ []) ≡ next (state_from w l) e
 unfolding state_from
 state_from-append w [] e = refl
 state_from-append w (d ∷ l) e = state_from-append (next w d) l e

@@ -20,3 +20,4 @@ pub mod BlindLemmas
 pub mod FormatLemmas
 pub mod DeviceAskLemmas
 pub mod RefusedLemmas
+pub mod ServedLemmas

@@ -23,5 +23,6 @@ pub mod ServeTurn
 pub mod Reports
 pub mod ReportTurn
 pub mod NoLeak
+pub mod Served
 pub mod Refused
 pub mod internal

@@ -5,6 +5,7 @@ ghost use Rattle.gw_core.specs.Examples.{AllArePlaced, BroadcastIsDistributed, C
 ghost use Rattle.gw_core.specs.NoLeak.{AsksCarryTheirClaim, QuietIsUnseen, WritesAreHidden, WritesAreUnread};
 ghost use Rattle.gw_core.specs.Laws.{ActsLeaveTheTables, AllowedTrafficIsSent, ConfigurationStays, DeniedAsksAreLogged, DeniedBroadcastsAreKept, DeniedLinesAreLogged, DeniedReadsAreRefused, DeniedWritesAreRefused, DenialsAreCounted, DenialsHaveTheirTick, DroppedNeedsNoMemory, FormatOneIsAsBefore, FormatOneRunsAsBefore, FormatStays, FormatWasUnread, LearningsLeaveTheRoutes, LogIsNumbered, NothingAskedIsChanged, NothingAskedIsLogged, NothingAskedIsWritten, PortsStay, RelayTicksAreCounted, RunsAreTold, RunsExtendHistories, StepsExtendHistories, TicksAreCounted, TicksOnlyCount, WritesLeaveTheSlots};
 ghost use Rattle.gw_core.specs.Refused.{DeniedListingsAreSilent, DeniedManagementIsRefused, DeniedMembersAreRefused, DeniedPropertiesAreRefused, OthersAreAnswered, RepliesAreTheirParts};
+ghost use Rattle.gw_core.specs.Served.{StopsAreServed, TurnsAreServed};
 
 use crate::wire::RECEIVE_ROOM;
 
@@ -77,6 +78,14 @@ pub fn counts()
 pub fn replays()
     ensures told { RunsAreTold }
     ensures denied { DeniedLinesAreLogged }
+{}
+
+/// What `serve` promises, in the words of a wire: the turns are the receives; the events that were handed in are those
+/// that the gateway took, those lost to memory, and one at the end of a count; and what was tried to be sent is what the
+/// taken events send.
+pub fn served()
+    ensures turns { TurnsAreServed }
+    ensures stops { StopsAreServed }
 {}
 
 /// What frames do to a gateway of the built-in configuration, computed from the definitions.
