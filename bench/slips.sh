@@ -3,104 +3,412 @@
 #
 #     bench/slips.sh [CRATE...]      # every crate that has some, unless told otherwise
 #     JOBS=2 bench/slips.sh          # so many crates side by side; else one for each two processors
+#     LOGS=FOLDER bench/slips.sh     # keeps what each check said
 #
-# A slip has the form of the gate's own edits in must-fail/. Each is tried on a copy of its crate, over what `rt check` has kept in
-# out/, so that a try takes half a minute; what isn't kept yet is proved first. It prints a line for each, with the first function
-# that isn't proved and what refused it: `clause` where the search met a goal that doesn't hold, `proof` where only the text of a
-# hand-written proof misfits, which says less. Last comes how many were refused. The status is 0 where all were.
+# A slip has the form of the gate's own edits in must-fail/. Where it lies in one function, it is written into a copy of that function
+# under another name, with its contract and its proof, so that one check of the crate tries them all: the function itself stays, and
+# with it its callers' proofs. A slip elsewhere (in a constant, a type, a trait's method, several functions), and one whose copy is
+# proved, is tried in its place, a check each. All is done on a copy of the crate, over what `rt check` has kept in out/.
+#
+# An answer of a hand-written proof that misfits a slip is left out, and the check run again, so that the search meets the goal. Beside
+# it the function as it is gets a copy whose proof lacks the same answers. For each slip a line says what refused it:
+#
+#     clause   a goal that doesn't hold; where answers were left out, one that the function as it is meets without them
+#     goal     a goal that the function as it is doesn't meet without those answers either; its name follows
+#     proof    only the text of a hand-written proof, which says less
+#
+# Last comes how many were refused by each, and how many weren't. The status is 0 where all were refused.
 #
 # It wants python3 and rt on the path, and as much free disk as the crates' out/ that are tried side by side.
 set -euo pipefail
 
 top=$(cd "$(dirname "$0")/.." && pwd)
 cd "$top"
-exec python3 - "$top" "${JOBS:-$((($(nproc) + 1) / 2))}" "$@" <<'PYTHON'
+exec python3 - "$top" "${JOBS:-$((($(nproc) + 1) / 2))}" "${LOGS:-}" "$@" <<'PYTHON'
 import re
 import shutil
 import subprocess
 import sys
 import tempfile
+import time
+from collections import Counter
 from concurrent.futures import ThreadPoolExecutor
 from pathlib import Path
 
-top, jobs = Path(sys.argv[1]), int(sys.argv[2])
-crates = sys.argv[3:] or sorted({it.parent.parent.name for it in top.glob("crates/*/slips/*.edit")})
+top, jobs, logs = Path(sys.argv[1]), int(sys.argv[2]), sys.argv[3]
+crates = sys.argv[4:] or sorted({it.parent.parent.name for it in top.glob("crates/*/slips/*.edit")})
 PARTS = ["src", "specs", "proofs"]
+TURNS = 6
+FUNCTION = re.compile(r"(\s*)(?:pub(?:\([a-z]+\))? )?(?:const )?fn (\w+)")
 
 
-def write_slip(edit, crate):
-    """Writes the edit of this file into the copy of the crate."""
-    path = old = None
+class Function:
+    """A function that a copy can be made of: its file, its name, the type it is a method of, and where its text is."""
+
+    def __init__(self, file, name, owner, start, end):
+        self.file, self.name, self.owner, self.start, self.end = file, name, owner, start, end
+
+    def same(self, other):
+        return (self.file, self.start) == (other.file, other.start)
+
+
+class Copy:
+    """A copy of a function under a name of its own: the slip that is in it, or none."""
+
+    def __init__(self, function, name, slip, left_out=()):
+        self.function, self.name, self.slip = function, name, slip
+        self.left_out = set(left_out)
+
+    def control(self):
+        """The copy without its slip, whose proof lacks the same answers."""
+        return Copy(self.function, self.name.replace("_slip", "_kept"), None, self.left_out)
+
+
+def read_slip(edit):
+    """The changes of a slip: file, old text, new text."""
+    pairs, path, old = [], None, None
     for line in edit.read_text(encoding="utf-8").split("\n"):
         kind, _, text = line.partition(":")
         text = text.removeprefix(" ")
         if kind == "file":
-            path = crate / text
+            path = text
         elif kind == "old":
             old = text
         elif kind == "new":
-            whole = path.read_text(encoding="utf-8")
-            if whole.count(old) != 1:
-                return f"what it changes stands {whole.count(old)} times in the file, and not once"
-            path.write_text(whole.replace(old, text), encoding="utf-8")
+            pairs.append((path, old, text))
+    return pairs
+
+
+def write_slip(pairs, crate):
+    """Writes a slip into the copy of the crate."""
+    for path, old, new in pairs:
+        whole = (crate / path).read_text(encoding="utf-8")
+        if whole.count(old) != 1:
+            return f"what it changes is {whole.count(old)} times in the file, and not once"
+        (crate / path).write_text(whole.replace(old, new), encoding="utf-8")
     return None
 
 
-def check(crate, count):
+def function_at(file, text, place):
+    """The function whose text has this place, or None."""
+    lines = text.split("\n")
+    starts = [0]
+    for line in lines:
+        starts.append(starts[-1] + len(line) + 1)
+    row = max(n for n in range(len(lines)) if starts[n] <= place)
+    head = row
+    while head < len(lines) and re.match(r"\s*(#\[|//)", lines[head]):
+        head += 1
+    while head >= 0 and not FUNCTION.match(lines[head]):
+        head -= 1
+    if head < 0:
+        return None
+    indent, name = FUNCTION.match(lines[head]).groups()
+    end = head
+    while end < len(lines) and lines[end] != indent + "}":
+        end += 1
+    first = head
+    while first > 0 and lines[first - 1].strip().startswith("#["):
+        first -= 1
+    owner = ""
+    if indent:
+        above = head
+        while not lines[above][:1].isalpha():
+            above -= 1
+        block = re.match(r"impl(?:<.*?>)? *(\w+)", lines[above])
+        if not block or " for " in lines[above]:
+            return None
+        owner = block[1]
+    return Function(file, name, owner, starts[first], starts[end + 1]) if end >= row else None
+
+
+def home_of(pairs, crate):
+    """The function that holds all of a slip, or None."""
+    file = pairs[0][0]
+    text = (crate / file).read_text(encoding="utf-8")
+    if any(path != file or text.count(old) != 1 for path, old, _ in pairs):
+        return None
+    homes = []
+    for _, old, _ in pairs:
+        place = text.index(old) + len(old) - len(old.lstrip())
+        home = function_at(file, text, place)
+        if home is None or text[home.start : home.end].count(old) != 1:
+            return None
+        homes.append(home)
+    return homes[0] if all(home.same(homes[0]) for home in homes) else None
+
+
+def proof_of(function, proofs):
+    """The folder of a function's proof, which need not be there."""
+    if function.owner:
+        found = [it for it in proofs.glob(f"**/{function.owner}/{function.name}") if it.is_dir()]
+        return found[0] if found else proofs / function.owner / function.name
+    module = Path(function.file).relative_to("src").with_suffix("")
+    return proofs / function.name if str(module) in ("lib", "main") else proofs / module / function.name
+
+
+def copy_proof(copy, crate):
+    """Gives a copy the proof of its function."""
+    proofs = crate / "proofs"
+    old = proof_of(copy.function, proofs)
+    if not old.is_dir():
+        return
+    new = old.with_name(copy.name)
+    shutil.copytree(old, new)
+    before, after = (".".join(it.relative_to(proofs).parts) for it in (old, new))
+    for path in new.rglob("*.antt"):
+        text = path.read_text(encoding="utf-8")
+        prefix = rf"(Rattle\.{crate.name}\.proofs\.)"
+        path.write_text(re.sub(rf"{prefix}{re.escape(before)}\.", rf"\g<1>{after}.", text), encoding="utf-8")
+        for file, name in copy.left_out:
+            if path.name == file:
+                leave_out(path, name)
+
+
+def write_copies(copies, crate, slips):
+    """Writes the copies behind their functions, into a crate that has none."""
+    behind = {}
+    for copy in copies:
+        home = copy.function
+        text = (crate / home.file).read_text(encoding="utf-8")[home.start : home.end]
+        for _, old, new in slips[copy.slip] if copy.slip else []:
+            text = text.replace(old, new)
+        text = re.sub(rf"\bfn {home.name}\b", f"fn {copy.name}", text, count=1)
+        behind.setdefault(home.file, []).append((home.end, "\n" + text))
+        copy_proof(copy, crate)
+    for file, them in behind.items():
+        text = (crate / file).read_text(encoding="utf-8")
+        for end, added in sorted(them, key=lambda it: -it[0]):
+            text = text[:end] + added + text[end:]
+        (crate / file).write_text(text, encoding="utf-8")
+
+
+def parts_of(text):
+    """The definitions of a proof file, each with its name, and its imports, each with its text."""
+    parts = []
+    for line in text.split("\n"):
+        if line and not line.startswith((" ", "\t", "}", ")", "unfolding ")):
+            head = re.match(r"(?:pub )?([\w\-+]+)", line)
+            name = head[1] if head else ""
+            name = line if name == "use" else name
+            if not parts or name != parts[-1][0]:
+                parts.append((name, []))
+        if not parts:
+            parts.append(("", []))
+        parts[-1][1].append(line)
+    return parts
+
+
+def leave_out(path, name):
+    """Takes a definition or an import out of a proof file."""
+    parts = parts_of(path.read_text(encoding="utf-8"))
+    kept = [line for part, lines in parts if part != name for line in lines]
+    path.write_text("\n".join(kept), encoding="utf-8")
+
+
+def misfits(said, crate):
+    """The definitions and imports of proof files that the check finds wrong: the file, and what `parts_of` names."""
+    found = set()
+    for file, row in re.findall(r"^(?:\./)?(proofs/\S+\.antt):(\d+):\d+: error", said, re.MULTILINE):
+        path = crate / file
+        if not path.is_file():
+            continue
+        rows = 0
+        for name, lines in parts_of(path.read_text(encoding="utf-8")):
+            rows += len(lines)
+            if rows >= int(row):
+                if name:
+                    found.add((path, name))
+                break
+    return found
+
+
+def check(crate, count, label):
+    begin = time.time()
     done = subprocess.run(["rt", "check", "--jobs", str(count)], cwd=crate, stdin=subprocess.DEVNULL,
                           stdout=subprocess.PIPE, stderr=subprocess.STDOUT, text=True, errors="replace")
+    if logs:
+        Path(logs).mkdir(parents=True, exist_ok=True)
+        (Path(logs) / f"{crate.name}_{label}.log").write_text(f"{time.time() - begin:.0f} s\n{done.stdout}", encoding="utf-8")
     return done.returncode, done.stdout
 
 
-def told(name, crate):
-    """The line of a slip that stands in the copy, and whether it is refused. A check that comes to no verdict refuses nothing."""
-    status, said = check(crate, 1)
-    if status == 0:
-        return f"NOT REFUSED: {name}", False
-    if not re.search(r"^logic=not-proved", said, re.MULTILINE):
-        return f"NOT TRIED: {name}: {said.splitlines()[-1] if said else 'nothing said'}", False
-    left = re.findall(r"^fn (.*?): (not proved|no proof)(.*)$", said, re.MULTILINE)
-    if not left:
-        return f"NOT TRIED: {name}: no function is named", False
-    by = "clause" if any("`search` did not prove" in why or "no proof" in kind for _, kind, why in left) else "proof"
-    more = f", and {len(left) - 1} that rest on it" if len(left) > 1 else ""
-    return f"refused ({by}): {name}: {left[0][0]}{more}", True
+def is_verdict(status, said):
+    return status == 0 or re.search(r"^logic=not-proved", said, re.MULTILINE) is not None
+
+
+def restore(name, crate):
+    """Makes the copy of a crate what the crate is."""
+    for part in PARTS:
+        shutil.rmtree(crate / part, ignore_errors=True)
+        if (top / "crates" / name / part).is_dir():
+            subprocess.run(["cp", "-a", top / "crates" / name / part, crate], check=True)
+
+
+def judged(said, name):
+    """What the check says of a function and its closures: how it is refused, or that it is proved, or nothing; and the goals left."""
+    lines = re.findall(rf"^fn (?:\S*::)?{name}(?:::\S*)?: (.*)$", said, re.MULTILINE)
+    open_lines = [line for line in lines if line != "proved"]
+    if not open_lines:
+        return ("proved" if lines else "nothing"), ""
+    unmet = [re.findall(r"`([^`]+)`", line.partition("did not prove")[2]) for line in open_lines]
+    goals = [goal for them in unmet for goal in them]
+    goals += re.findall(rf"^note: `([^`]+)` of proofs/\S*\b{name}/\S+ must prove", said, re.MULTILINE)
+    if goals:
+        return "clause", ", ".join(sorted(set(goals))[:4])
+    return "proof", open_lines[0][:160]
+
+
+def short(said):
+    """The line of a check that came to no verdict."""
+    faults = re.findall(r"^.*: error.*$", said, re.MULTILINE) or said.splitlines() or ["nothing said"]
+    return faults[-1][:200]
+
+
+class Trial:
+    """The slips of a crate, tried on a copy of it."""
+
+    def __init__(self, name, crate):
+        self.name, self.crate = name, crate
+        self.slips = {it.stem: read_slip(it) for it in sorted((top / "crates" / name / "slips").glob("*.edit"))}
+        self.found = {}
+        self.checks = 0
+
+    def check(self, count=1):
+        self.checks += 1
+        return check(self.crate, count, self.checks)
+
+    def tell(self, slip, verdict, more):
+        self.found[slip] = verdict
+        kind = f"refused ({verdict})" if verdict in ("clause", "goal", "proof") else verdict
+        print(f"{kind}: {self.name}/{slip}: {more}", flush=True)
+
+    def write(self, copies):
+        """Writes these copies into the crate as it is, and beside each that lacks answers the function as it is."""
+        restore(self.name, self.crate)
+        write_copies(copies + [copy.control() for copy in copies if copy.left_out], self.crate, self.slips)
+
+    def try_copies(self):
+        """Tries each slip that lies in a function in a copy of that; what is left is to be tried in its place."""
+        copies = []
+        for number, (slip, pairs) in enumerate(self.slips.items()):
+            home = home_of(pairs, self.crate)
+            if home:
+                copies.append(Copy(home, f"{home.name}_slip{number}", slip))
+        for _ in range(TURNS):
+            if not copies:
+                return
+            self.write(copies)
+            status, said = self.check()
+            if not is_verdict(status, said):
+                copies = [copy for copy in copies if not self.is_unread(copy, said)] if ": error" in said else []
+                continue
+            if not self.leave_out(copies, said):
+                break
+        else:
+            self.write(copies)
+            status, said = self.check()
+        if is_verdict(status, said):
+            for copy in copies:
+                self.tell_copy(copy, said)
+
+    def is_unread(self, copy, said):
+        """Whether an error is at the text of a copy."""
+        for file, row in re.findall(r"^(?:\./)?(src/\S+\.rt):(\d+):\d+: error", said, re.MULTILINE):
+            text = (self.crate / file).read_text(encoding="utf-8")
+            place = len("\n".join(text.split("\n")[: int(row) - 1])) + 1
+            home = function_at(file, text, place)
+            if home and home.name == copy.name:
+                return True
+        return False
+
+    def leave_out(self, copies, said):
+        """Notes the answers that misfit copies which nothing else refuses; whether there were any."""
+        wrong, some = misfits(said, self.crate), False
+        for copy in copies:
+            if judged(said, copy.name)[0] == "proof":
+                new = {(path.name, name) for path, name in wrong if copy.name in path.parts} - copy.left_out
+                copy.left_out |= new
+                some = some or bool(new)
+        return some
+
+    def tell_copy(self, copy, said):
+        verdict, goals = judged(said, copy.name)
+        if verdict in ("proved", "nothing"):
+            return
+        home = copy.function
+        if verdict == "clause" and copy.left_out and judged(said, copy.control().name)[0] != "proved":
+            verdict = "goal"
+        self.tell(copy.slip, verdict, f"{home.owner + '::' if home.owner else ''}{home.name}: {goals}")
+
+    def try_in_place(self, slip):
+        """Tries a slip where it is."""
+        left_out = set()
+        for _ in range(TURNS):
+            restore(self.name, self.crate)
+            fault = write_slip(self.slips[slip], self.crate) or self.drop(left_out)
+            if fault:
+                return self.tell(slip, "NOT TRIED", fault)
+            status, said = self.check()
+            if status == 0:
+                return self.tell(slip, "NOT REFUSED", "the check proves it")
+            if not is_verdict(status, said):
+                return self.tell(slip, "NOT TRIED", short(said))
+            left = re.findall(r"^fn (\S+): (?!proved$)", said, re.MULTILINE)
+            if not left:
+                return self.tell(slip, "NOT TRIED", "no function is named")
+            by_clause = [name for name in left if judged(said, re.escape(name))[0] == "clause"]
+            new = {(path.relative_to(self.crate), name) for path, name in misfits(said, self.crate)} - left_out
+            if by_clause or not new:
+                break
+            left_out |= new
+        verdict = "clause" if by_clause else "proof"
+        name = (by_clause or left)[0]
+        goals = judged(said, re.escape(name))[1]
+        if by_clause and left_out:
+            restore(self.name, self.crate)
+            self.drop(left_out)
+            _, said = self.check()
+            verdict = "clause" if judged(said, re.escape(name))[0] == "proved" else "goal"
+        more = f", and {len(left) - 1} more" if len(left) > 1 else ""
+        return self.tell(slip, verdict, f"{name.partition('::')[2]}: {goals}{more}")
+
+    def drop(self, left_out):
+        """Leaves these answers out of the crate's proofs."""
+        for path, name in left_out:
+            leave_out(self.crate / path, name)
 
 
 def try_crate(name):
-    """How many of a crate's slips are refused, and how many not."""
-    counts = [0, 0]
+    """How many of a crate's slips were refused by what, and how many not."""
     with tempfile.TemporaryDirectory() as folder:
         room = Path(folder)
         (room / "crates").mkdir()
         for part in ["crates.txt", "HANDLES"]:
             shutil.copy(top / part, room)
-        crate = room / "crates" / name
         for it in (top / "crates").iterdir():
             # The others stay as they are: their files are linked, where the folder for temporary files is on the same disk.
             how = ["cp", "-a", "--reflink=auto"] if it.name == name else ["cp", "-al"]
             if subprocess.run([*how, it, room / "crates"], stderr=subprocess.DEVNULL).returncode != 0:
                 shutil.rmtree(room / "crates" / it.name, ignore_errors=True)
                 subprocess.run(["cp", "-a", it, room / "crates"], check=True)
-        status, said = check(crate, 2)
+        trial = Trial(name, room / "crates" / name)
+        status, said = trial.check(2)
         if status != 0:
-            print(f"NOT TRIED: {name} isn't proved itself: {said.splitlines()[-1]}", flush=True)
-            return [0, 1]
-        for edit in sorted((top / "crates" / name / "slips").glob("*.edit")):
-            fault = write_slip(edit, crate)
-            line, is_refused = (f"NOT TRIED: {name}/{edit.stem}: {fault}", False) if fault else told(f"{name}/{edit.stem}", crate)
-            print(line, flush=True)
-            counts[0 if is_refused else 1] += 1
-            for part in PARTS:
-                shutil.rmtree(crate / part, ignore_errors=True)
-                if (top / "crates" / name / part).is_dir():
-                    subprocess.run(["cp", "-a", top / "crates" / name / part, crate], check=True)
-    return counts
+            print(f"NOT TRIED: {name} isn't proved itself: {short(said)}", flush=True)
+            return Counter({"NOT TRIED": len(trial.slips)})
+        trial.try_copies()
+        for slip in trial.slips:
+            if slip not in trial.found:
+                trial.try_in_place(slip)
+        return Counter(trial.found.values())
 
 
+begin = time.time()
 with ThreadPoolExecutor(jobs) as room:
-    found = list(room.map(try_crate, crates))
-refused, faults = (sum(one[n] for one in found) for n in (0, 1))
-print(f"{refused} refused, {faults} not")
-sys.exit(0 if faults == 0 else 1)
+    total = sum(room.map(try_crate, crates), Counter())
+refused = {kind: total.pop(kind, 0) for kind in ("clause", "goal", "proof")}
+said = ", ".join(f"{count} by a {kind}" for kind, count in refused.items())
+print(f"{sum(refused.values())} refused ({said}), {sum(total.values())} not; {(time.time() - begin) / 60:.0f} minutes")
+sys.exit(0 if not total else 1)
 PYTHON
