@@ -7,4 +7,5 @@ pub mod Ticks
 pub mod Serving
 pub mod Passing
 pub mod Outgoing
+pub mod Rooms
 pub mod Taken

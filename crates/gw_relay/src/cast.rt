@@ -1,6 +1,6 @@
 //! Broadcasts, and whom they are distributed to (Annex J.4, J.5).
 
-ghost use Rattle.std.specs.Prelude.{◌≡◌, ◌++◌, [], false, true, List, map, IfOk, IsOk, OnOk, None};
+ghost use Rattle.std.specs.Prelude.{◌≡◌, ◌++◌, [], false, true, List, map, IfOk, IsOk, OnErr, OnOk, None, ◌+◌, ◌≤◌, length};
 ghost use Rattle.std.specs.List.{list_any};
 ghost use Rattle.std.specs.Option.{option_map_or};
 ghost use Rattle.gw_bdt_fdt.specs.Peers.{is_of, peers};
@@ -12,6 +12,7 @@ ghost use Rattle.gw_relay.specs.Link.{answer_to, refused};
 ghost use Rattle.gw_relay.specs.Message.{message_view};
 ghost use Rattle.gw_relay.specs.Response.{IsAdded};
 ghost use Rattle.gw_relay.specs.Sends.{sendings_of, sent};
+ghost use Rattle.gw_relay.specs.internal.Rooms.{broadcast_npdu};
 ghost use Rattle.gw_relay.specs.internal.Serving.{judged};
 
 use crate::ask::{bound_for, put_message_fields};
@@ -19,7 +20,7 @@ use crate::message::Message;
 use crate::octets::message_octets;
 use crate::outgoing::Outgoing;
 use crate::port::PortState;
-use crate::response::{RelayResponse, put_refusals};
+use crate::response::RelayResponse;
 use crate::sends::{Batch, Sends};
 use gw_addr::{BdtEntry, BipAddr};
 use gw_bvll::Bvll;
@@ -67,11 +68,20 @@ fn passed_on<'a>(from: BipAddr, frame: &Bvll<'a>) -> Bvll<'a>
     }
 }
 
+/// How many octets the Forwarded-NPDU of an NPDU has.
+fn forwarded_npdu_len(npdu: &[u8]) -> usize
+    ensures { result ≡ 10 + length npdu.now }
+{
+    FORWARDED_HEADER_LEN + npdu.len()
+}
+
 /// How many octets a broadcast has when it goes on.
-fn forwarded_len(frame: &Bvll<'_>) -> usize {
+fn forwarded_len(frame: &Bvll<'_>) -> usize
+    ensures { result ≤ 10 + length (broadcast_npdu (frame_view frame.now)) }
+{
     match frame {
         Bvll::OriginalBroadcast(npdu) | Bvll::Distribute(npdu) | Bvll::Forwarded { npdu, .. } => {
-            FORWARDED_HEADER_LEN + npdu.len()
+            forwarded_npdu_len(npdu)
         }
         _ => 0,
     }
@@ -163,9 +173,19 @@ impl PortState {
         }
     }
 
+    /// How many entries the tables have: at most so many peers and foreign devices there are.
+    fn entry_count(&self) -> usize
+        ensures count { result ≡ length self.now.bdt + length self.now.fdt.rows }
+        ensures few { result ≤ 192 }
+    {
+        self.bdt.entries().len() + self.fdt.count()
+    }
+
     /// How many addresses a broadcast goes to at most.
-    fn most_targets(&self, frame: &Bvll<'_>) -> usize {
-        let others = self.bdt.entries().len() + self.fdt.count();
+    fn most_targets(&self, frame: &Bvll<'_>) -> usize
+        ensures { result ≤ 1 + (length self.now.bdt + length self.now.fdt.rows) }
+    {
+        let others = self.entry_count();
         match frame {
             Bvll::OriginalBroadcast(_) => others,
             Bvll::Distribute(_) => 1 + others,
@@ -290,8 +310,7 @@ impl PortState {
             IfOk result (λ batch. option_map_or sendings_of batch []
             ≡ sent self.now.port.number all message) }
     {
-        let others = self.bdt.entries().len() + self.fdt.count();
-        let mut targets = Vec::with_capacity(alloc, others)?;
+        let mut targets = Vec::with_capacity(alloc, self.entry_count())?;
         self.put_all(&mut targets)?;
         if targets.is_empty() {
             return Ok(None);
@@ -300,7 +319,7 @@ impl PortState {
             originator: self.port.address,
             npdu,
         };
-        let len = FORWARDED_HEADER_LEN + npdu.len();
+        let len = forwarded_npdu_len(npdu);
         batch_of(alloc, self.port.number, targets, &message, len)
     }
 }
@@ -318,6 +337,7 @@ pub(crate) fn cast<J: Judge>(
         OnOk result (IsAdded rules due given.old given.new) }
     ensures goes_on { let m = message_view message.now in
         IfOk result (λ goes. goes ≡ goes_on m.here m.from m.frame) }
+    ensures err { OnErr result (given.new ≡ given.old) }
     // What asks nothing and tells no unregistered sender wants no memory.
     ensures silent { let m = message_view message.now in
         cast_asks m ≡ [] → is_unregistered m.here m.from m.frame ≡ false → IsOk result }
@@ -346,6 +366,7 @@ fn cast_accepted<J: Judge>(
     ensures relayed { (rules : List Rule) → J.StandsFor judge.now rules →
         let due = cast_response rules (message_view message.now) in
         OnOk result (IsAdded rules due given.old given.new) }
+    ensures err { OnErr result (given.new ≡ given.old) }
     ensures silent { cast_asks (message_view message.now) ≡ [] → IsOk result }
 {
     if !is_broadcast(message.frame) {
@@ -355,15 +376,10 @@ fn cast_accepted<J: Judge>(
     let mut ask = Ask::new(Operation::Cast);
     put_message_fields(&mut ask, message, bound_for(message.npdu));
     let is_allowed = authorizer.authorize(&ask)?;
+    let mut sends = Sends::new(alloc);
     let here = message.here;
-    here.put_judged(
-        alloc,
-        message.from,
-        message.frame,
-        is_allowed,
-        &mut given.sends,
-    )?;
-    put_refusals(&mut given.refusals, authorizer.into_refusals())?;
+    here.put_judged(alloc, message.from, message.frame, is_allowed, &mut sends)?;
+    given.add(sends, authorizer.into_refusals())?;
     Ok(())
 }
 

@@ -1,10 +1,9 @@
 //! The frames that read or change a table of their port (Annex J.2, J.4, J.5).
 
-ghost use Rattle.std.specs.Prelude.{◌≡◌, ◌||◌, ◌++◌, ◌∷◌, [], List, not, map, IfOk, IsOk, OnOk, if◌then◌else◌, Some, None};
+ghost use Rattle.std.specs.Prelude.{◌≡◌, ◌||◌, ◌++◌, ◌∷◌, [], List, not, map, IfOk, IsOk, OnErr, OnOk, if◌then◌else◌, Some, None};
 ghost use Rattle.gw_addr.specs.Entry.{bdt_entry};
 ghost use Rattle.gw_bdt_fdt.specs.Peers.{are_too_many, has_twice};
 ghost use Rattle.gw_bdt_fdt.specs.Registrations.{contains, has_room};
-ghost use Rattle.std.specs.Option.{option_or};
 ghost use Rattle.gw_bvll.specs.Bvll.{view};
 ghost use Rattle.gw_bvll.specs.Entries.{lent};
 ghost use Rattle.gw_rules.specs.declared.rule.Rule.{Rule};
@@ -19,7 +18,7 @@ use crate::ask::{link_ask, management_of};
 use crate::change::Change;
 use crate::octets::{bdt_ack, fdt_ack, result_octets};
 use crate::port::PortState;
-use crate::response::{RelayResponse, put_refusals};
+use crate::response::RelayResponse;
 use crate::sends::{Batch, Sends};
 use gw_addr::{BdtEntry, BipAddr};
 use gw_bdt_fdt::{Bdt, MAX_REGISTRATIONS};
@@ -38,7 +37,7 @@ enum Grant {
 impl PortState {
     /// Answers a frame that reads or changes a table of the port. The answer goes to the sender; a
     /// frame of another kind gets none, and asks nothing. What that gives is added. The only fault is want of
-    /// memory.
+    /// memory; then nothing is added.
     pub(crate) fn handle_table_message<J: Judge>(
         &self,
         alloc: Global,
@@ -50,6 +49,7 @@ impl PortState {
         ensures relayed { (rules : List Rule) → J.StandsFor judge.now rules →
             let due = link_response rules self.now from (view frame.now) in
             OnOk result (IsAdded rules due given.old given.new) }
+        ensures err { OnErr result (given.new ≡ given.old) }
         ensures silent { link_asks self.now.port from (view frame.now) ≡ [] → IsOk result }
     {
         let Some(operation) = management_of(frame) else {
@@ -58,12 +58,14 @@ impl PortState {
         let mut authorizer = Authorizer::new(alloc, judge);
         let ask = link_ask(&self.port, from, frame, operation);
         let is_allowed = authorizer.authorize(&ask)?;
-        self.put_table_answer(alloc, from, frame, is_allowed, given)?;
-        put_refusals(&mut given.refusals, authorizer.into_refusals())?;
+        let mut sends = Sends::new(alloc);
+        let change = self.put_table_answer(alloc, from, frame, is_allowed, &mut sends)?;
+        given.add(sends, authorizer.into_refusals())?;
+        given.put_change(change);
         Ok(())
     }
 
-    /// Adds the answer to a frame that was judged, and what it changes.
+    /// Adds the answer to a frame that was judged. It answers what that changes.
     #[inline(always)]
     fn put_table_answer(
         &self,
@@ -71,24 +73,26 @@ impl PortState {
         from: BipAddr,
         frame: &Bvll<'_>,
         is_allowed: bool,
-        given: &mut RelayResponse,
-    ) -> Result<(), AllocError>
+        sends: &mut Sends,
+    ) -> Result<Option<Change>, AllocError>
         ensures sends { let sent = served self.now from (view frame.now) is_allowed in
-            OnOk result (given.new.sends ≡ given.old.sends ++ sent) }
-        ensures refusals { OnOk result (given.new.refusals ≡ given.old.refusals) }
+            OnOk result (sends.new ≡ sends.old ++ sent) }
         ensures change { let due = served_change self.now from (view frame.now) is_allowed in
-            OnOk result (given.new.change ≡ option_or given.old.change due) }
+            IfOk result (λ change. change ≡ due) }
     {
         if !is_allowed {
-            return self.put_refusal(alloc, from, frame, &mut given.sends);
+            self.put_refusal(alloc, from, frame, sends)?;
+            return Ok(None);
         }
         match self.grant(alloc, from, frame)? {
             Grant::Granted(change) => {
-                self.put_told(alloc, from, frame, &mut given.sends)?;
-                given.put_change(change);
-                Ok(())
+                self.put_told(alloc, from, frame, sends)?;
+                Ok(change)
             }
-            Grant::Refused => self.put_refusal(alloc, from, frame, &mut given.sends),
+            Grant::Refused => {
+                self.put_refusal(alloc, from, frame, sends)?;
+                Ok(None)
+            }
         }
     }
 
@@ -181,20 +185,22 @@ impl PortState {
         }
     }
 
-    /// Adds an answer of these octets.
+    /// Adds an answer of these octets. After an `Err` the sends are as before.
     fn put_answer(
         &self,
         from: BipAddr,
         octets: Vec<u8>,
         sends: &mut Sends,
     ) -> Result<(), AllocError>
-        ensures { let sent = sending self.now.port.number octets.items from ∷ [] in
+        ensures ok { let sent = sending self.now.port.number octets.items from ∷ [] in
             OnOk result (sends.new ≡ sends.old ++ sent) }
+        ensures err { OnErr result (sends.new ≡ sends.old) }
     {
         sends.push(Batch::to_one(self.port.number, from, octets))
     }
 
-    /// Adds the answer to a frame that doesn't have what it asked for: the code of its function.
+    /// Adds the answer to a frame that doesn't have what it asked for: the code of its function. After
+    /// an `Err` the sends are as before.
     pub(crate) fn put_refusal(
         &self,
         alloc: Global,
@@ -202,8 +208,9 @@ impl PortState {
         frame: &Bvll<'_>,
         sends: &mut Sends,
     ) -> Result<(), AllocError>
-        ensures { let sent = map (answer_to self.now.port from) (refused (view frame.now)) in
+        ensures ok { let sent = map (answer_to self.now.port from) (refused (view frame.now)) in
             OnOk result (sends.new ≡ sends.old ++ sent) }
+        ensures err { OnErr result (sends.new ≡ sends.old) }
     {
         let Some(code) = ResultCode::refusal(frame.function()) else {
             return Ok(());

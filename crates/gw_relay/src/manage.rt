@@ -1,7 +1,7 @@
 //! Network layer messages that a router answers or learns from (clauses 6.4.1, 6.4.2, 6.4.19,
 //! 6.4.20).
 
-ghost use Rattle.std.specs.Prelude.{◌≡◌, ◌++◌, ◌∷◌, [], List, map, nat_le, true, false, None, IfOk, IsOk, OnOk};
+ghost use Rattle.std.specs.Prelude.{◌≡◌, ◌++◌, ◌∷◌, [], List, map, nat_le, true, false, None, IfOk, IsOk, OnErr, OnOk};
 ghost use Rattle.gw_npdu.specs.Npdu.{view as npdu_view};
 ghost use Rattle.gw_rules.specs.Authorizer.{denied_of};
 ghost use Rattle.gw_rules.specs.declared.rule.Rule.{Rule};
@@ -22,7 +22,7 @@ use crate::npdu::{is_kind, message_of, put_broadcast};
 use crate::outgoing::Outgoing;
 use crate::port::PortState;
 use crate::relay::Relay;
-use crate::response::{RelayResponse, put_refusals};
+use crate::response::RelayResponse;
 use crate::route::put_who_is_router;
 use crate::sends::Sends;
 use gw_addr::{NetNum, Sequence, put_number};
@@ -276,6 +276,8 @@ fn put_answers<J: Judge>(
         asks_of steps ≡ [] → IsOk result }
     ensures unasked { let steps = question_steps relay.now (message_view message.now) octets.now in
         asks_of steps ≡ [] → authorizer.new ≡ authorizer.old }
+    ensures unsent { let steps = question_steps relay.now (message_view message.now) octets.now in
+        asks_of steps ≡ [] → sends.new ≡ sends.old }
 {
     match octets {
         [] => put_answer_to_all(alloc, relay, message, authorizer, sends),
@@ -342,15 +344,16 @@ fn learn<J: Judge>(
     given: &mut RelayResponse,
 ) -> Result<(), AllocError>
     requires { is_i_am_router (message_view message.now).npdu ≡ true }
-    ensures { (rules : List Rule) → J.StandsFor judge.now rules →
+    ensures relayed { (rules : List Rule) → J.StandsFor judge.now rules →
         let due = learn_response rules (message_view message.now) in
         OnOk result (IsAdded rules due given.old given.new) }
+    ensures err { OnErr result (given.new ≡ given.old) }
 {
     let mut authorizer = Authorizer::new(alloc, judge);
     let mut networks = Sequence::new(alloc);
     let octets = message.npdu.payload.octets();
     keep_allowed(&mut authorizer, message, octets, &mut networks)?;
-    put_refusals(&mut given.refusals, authorizer.into_refusals())?;
+    given.add(Sends::new(alloc), authorizer.into_refusals())?;
     given.put_change(Some(Change::Learnings {
         port: message.here.port.number,
         next: message.link(),
@@ -373,6 +376,8 @@ fn put_by_type<J: Judge>(
     ensures silent { asks_of (answer_steps relay.now (message_view message.now)) ≡ [] → IsOk result }
     ensures unasked { asks_of (answer_steps relay.now (message_view message.now)) ≡ [] →
         authorizer.new ≡ authorizer.old }
+    ensures unsent { asks_of (answer_steps relay.now (message_view message.now)) ≡ [] →
+        sends.new ≡ sends.old }
 {
     if is_who_is_router(message.npdu) {
         let octets = message.npdu.payload.octets();
@@ -395,13 +400,15 @@ pub(crate) fn manage<J: Judge>(
     ensures relayed { (rules : List Rule) → J.StandsFor judge.now rules →
         let due = manage_response rules relay.now (message_view message.now) in
         OnOk result (IsAdded rules due given.old given.new) }
+    ensures err { OnErr result (given.new ≡ given.old) }
     ensures silent { manage_asks relay.now (message_view message.now) ≡ [] → IsOk result }
 {
     if is_i_am_router(message.npdu) {
         return learn(alloc, judge, message, given);
     }
     let mut authorizer = Authorizer::new(alloc, judge);
-    put_by_type(alloc, relay, message, &mut authorizer, &mut given.sends)?;
-    put_refusals(&mut given.refusals, authorizer.into_refusals())?;
+    let mut sends = Sends::new(alloc);
+    put_by_type(alloc, relay, message, &mut authorizer, &mut sends)?;
+    given.add(sends, authorizer.into_refusals())?;
     Ok(())
 }

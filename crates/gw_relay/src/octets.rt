@@ -1,6 +1,6 @@
 //! The octets of the messages that are sent, each in a buffer of its own.
 
-ghost use Rattle.std.specs.Prelude.{◌≡◌, ◌≤◌, ◌<◌, ◌^◌, ◌++◌, ◌∷◌, [], length, map, take, drop, IfOk, OnOk};
+ghost use Rattle.std.specs.Prelude.{◌≡◌, ◌≤◌, ◌<◌, ◌^◌, ◌+◌, ◌*◌, ◌++◌, ◌∷◌, [], length, map, take, drop, IfOk, OnOk};
 ghost use Rattle.std.specs.Int.{w16, to_be_bytes};
 ghost use Rattle.std.specs.Option.{option_map};
 ghost use Rattle.gw_addr.specs.Entry.{bdt_entry, fdt_entry};
@@ -82,6 +82,14 @@ pub(crate) fn result_octets(alloc: Global, code: ResultCode) -> Result<Vec<u8>, 
     Ok(octets)
 }
 
+/// How many octets an acknowledgement of so many entries has (Annex J.2.4, J.2.8).
+fn ack_len(count: usize) -> usize
+    requires { count ≤ 128 }
+    ensures { result ≡ 4 + 10 * count }
+{
+    HEADER_LEN + ENTRY_LEN * count
+}
+
 /// No entry of a broadcast distribution table.
 fn no_bdt_entries<'a>() -> BdtEntries<'a>
     ensures { lent bdt_entry result ≡ [] }
@@ -101,7 +109,7 @@ pub(crate) fn bdt_ack(alloc: Global, bdt: &Bdt) -> Result<Vec<u8>, AllocError>
     ensures { IfOk result (λ octets. octets.items ≡ encoding (read_bdt_ack bdt.now)) }
 {
     let entries = bdt.entries();
-    let mut octets = Vec::with_capacity(alloc, HEADER_LEN + ENTRY_LEN * entries.len())?;
+    let mut octets = Vec::with_capacity(alloc, ack_len(entries.len()))?;
     put_empty(&Bvll::ReadBdtAck(no_bdt_entries()), &mut octets)?;
     gw_bvll::put_entries(&mut octets, entries)?;
     put_length(octets.as_mut_slice());
@@ -113,7 +121,7 @@ pub(crate) fn fdt_ack(alloc: Global, fdt: &Fdt) -> Result<Vec<u8>, AllocError>
     ensures { IfOk result (λ octets.
         octets.items ≡ encoding (read_fdt_ack (map shown fdt.now.rows))) }
 {
-    let mut octets = Vec::with_capacity(alloc, HEADER_LEN + ENTRY_LEN * fdt.count())?;
+    let mut octets = Vec::with_capacity(alloc, ack_len(fdt.count()))?;
     put_empty(&Bvll::ReadFdtAck(no_fdt_entries()), &mut octets)?;
     gw_bvll::put_entries(&mut octets, &fdt.rows(alloc)?)?;
     put_length(octets.as_mut_slice());

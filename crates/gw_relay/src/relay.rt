@@ -107,7 +107,7 @@ impl Relay {
     /// Answers a frame that reads or changes a table of the port that it came on (Annex J.2, J.4,
     /// J.5): the policy is asked once, and the answer goes to the sender. A frame of another kind
     /// asks nothing and gets no answer. What that gives is added. It changes nothing. The only fault is
-    /// want of memory, and a part may then be added; what asks nothing wants none.
+    /// want of memory, and then nothing is added; what asks nothing wants none.
     pub fn link<J: Judge>(
         &self,
         alloc: Global,
@@ -120,6 +120,7 @@ impl Relay {
         ensures relayed { (rules : List Rule) → J.StandsFor judge.now rules →
             let due = link_response rules on.now from (frame_view frame.now) in
             OnOk result (IsAdded rules due given.old given.new) }
+        ensures err { OnErr result (given.new ≡ given.old) }
         ensures silent { link_asks on.now.port from (frame_view frame.now) ≡ [] → IsOk result }
     {
         on.handle_table_message(alloc, judge, from, frame, given)
@@ -128,7 +129,7 @@ impl Relay {
     /// Distributes the broadcast that brought a message (Annex J.4, J.5): where the policy allows it,
     /// one message goes to all peers and foreign devices that are due. What that gives is added. It answers
     /// whether the message goes on to the network layer: to routing, network messages and the device. It
-    /// changes nothing. The only fault is want of memory, and a part may then be added.
+    /// changes nothing. The only fault is want of memory, and then nothing is added.
     pub fn cast<J: Judge>(
         &self,
         alloc: Global,
@@ -141,6 +142,7 @@ impl Relay {
             OnOk result (IsAdded rules due given.old given.new) }
         ensures goes_on { let m = message_view message.now in
             IfOk result (λ goes. goes ≡ goes_on m.here m.from m.frame) }
+        ensures err { OnErr result (given.new ≡ given.old) }
         // What asks nothing and tells no unregistered sender wants no memory.
         ensures silent { let m = message_view message.now in
             cast_asks m ≡ [] → is_unregistered m.here m.from m.frame ≡ false → IsOk result }
@@ -186,7 +188,7 @@ impl Relay {
     /// allowed is sent: to a station of another port's network or to all there, to the next router,
     /// or to all other ports. Where no way is known the link source is told so, and the other ports'
     /// routers are asked for one. What that gives is added. It changes nothing. The only fault is want of
-    /// memory, and a part may then be added; what asks nothing wants none.
+    /// memory, and then nothing is added; what asks nothing wants none.
     #[inline(always)]
     pub fn route<J: Judge>(
         &self,
@@ -198,6 +200,7 @@ impl Relay {
         ensures relayed { (rules : List Rule) → J.StandsFor judge.now rules →
             let m = message_view message.now in
             OnOk result (IsAdded rules (route_response rules self.now m) given.old given.new) }
+        ensures err { OnErr result (given.new ≡ given.old) }
         ensures silent { route_asks self.now (message_view message.now) ≡ [] → IsOk result }
     {
         route(alloc, judge, self, message, given)
@@ -206,7 +209,7 @@ impl Relay {
     /// Answers a network layer message (clause 6.4): a Who-Is-Router-To-Network and a
     /// What-Is-Network-Number get an answer, and of an I-Am-Router-To-Network each network that the
     /// policy allows is to be learned. What that gives is added. It changes nothing. The only fault is want of
-    /// memory, and a part may then be added; what asks nothing wants none.
+    /// memory, and then nothing is added; what asks nothing wants none.
     pub fn manage<J: Judge>(
         &self,
         alloc: Global,
@@ -217,6 +220,7 @@ impl Relay {
         ensures relayed { (rules : List Rule) → J.StandsFor judge.now rules →
             let m = message_view message.now in
             OnOk result (IsAdded rules (manage_response rules self.now m) given.old given.new) }
+        ensures err { OnErr result (given.new ≡ given.old) }
         ensures silent { manage_asks self.now (message_view message.now) ≡ [] → IsOk result }
     {
         manage(alloc, judge, self, message, given)

@@ -1,6 +1,6 @@
 //! What a relay answers.
 
-ghost use Rattle.std.specs.Prelude.{◌≡◌, ◌++◌, [], None, IfOk, IsOk, OnOk};
+ghost use Rattle.std.specs.Prelude.{◌≡◌, ◌++◌, [], None, IsOk, OnErr, OnOk, length, take};
 ghost use Rattle.std.specs.Option.{option_or};
 
 use crate::change::Change;
@@ -44,26 +44,62 @@ impl RelayResponse {
             self.change = change;
         }
     }
+
+    /// Adds sends and refusals behind those before. An `Err` where there is no memory for them: all
+    /// is as before. The first sends and the first refusals take no memory.
+    pub(crate) fn add(&mut self, sends: Sends, refusals: Refusals) -> Result<(), AllocError>
+        ensures sends { OnOk result (self.new.sends ≡ self.old.sends ++ sends) }
+        ensures refusals { OnOk result (self.new.refusals ≡ self.old.refusals ++ refusals) }
+        ensures change { self.new.change ≡ self.old.change }
+        ensures err { OnErr result (self.new ≡ self.old) }
+        ensures silent { sends ≡ [] → refusals ≡ [] → IsOk result }
+        ensures first { self.old.sends ≡ [] → self.old.refusals ≡ [] → IsOk result }
+    {
+        let had = self.refusals.len();
+        put_refusals(&mut self.refusals, refusals)?;
+        let Ok(()) = self.sends.append(sends) else {
+            self.refusals.truncate(had);
+            return Err(AllocError);
+        };
+        Ok(())
+    }
 }
 
-/// Adds refusals behind others. An `Err` where there is no memory for the list; a part may then be added. Where there are
-/// none to add it takes no memory.
+/// Adds refusals behind others. An `Err` where there is no memory for the list: it is as before. Where
+/// there are none to add, or were none before, it takes no memory.
 #[inline(always)]
 pub fn put_refusals(refusals: &mut Refusals, later: Refusals) -> Result<(), AllocError>
     ensures ok { OnOk result (refusals.new ≡ refusals.old ++ later) }
+    ensures err { OnErr result (refusals.new ≡ refusals.old) }
     ensures silent { later ≡ [] → IsOk result }
+    ensures first { refusals.old ≡ [] → IsOk result }
 {
     if refusals.is_empty() {
         *refusals = later;
         return Ok(());
     }
-    append_refusals(refusals, later.as_slice())
+    append_whole(refusals, later.as_slice())
 }
 
-/// Adds refusals behind others, which is seldom: the room for one is made only then.
+/// Adds refusals behind others, which is seldom. After an `Err` they are as before.
 #[inline(never)]
+fn append_whole(refusals: &mut Refusals, later: &[Refusal]) -> Result<(), AllocError>
+    ensures ok { OnOk result (refusals.new ≡ refusals.old ++ later.now) }
+    ensures err { OnErr result (refusals.new ≡ refusals.old) }
+    ensures silent { later.now ≡ [] → IsOk result }
+{
+    let had = refusals.len();
+    let Ok(()) = append_refusals(refusals, later) else {
+        refusals.truncate(had);
+        return Err(AllocError);
+    };
+    Ok(())
+}
+
+/// Adds refusals behind others. An `Err` where there is no memory for the list; a part may then be added.
 fn append_refusals(refusals: &mut Refusals, later: &[Refusal]) -> Result<(), AllocError>
     ensures ok { OnOk result (refusals.new ≡ refusals.old ++ later.now) }
+    ensures front { take (length refusals.old) refusals.new ≡ refusals.old }
     ensures silent { later.now ≡ [] → IsOk result }
 {
     for refusal in later {

@@ -1,6 +1,6 @@
 //! Routing (clauses 6.2.2, 6.4.4, 6.5): where a message goes by the way of its destination.
 
-ghost use Rattle.std.specs.Prelude.{◌≡◌, ◌++◌, ◌∷◌, [], List, map, IfOk, IsOk, OnOk, None};
+ghost use Rattle.std.specs.Prelude.{◌≡◌, ◌++◌, ◌∷◌, [], List, map, IfOk, IsOk, OnErr, OnOk, None};
 ghost use Rattle.std.specs.List.{flat_map};
 ghost use Rattle.std.specs.Option.{option_map};
 ghost use Rattle.gw_npdu.specs.Npdu.{view as npdu_view, address_view, destination_view, payload_view};
@@ -18,7 +18,7 @@ use crate::npdu::{is_kind, message_of, put_broadcast, put_unicast};
 use crate::outgoing::Outgoing;
 use crate::port::{PortState, link_at};
 use crate::relay::Relay;
-use crate::response::{RelayResponse, put_refusals};
+use crate::response::RelayResponse;
 use crate::sends::Sends;
 use gw_configuration::Format;
 use gw_npdu::{AddressRef, Destination, MessageKind, Npdu, Onward, Payload};
@@ -273,6 +273,8 @@ fn put_copies<J: Judge>(
     ensures silent { others message.now.here.now.port.number links.now ≡ [] → IsOk result }
     ensures unasked { others message.now.here.now.port.number links.now ≡ [] →
         authorizer.new ≡ authorizer.old }
+    ensures unsent { others message.now.here.now.port.number links.now ≡ [] →
+        sends.new ≡ sends.old }
 {
     let Some((link, rest)) = links.split_first() else {
         return Ok(());
@@ -357,6 +359,9 @@ fn put_by_way<J: Judge>(
     ensures unasked { let d = destination_view destination.now in
         let steps = steps_by relay.now (message_view message.now) d way.now in
         asks_of steps ≡ [] → authorizer.new ≡ authorizer.old }
+    ensures unsent { let d = destination_view destination.now in
+        let steps = steps_by relay.now (message_view message.now) d way.now in
+        asks_of steps ≡ [] → sends.new ≡ sends.old }
 {
     if *way == Way::Everywhere {
         let format = relay.format();
@@ -391,12 +396,13 @@ fn route_by_way<J: Judge>(
         let d = destination_view destination.now in
         let steps = steps_by relay.now (message_view message.now) d way.now in
         OnOk result (IsAdded rules (taken rules steps) given.old given.new) }
+    ensures err { OnErr result (given.new ≡ given.old) }
     ensures silent { let d = destination_view destination.now in
         let steps = steps_by relay.now (message_view message.now) d way.now in
         asks_of steps ≡ [] → IsOk result }
 {
     let mut authorizer = Authorizer::new(alloc, judge);
-    let sends = &mut given.sends;
+    let mut sends = Sends::new(alloc);
     put_by_way(
         alloc,
         relay,
@@ -404,9 +410,9 @@ fn route_by_way<J: Judge>(
         destination,
         way,
         &mut authorizer,
-        sends,
+        &mut sends,
     )?;
-    put_refusals(&mut given.refusals, authorizer.into_refusals())?;
+    given.add(sends, authorizer.into_refusals())?;
     Ok(())
 }
 
@@ -422,6 +428,7 @@ pub(crate) fn route<J: Judge>(
     ensures relayed { (rules : List Rule) → J.StandsFor judge.now rules →
         let due = route_response rules relay.now (message_view message.now) in
         OnOk result (IsAdded rules due given.old given.new) }
+    ensures err { OnErr result (given.new ≡ given.old) }
     ensures silent { route_asks relay.now (message_view message.now) ≡ [] → IsOk result }
 {
     let Some(destination) = &message.npdu.destination else {

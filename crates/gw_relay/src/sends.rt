@@ -210,22 +210,26 @@ impl Sends {
 
     /// Adds the datagrams of a message behind the others; one that goes to nobody is let go. An
     /// `Err` where there is no memory for the list, or where there would be more than 2^64 - 1
-    /// datagrams, which no memory holds: they are as before. Where there were none before, it takes no
-    /// memory.
+    /// datagrams, which no memory holds: they are as before. A message to nobody takes no memory, nor
+    /// does the first.
     #[inline(always)]
     pub fn push(&mut self, batch: Batch) -> Result<(), AllocError>
         ensures ok { OnOk result (self.new ≡ self.old ++ sendings_of batch) }
         ensures err { OnErr result (self.new ≡ self.old) }
+        ensures silent { sendings_of batch ≡ [] → IsOk result }
+        ensures first { self.old ≡ [] → IsOk result }
     {
-        if batch.targets().is_empty() {
+        let more = batch.targets().len() as u64;
+        if more == 0 {
             return Ok(());
         }
-        let count = sum(self.len(), batch.targets().len() as u64)?;
-        if let Batches::None = &self.batches {
+        if self.count == 0 {
             self.batches = Batches::One([batch]);
-        } else {
-            self.batches.push(self.alloc, batch)?;
+            self.count = more;
+            return Ok(());
         }
+        let count = sum(self.count, more)?;
+        self.batches.push(self.alloc, batch)?;
         self.count = count;
         Ok(())
     }
@@ -238,15 +242,16 @@ impl Sends {
         ensures ok { OnOk result (self.new ≡ self.old ++ others) }
         ensures err { OnErr result (self.new ≡ self.old) }
         ensures silent { others ≡ [] → IsOk result }
+        ensures first { self.old ≡ [] → IsOk result }
     {
-        if others.len() == 0 {
+        if others.count == 0 {
             return Ok(());
         }
-        if let Batches::None = &self.batches {
+        if self.count == 0 {
             *self = others;
             return Ok(());
         }
-        let count = sum(self.len(), others.len())?;
+        let count = sum(self.count, others.count)?;
         self.batches.append(self.alloc, others.batches)?;
         self.count = count;
         Ok(())

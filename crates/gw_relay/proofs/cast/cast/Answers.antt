@@ -18,7 +18,7 @@ returns-then-is_unregistered-clause-relayed g c = λ rules stands.
     let given = c.args.given.now in
     let heard = sym c.accepts.ensures ∙ c.if-not-accepts.false in
     let strange = sym c.is_unregistered.ensures ∙ c.if-is_unregistered.true in record {
-      sends = c.in_ok-put_refusal.ensures ∙ ap (λ (l : List Sending). given.sends ++ l) (sym (strange_sends rules m heard strange));
+      sends = c.in_ok-put_refusal.ensures.ok ∙ ap (λ (l : List Sending). given.sends ++ l) (sym (strange_sends rules m heard strange));
       refusals = none_denied rules given _ (strange_asks m heard strange);
       change = or_none given.change;
     }

@@ -6,6 +6,7 @@ use Rattle.gw_rules.specs.declared.refusal.Refusal.{Refusal}
 use Rattle.gw_relay.specs.Cast.{cast_ask, cast_response}
 use Rattle.gw_relay.specs.Message.{message_view}
 use Rattle.gw_relay.specs.Sends.{Sending}
+use Rattle.gw_relay.specs.internal.Serving.{judged}
 use Rattle.gw_relay.proofs.Adding.{none_added, or_none}
 use Rattle.gw_relay.proofs.Asking.{cast_asked, cast_judged, cast_loud, goes_on_accepted, goes_on_registered, quiet_asks, quiet_sends}
 use Rattle.gw_relay.proofs.cast.cast_accepted.Goals as goal
@@ -31,11 +32,12 @@ returns-clause-relayed g c = λ rules stands.
     let denied = c.into_refusals.ensures ∙ c.in_ok-is_allowed.ensures.denied rules (rw c.new-authorizer.ensures.judge stands)
     ∙ ap (λ (before : List Refusal). before ++ denied_of rules (c.put_message_fields.new.ask ∷ [])) c.new-authorizer.ensures.denied
     ∙ ap (λ (ask : Ask). denied_of rules (ask ∷ [])) own in record {
-      sends = c.in_ok-put_judged.ensures ∙ ap (λ (l : List Sending). given.sends ++ l)
-          (sym (cast_judged rules m c.in_ok-is_allowed.is_allowed heard known broadcast judges));
+      sends = c.in_ok-add.ensures.sends ∙ ap (λ (l : List Sending). given.sends ++ l)
+          (c.in_ok-put_judged.ensures ∙ ap (λ (l : List Sending). l ++ judged m.here m.from m.frame c.in_ok-is_allowed.is_allowed) c.new-sends.ensures
+          ∙ sym (cast_judged rules m c.in_ok-is_allowed.is_allowed heard known broadcast judges));
       refusals = rw (cast_asked m heard known broadcast)
-          (c.in_ok-put_refusals.ensures.ok ∙ ap (λ (l : List Refusal). given.refusals ++ l) denied);
-      change = or_none given.change;
+          (c.in_ok-add.ensures.refusals ∙ ap (λ (l : List Refusal). given.refusals ++ l) denied);
+      change = c.in_ok-add.ensures.change ∙ or_none given.change;
     }
 
 pub returns-in_err-is_allowed-clause-silent : goal.returns-in_err-is_allowed-clause-silent
@@ -50,8 +52,8 @@ returns-in_err-put_judged-clause-silent g c = λ none.
     let broadcast = sym c.is_broadcast.ensures ∙ c.if-not-is_broadcast.false in
     absurd (cast_loud m (goes_on_accepted m c.requires) (goes_on_registered m c.requires) broadcast none)
 
-pub returns-in_err-put_refusals-clause-silent : goal.returns-in_err-put_refusals-clause-silent
-returns-in_err-put_refusals-clause-silent g c = λ none.
+pub returns-in_err-add-clause-silent : goal.returns-in_err-add-clause-silent
+returns-in_err-add-clause-silent g c = λ none.
     let m = message_view c.args.message.now in
     let broadcast = sym c.is_broadcast.ensures ∙ c.if-not-is_broadcast.false in
     absurd (cast_loud m (goes_on_accepted m c.requires) (goes_on_registered m c.requires) broadcast none)

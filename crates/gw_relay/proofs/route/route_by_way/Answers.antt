@@ -4,7 +4,8 @@ use Rattle.gw_rules.specs.Authorizer.{denied_of}
 use Rattle.gw_rules.specs.declared.refusal.Refusal.{Refusal}
 use Rattle.gw_relay.specs.Message.{message_view}
 use Rattle.gw_relay.specs.Route.{steps_by}
-use Rattle.gw_relay.specs.Steps.{asks_of}
+use Rattle.gw_relay.specs.Sends.{Sending}
+use Rattle.gw_relay.specs.Steps.{asks_of, sends_of}
 use Rattle.gw_relay.proofs.Adding.{or_none}
 use Rattle.gw_relay.proofs.route.route_by_way.Goals as goal
 
@@ -15,13 +16,14 @@ returns-clause-relayed g c = λ rules stands.
     let taken = c.in_ok-put_by_way.ensures.steps rules (rw c.new-authorizer.ensures.judge stands) in
     let denied = c.into_refusals.ensures ∙ taken.denied
     ∙ ap (λ (before : List Refusal). before ++ denied_of rules (asks_of steps)) c.new-authorizer.ensures.denied in record {
-      sends = taken.sends;
-      refusals = c.in_ok-put_refusals.ensures.ok ∙ ap (λ (l : List Refusal). given.refusals ++ l) denied;
-      change = or_none given.change;
+      sends = c.in_ok-add.ensures.sends ∙ ap (λ (l : List Sending). given.sends ++ l)
+          (taken.sends ∙ ap (λ (l : List Sending). l ++ sends_of rules steps) c.new-sends.ensures);
+      refusals = c.in_ok-add.ensures.refusals ∙ ap (λ (l : List Refusal). given.refusals ++ l) denied;
+      change = c.in_ok-add.ensures.change ∙ or_none given.change;
     }
 
-pub returns-in_err-put_refusals-clause-silent : goal.returns-in_err-put_refusals-clause-silent
-returns-in_err-put_refusals-clause-silent g c = λ none.
+pub returns-in_err-add-clause-silent : goal.returns-in_err-add-clause-silent
+returns-in_err-add-clause-silent g c = λ none.
     let denied = c.into_refusals.ensures ∙ ap (λ a. a.denied) (c.in_ok-put_by_way.ensures.unasked none) ∙ c.new-authorizer.ensures.denied in
-    let ok = c.in_err-put_refusals.ensures.silent denied in
+    let ok = c.in_err-add.ensures.silent (c.in_ok-put_by_way.ensures.unsent none ∙ c.new-sends.ensures) denied in
     absurd cc

@@ -7,6 +7,7 @@ use Rattle.gw_rules.specs.RuleList.{allows}
 use Rattle.gw_rules.specs.declared.refusal.Refusal.{Refusal}
 use Rattle.gw_relay.specs.Link.{link_response}
 use Rattle.gw_relay.specs.Sends.{Sending}
+use Rattle.gw_relay.specs.internal.Serving.{served}
 use Rattle.gw_relay.specs.declared.change.Change.{Change}
 use Rattle.gw_relay.proofs.Adding.{none_added}
 use Rattle.gw_relay.proofs.Asking.{link_asked, link_changed, link_served, unmanaged_answer, unmanaged_asks, unmanaged_change}
@@ -33,12 +34,13 @@ returns-clause-relayed g c = λ rules stands.
     let denied = c.into_refusals.ensures ∙ c.in_ok-is_allowed.ensures.denied rules (rw c.new-authorizer.ensures.judge stands)
     ∙ ap (λ (before : List Refusal). before ++ denied_of rules (c.link_ask-ask.result ∷ [])) c.new-authorizer.ensures.denied
     ∙ ap (λ (ask : Ask). denied_of rules (ask ∷ [])) c.link_ask-ask.ensures in record {
-      sends = c.in_ok-put_table_answer.ensures.sends
-          ∙ ap (λ (l : List Sending). given.sends ++ l) (sym (link_served rules link c.args.from frame operation allowed managed judges));
-      refusals = rw (link_asked link c.args.from frame operation managed) (c.in_ok-put_refusals.ensures.ok
-          ∙ ap (λ (before : List Refusal). before ++ c.into_refusals.result) c.in_ok-put_table_answer.ensures.refusals
+      sends = c.put_change.ensures.sends ∙ c.in_ok-add.ensures.sends ∙ ap (λ (l : List Sending). given.sends ++ l)
+          (c.in_ok-change.ensures.sends ∙ ap (λ (l : List Sending). l ++ served link c.args.from frame allowed) c.new-sends.ensures
+          ∙ sym (link_served rules link c.args.from frame operation allowed managed judges));
+      refusals = rw (link_asked link c.args.from frame operation managed) (c.put_change.ensures.refusals ∙ c.in_ok-add.ensures.refusals
           ∙ ap (λ (l : List Refusal). given.refusals ++ l) denied);
-      change = c.in_ok-put_table_answer.ensures.change
+      change = c.put_change.ensures.change
+          ∙ ap (λ (x : Option Change). option_or x c.in_ok-change.change) c.in_ok-add.ensures.change
           ∙ ap (λ (x : Option Change). option_or given.change x)
-          (sym (link_changed rules link c.args.from frame operation allowed managed judges));
+          (c.in_ok-change.ensures.change ∙ sym (link_changed rules link c.args.from frame operation allowed managed judges));
     }
