@@ -2,7 +2,7 @@
 use Rattle.std.proofs.Common.{◌≡◌, ◌∙◌, ◌++◌, ℕ, List, Result, Ok, Err, ap, length, take, refl}
 use Rattle.std.proofs.lemmas.List.{take_at}
 use Rattle.std.proofs.Math.Seq.{take-length}
-use Rattle.std.specs.Prelude.{OnErr, OnOk, vec_items}
+use Rattle.std.specs.Prelude.{OnErr, OnOk}
 use Rattle.std.specs.Global.{Vec}
 use Rattle.gw_addr.specs.Appending.{IsAppended, IsAppendedWhole}
 use Rattle.gw_addr.specs.Reading.{Keeps}

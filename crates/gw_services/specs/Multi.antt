@@ -111,6 +111,11 @@ pub data IsList : ℕ → Option Object → List ℕ → List Reference → Type
 abbrev pub IsMulti : List ℕ → List Reference → Type 0
 IsMulti octets references = IsList most_references None octets references
 
+-- the octets begin with a reference that is no element of a set
+abbrev pub HasReference : List ℕ → Type 0
+HasReference octets =
+    (r : Reference) × ((rest : List ℕ) × (IsReference None octets r rest × (is_consistent r ≡ true)))
+
 -- ---- what is wrong with octets that are no such body
 
 -- the closing tag of a list

@@ -1,12 +1,12 @@
 //! ReadPropertyMultiple (clause 15.7).
 
-ghost use Rattle.std.specs.Prelude.{◌≡◌, ◌≢◌, ◌≤◌, ◌⊎◌, List, [], map, None, vec_len, IfOk, MatchResult, OnOk, Ok, Err};
+ghost use Rattle.std.specs.Prelude.{◌≡◌, ◌≢◌, ◌≤◌, ◌/◌, ◌⊎◌, List, [], map, min, None, vec_len, IfOk, MatchResult, OnOk, Ok, Err};
 ghost use Rattle.std.specs.Option.{option_map};
 ghost use Rattle.gw_addr.specs.Appending.{IsAppended, IsAppendedWhole};
 ghost use Rattle.gw_addr.specs.Reading.{Gives};
 ghost use Rattle.gw_tags.specs.Object.{object_view};
-ghost use Rattle.gw_services.specs.Multi.{Reference as ReferenceFields, reference_view, multi_view, IsMulti, HasMultiFault, is_consistent, is_set_name, most_references, head_part, tail_part, name_part, list_ends, reference_part, multi_encoding};
-ghost use Rattle.gw_services.specs.MultiReading.{opened_at, named_at, reference_at, next_at, references_at, multi_at, behind_these};
+ghost use Rattle.gw_services.specs.Multi.{Reference as ReferenceFields, reference_view, multi_view, IsMulti, HasMultiFault, HasReference, is_consistent, is_set_name, most_references, head_part, tail_part, name_part, list_ends, reference_part, multi_encoding};
+ghost use Rattle.gw_services.specs.MultiReading.{opened_at, named_at, reference_at, next_at, references_at, step_at, multi_at, behind_these};
 ghost use Rattle.gw_services.specs.internal.Next.{next_view};
 
 use crate::fault::BodyFault;
@@ -15,6 +15,7 @@ use crate::next::Next;
 use crate::parameter::{number, number_maybe, object};
 use crate::read::put_number;
 use crate::request::LAST_PROPERTY;
+use crate::walk::read_reference;
 use gw_addr::keep_whole;
 use gw_tags::{
     ObjectId, read_closing, read_opening, write_closing, write_context, write_context_unsigned,
@@ -143,29 +144,34 @@ fn references(
     }
 }
 
-/// What `decode_multi` gives, said by the reading function alone.
+/// What `decode_multi` gives, said by the reading functions alone. A first reference that is refused
+/// takes no memory.
 fn read(alloc: Global, octets: &[u8]) -> Result<MultiReq, BodyFault>
     ensures nothing { octets.now ≡ [] → result ≡ Err BodyFault.Missing }
+    ensures refused { (fault : BodyFault) →
+        step_at most_references None octets.now ≡ Err fault → result ≡ Err fault }
     ensures ok { IfOk result (λ m. multi_at octets.now ≡ Ok (multi_view m)) }
     ensures err { (fault : BodyFault) → result ≡ Err fault → fault ≢ BodyFault.Memory
         → multi_at octets.now ≡ Err fault }
 {
+    let (first, next) = read_reference(MAX_REFERENCES, None, octets)?;
     let Ok(mut list) = Vec::with_capacity(alloc, most_of(octets.len())) else {
         return Err(BodyFault::Memory);
     };
-    references(MAX_REFERENCES, None, octets, &mut list)?;
+    let Ok(()) = list.push(first) else {
+        return Err(BodyFault::Memory);
+    };
+    if let Next::More(current, rest) = next {
+        references(MAX_REFERENCES - 1, current, rest, &mut list)?;
+    }
     Ok(MultiReq { references: list })
 }
 
 /// The most references that so many octets can have.
 fn most_of(len: usize) -> usize
-    ensures { len ≡ 0 → result ≡ 0 }
+    ensures { result ≡ min (len / 2) most_references }
 {
-    if len / 2 < MAX_REFERENCES as usize {
-        len / 2
-    } else {
-        MAX_REFERENCES as usize
-    }
+    (len / 2).min(MAX_REFERENCES as usize)
 }
 
 /// Reads the body of a ReadPropertyMultiple request, all of it. The list of references takes memory
@@ -175,7 +181,7 @@ fn most_of(len: usize) -> usize
 ///
 /// 1 `InvalidTag`, 2 `Missing`, 3 `OutOfRange`, 4 `TooMany` and 5 `Inconsistent`, as [`BodyFault`]
 /// says: the first in the order of the octets. A reference is read whole, and then counted, and then
-/// judged. 6 `Memory` where no memory was granted.
+/// judged. 6 `Memory` where no memory was granted, only behind a first reference that is right.
 pub fn decode_multi(alloc: Global, octets: &[u8]) -> Result<MultiReq, BodyFault>
     // What is read is what the octets are.
     ensures found { IfOk result (λ m. IsMulti octets.now (multi_view m)) }
@@ -188,8 +194,9 @@ pub fn decode_multi(alloc: Global, octets: &[u8]) -> Result<MultiReq, BodyFault>
     // What is wrong is told, or memory was refused.
     ensures told { (fault : BodyFault) → HasMultiFault fault octets.now
         → (result ≡ Err fault) ⊎ (result ≡ Err BodyFault.Memory) }
-    // Of nothing no list is made, so no memory is wanted.
+    // Of nothing no list is made, so no memory is wanted; nor where the first reference is wrong.
     ensures nothing { octets.now ≡ [] → result ≡ Err BodyFault.Missing }
+    ensures memory { result ≡ Err BodyFault.Memory → HasReference octets.now }
     // The answer as a function of the octets, unless memory was refused.
     ensures exact { IfOk result (λ m. multi_at octets.now ≡ Ok (multi_view m)) }
     ensures exact_fault { (fault : BodyFault) → result ≡ Err fault → fault ≢ BodyFault.Memory

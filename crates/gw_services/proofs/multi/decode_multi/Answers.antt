@@ -1,6 +1,6 @@
 use Rattle.std.proofs.Common.{arith}
 use Rattle.gw_addr.specs.Reading.{AreOctets}
-use Rattle.gw_services.proofs.MultiCalls.{call_found, call_only, call_faults, call_told}
+use Rattle.gw_services.proofs.MultiCalls.{call_found, call_only, call_faults, call_memory, call_told}
 use Rattle.gw_services.proofs.multi.decode_multi.Goals as goal
 
 pub returns-clause-found : goal.returns-clause-found
@@ -26,3 +26,9 @@ returns-clause-told c =
     let octets = c.args.octets.now in
     let fits : AreOctets octets = λ i. omega (arith, c.type_inv.octets i) in
     λ fault is. call_told c.read.result octets fault fits c.read.ensures.ok c.read.ensures.err is
+
+pub returns-clause-memory : goal.returns-clause-memory
+returns-clause-memory c =
+    let octets = c.args.octets.now in
+    let fits : AreOctets octets = λ i. omega (arith, c.type_inv.octets i) in
+    λ e. call_memory c.read.result octets fits c.read.ensures.refused e
