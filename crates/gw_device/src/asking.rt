@@ -20,7 +20,7 @@ use crate::multi::multi_ask;
 use crate::services::set_of;
 use gw_addr::Sequence;
 use gw_apdu::{ConfirmedRequest, Header, decode};
-use gw_objects::{ObjectDb, Property, PropertySet, properties};
+use gw_objects::{ObjectDb, Property, PropertySet};
 use gw_rules::{Ask, Judge, Refusal};
 use gw_services::{READ_PROPERTY_MULTIPLE, Reference, decode_multi};
 use gw_tags::ObjectId;
@@ -96,7 +96,13 @@ fn put_set_asks<J: Judge>(
         return Ok(());
     }
     match objects.find(object) {
-        Some(kind) => put_property_asks(objects, context, object, properties(kind, set), asks),
+        Some(kind) => put_property_asks(
+            objects,
+            context,
+            object,
+            ObjectDb::properties(kind, set),
+            asks,
+        ),
         None => Ok(()),
     }
 }

@@ -19,7 +19,7 @@ use crate::services::set_of;
 use crate::short::{begin_apdu, first_room, fit};
 use crate::{Answer, Context, Reply};
 use gw_apdu::{ConfirmedRequest, write_complex};
-use gw_objects::{ObjectDb, Property, PropertySet, properties};
+use gw_objects::{ObjectDb, Property, PropertySet};
 use gw_rules::{Ask, Authorizer, Judge, Operation, Service};
 use gw_services::{
     MultiReq, READ_PROPERTY_MULTIPLE, Reference, list_ends, write_error_item, write_list_head,
@@ -167,7 +167,7 @@ fn put_members<J: Judge>(
             authorizer,
             context,
             object,
-            properties(kind, set),
+            ObjectDb::properties(kind, set),
             out,
         ),
         None => write_error_item(out, property, None, UNKNOWN_OBJECT),
