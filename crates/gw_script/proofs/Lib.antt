@@ -7,6 +7,7 @@ pub mod Lists
 pub mod EventLemmas
 pub mod PairLemmas
 pub mod FlawLemmas
+pub mod OneFlaw
 pub mod Order
 pub mod KnownTexts
 pub mod Calls

@@ -1,44 +1,79 @@
--- What is wrong with a line that writes no event.
-use Rattle.std.specs.Prelude.{◌≡◌, ◌≢◌, ℕ, ◌+◌, ◌-◌, ◌%◌, ◌≤◌, ◌<◌, List, ◌∷◌, ◌++◌, length, get_or, ⊤}
+-- What is wrong with a line that writes no event: the first that is, in the order of the flaws.
+use Rattle.std.specs.Prelude.{◌≡◌, ◌≢◌, ℕ, ◌+◌, ◌-◌, ◌%◌, ◌≤◌, ◌<◌, List, ◌∷◌, ◌++◌, codes, length, get_or}
 use Rattle.gw_addr.specs.declared.bip.BipAddr.{BipAddr}
 use Rattle.gw_addr.specs.Address.{IsAddress, text_of}
 use Rattle.gw_script.specs.Script.{WritesOctets}
 use Rattle.gw_script.specs.declared.flaw.LineFlaw.{LineFlaw}
 use Rattle.gw_script.specs.declared.flaw.LineFlaw.TheVariants as flaw
 
--- its first character, behind which a space stands, is the digit of no port
+-- a line that ends with a carriage return
+abbrev pub EndsWithReturn : List ℕ → Type 0
+EndsWithReturn line = (0 < length line) × (get_or line (length line - 1) 0 ≡ 13)
+
+-- a line of at most 4096 octets that doesn't
+pub record HasEnd (line : List ℕ) : Type 0 where
+  pub most : length line ≤ 4096
+  pub no_return : ¬ (EndsWithReturn line)
+
+-- it ends with a carriage return, and isn't too long
+pub record HasReturn (line : List ℕ) : Type 0 where
+  pub most : length line ≤ 4096
+  pub returns : EndsWithReturn line
+
+-- its end is as it must be, and it is neither `tick` nor begins with a character that a space stands behind
+pub record HasNoForm (line : List ℕ) : Type 0 where
+  pub end : HasEnd line
+  pub no_tick : line ≢ codes "tick"
+  pub no_begin : (first : ℕ) (rest : List ℕ) → ¬ (line ≡ first ∷ 32 ∷ rest)
+
+-- its end is as it must be, and its first character, behind which a space stands, is the digit of no port
 pub record HasNoPort (ports : ℕ) (line : List ℕ) : Type 0 where
+  pub end : HasEnd line
   pub first : ℕ
   pub rest : List ℕ
   pub begins : line ≡ first ∷ 32 ∷ rest
   pub no_port : (port : ℕ) → 1 ≤ port → port ≤ ports → first ≢ 48 + port
 
--- behind its first character and a space stands no address with a space behind it
-pub record HasNoSender (line : List ℕ) : Type 0 where
-  pub first : ℕ
+-- a line that begins with the digit of a port and a space, and behind them goes on so; its end is as it must be
+pub record HasPort (ports : ℕ) (line rest : List ℕ) : Type 0 where
+  pub end : HasEnd line
+  pub port : ℕ
+  pub first : 1 ≤ port
+  pub last : port ≤ ports
+  pub begins : line ≡ (48 + port) ∷ 32 ∷ rest
+
+-- behind its port stands no address with a space behind it
+pub record HasNoSender (ports : ℕ) (line : List ℕ) : Type 0 where
   pub rest : List ℕ
-  pub begins : line ≡ first ∷ 32 ∷ rest
+  pub port : HasPort ports line rest
   pub no_sender : (from : BipAddr) (written : List ℕ) → IsAddress from → ¬ (rest ≡ text_of from ++ 32 ∷ written)
 
--- what stands behind its address and a space writes no octets, and is so
-pub record HasNoOctets (line : List ℕ) (IsSo : List ℕ → Type 0) : Type 0 where
-  pub first : ℕ
+-- what stands behind its port, the address and a space writes no octets, and is so
+pub record HasNoOctets (ports : ℕ) (line : List ℕ) (IsSo : List ℕ → Type 0) : Type 0 where
   pub from : BipAddr
+  pub address : IsAddress from
   pub written : List ℕ
-  pub begins : line ≡ first ∷ 32 ∷ (text_of from ++ 32 ∷ written)
+  pub port : HasPort ports line (text_of from ++ 32 ∷ written)
   pub no_octets : (octets : List ℕ) → ¬ (WritesOctets written octets)
   pub is_so : IsSo written
 
--- a text with an odd number of characters
+-- a text with an odd number of characters, and one with an even number
 abbrev pub IsOdd : List ℕ → Type 0
 IsOdd text = length text % 2 ≢ 0
 
--- what a flaw says of a line
+abbrev pub IsEven : List ℕ → Type 0
+IsEven text = length text % 2 ≡ 0
+
+-- what a flaw says of a line: nothing before it is wrong
 abbrev pub IsFlaw : ℕ → List ℕ → LineFlaw → Type 0
 IsFlaw ports line flaw.Long = 4096 < length line
-IsFlaw ports line flaw.CarriageReturn = (0 < length line) × (get_or line (length line - 1) 0 ≡ 13)
-IsFlaw ports line flaw.Form = (first : ℕ) (rest : List ℕ) → ¬ (line ≡ first ∷ 32 ∷ rest)
+IsFlaw ports line flaw.CarriageReturn = HasReturn line
+IsFlaw ports line flaw.Form = HasNoForm line
 IsFlaw ports line flaw.Port = HasNoPort ports line
-IsFlaw ports line flaw.Address = HasNoSender line
-IsFlaw ports line flaw.OddDigits = HasNoOctets line IsOdd
-IsFlaw ports line flaw.Digits = HasNoOctets line (λ written. ⊤)
+IsFlaw ports line flaw.Address = HasNoSender ports line
+IsFlaw ports line flaw.OddDigits = HasNoOctets ports line IsOdd
+IsFlaw ports line flaw.Digits = HasNoOctets ports line IsEven
+
+-- law: a line has one first flaw
+abbrev pub OneFlaw : Type 0
+OneFlaw = (ports : ℕ) (line : List ℕ) (a b : LineFlaw) → IsFlaw ports line a → IsFlaw ports line b → a ≡ b

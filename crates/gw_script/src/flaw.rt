@@ -1,16 +1,17 @@
 //! What is wrong with a line that writes no event.
 
-ghost use Rattle.std.specs.Prelude.{◌≡◌, ◌≤◌, ◌∷◌, ◌++◌, ℕ, List, length, IfSome, IsNone};
+ghost use Rattle.std.specs.Prelude.{◌≡◌, ◌≤◌, ◌∷◌, ◌++◌, ◌↔◌, ℕ, List, length, IfSome, IsNone, IsTrue};
 ghost use Rattle.gw_addr.specs.declared.TheConstants.{MAX_PORTS};
 ghost use Rattle.gw_addr.specs.declared.bip.BipAddr.{BipAddr};
 ghost use Rattle.gw_addr.specs.Address.{IsAddress, text_of};
 ghost use Rattle.gw_script.specs.Event.{Event};
-ghost use Rattle.gw_script.specs.Flaw.{IsFlaw};
+ghost use Rattle.gw_script.specs.Flaw.{EndsWithReturn, IsFlaw};
 ghost use Rattle.gw_script.specs.Script.{IsLine};
 
 use crate::line::{address_of, port_of, split_at_space};
 
-/// What is wrong with a line that writes no event.
+/// What is wrong with a line that writes no event. Each says that nothing before it is wrong, so a line
+/// has one.
 #[derive(Clone, Copy)]
 pub enum LineFlaw {
     /// It has more than 4096 octets without its line feed.
@@ -19,14 +20,21 @@ pub enum LineFlaw {
     CarriageReturn,
     /// It isn't `tick`, and begins with no character that a space stands behind.
     Form,
-    /// It begins with the digit of no port.
+    /// Its first character is the digit of no port.
     Port,
     /// Behind its port stands no address with a space behind it.
     Address,
     /// Its octets have an odd number of digits.
     OddDigits,
-    /// Its octets are no pairs of digits.
+    /// Its octets have an even number of digits, and are no pairs of digits.
     Digits,
+}
+
+/// Whether a line ends with a carriage return.
+fn ends_with_return(line: &[u8]) -> bool
+    ensures { IsTrue result ↔ EndsWithReturn line.now }
+{
+    !line.is_empty() && line[line.len() - 1] == b'\r'
 }
 
 /// The first character of a line, and what stands behind the space behind that.
@@ -51,15 +59,15 @@ fn behind_address(rest: &[u8]) -> Option<&[u8]>
     Some(text)
 }
 
-/// What is wrong with a line of at most 4096 octets that writes no event: the first that is, of
-/// [`LineFlaw`].
+/// What is wrong with a line of at most 4096 octets that writes no event: the first that is, in the
+/// order of [`LineFlaw`].
 pub fn flaw_of(ports: u8, line: &[u8]) -> LineFlaw
     requires ports { ports ≤ MAX_PORTS }
     requires most { length line.now ≤ 4096 }
     requires no_event { (e : Event) → ¬ (IsLine ports line.now e) }
     ensures { IsFlaw ports line.now result }
 {
-    if !line.is_empty() && line[line.len() - 1] == b'\r' {
+    if ends_with_return(line) {
         return LineFlaw::CarriageReturn;
     }
     let Some((first, rest)) = split_first(line) else {

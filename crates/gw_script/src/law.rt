@@ -3,6 +3,7 @@
 ghost use Rattle.std.specs.Prelude.{◌≡◌, ◌≤◌, ◌++◌, ◌∷◌, ℕ, List, [], length};
 ghost use Rattle.std.specs.List.{AllByRecursion, flat_map};
 ghost use Rattle.gw_script.specs.Event.{Event};
+ghost use Rattle.gw_script.specs.Flaw.{OneFlaw};
 ghost use Rattle.gw_script.specs.Script.{AreLines, IsLine, lines_of};
 ghost use Rattle.gw_addr.specs.Text.{Lacks};
 
@@ -16,7 +17,8 @@ pub fn script_limits()
 {}
 
 /// What holds of all scripts: a line writes one event at most, so the events of a script are the only ones; the lines that end at a
-/// line feed are the lines of the text that they make, and a last line may lack its line feed.
+/// line feed are the lines of the text that they make, and a last line may lack its line feed; and a line that writes none has one
+/// flaw.
 pub fn script_laws()
     ensures event { (ports : ℕ) (line : List ℕ) (e f : Event) → IsLine ports line e →
         IsLine ports line f → e ≡ f }
@@ -27,4 +29,5 @@ pub fn script_laws()
     ensures last { (lines : List (List ℕ)) (last : List ℕ) → AllByRecursion (Lacks 10) lines →
         Lacks 10 last → 1 ≤ length last →
         lines_of (flat_map (λ line. line ++ 10 ∷ []) lines ++ last) ≡ lines ++ last ∷ [] }
+    ensures flaw { OneFlaw }
 {}
