@@ -1,9 +1,8 @@
 -- What is answered where the policy denies.
-use Rattle.std.proofs.Common.{◌≡◌, ◌∙◌, sym, ap, ap₂, refl, subst, append_assoc, add-one, ℕ, zero, suc, ◌+◌, ◌<◌, arith, Bool, true, false, List, [], ◌∷◌, ◌++◌, length, take, drop, Option, Some, None, Result, Ok, Err}
+use Rattle.std.proofs.Common.{◌≡◌, ◌∙◌, sym, ap, ap₂, refl, subst, append_assoc, add-one, ℕ, zero, suc, ◌<◌, arith, Bool, true, false, List, [], ◌∷◌, ◌++◌, length, take, drop, Option, Some, None, Result, Ok, Err}
 use Rattle.std.specs.Prelude.{◌==◌, ◌&&◌, if◌then◌else◌, is_some, slice_get}
 use Rattle.std.specs.List.{AllByRecursion, Contains, flat_map, list_all, slice_index_or}
 use Rattle.std.specs.Option.{option_map}
-use Rattle.std.proofs.lemmas.List.{append-nil}
 use Rattle.std.proofs.lemmas.List.Concat.{flat_map-cons}
 use Rattle.gw_addr.specs.declared.bip.BipAddr.{BipAddr}
 use Rattle.gw_apdu.specs.declared.fault.ApduFault.{ApduFault}
@@ -17,7 +16,6 @@ use Rattle.gw_apdu.specs.Reasons.{segmentation_not_supported}
 use Rattle.gw_bvll.specs.Bvll as bvll
 use Rattle.gw_bvll.specs.Bvll.{Message as Frame}
 use Rattle.gw_device.specs.declared.context.Context.{Context}
-use Rattle.gw_device.specs.Asks.{named_object}
 use Rattle.gw_device.specs.Device.{apdu_response, header_response, or_silence, service_response}
 use Rattle.gw_device.specs.Read.{read_value}
 use Rattle.gw_device.specs.Multi.{Part, item, multi_ack, multi_ask, multi_part, properties_part, property_part, reference_part, set_part}
@@ -30,10 +28,9 @@ use Rattle.gw_objects.specs.declared.property.Property.{Property}
 use Rattle.gw_objects.specs.declared.property.PropertySet.{PropertySet}
 use Rattle.gw_objects.specs.Objects.{Database, name_at, type_at}
 use Rattle.gw_objects.specs.Property.{properties, property_number}
-use Rattle.gw_relay.specs.Asks.{link_asks}
 use Rattle.gw_relay.specs.Link.{link_answer, link_change}
 use Rattle.gw_relay.specs.Message.{Message}
-use Rattle.gw_relay.specs.Sends.{Sending, sending}
+use Rattle.gw_relay.specs.Sends.{sending}
 use Rattle.gw_relay.specs.State.{Commit, Relay, moved}
 use Rattle.gw_relay.specs.declared.change.Change.{Change}
 use Rattle.gw_relay.specs.declared.port.PortState.{PortState}
@@ -41,7 +38,7 @@ use Rattle.gw_rules.specs.Ask.{Ask, IsFor}
 use Rattle.gw_rules.specs.declared.operation.Operation.TheVariants as operations
 use Rattle.gw_rules.specs.declared.rule.Rule.{Rule}
 use Rattle.gw_rules.specs.RuleList.{allows}
-use Rattle.gw_script.specs.Event.{Event, Datagram, Tick}
+use Rattle.gw_script.specs.Event.{Datagram, Tick}
 use Rattle.gw_services.specs.Choices.{who_has, who_is}
 use Rattle.gw_services.specs.Multi.{Reference, list_ends}
 use Rattle.gw_services.specs.Reply.{error_item}
@@ -49,14 +46,14 @@ use Rattle.gw_services.specs.WhoHas.{who_has_at}
 use Rattle.gw_services.specs.WhoIs.{who_is_at}
 use Rattle.gw_services.specs.declared.fault.BodyFault.{BodyFault}
 use Rattle.gw_tags.specs.Object.{Object}
-use Rattle.gw_core.specs.Asks.{apdu_asks, asks, asks_for, message_asks, serve_asks_for}
-use Rattle.gw_core.specs.Effects.{answer_sends, apdu_answer, change_at, change_for, changed, effects_at, message_sends, move_at, relay_change_for, sends_for, serve_sends_for}
+use Rattle.gw_core.specs.Asks.{apdu_asks, asks, asks_for, serve_asks_for}
+use Rattle.gw_core.specs.Effects.{answer_sends, apdu_answer, change_at, change_for, changed, effects_at, move_at, relay_change_for, sends_for, serve_sends_for}
 use Rattle.gw_core.specs.History.{next}
 use Rattle.gw_core.specs.Receive.{Received, dropped, managed, message, receive, unregistered}
 use Rattle.gw_core.specs.Refused.{DeniedListingsAreSilent, DeniedManagementIsRefused, DeniedMembersAreRefused, DeniedPropertiesAreRefused, OthersAreAnswered, RepliesAreTheirParts, access_error, ask_for, negative, parts, refused_part}
 use Rattle.gw_core.specs.Reply.{apdu_for, context_of}
-use Rattle.gw_core.specs.State.{State, device_network}
-use Rattle.gw_core.proofs.DeviceAskLemmas.{ReadsAndWrites, each_service}
+use Rattle.gw_core.specs.State.{device_network}
+use Rattle.gw_core.proofs.DeviceAskLemmas.{each_service}
 
 -- ---- ReadPropertyMultiple
 
@@ -115,11 +112,10 @@ rest_alike rules d context [] rest r = refl
 rest_alike rules d context (f ∷ front) rest r = rest_alike rules d context front rest r
 
 pub others_are_answered : OthersAreAnswered
-others_are_answered rules d context front rest r s is =
-    (
-      front_alike rules d context front rest r s is,
-      ap (λ (n : ℕ). drop n (parts rules d context (front ++ r ∷ rest))) (add-one (length front)) ∙ rest_alike rules d context front rest r,
-    )
+others_are_answered rules d context front rest r s is = (
+  front_alike rules d context front rest r s is,
+  ap (λ (n : ℕ). drop n (parts rules d context (front ++ r ∷ rest))) (add-one (length front)) ∙ rest_alike rules d context front rest r,
+)
 
 -- the properties of a set, those before one and those behind it
 members_along : (rules : List Rule) (d : Database) (context : Context) (object : Object) (front rest : List Property) (p : Property)

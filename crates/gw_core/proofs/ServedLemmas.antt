@@ -1,5 +1,5 @@
 -- What the turns of serving come to, in the words of the wire's calls.
-use Rattle.std.proofs.Common.{◌≡◌, ◌∙◌, refl, sym, ap, ap₂, ℕ, ◌+◌, ◌<◌, ◌≤◌, arith, add-zero, append_assoc, Bool, true, false, not, cond, List, [], ◌∷◌, ◌++◌, map, length, Some, None}
+use Rattle.std.proofs.Common.{◌≡◌, ◌∙◌, refl, sym, ap, ap₂, ℕ, ◌+◌, arith, add-zero, append_assoc, Bool, true, false, cond, List, [], ◌∷◌, ◌++◌, map, length, Some, None}
 use Rattle.std.specs.Prelude.{if◌then◌else◌, count_by}
 use Rattle.std.specs.List.{flat_map}
 use Rattle.std.proofs.lemmas.List.{append-nil, length-append, length-map}
@@ -20,7 +20,7 @@ use Rattle.gw_core.specs.Served.{IsServed, StopsAreServed, TurnsAreServed, answe
 use Rattle.gw_core.specs.State.{State}
 use Rattle.gw_core.specs.Wire.{Call, arrival, departure, empty_receive, failed_receive, failed_send}
 use Rattle.gw_core.proofs.HistoryLemmas.{state_from-append}
-use Rattle.gw_core.proofs.ServeLemmas.{run_along, single, tells_more, tries_counted}
+use Rattle.gw_core.proofs.ServeLemmas.{run_along, tells_more, tries_counted}
 
 -- ---- tries
 

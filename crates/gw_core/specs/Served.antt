@@ -5,7 +5,6 @@ use Rattle.std.specs.Prelude.{Result, Ok, Err}
 use Rattle.std.specs.List.{flat_map}
 use Rattle.gw_script.specs.Event.{Event}
 use Rattle.gw_relay.specs.Sends.{Sending}
-use Rattle.gw_core.specs.declared.effects.Effects.{Effects}
 use Rattle.gw_core.specs.declared.serving.Served.{Served}
 use Rattle.gw_core.specs.declared.serving.ServeFault.{ServeFault}
 use Rattle.gw_core.specs.declared.serving.ServeFault.TheVariants.{Log, Memory, CountEnd}
@@ -113,6 +112,11 @@ pub record IsServedWhole (count : ℕ) (before : Scene) (served : Served) (after
 pub record IsServedUntil (count : ℕ) (before : Scene) (stop : ServeStop) (after : Scene) : Type 0 where
   pub done : IsServed before stop.served (Some stop.fault) after
   pub turns : stop.served.turns ≤ count
+
+-- what serving answered
+abbrev pub IsServing : ℕ → Scene → Result Served ServeStop → Scene → Type 0
+IsServing count before (Ok served) after = IsServedWhole count before served after
+IsServing count before (Err stop) after = IsServedUntil count before stop after
 
 -- ---- the laws
 

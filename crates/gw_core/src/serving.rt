@@ -4,6 +4,7 @@
 ghost use Rattle.std.specs.Prelude.{◌≡◌, ◌+◌, ◌-◌, ◌<◌, ◌≤◌, ◌^◌, ◌∷◌, ◌++◌, [], length, IfOk, IfErr, IsErrOf, OnOk};
 ghost use Rattle.gw_core.specs.ServeTurn.{AreTried, HasRoom, LogEnd, TurnEnd, event_answer, wire_counts};
 ghost use Rattle.gw_core.specs.Serve.{ServesAll, Stops, counts_of_answer, lines_of, scene, zero_counts};
+ghost use Rattle.gw_core.specs.Served.{IsServing};
 ghost use Rattle.gw_core.specs.Wire.{Tells, failures_of, receive_call};
 ghost use Rattle.gw_relay.specs.Sends.{sendings_of};
 
@@ -83,6 +84,10 @@ pub fn serve<W: Wire, L: OctetSink>(
     ensures stop { let before = scene gateway.old (L.held log.old) (W.calls wire.old) in
         let after = scene gateway.new (L.held log.new) (W.calls wire.new) in
         IfErr result (λ stop. Stops turns before stop after) }
+    // The same by the calls of the wire: what it handed in, what was taken of that, and what was tried to be sent.
+    ensures calls { let before = scene gateway.old (L.held log.old) (W.calls wire.old) in
+        let after = scene gateway.new (L.held log.new) (W.calls wire.new) in
+        IsServing turns before result after }
     // The wire's own count of failures rose by those that are counted.
     ensures failures { let served = counts_of_answer result in
         W.failure_count wire.new

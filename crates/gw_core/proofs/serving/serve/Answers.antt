@@ -1,8 +1,9 @@
-use Rattle.std.proofs.Common.{◌≡◌, ap, sym, subst, ◌∙◌, arith, refl}
+use Rattle.std.proofs.Common.{◌≡◌, ℕ, ap, sym, subst, ◌∙◌, arith, refl}
 use Rattle.gw_core.specs.declared.serving.Served.{Served}
 use Rattle.gw_core.specs.Serve.{ServesAll, zero_counts, scene}
 use Rattle.gw_core.specs.ServeTurn.{wire_counts}
-use Rattle.gw_core.proofs.ServeLemmas.{room_left, serves_more, serves_none}
+use Rattle.gw_core.proofs.ServeLemmas.{room_left, serves_more, serves_none, stops_then}
+use Rattle.gw_core.proofs.ServedLemmas.{stops_are_served, turns_are_served}
 use Rattle.gw_core.proofs.serving.serve.Goals as goal
 
 pub loop-init : goal.loop-init
@@ -40,3 +41,22 @@ loop-preserved g c =
       ports = turn.ports ∙ so_far.ports;
       lasting_log = λ never. turn.lasting_log (so_far.lasting_log never);
     }
+
+pub returns-in-Err-clause-calls : goal.returns-in-Err-clause-calls
+returns-in-Err-clause-calls g c =
+    let so_far = c.loop.invariant in
+    let turn = c.in-Err.ensures in
+    let start = scene c.args.gateway.now (g.L.OctetSink.held c.args.log.now) (g.W.Wire.calls c.args.wire.now) in
+    let now = scene c.loop.gateway (g.L.OctetSink.held c.loop.log) (g.W.Wire.calls c.loop.wire) in
+    let then = scene c.take_turn.new.gateway (g.L.OctetSink.held c.take_turn.new.log) (g.W.Wire.calls c.take_turn.new.wire) in
+    let last = c.take_turn.new.self.served in
+    stops_are_served c.args.turns start (record { fault = c.in-Err.fault; served = last }) then
+    (stops_then c.loop.counter c.args.turns start now then c.loop.state.served last c.in-Err.fault so_far.served c.loop-test.true turn.end)
+
+pub returns-clause-calls : goal.returns-clause-calls
+returns-clause-calls g c =
+    let start = scene c.args.gateway.now (g.L.OctetSink.held c.args.log.now) (g.W.Wire.calls c.args.wire.now) in
+    let now = scene c.loop.gateway (g.L.OctetSink.held c.loop.log) (g.W.Wire.calls c.loop.wire) in
+    let all : c.loop.counter ≡ c.args.turns = omega (arith, c.loop-test.false, c.loop.auto.counter-end) in
+    turns_are_served c.args.turns start c.loop.state.served now
+    (subst (λ (n : ℕ). ServesAll n start c.loop.state.served now) all c.loop.invariant.served)
