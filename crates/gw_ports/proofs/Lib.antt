@@ -1,2 +1,3 @@
 mod PortLemmas
 mod TimedLemmas
+mod TurnLemmas

@@ -6,8 +6,9 @@ use Rattle.gw_core.specs.declared.wire.Got.TheVariants as got
 use Rattle.gw_core.specs.declared.wire.WireFault.{WireFault}
 use Rattle.gw_ports.specs.Ports.{IsNext, Ports}
 use Rattle.gw_ports.specs.Socket.{Answer}
-use Rattle.gw_ports.specs.SockPair.{is_awake}
-use Rattle.gw_ports.specs.Timed.{BeginsAnew, ComesNext, Following, HasLooked, HasWaited, IsCounted, IsLookedInTime, IsReceived, IsReceivedLater, KeepsCount, anew, asleep, at_once, is_idle, later, looked as told, none_awake, one_more, passed, with_ports}
+use Rattle.gw_ports.specs.Waking.{is_awake}
+use Rattle.gw_ports.specs.Watch.{HasReceived}
+use Rattle.gw_ports.specs.Timed.{BeginsAnew, WatchesNext, Following, HasLooked, HasWaited, IsCounted, IsLookedInTime, IsReceived, IsReceivedLater, KeepsCount, anew, asleep, at_once, is_idle, later, looked as told, none_awake, one_more, passed, with_ports}
 use Rattle.gw_ports.specs.declared.timed.TimedPorts.{TimedPorts}
 use Rattle.gw_ports.specs.declared.timed.TheConstants.{MOST_UNLOOKED}
 
@@ -37,22 +38,22 @@ came_later Told Waited Quiet Follows before counted looked idle after left held 
 
 -- the answer, whether something came at once or not
 pub received : {S C P : Type 0} (Told : C → ℕ → Type 0) (Waited Quiet : P → ℕ → Type 0) (looks : S → ℕ) (empty : S → Bool)
-    (Answered : S → Answer → List ℕ → Type 0) (before counted looked idle after : TimedPorts S C P) (left : ℕ) (held buffer : List ℕ)
+    (Answered : S → S → Answer → List ℕ → Type 0) (before counted looked idle after : TimedPorts S C P) (left : ℕ) (held buffer : List ℕ)
     (came result : Result Got WireFault) → IsCounted Told before counted left → HasLooked Waited Quiet counted looked →
-    IsNext looks empty Answered looked.ports idle.ports held came → idle ≡ with_ports idle.ports looked →
+    IsNext (λ watch. watch.looks) (λ watch. watch.is_empty) (HasReceived looks empty Answered) looked.ports idle.ports held came → idle ≡ with_ports idle.ports looked →
     (is_idle came ≡ false → result ≡ came) → (is_idle came ≡ false → after ≡ idle) → (is_idle came ≡ false → buffer ≡ held) →
-    (is_idle came ≡ true → IfOk result (IsReceivedLater Told Waited Quiet (ComesNext looks empty Answered) idle after left buffer)) →
-    IfOk result (IsReceived Told Waited Quiet (ComesNext looks empty Answered) before after buffer)
+    (is_idle came ≡ true → IfOk result (IsReceivedLater Told Waited Quiet (WatchesNext looks empty Answered) idle after left buffer)) →
+    IfOk result (IsReceived Told Waited Quiet (WatchesNext looks empty Answered) before after buffer)
 received Told Waited Quiet looks empty Answered before counted looked idle after left held buffer (Ok got.Idle) result counts looked_at next same is stays kept behind =
-    came_later Told Waited Quiet (ComesNext looks empty Answered) before counted looked idle after left held buffer result counts looked_at next same (behind refl)
+    came_later Told Waited Quiet (WatchesNext looks empty Answered) before counted looked idle after left held buffer result counts looked_at next same (behind refl)
 received Told Waited Quiet looks empty Answered before counted looked idle after left held buffer (Ok got.Tick) result counts looked_at next same is stays kept behind =
-    came_at_once Told Waited Quiet (ComesNext looks empty Answered) before counted looked idle after left held buffer got.Tick result counts looked_at next
+    came_at_once Told Waited Quiet (WatchesNext looks empty Answered) before counted looked idle after left held buffer got.Tick result counts looked_at next
     refl same (is refl) (stays refl) (kept refl)
 received Told Waited Quiet looks empty Answered before counted looked idle after left held buffer (Ok (got.Datagram port from len)) result counts looked_at next same is stays kept behind =
-    came_at_once Told Waited Quiet (ComesNext looks empty Answered) before counted looked idle after left held buffer (got.Datagram port from len) result counts
+    came_at_once Told Waited Quiet (WatchesNext looks empty Answered) before counted looked idle after left held buffer (got.Datagram port from len) result counts
     looked_at next refl same (is refl) (stays refl) (kept refl)
 received Told Waited Quiet looks empty Answered before counted looked idle after left held buffer (Err fault) result counts looked_at next same is stays kept behind =
-    subst (λ (r : Result Got WireFault). IfOk r (IsReceived Told Waited Quiet (ComesNext looks empty Answered) before after buffer)) (sym (is refl)) tt
+    subst (λ (r : Result Got WireFault). IfOk r (IsReceived Told Waited Quiet (WatchesNext looks empty Answered) before after buffer)) (sym (is refl)) tt
 
 -- a wait, and behind it what leaves the count of receives alone
 pub begun : {S C P : Type 0} (Waited Quiet : P → ℕ → Type 0) (before woken after : TimedPorts S C P) (most : ℕ) →

@@ -5,10 +5,12 @@ use Rattle.std.specs.List.{list_any}
 use Rattle.gw_core.specs.declared.wire.Got.{Got}
 use Rattle.gw_core.specs.declared.wire.Got.TheVariants as got
 use Rattle.gw_core.specs.declared.wire.WireFault.{WireFault}
-use Rattle.gw_ports.specs.Ports.{AreAllWoken, IsNext, Ports}
+use Rattle.gw_ports.specs.Ports.{IsNext, Ports}
 use Rattle.gw_ports.specs.Socket.{Answer}
-use Rattle.gw_ports.specs.SockPair.{is_awake}
+use Rattle.gw_ports.specs.Waking.{AreAllWoken, is_awake}
+use Rattle.gw_ports.specs.Watch.{HasReceived}
 use Rattle.gw_ports.specs.declared.timed.TimedPorts.{TimedPorts}
+use Rattle.gw_ports.specs.declared.watch.Watch.{Watch}
 use Rattle.gw_ports.specs.declared.timed.TheConstants.{MOST_UNLOOKED}
 
 -- how many nanoseconds a second has
@@ -41,16 +43,17 @@ pub record IsCounted {S C P : Type 0} (Told : C → ℕ → Type 0) (before afte
   pub unlooked : after.unlooked ≡ before.unlooked
 
 -- these ports, and all else as it was
-abbrev pub with_ports : {S C P : Type 0} → Ports S → TimedPorts S C P → TimedPorts S C P
+abbrev pub with_ports : {S C P : Type 0} → Ports (Watch S) → TimedPorts S C P → TimedPorts S C P
 with_ports ports before = record before { ports = ports }
 
--- what may come next of ports, with what the buffer then holds, and the ports behind it
+-- what may come next of ports, with what the buffer then holds, and the ports after it
 abbrev pub Following : Type 0 → Type 1
-Following S = Ports S → Ports S → List ℕ → Got → Type 0
+Following S = Ports (Watch S) → Ports (Watch S) → List ℕ → Got → Type 0
 
--- what comes next where no call fails
-abbrev pub ComesNext : {S : Type 0} → (S → ℕ) → (S → Bool) → (S → Answer → List ℕ → Type 0) → Following S
-ComesNext looks empty Answered before after buffer given = IsNext looks empty Answered before after buffer (Ok given)
+-- what comes next of watches where no call fails, by what their sockets say
+abbrev pub WatchesNext : {S : Type 0} → (S → ℕ) → (S → Bool) → (S → S → Answer → List ℕ → Type 0) → Following S
+WatchesNext looks empty Answered before after buffer given =
+    IsNext (λ watch. watch.looks) (λ watch. watch.is_empty) (HasReceived looks empty Answered) before after buffer (Ok given)
 
 -- nothing came
 abbrev pub is_idle : Result Got WireFault → Bool

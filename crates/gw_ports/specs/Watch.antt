@@ -1,22 +1,29 @@
--- A socket that is asked only while something may wait there, by how often it says that it was
--- asked, and whether nothing waited there the last time.
-use Rattle.std.specs.Prelude.{◌≡◌, ℕ, ◌+◌, ◌%◌, ◌^◌, Bool, true, false}
+-- A socket that asks another one, but only while something may wait there.
+use Rattle.std.specs.Prelude.{◌≡◌, ℕ, Bool, true, false, not, List, None, Result, Ok}
+use Rattle.gw_addr.specs.declared.bip.BipAddr.{BipAddr}
+use Rattle.gw_ports.specs.declared.socket.SockFault.{SockFault}
 use Rattle.gw_ports.specs.declared.watch.Watch.{Watch}
+use Rattle.gw_ports.specs.Socket.{Answer, HasAnswered, is_nothing}
 
--- Nothing came of it: where something might wait there it was asked once, and nothing waited; else
--- it wasn't asked. Then nothing waits.
-pub record IsPassed {S : Type 0} (looks : S → ℕ) (empty : S → Bool) (before after : Watch S) : Type 0 where
-  pub asleep : before.is_awake ≡ false → after ≡ before
-  pub once : before.is_awake ≡ true → looks after.socket ≡ (looks before.socket + 1) % 2 ^ 64
-  pub nothing : before.is_awake ≡ true → empty after.socket ≡ true
-  pub sleeps : after.is_awake ≡ false
+-- The answer of a watch, by its socket before and after: where it is awake that socket was asked once, and this is its answer; where it
+-- sleeps nothing came, and the socket is as it was.
+abbrev pub WatchAnswer : {S : Type 0} → (S → ℕ) → (S → Bool) → (S → S → Answer → List ℕ → Type 0)
+    → Bool → S → S → Answer → List ℕ → Type 0
+WatchAnswer looks empty Answered true before after answer buffer =
+    HasAnswered looks empty Answered before after answer buffer
+WatchAnswer looks empty Answered false before after answer buffer = (after ≡ before) × (answer ≡ Ok None)
 
--- Something might wait there: it was asked once, and answered with a datagram or a fault. More may wait.
-pub record HasAnswered {S : Type 0} (looks : S → ℕ) (empty : S → Bool) (before after : Watch S) : Type 0 where
-  pub awake : before.is_awake ≡ true
-  pub once : looks after.socket ≡ (looks before.socket + 1) % 2 ^ 64
-  pub something : empty after.socket ≡ false
-  pub stays : after.is_awake ≡ true
+-- A receive of a watch: its answer, and then it sleeps exactly where nothing came.
+pub record HasReceived {S : Type 0} (looks : S → ℕ) (empty : S → Bool) (Answered : S → S → Answer → List ℕ → Type 0)
+    (before after : Watch S) (answer : Answer) (buffer : List ℕ) : Type 0 where
+  pub answered : WatchAnswer looks empty Answered before.is_awake before.socket after.socket answer buffer
+  pub sleeps : after.is_awake ≡ not (is_nothing answer)
+
+-- A send of a watch is that of its socket, and all else of it is as it was.
+pub record HasSent {S : Type 0} (Sent : S → S → BipAddr → List ℕ → Result Unit SockFault → Type 0)
+    (before after : Watch S) (to : BipAddr) (octets : List ℕ) (said : Result Unit SockFault) : Type 0 where
+  pub sent : Sent before.socket after.socket to octets said
+  pub rest : after ≡ record before { socket = after.socket }
 
 -- where something came it may wait there, and else it is as it was
 abbrev pub woken : {S : Type 0} → Bool → Watch S → Watch S

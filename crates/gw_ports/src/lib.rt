@@ -11,6 +11,7 @@ mod timed;
 mod timepiece;
 mod turns;
 mod waiter;
+mod waking;
 mod watch;
 
 pub use ports::Ports;

@@ -1,140 +1,76 @@
 //! The two sockets of a port.
 
-ghost use Rattle.gw_addr.specs.declared.TheConstants.{MAX_PORTS};
-ghost use Rattle.std.specs.Prelude.{◌≡◌, ◌≢◌, ◌+◌, ◌≤◌, ◌<◌, ◌^◌, true, false, length, IfOk, IfSome, OnOk};
-ghost use Rattle.gw_ports.specs.Socket.{FitsBuffer, is_nothing};
-ghost use Rattle.gw_ports.specs.SockPair.{ArePassed, AreWoken, HasSent, IsAnswer, is_awake};
-ghost use Rattle.gw_ports.specs.Watch.{HasAnswered, IsPassed};
+ghost use Rattle.std.specs.Prelude.{◌≡◌, true, false, not, None, IfSome};
+ghost use Rattle.gw_ports.specs.Socket.{FitsBuffer, HasAnswered, IsPassed, some_answer};
+ghost use Rattle.gw_ports.specs.SockPair.{ArePassed, HasSentOwn, IsAnswer, socket};
 
 use crate::socket::{Sock, SockFault};
-use crate::waiter::{Waiter, socket_number};
-use crate::watch::Watch;
 use gw_addr::BipAddr;
 use gw_core::RECEIVE_ROOM;
+
+/// What a socket answered, other than nothing.
+pub(crate) type Said = Result<(usize, BipAddr), SockFault>;
 
 /// The two sockets of a port: that of its own address, which sends too, and that of its broadcast
 /// address.
 #[derive(Drop)]
 pub struct SockPair<S> {
     /// The socket of the port's own address.
-    pub own: Watch<S>,
+    pub own: S,
     /// The socket of its broadcast address.
-    pub broadcast: Watch<S>,
-    /// Whether the own one is asked first.
-    pub own_first: bool,
+    pub broadcast: S,
 }
 
 impl<S: Sock> SockPair<S> {
-    /// The sockets of a port, of which the own one is asked first. Something may wait at both.
-    pub fn new(own: S, broadcast: S) -> Self
-        ensures own { result.own ≡ record { socket = own; is_awake = true } }
-        ensures broadcast { result.broadcast ≡ record { socket = broadcast; is_awake = true } }
-        ensures first { result.own_first ≡ true }
-    {
-        SockPair {
-            own: Watch::new(own),
-            broadcast: Watch::new(broadcast),
-            own_first: true,
-        }
-    }
-
-    /// Whether something may wait at one of the two.
-    pub(crate) fn is_awake(&self) -> bool
-        ensures { result ≡ is_awake self.now }
-    {
-        self.own.is_awake || self.broadcast.is_awake
-    }
-
-    /// Notes at which of the two something may have come when it was last waited. The port is at this
-    /// place among all, from 0.
-    pub(crate) fn wake<P: Waiter>(&mut self, place: usize, waiter: &P)
-        requires { place < MAX_PORTS }
-        ensures { AreWoken (P.Quiet waiter.now) place self.old self.new }
-    {
-        self.own.wake(waiter.has_come(socket_number(place, true)));
-        self.broadcast
-            .wake(waiter.has_come(socket_number(place, false)));
-    }
-
     /// Sends the octets by the own socket, as one datagram to an address. `Failed` where the call
     /// failed.
     pub(crate) fn send(&mut self, to: BipAddr, octets: &[u8]) -> Result<(), SockFault>
-        ensures sent { OnOk result (S.Sent self.new.own.socket to octets.now) }
-        ensures rest { HasSent self.old self.new }
+        ensures { HasSentOwn S.Sent to octets.now result self.old self.new }
     {
-        self.own.socket.send_to(to, octets)
+        self.own.send_to(to, octets)
     }
 
-    /// Asks the own socket.
-    fn ask_own(
-        &mut self,
-        buf: &mut [u8; RECEIVE_ROOM],
-    ) -> Result<Option<(usize, BipAddr)>, SockFault>
-        ensures passed { is_nothing result ≡ true →
-            IsPassed S.look_count S.is_empty self.old.own self.new.own }
-        ensures stays { is_nothing result ≡ true → self.new.own_first ≡ self.old.own_first }
-        ensures answered { is_nothing result ≡ false →
-            HasAnswered S.look_count S.is_empty self.old.own self.new.own }
-        ensures turns { is_nothing result ≡ false → self.new.own_first ≡ false }
-        ensures answer { is_nothing result ≡ false → S.Answered self.new.own.socket result buf.new }
-        ensures other { self.new.broadcast ≡ self.old.broadcast }
-        ensures fits { FitsBuffer result }
+    /// Asks the own socket, or that of the broadcast address: what it answers, if not nothing.
+    #[inline(always)]
+    fn ask_one(&mut self, own: bool, buf: &mut [u8; RECEIVE_ROOM]) -> Option<Said>
+        ensures passed { result ≡ None →
+            IsPassed S.look_count S.is_empty S.Answered (socket own self.old) (socket own self.new) }
+        ensures answered { IfSome result (λ said. HasAnswered S.look_count S.is_empty S.Answered
+            (socket own self.old) (socket own self.new) (some_answer said) buf.new) }
+        ensures other { socket (not own) self.new ≡ socket (not own) self.old }
+        ensures fits { IfSome result (λ said. FitsBuffer (some_answer said)) }
     {
-        let answer = self.own.receive(buf);
-        if !matches!(answer, Ok(None)) {
-            self.own_first = false;
+        let answer = if own {
+            self.own.receive(buf)
+        } else {
+            self.broadcast.receive(buf)
+        };
+        match answer {
+            Ok(None) => None,
+            Ok(Some(came)) => Some(Ok(came)),
+            Err(fault) => Some(Err(fault)),
         }
-        answer
     }
 
-    /// Asks the socket of the broadcast address.
-    fn ask_broadcast(
-        &mut self,
-        buf: &mut [u8; RECEIVE_ROOM],
-    ) -> Result<Option<(usize, BipAddr)>, SockFault>
-        ensures passed { is_nothing result ≡ true →
-            IsPassed S.look_count S.is_empty self.old.broadcast self.new.broadcast }
-        ensures stays { is_nothing result ≡ true → self.new.own_first ≡ self.old.own_first }
-        ensures answered { is_nothing result ≡ false →
-            HasAnswered S.look_count S.is_empty self.old.broadcast self.new.broadcast }
-        ensures turns { is_nothing result ≡ false → self.new.own_first ≡ true }
-        ensures answer { is_nothing result ≡ false →
-            S.Answered self.new.broadcast.socket result buf.new }
-        ensures other { self.new.own ≡ self.old.own }
-        ensures fits { FitsBuffer result }
-    {
-        let answer = self.broadcast.receive(buf);
-        if !matches!(answer, Ok(None)) {
-            self.own_first = true;
-        }
-        answer
-    }
-
-    /// Asks the socket whose turn it is, and where nothing waits there the other one: how many
-    /// octets came, and whom from, or none. `Failed` where the call failed of the one that answers.
+    /// Asks both sockets in turn until one answers, the own one first or last: whether that is the
+    /// own one, and its answer.
+    #[inline(always)]
     pub(crate) fn ask(
         &mut self,
+        own_first: bool,
         buf: &mut [u8; RECEIVE_ROOM],
-    ) -> Result<Option<(usize, BipAddr)>, SockFault>
-        ensures passed { is_nothing result ≡ true →
-            ArePassed S.look_count S.is_empty self.old self.new }
-        ensures answered { is_nothing result ≡ false →
-            IsAnswer S.look_count S.is_empty S.Answered self.old self.new result buf.new }
-        ensures fits { FitsBuffer result }
+    ) -> Option<(bool, Said)>
+        ensures passed { result ≡ None → ArePassed S.look_count S.is_empty S.Answered self.old self.new }
+        ensures answered { IfSome result (λ heard. IsAnswer S.look_count S.is_empty S.Answered
+            own_first heard.0 self.old self.new heard.1 buf.new) }
+        ensures fits { IfSome result (λ heard. FitsBuffer (some_answer heard.1)) }
     {
-        let own_first = self.own_first;
-        let first = if own_first {
-            self.ask_own(buf)
-        } else {
-            self.ask_broadcast(buf)
-        };
-        if !matches!(first, Ok(None)) {
-            return first;
-        }
-        if own_first {
-            self.ask_broadcast(buf)
-        } else {
-            self.ask_own(buf)
+        match self.ask_one(own_first, buf) {
+            Some(said) => Some((own_first, said)),
+            None => match self.ask_one(!own_first, buf) {
+                Some(said) => Some((!own_first, said)),
+                None => None,
+            },
         }
     }
 }

@@ -1,7 +1,8 @@
 //! A UDP socket that never waits.
 
-ghost use Rattle.std.specs.Prelude.{◌≡◌, ◌+◌, ◌%◌, ◌^◌, ℕ, List, Bool, OnOk};
+ghost use Rattle.std.specs.Prelude.{◌≡◌, ◌+◌, ◌%◌, ◌^◌, ℕ, List, Bool, Result};
 ghost use Rattle.gw_addr.specs.declared.bip.BipAddr.{BipAddr};
+ghost use Rattle.gw_ports.specs.declared.socket.SockFault.{SockFault};
 ghost use Rattle.gw_ports.specs.Socket.{Answer, FitsBuffer, is_nothing};
 
 use gw_addr::BipAddr;
@@ -24,11 +25,13 @@ pub trait Sock {
     /// Whether nothing waited when it was last asked; not before it was asked.
     ghost is_empty: { Self → Bool };
 
-    /// What it may have answered when it was last asked, and what the buffer then held.
-    ghost Answered: { Self → Answer → List ℕ → Type 0 };
+    /// What a receive may come to: the socket before and after it, its answer, and what the buffer
+    /// then holds.
+    ghost Answered: { Self → Self → Answer → List ℕ → Type 0 };
 
-    /// What it may have sent last, and whom to.
-    ghost Sent: { Self → BipAddr → List ℕ → Type 0 };
+    /// What a send may come to: the socket before and after it, whom it is to, its octets, and
+    /// whether it failed.
+    ghost Sent: { Self → Self → BipAddr → List ℕ → Result Unit SockFault → Type 0 };
 
     /// Receives a datagram to the buffer's front: how many octets it has, and whom it came from; or
     /// none where nothing waits. `Failed` where the call failed.
@@ -38,12 +41,12 @@ pub trait Sock {
     ) -> Result<Option<(usize, BipAddr)>, SockFault>
         ensures looks { look_count self.new ≡ (look_count self.old + 1) % 2 ^ 64 }
         ensures empty { is_empty self.new ≡ is_nothing result }
-        ensures answered { Answered self.new result buf.new }
+        ensures answered { Answered self.old self.new result buf.new }
         ensures fits { FitsBuffer result };
 
     /// Sends the octets as one datagram to an address. `Failed` where the call failed.
     fn send_to(&mut self, to: BipAddr, octets: &[u8]) -> Result<(), SockFault>
-        ensures sent { OnOk result (Sent self.new to octets.now) }
+        ensures sent { Sent self.old self.new to octets.now result }
         ensures looks { look_count self.new ≡ look_count self.old }
         ensures empty { is_empty self.new ≡ is_empty self.old };
 

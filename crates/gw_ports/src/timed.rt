@@ -3,14 +3,16 @@
 ghost use Rattle.std.specs.Prelude.{◌≡◌, ◌+◌, ◌-◌, ◌*◌, ◌<◌, ◌^◌, ◌∷◌, [], length, min, slice_index_or, true, false, IfOk, OnErr, OnOk, None};
 ghost use Rattle.std.specs.Duration.{as_nanos, max_nanos};
 ghost use Rattle.gw_core.specs.Wire.{IsHandedIn, Tells, failures_of, receive_answer, receive_call, send_call};
-ghost use Rattle.gw_ports.specs.declared.sock_pair.SockPair.{SockPair};
-ghost use Rattle.gw_ports.specs.Ports.{HasSentAt};
-ghost use Rattle.gw_ports.specs.Timed.{ComesNext, HasLooked, HasWaited, IsCounted, IsLookedInTime, IsReceived, IsReceivedLater, KeepsCount, is_idle, rest_between, second, seconds_between, with_due, with_ports};
+ghost use Rattle.gw_ports.specs.Ports.{HasSentOn};
+ghost use Rattle.gw_ports.specs.Timed.{WatchesNext, HasLooked, HasWaited, IsCounted, IsLookedInTime, IsReceived, IsReceivedLater, KeepsCount, is_idle, rest_between, second, seconds_between, with_due, with_ports};
+ghost use Rattle.gw_ports.specs.Watch.{HasSent};
 
 use crate::ports::Ports;
 use crate::socket::Sock;
 use crate::timepiece::Timepiece;
 use crate::waiter::Waiter;
+use crate::waking::{is_any_awake, wake_all};
+use crate::watch::Watch;
 use gw_addr::BipAddr;
 use gw_core::{Got, RECEIVE_ROOM, Wire, WireFault};
 use std::io;
@@ -28,7 +30,7 @@ pub(crate) const MOST_UNLOOKED: u8 = 7;
 #[derive(Drop)]
 pub struct TimedPorts<S, C, P> {
     /// The sockets of all ports, and the ticks that are due.
-    pub ports: Ports<S>,
+    pub ports: Ports<Watch<S>>,
     /// What tells the time.
     pub clock: C,
     /// What waits where nothing has come.
@@ -42,7 +44,7 @@ pub struct TimedPorts<S, C, P> {
 impl<S: Sock, C: Timepiece, P: Waiter> TimedPorts<S, C, P> {
     /// The ports, from now on: no second that passed before is a tick. An `Err` where the clock can't
     /// be read.
-    pub fn start(ports: Ports<S>, mut clock: C, waiter: P) -> io::Result<Self>
+    pub fn start(ports: Ports<Watch<S>>, mut clock: C, waiter: P) -> io::Result<Self>
     where
         S: Drop,
         C: Drop,
@@ -108,7 +110,7 @@ impl<S: Sock, C: Timepiece, P: Waiter> TimedPorts<S, C, P> {
         ensures failures { self.new.ports.failures ≡ self.old.ports.failures }
     {
         self.waiter.wait(most)?;
-        self.ports.wake(&self.waiter);
+        wake_all(&mut self.ports, &self.waiter);
         self.unlooked = 0;
         Ok(())
     }
@@ -123,7 +125,7 @@ impl<S: Sock, C: Timepiece, P: Waiter> TimedPorts<S, C, P> {
         ensures count { length self.new.ports.pairs ≡ length self.old.ports.pairs }
         ensures failures { self.new.ports.failures ≡ self.old.ports.failures }
     {
-        if !self.ports.is_any_awake() {
+        if !is_any_awake(&self.ports) {
             return Ok(());
         }
         if self.unlooked < MOST_UNLOOKED {
@@ -137,7 +139,7 @@ impl<S: Sock, C: Timepiece, P: Waiter> TimedPorts<S, C, P> {
     fn recv_later(&mut self, most: Duration, buf: &mut [u8; RECEIVE_ROOM]) -> Result<Got, WireFault>
         requires { self.old.ports.failures < 2 ^ 128 - 1 }
         ensures later { IfOk result (IsReceivedLater C.Told P.Waited P.Quiet
-            (ComesNext S.look_count S.is_empty S.Answered) self.old self.new
+            (WatchesNext S.look_count S.is_empty S.Answered) self.old self.new
             (as_nanos most) buf.new) }
         ensures unlooked { KeepsCount P.Waited self.old self.new }
         ensures count { length self.new.ports.pairs ≡ length self.old.ports.pairs }
@@ -169,7 +171,7 @@ impl<S: Sock, C: Timepiece, P: Waiter> TimedPorts<S, C, P> {
         ensures buffer { is_idle came ≡ false → buf.new ≡ buf.old }
         ensures later { is_idle came ≡ true →
             IfOk result (IsReceivedLater C.Told P.Waited P.Quiet
-            (ComesNext S.look_count S.is_empty S.Answered) self.old self.new
+            (WatchesNext S.look_count S.is_empty S.Answered) self.old self.new
             (as_nanos most) buf.new) }
         ensures unlooked { KeepsCount P.Waited self.old self.new }
         ensures count { length self.new.ports.pairs ≡ length self.old.ports.pairs }
@@ -202,7 +204,7 @@ impl<S: Sock, C: Timepiece, P: Waiter> Wire for TimedPorts<S, C, P> {
     fn recv(&mut self, buf: &mut [u8; RECEIVE_ROOM]) -> Result<Got, WireFault>
         requires { self.old.ports.failures < 2 ^ 128 - 1 }
         ensures received { IfOk result (IsReceived C.Told P.Waited P.Quiet
-            (ComesNext S.look_count S.is_empty S.Answered) self.old self.new buf.new) }
+            (WatchesNext S.look_count S.is_empty S.Answered) self.old self.new buf.new) }
         ensures looked { IsLookedInTime P.Waited self.old self.new }
         ensures ports { length self.new.ports.pairs ≡ length self.old.ports.pairs }
         ensures handed_in { IfOk result (IsHandedIn (length self.new.ports.pairs)) }
@@ -223,9 +225,8 @@ impl<S: Sock, C: Timepiece, P: Waiter> Wire for TimedPorts<S, C, P> {
 
     fn send(&mut self, port: u8, to: BipAddr, octets: &[u8]) -> Result<(), WireFault>
         requires { self.old.ports.failures < 2 ^ 128 - 1 }
-        ensures sent { (d : SockPair S) →
-            OnOk result (S.Sent (slice_index_or self.new.ports.pairs (port - 1) d).own.socket to octets.now) }
-        ensures only { HasSentAt (port - 1) self.old.ports self.new.ports }
+        ensures sent { HasSentOn (HasSent S.Sent) port to octets.now
+            self.old.ports self.new.ports result }
         ensures stays { self.new ≡ with_ports self.new.ports self.old }
         ensures ports { length self.new.ports.pairs ≡ length self.old.ports.pairs }
         ensures calls { let call = send_call result

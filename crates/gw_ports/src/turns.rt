@@ -1,23 +1,28 @@
 //! Whose turn it is among the sockets of the ports.
 
-ghost use Rattle.std.specs.Prelude.{◌≡◌, ◌∷◌, [], ◌+◌, ◌-◌, ◌≤◌, ◌<◌, ◌^◌, length, min, slice_index_or, IfOk, IfSome, OnOk, None};
+ghost use Rattle.std.specs.Prelude.{◌≡◌, ◌∷◌, [], ◌+◌, ◌-◌, ◌≤◌, ◌<◌, ◌^◌, ℕ, length, min, slice_index_or, true, false, IfOk, IfSome, None};
+ghost use Rattle.std.specs.Borrow.{sem};
 ghost use Rattle.gw_addr.specs.declared.TheConstants.{MAX_PORTS};
 ghost use Rattle.gw_ports.specs.declared.sock_pair.SockPair.{SockPair};
-ghost use Rattle.gw_ports.specs.Socket.{FitsBuffer};
 ghost use Rattle.gw_core.specs.Wire.{IsHandedIn, Tells, failures_of, receive_answer, receive_call, send_call};
-ghost use Rattle.std.specs.List.{list_any};
-ghost use Rattle.gw_ports.specs.Ports.{AreAllWoken, AreAsked, AreAskedInTurn, HasSentAt, IsNext, asked, got_of, handed_in, last_number, some_answer};
-ghost use Rattle.gw_ports.specs.SockPair.{is_awake};
+ghost use Rattle.gw_ports.specs.Asking.{AreAsked, AreAskedInTurn, turn_of};
+ghost use Rattle.gw_ports.specs.Lending.{LendsPair};
+ghost use Rattle.gw_ports.specs.Ports.{AtPlace, HasSentOn, HasTried, IsNext, asked, got_of, handed_in, last_number, sockets_in_turn};
+ghost use Rattle.gw_ports.specs.Socket.{FitsBuffer, some_answer};
 
 use crate::ports::Ports;
-use crate::sock_pair::SockPair;
+use crate::sock_pair::{Said, SockPair};
 use crate::socket::{Sock, SockFault};
-use crate::waiter::Waiter;
-use gw_addr::BipAddr;
+use gw_addr::{BipAddr, MAX_PORTS};
 use gw_core::{Got, RECEIVE_ROOM, Wire, WireFault};
 
-/// The place of a port, and what it answered.
-type Answered = (usize, Result<(usize, BipAddr), SockFault>);
+/// Which socket answered, and what: that of the own address of the port at this place, or the other.
+#[derive(Drop)]
+pub(crate) struct Heard {
+    place: usize,
+    own: bool,
+    said: Said,
+}
 
 /// The most ticks that are due at once.
 const MAX_DUE: u64 = 1 << 63;
@@ -27,10 +32,16 @@ impl<S: Sock> Ports<S> {
     /// first, from port 1 on, and no tick is due.
     pub fn new(pairs: Vec<SockPair<S>>) -> Self
         requires { length pairs.items ≤ MAX_PORTS }
-        ensures { result ≡ record { pairs = pairs.items; ticks = 0; last = None; failures = 0 } }
+        ensures pairs { result.pairs ≡ pairs.items }
+        ensures first { (place : ℕ) → place < MAX_PORTS →
+            slice_index_or result.own_first place false ≡ true }
+        ensures ticks { result.ticks ≡ 0 }
+        ensures last { result.last ≡ None }
+        ensures failures { result.failures ≡ 0 }
     {
         Ports {
             pairs,
+            own_first: [true; MAX_PORTS],
             ticks: 0,
             last: None,
             failures: 0,
@@ -62,14 +73,13 @@ impl<S: Sock> Ports<S> {
     pub fn own_first(&self, port: u8) -> bool
         requires least { 1 ≤ port }
         requires most { port ≤ length self.now.pairs }
-        ensures { (d : SockPair S) →
-            result ≡ (slice_index_or self.now.pairs (port - 1) d).own_first }
+        ensures { result ≡ slice_index_or self.now.own_first (port - 1) false }
     {
-        self.pairs[usize::from(port) - 1].own_first
+        self.own_first[usize::from(port) - 1]
     }
 
     /// What comes next: a tick where one is due, else what the first port in turn answers, or
-    /// nothing. The ports behind the one that answered last come first, and itself at the end. Of
+    /// nothing. The ports after the one that answered last come first, and itself at the end. Of
     /// each port the two sockets take turns as well. `Failed` where that port's socket answers a
     /// fault, which is counted.
     #[inline(always)]
@@ -86,33 +96,24 @@ impl<S: Sock> Ports<S> {
         }
         match self.ask_all(buf) {
             None => Ok(Got::Idle),
-            Some((place, answer)) => self.hand_in(place, answer),
+            Some(heard) => self.hand_in(heard),
         }
     }
 
-    /// Whether something may wait at any socket.
-    pub(crate) fn is_any_awake(&self) -> bool
-        ensures { result ≡ list_any is_awake self.now.pairs }
+    /// Lends the sockets of the port at a place, from 0. Nothing else changes.
+    pub(crate) fn pair_mut(&mut self, place: usize) -> &mut SockPair<S>
+        requires { place < length self.old.pairs }
+        ensures* writes_back { sem 𝓛 (LendsPair S.row self.entry place result) }
+        ensures value { (d : SockPair S) → result.now ≡ slice_index_or self.old.pairs place d }
     {
-        self.pairs.iter().any(|pair| pair.is_awake())
-    }
-
-    /// Notes at which sockets something may have come when it was last waited.
-    pub(crate) fn wake<P: Waiter>(&mut self, waiter: &P)
-        ensures { AreAllWoken (P.Quiet waiter.now) self.old self.new }
-    {
-        for place in 0..self.count() {
-            self.pairs[place].wake(place, waiter);
-        }
+        &mut self.pairs[place]
     }
 
     /// Sends a datagram by the own socket of the port of this number.
     fn send_on(&mut self, port: u8, to: BipAddr, octets: &[u8]) -> Result<(), SockFault>
         ensures count { length self.new.pairs ≡ length self.old.pairs }
+        ensures tried { HasTried S.Sent port to octets.now self.old.pairs self.new.pairs result }
         ensures rest { self.new ≡ asked self.new.pairs self.old }
-        ensures sent { (d : SockPair S) →
-            OnOk result (S.Sent (slice_index_or self.new.pairs (port - 1) d).own.socket to octets.now) }
-        ensures only { HasSentAt (port - 1) self.old self.new }
     {
         if port == 0 || usize::from(port) > self.pairs.len() {
             return Err(SockFault::Failed);
@@ -122,22 +123,24 @@ impl<S: Sock> Ports<S> {
 
     /// Asks the ports in turn, until one answers.
     #[inline(always)]
-    fn ask_all(&mut self, buf: &mut [u8; RECEIVE_ROOM]) -> Option<Answered>
+    fn ask_all(&mut self, buf: &mut [u8; RECEIVE_ROOM]) -> Option<Heard>
         ensures turns { AreAskedInTurn S.look_count S.is_empty S.Answered self.old.pairs
-            (last_number self.old.last) self.new.pairs result buf.new }
+            self.new.pairs (sockets_in_turn self.old) result buf.new }
+        ensures count { length self.new.pairs ≡ length self.old.pairs }
         ensures rest { self.new ≡ asked self.new.pairs self.old }
-        ensures fits { IfSome result (λ answered. FitsBuffer (some_answer answered.1)) }
-        ensures few { IfSome result (λ answered. answered.0 < MAX_PORTS) }
+        ensures fits { IfSome result (λ heard. FitsBuffer (some_answer heard.said)) }
+        ensures within { IfSome result (λ heard. heard.place < length self.new.pairs) }
+        ensures few { IfSome result (λ heard. heard.place < MAX_PORTS) }
     {
         let last = self.last_place();
         let count = self.count();
         match self.ask_from(last, count, buf) {
-            Some(answered) => Some(answered),
+            Some(heard) => Some(heard),
             None => self.ask_from(0, last, buf),
         }
     }
 
-    /// The place behind the port that answered last, or the first one.
+    /// The place after the port that answered last, or the first one.
     fn last_place(&self) -> usize
         ensures place { result ≡ last_number self.now.last }
         ensures within { result ≤ length self.now.pairs }
@@ -165,42 +168,37 @@ impl<S: Sock> Ports<S> {
         self.pairs.len()
     }
 
-    /// Hands in what the port at a place answered.
-    fn hand_in(
-        &mut self,
-        place: usize,
-        answer: Result<(usize, BipAddr), SockFault>,
-    ) -> Result<Got, WireFault>
-        requires place { place < length self.old.pairs }
-        requires few { place < MAX_PORTS }
+    /// Hands in what a socket answered.
+    fn hand_in(&mut self, heard: Heard) -> Result<Got, WireFault>
+        requires place { heard.place < length self.old.pairs }
+        requires few { heard.place < MAX_PORTS }
         requires failures { self.old.failures < 2 ^ 128 - 1 }
-        ensures given { result ≡ got_of (place + 1) answer }
-        ensures last { self.new ≡ handed_in place answer self.old }
+        ensures given { result ≡ got_of (heard.place + 1) heard.said }
+        ensures last { self.new ≡ handed_in (turn_of heard) heard.said self.old }
     {
+        let Heard { place, own, said } = heard;
         let port = place as u8 + 1;
         self.last = Some(port);
-        match answer {
+        self.own_first[place] = !own;
+        match said {
             Ok((len, from)) => Ok(Got::Datagram { port, from, len }),
             Err(_) => Err(self.fail()),
         }
     }
 
-    /// Asks the ports at these places in turn, until one answers. It tells the place too.
+    /// Asks the ports at these places in turn, until one answers.
     #[inline(always)]
-    fn ask_from(&mut self, from: usize, to: usize, buf: &mut [u8; RECEIVE_ROOM]) -> Option<Answered>
+    fn ask_from(&mut self, from: usize, to: usize, buf: &mut [u8; RECEIVE_ROOM]) -> Option<Heard>
         requires order { from ≤ to }
         requires within { to ≤ length self.old.pairs }
-        ensures each { let before = self.old.pairs in
-            let after = self.new.pairs in
-            AreAsked S.look_count S.is_empty S.Answered from to before after result buf.new }
+        ensures each { AreAsked S.look_count S.is_empty S.Answered self.old.own_first from to
+            self.old.pairs self.new.pairs result buf.new }
         ensures rest { self.new ≡ asked self.new.pairs self.old }
-        ensures fits { IfSome result (λ answered. FitsBuffer (some_answer answered.1)) }
+        ensures fits { IfSome result (λ heard. FitsBuffer (some_answer heard.said)) }
     {
         for place in from..to {
-            match self.pairs[place].ask(buf) {
-                Ok(None) => {}
-                Ok(Some(came)) => return Some((place, Ok(came))),
-                Err(fault) => return Some((place, Err(fault))),
+            if let Some((own, said)) = self.pairs[place].ask(self.own_first[place], buf) {
+                return Some(Heard { place, own, said });
             }
         }
         None
@@ -236,9 +234,7 @@ impl<S: Sock> Wire for Ports<S> {
 
     fn send(&mut self, port: u8, to: BipAddr, octets: &[u8]) -> Result<(), WireFault>
         requires { self.old.failures < 2 ^ 128 - 1 }
-        ensures sent { (d : SockPair S) →
-            OnOk result (S.Sent (slice_index_or self.new.pairs (port - 1) d).own.socket to octets.now) }
-        ensures only { HasSentAt (port - 1) self.old self.new }
+        ensures sent { HasSentOn S.Sent port to octets.now self.old self.new result }
         ensures ports { length self.new.pairs ≡ length self.old.pairs }
         ensures calls { let call = send_call result
             (record { port = port; to = to; octets = octets.now }) in

@@ -3,7 +3,7 @@
 ghost use Rattle.gw_addr.specs.declared.TheConstants.{MAX_PORTS};
 ghost use Rattle.std.specs.Prelude.{◌≡◌, ◌<◌, ℕ, false, ⊤, OnOk};
 ghost use Rattle.std.specs.Duration.{as_nanos};
-ghost use Rattle.gw_ports.specs.SockPair.{number_of};
+ghost use Rattle.gw_ports.specs.Waking.{number_of};
 
 use std::io;
 use std::time::Duration;

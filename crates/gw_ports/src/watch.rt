@@ -1,31 +1,37 @@
-//! A socket, and whether anything may wait there.
+//! A socket that is asked only while something may wait there.
 
 ghost use Rattle.std.specs.Prelude.{◌≡◌, true, false};
-ghost use Rattle.gw_ports.specs.Socket.{FitsBuffer, is_nothing};
-ghost use Rattle.gw_ports.specs.Watch.{HasAnswered, IsPassed, woken};
+ghost use Rattle.gw_ports.specs.Socket.{FitsBuffer};
+ghost use Rattle.gw_ports.specs.Watch.{HasReceived, HasSent, WatchAnswer, woken};
 
 use crate::socket::{Sock, SockFault};
 use gw_addr::BipAddr;
 use gw_core::RECEIVE_ROOM;
 
-/// A socket, which is asked only while something may wait there. The system tells of what comes only
-/// once, and one that said that nothing waits isn't asked again until it does.
+/// A socket that asks another one, but only while something may wait there: from the first time that
+/// nothing waits it answers so by itself, until it is woken.
 #[derive(Drop)]
 pub struct Watch<S> {
-    /// The socket.
+    /// The socket that it asks.
     pub socket: S,
     /// Whether something may wait there.
     pub is_awake: bool,
+    /// How often the watch was asked for a datagram, counted around at 2^64.
+    pub looks: u64,
+    /// Whether it answered that nothing waits when it was last asked.
+    pub is_empty: bool,
 }
 
 impl<S: Sock> Watch<S> {
-    /// A socket that nobody asked yet: something may wait there.
+    /// A watch of a socket at which something may wait. Nobody asked the watch yet.
     pub fn new(socket: S) -> Self
-        ensures { result ≡ record { socket = socket; is_awake = true } }
+        ensures { result ≡ record { socket = socket; is_awake = true; looks = 0; is_empty = false } }
     {
         Watch {
             socket,
             is_awake: true,
+            looks: 0,
+            is_empty: false,
         }
     }
 
@@ -38,26 +44,51 @@ impl<S: Sock> Watch<S> {
         }
     }
 
-    /// Receives from the socket, where something may wait there; else nothing waits, and it isn't
-    /// asked. From the first time that nothing waits it isn't asked again; a fault says nothing of
-    /// what waits.
+    /// What the socket answers where something may wait there, and else nothing.
     #[inline(always)]
-    pub(crate) fn receive(
-        &mut self,
-        buf: &mut [u8; RECEIVE_ROOM],
-    ) -> Result<Option<(usize, BipAddr)>, SockFault>
-        ensures passed { is_nothing result ≡ true →
-            IsPassed S.look_count S.is_empty self.old self.new }
-        ensures answered { is_nothing result ≡ false →
-            HasAnswered S.look_count S.is_empty self.old self.new }
-        ensures answer { is_nothing result ≡ false → S.Answered self.new.socket result buf.new }
+    fn ask(&mut self, buf: &mut [u8; RECEIVE_ROOM]) -> Result<Option<(usize, BipAddr)>, SockFault>
+        ensures answered { WatchAnswer S.look_count S.is_empty S.Answered
+            self.old.is_awake self.old.socket self.new.socket result buf.new }
+        ensures rest { self.new ≡ record self.old { socket = self.new.socket } }
         ensures fits { FitsBuffer result }
     {
         if !self.is_awake {
             return Ok(None);
         }
-        let answer = self.socket.receive(buf);
-        self.is_awake = !matches!(answer, Ok(None));
+        self.socket.receive(buf)
+    }
+}
+
+impl<S: Sock> Sock for Watch<S> {
+    ghost look_count = { λ watch. watch.looks };
+
+    ghost is_empty = { λ watch. watch.is_empty };
+
+    ghost Answered = { HasReceived S.look_count S.is_empty S.Answered };
+
+    ghost Sent = { HasSent S.Sent };
+
+    #[inline(always)]
+    fn receive(
+        &mut self,
+        buf: &mut [u8; RECEIVE_ROOM],
+    ) -> Result<Option<(usize, BipAddr)>, SockFault> {
+        let answer = self.ask(buf);
+        self.looks = self.looks.wrapping_add(1);
+        self.is_empty = matches!(answer, Ok(None));
+        self.is_awake = !self.is_empty;
         answer
+    }
+
+    fn send_to(&mut self, to: BipAddr, octets: &[u8]) -> Result<(), SockFault> {
+        self.socket.send_to(to, octets)
+    }
+
+    fn looks(&self) -> u64 {
+        self.looks
+    }
+
+    fn empty(&self) -> bool {
+        self.is_empty
     }
 }

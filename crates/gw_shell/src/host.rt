@@ -14,7 +14,7 @@ use crate::system_clock::SystemClock;
 use crate::udp::{UdpSock, open_pairs};
 use gw_configuration::Port;
 use gw_core::Wire;
-use gw_ports::{Ports, SockPair, TimedPorts};
+use gw_ports::{Ports, SockPair, TimedPorts, Watch};
 use gw_script::OctetSink;
 use std::alloc::Global;
 use std::fs::File;
@@ -98,7 +98,7 @@ impl<'a, R: Net + Clock> SystemHost<'a, R> {
     fn start(
         &self,
         alloc: Global,
-        mut pairs: Vec<SockPair<UdpSock>>,
+        mut pairs: Vec<SockPair<Watch<UdpSock>>>,
     ) -> io::Result<TimedPorts<UdpSock, SystemClock<'a, R>, PollWaiter>>
         requires { length pairs.items ≤ MAX_PORTS }
         ensures ports { IfOk result

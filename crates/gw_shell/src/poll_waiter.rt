@@ -5,7 +5,7 @@ ghost use Rattle.gw_shell.specs.Waiting.{has_event_of};
 
 use crate::udp::UdpSock;
 use gw_addr::MAX_PORTS;
-use gw_ports::{SockPair, Waiter, socket_number};
+use gw_ports::{SockPair, Waiter, Watch, socket_number};
 use mio::{Events, Poll, Registry};
 use std::alloc::Global;
 use std::io;
@@ -25,7 +25,11 @@ pub struct PollWaiter {
 impl PollWaiter {
     /// What waits at the sockets of these ports, from 1 to 8, each of which is told of by its
     /// number. An `Err` where the system can't wait, or not at one of them, or memory was refused.
-    pub fn open(alloc: Global, net: &impl Net, pairs: &mut [SockPair<UdpSock>]) -> io::Result<Self>
+    pub fn open(
+        alloc: Global,
+        net: &impl Net,
+        pairs: &mut [SockPair<Watch<UdpSock>>],
+    ) -> io::Result<Self>
         requires { length pairs.old ≤ MAX_PORTS }
     {
         let poll = Poll::new(net)?;
@@ -36,7 +40,7 @@ impl PollWaiter {
 }
 
 /// Registers both sockets of each pair, under their numbers. An `Err` where the system doesn't take one.
-fn register_all(registry: &Registry, pairs: &mut [SockPair<UdpSock>]) -> io::Result<()>
+fn register_all(registry: &Registry, pairs: &mut [SockPair<Watch<UdpSock>>]) -> io::Result<()>
     requires { length pairs.old ≤ MAX_PORTS }
 {
     for place in 0..pairs.len() {
@@ -46,7 +50,11 @@ fn register_all(registry: &Registry, pairs: &mut [SockPair<UdpSock>]) -> io::Res
 }
 
 /// Registers both sockets of the pair at this place, from 0.
-fn register_pair(registry: &Registry, place: usize, pair: &mut SockPair<UdpSock>) -> io::Result<()>
+fn register_pair(
+    registry: &Registry,
+    place: usize,
+    pair: &mut SockPair<Watch<UdpSock>>,
+) -> io::Result<()>
     requires { place < MAX_PORTS }
 {
     pair.own

@@ -9,7 +9,7 @@ use crate::opening::{SocketFailure, Step};
 use gw_addr::BipAddr;
 use gw_configuration::Port;
 use gw_core::RECEIVE_ROOM;
-use gw_ports::{Sock, SockFault, SockPair};
+use gw_ports::{Sock, SockFault, SockPair, Watch};
 use mio::net::UdpSocket;
 use mio::{Interest, Registry, Token};
 use std::alloc::Global;
@@ -64,8 +64,12 @@ impl UdpSock {
 }
 
 /// Opens the sockets of a port: that of its own address, which may send broadcasts, and then that of
-/// its broadcast address.
-fn open_pair(net: &impl Net, number: u8, port: &Port) -> Result<SockPair<UdpSock>, SocketFailure>
+/// its broadcast address. Each is asked only while something may wait there.
+fn open_pair(
+    net: &impl Net,
+    number: u8,
+    port: &Port,
+) -> Result<SockPair<Watch<UdpSock>>, SocketFailure>
     requires least { 1 ≤ number }
     ensures { (ports : ℕ) → number ≤ ports → IfErr result (IsSocketFailure ports) }
 {
@@ -74,7 +78,10 @@ fn open_pair(net: &impl Net, number: u8, port: &Port) -> Result<SockPair<UdpSock
         Err(error) => return Err(SocketFailure::at(number, Step::Own, port.address, &error)),
     };
     match UdpSock::open(net, port.broadcast) {
-        Ok(broadcast) => Ok(SockPair::new(own, broadcast)),
+        Ok(broadcast) => Ok(SockPair {
+            own: Watch::new(own),
+            broadcast: Watch::new(broadcast),
+        }),
         Err(error) => { Err(SocketFailure::at(number, Step::Broadcast, port.broadcast, &error)) }
     }
 }
@@ -92,7 +99,7 @@ pub fn open_pairs(
     alloc: Global,
     net: &impl Net,
     ports: &[Port],
-) -> Result<Vec<SockPair<UdpSock>>, SocketFailure>
+) -> Result<Vec<SockPair<Watch<UdpSock>>>, SocketFailure>
     requires { length ports.now ≤ MAX_PORTS }
     ensures count { IfOk result (λ pairs. length pairs.items ≡ length ports.now) }
     ensures failure { IfErr result (IsSocketFailure (length ports.now)) }
@@ -112,9 +119,9 @@ impl Sock for UdpSock {
 
     ghost is_empty = { λ s. s.empty };
 
-    ghost Answered = { λ _ _ _. ⊤ };
+    ghost Answered = { λ _ _ _ _. ⊤ };
 
-    ghost Sent = { λ _ _ _. ⊤ };
+    ghost Sent = { λ _ _ _ _ _. ⊤ };
 
     fn receive(
         &mut self,

@@ -62,6 +62,7 @@ fn answer_case(
         "reports" => serving::reports(alloc, config, line, out),
         "words" => words::words(alloc, line, out),
         "turns" => turns::turns(alloc, line, out),
+        "watches" => turns::watches(alloc, line, out),
         "seconds" => turns::seconds(alloc, line, out),
         _ => Err(ErrorKind::InvalidData.into()),
     }

@@ -7,7 +7,7 @@ ghost use Rattle.gw_ports.specs.Socket.{FitsBuffer};
 use crate::case::number_behind;
 use gw_addr::BipAddr;
 use gw_core::{Got, RECEIVE_ROOM, Wire, WireFault};
-use gw_ports::{Ports, Sock, SockFault, SockPair, TimedPorts, Timepiece, Waiter};
+use gw_ports::{Ports, Sock, SockFault, SockPair, TimedPorts, Timepiece, Waiter, Watch};
 use std::alloc::{AllocError, Global};
 use std::io;
 use std::io::{ErrorKind, Write};
@@ -67,9 +67,9 @@ impl Sock for MemSock {
 
     ghost is_empty = { λ s. s.empty };
 
-    ghost Answered = { λ _ _ _. ⊤ };
+    ghost Answered = { λ _ _ _ _. ⊤ };
 
-    ghost Sent = { λ _ _ _. ⊤ };
+    ghost Sent = { λ _ _ _ _ _. ⊤ };
 
     fn receive(
         &mut self,
@@ -94,29 +94,69 @@ impl Sock for MemSock {
     }
 }
 
-/// Two ports with so many datagrams at their own sockets and none at the others. Those of port 2 are
-/// late by so many looks. The socket of one place, from 0, may fail at one of its calls.
-fn two_ports(
-    alloc: Global,
-    waiting: u64,
+/// How many datagrams wait at the own socket of each of two ports, behind how many looks at that of
+/// port 2, and which socket fails, from 0, at which of its calls. None waits at the others.
+#[derive(Clone, Copy)]
+struct Waiting {
+    datagrams: u64,
     late: u64,
     failing: Option<(u64, u64)>,
-) -> Result<Ports<MemSock>, AllocError> {
-    let call_of = |place: u64| match failing {
-        Some((failing, call)) if failing == place => Some(call),
-        _ => None,
-    };
-    let mut pairs = Vec::with_capacity(alloc, 2)?;
-    for port in 0..2 {
-        let late = if port == 0 { 0 } else { late };
-        let own = MemSock::with(waiting, late, call_of(2 * port));
-        let broadcast = MemSock::with(0, 0, call_of(2 * port + 1));
-        pairs.push(SockPair::new(own, broadcast))?;
+}
+
+impl Waiting {
+    /// What a line says, where so many datagrams wait unless it says so.
+    fn of(line: &str, datagrams: u64) -> Self {
+        Waiting {
+            datagrams: number_behind(line, ' ', "waiting=").unwrap_or(datagrams),
+            late: number_behind(line, ' ', "late=").unwrap_or(0),
+            failing: failing_of(line),
+        }
     }
-    if pairs.len() > 2 {
-        return Err(AllocError);
+
+    /// The sockets of a port, from 0.
+    fn pair(self, port: u64) -> SockPair<MemSock> {
+        let late = if port == 0 { 0 } else { self.late };
+        SockPair {
+            own: MemSock::with(self.datagrams, late, self.call_of(port, 0)),
+            broadcast: MemSock::with(0, 0, self.call_of(port, 1)),
+        }
     }
-    Ok(Ports::new(pairs))
+
+    /// At which of its calls the own or the other socket of a port fails.
+    fn call_of(self, port: u64, other: u64) -> Option<u64> {
+        match self.failing {
+            Some((socket, call)) if socket / 2 == port && socket % 2 == other => Some(call),
+            _ => None,
+        }
+    }
+
+    /// The ports of these sockets.
+    fn ports(self, alloc: Global) -> Result<Ports<MemSock>, AllocError> {
+        let mut pairs = Vec::with_capacity(alloc, 2)?;
+        for port in 0..2 {
+            pairs.push(self.pair(port))?;
+        }
+        if pairs.len() > 2 {
+            return Err(AllocError);
+        }
+        Ok(Ports::new(pairs))
+    }
+
+    /// The ports of watches of these sockets.
+    fn watches(self, alloc: Global) -> Result<Ports<Watch<MemSock>>, AllocError> {
+        let mut pairs = Vec::with_capacity(alloc, 2)?;
+        for port in 0..2 {
+            let SockPair { own, broadcast } = self.pair(port);
+            pairs.push(SockPair {
+                own: Watch::new(own),
+                broadcast: Watch::new(broadcast),
+            })?;
+        }
+        if pairs.len() > 2 {
+            return Err(AllocError);
+        }
+        Ok(Ports::new(pairs))
+    }
 }
 
 /// What comes next, by a letter: the port of a datagram, `t` for a tick, `f` for a fault and `-` for
@@ -151,16 +191,24 @@ fn failing_of(line: &str) -> Option<(u64, u64)> {
     ))
 }
 
+/// What comes of ports, with so many ticks due and in so many calls as the line says.
+fn put_turns<S: Sock>(mut ports: Ports<S>, line: &str, out: &mut Vec<u8>) -> io::Result<()>
+where
+    S: Drop,
+{
+    ports.due(number_behind(line, ' ', "ticks=").unwrap_or(0));
+    let calls = number_behind(line, ' ', "calls=").unwrap_or(0);
+    put_course(&mut ports, calls, out)
+}
+
 /// What comes of two ports, with so many datagrams waiting and ticks due as the line says.
 pub fn turns(alloc: Global, line: &str, out: &mut Vec<u8>) -> io::Result<()> {
-    let waiting = number_behind(line, ' ', "waiting=").unwrap_or(0);
-    let mut ports = two_ports(alloc, waiting, 0, failing_of(line))?;
-    ports.due(number_behind(line, ' ', "ticks=").unwrap_or(0));
-    put_course(
-        &mut ports,
-        number_behind(line, ' ', "calls=").unwrap_or(0),
-        out,
-    )
+    put_turns(Waiting::of(line, 0).ports(alloc)?, line, out)
+}
+
+/// The same where each socket is watched, and nothing wakes one that sleeps.
+pub fn watches(alloc: Global, line: &str, out: &mut Vec<u8>) -> io::Result<()> {
+    put_turns(Waiting::of(line, 0).watches(alloc)?, line, out)
 }
 
 /// A clock on which 0.3 seconds pass from each look to the next, and which fails at one of them.
@@ -213,8 +261,6 @@ impl Waiter for MemWaiter {
 /// and how often it was waited, and without time. The looks at the clock are at 0.0, 0.3, 0.6, ..
 /// seconds; a receive looks once, and where nothing waits again.
 pub fn seconds(alloc: Global, line: &str, out: &mut Vec<u8>) -> io::Result<()> {
-    let waiting = number_behind(line, ' ', "waiting=").unwrap_or(TIMED_WAITING);
-    let late = number_behind(line, ' ', "late=").unwrap_or(0);
     let clock = SlowClock {
         looks: 0,
         failing: number_behind(line, ' ', "look="),
@@ -225,7 +271,7 @@ pub fn seconds(alloc: Global, line: &str, out: &mut Vec<u8>) -> io::Result<()> {
         failing: number_behind(line, ' ', "wait="),
         last: Duration::from_secs(0),
     };
-    let ports = two_ports(alloc, waiting, late, None)?;
+    let ports = Waiting::of(line, TIMED_WAITING).watches(alloc)?;
     let Ok(mut timed) = TimedPorts::start(ports, clock, waiter) else {
         return Ok(out.extend_from_slice(b"not started")?);
     };

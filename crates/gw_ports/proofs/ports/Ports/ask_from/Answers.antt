@@ -1,9 +1,9 @@
-use Rattle.std.proofs.Common.{Err, Ok, ap, refl, arith, get_or, length, ◌≡◌, ◌<◌, subst, ◌∙◌}
+use Rattle.std.proofs.Common.{arith, get_or, length, ◌≡◌, ◌<◌, subst, ◌∙◌}
 use Rattle.std.proofs.lemmas.List.{get_or_default}
 use Rattle.gw_ports.specs.SockPair.{ArePassed}
-use Rattle.gw_ports.specs.Socket.{is_nothing}
-use Rattle.gw_ports.specs.Ports.{ArePassedFrom, Stay}
-use Rattle.gw_ports.proofs.PortLemmas.{answered_set, each_set, stay_set}
+use Rattle.gw_ports.specs.Asking.{ArePassedFrom}
+use Rattle.gw_ports.specs.Ports.{Stay}
+use Rattle.gw_ports.proofs.PortLemmas.{each_set, stay_set}
 use Rattle.gw_ports.proofs.ports.Ports.ask_from.Goals as goal
 
 pub loop-place-preserved : goal.loop-place-preserved
@@ -11,13 +11,14 @@ loop-place-preserved g c =
     let kept = c.loop-place.invariant in
     let pairs = c.loop-place.self-inside.pairs.items in
     let inside : c.loop-place.place < length pairs = omega (arith, kept.stay.count, c.requires.within, c.loop-place-test.true) in
-    let here : (d : _) → ArePassed g.S.Sock.look_count g.S.Sock.is_empty (get_or pairs c.loop-place.place d) c.ask.new.self =
-    λ d. subst (λ one. ArePassed g.S.Sock.look_count g.S.Sock.is_empty one c.ask.new.self)
+    let here : (d : _) → ArePassed g.S.Sock.look_count g.S.Sock.is_empty g.S.Sock.Answered (get_or pairs c.loop-place.place d) c.ask.new.self =
+    λ d. subst (λ one. ArePassed g.S.Sock.look_count g.S.Sock.is_empty g.S.Sock.Answered one c.ask.new.self)
     (c.index_mut.ensures.value ∙ get_or_default pairs c.loop-place.place _ d inside)
-    (c.ask.ensures.passed (ap is_nothing (c.in-Ok-None.is ∙ ap Ok c.in-Ok-None.field-0-is))) in
+    (c.ask.ensures.passed c.in_default.is) in
     record {
       stay = stay_set c.args.from c.loop-place.place c.args.self.now.pairs pairs c.ask.new.self kept.stay c.loop-place.auto.place;
-      passed = each_set (λ _. ArePassed g.S.Sock.look_count g.S.Sock.is_empty) c.args.from c.loop-place.place c.args.self.now.pairs pairs c.ask.new.self kept.stay inside kept.passed here;
+      passed = each_set (λ _. ArePassed g.S.Sock.look_count g.S.Sock.is_empty g.S.Sock.Answered) c.args.from c.loop-place.place c.args.self.now.pairs pairs c.ask.new.self kept.stay inside kept.passed here;
+      first = kept.first;
       ticks = kept.ticks;
       last = kept.last;
       failures = kept.failures;
@@ -28,18 +29,5 @@ returns-clause-each g c =
     let kept = c.loop-place.invariant in
     let ends : c.loop-place.place ≡ c.args.to = omega (arith, c.loop-place.auto.place-end c.requires.order, c.loop-place-test.false) in (
       subst (λ to. Stay c.args.from to c.args.self.now.pairs c.loop-place.self-inside.pairs.items) ends kept.stay,
-      subst (λ to. ArePassedFrom g.S.Sock.look_count g.S.Sock.is_empty c.args.from to c.args.self.now.pairs c.loop-place.self-inside.pairs.items) ends kept.passed,
+      subst (λ to. ArePassedFrom g.S.Sock.look_count g.S.Sock.is_empty g.S.Sock.Answered c.args.from to c.args.self.now.pairs c.loop-place.self-inside.pairs.items) ends kept.passed,
     )
-
-pub returns-in-Ok-Some-clause-each : goal.returns-in-Ok-Some-clause-each
-returns-in-Ok-Some-clause-each g c =
-    let kept = c.loop-place.invariant in
-    let answered = rw c.in-Ok-Some.field-0-is at c.in-Ok-Some.ensures.answered in
-    answered_set g.S.Sock.look_count g.S.Sock.is_empty g.S.Sock.Answered _ _ _ _ _ _ _ (Ok c.in-Ok-Some.came) _ kept.stay kept.passed
-    c.loop-place.auto.place c.loop-place-test.true c.requires.within c.index_mut.ensures.value (answered refl)
-
-pub returns-in-Err-clause-each : goal.returns-in-Err-clause-each
-returns-in-Err-clause-each g c =
-    let kept = c.loop-place.invariant in
-    answered_set g.S.Sock.look_count g.S.Sock.is_empty g.S.Sock.Answered _ _ _ _ _ _ _ (Err c.in-Err.fault) _ kept.stay kept.passed
-    c.loop-place.auto.place c.loop-place-test.true c.requires.within c.index_mut.ensures.value (c.in-Err.ensures.answered refl)

@@ -1,6 +1,7 @@
-use Rattle.std.proofs.Common.{ap, arith, refl, subst, ◌∙◌, ◌≤◌}
+use Rattle.std.proofs.Common.{ap, arith, length, refl, subst, sym, ◌∙◌, ◌≡◌, ◌≤◌}
 use Rattle.std.proofs.lemmas.Grind.{common_steps}
-use Rattle.gw_ports.specs.Ports.{AreAskedInTurn, Ports, answered, handed_in, idle, last_number, tick, ticked}
+use Rattle.gw_ports.specs.Asking.{AreAskedInTurn, turn_of}
+use Rattle.gw_ports.specs.Ports.{IsHeard, Ports, Turn, answered, asked, handed_in, idle, sockets_in_turn, tick, ticked}
 use Rattle.gw_ports.proofs.ports.Ports.next.Goals as goal
 
 pub returns-then-self-gt0-clause-next : goal.returns-then-self-gt0-clause-next
@@ -9,18 +10,23 @@ returns-then-self-gt0-clause-next g c =
 
 pub returns-in-None-clause-next : goal.returns-in-None-clause-next
 returns-in-None-clause-next g c =
-    idle c.ask_all.new.self.pairs (omega (arith, ap (λ (w : Ports _). w.ticks) c.self.view_is, c.if-self-gt0.false))
+    idle (omega (arith, ap (λ (w : Ports _). w.ticks) c.self.view_is, c.if-self-gt0.false)) c.ask_all.ensures.count
     (subst (λ given. AreAskedInTurn g.S.Sock.look_count g.S.Sock.is_empty g.S.Sock.Answered c.args.self.now.pairs
-    (last_number c.args.self.now.last) c.ask_all.new.self.pairs given c.ask_all.new.buf) c.in-None.is c.ask_all.ensures.turns)
+    c.ask_all.new.self.pairs (sockets_in_turn c.args.self.now) given c.ask_all.new.buf) c.in-None.is c.ask_all.ensures.turns)
     c.ask_all.ensures.rest refl
 
 pub returns-in-Some-clause-next : goal.returns-in-Some-clause-next
 returns-in-Some-clause-next g c =
-    answered c.ask_all.new.self.pairs c.in-Some.place c.in-Some.answer
+    let turn : Turn = turn_of c.in-Some.heard in
+    let before = c.args.self.now in
+    let same : c.hand_in.new.self.pairs ≡ c.ask_all.new.self.pairs = ap (λ (w : Ports _). w.pairs) c.hand_in.ensures.last in
+    answered turn c.in-Some.heard.said
     (omega (arith, ap (λ (w : Ports _). w.ticks) c.self.view_is, c.if-self-gt0.false))
-    (subst (λ given. AreAskedInTurn g.S.Sock.look_count g.S.Sock.is_empty g.S.Sock.Answered c.args.self.now.pairs
-    (last_number c.args.self.now.last) c.ask_all.new.self.pairs given c.ask_all.new.buf) c.in-Some.is c.ask_all.ensures.turns)
-    (c.hand_in.ensures.last ∙ ap (handed_in c.in-Some.place c.in-Some.answer) c.ask_all.ensures.rest) c.hand_in.ensures.given
+    (ap length same ∙ c.ask_all.ensures.count)
+    (subst (λ pairs. IsHeard g.S.Sock.look_count g.S.Sock.is_empty g.S.Sock.Answered before.pairs pairs (sockets_in_turn before)
+    turn c.in-Some.heard.said c.ask_all.new.buf) (sym same) c.in-Some.ensures.turns)
+    (c.hand_in.ensures.last ∙ ap (handed_in turn c.in-Some.heard.said) (c.ask_all.ensures.rest ∙ ap (λ pairs. asked pairs before) (sym same)))
+    c.hand_in.ensures.given
 
 pub returns-in-Some-clause-handed_in : goal.returns-in-Some-clause-handed_in
 returns-in-Some-clause-handed_in g c = grind (arith, common_steps)
