@@ -11,7 +11,7 @@ use Rattle.gw_tags.proofs.Octets.{behind_octets}
 use Rattle.gw_services.specs.declared.fault.BodyFault.{BodyFault}
 use Rattle.gw_services.specs.declared.fault.BodyFault.TheVariants.{TooMany, Inconsistent}
 use Rattle.std.proofs.lemmas.List.{map-append}
-use Rattle.gw_services.specs.declared.multi_req.Reference.{Reference as RustReference}
+use Rattle.gw_services.specs.declared.reference.Reference.{Reference as RustReference}
 use Rattle.gw_services.specs.Multi.{Reference, reference_view, most_references, is_consistent, IsReference, IsClosed, IsList, last_one, next_object, next_property, IsBadMulti, in_reference, one_too_many, set_with_index, behind_list, behind_reference, IsMulti, HasMultiFault}
 use Rattle.gw_services.specs.MultiReading.{reference_at, Next, finished, more_at, behind_closing, next_of, next_at, and_more, references_at, behind_these, multi_at}
 use Rattle.gw_services.proofs.Contents.{either_bool}

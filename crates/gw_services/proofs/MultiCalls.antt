@@ -9,7 +9,9 @@ use Rattle.gw_services.specs.declared.multi_req.MultiReq.{MultiReq}
 use Rattle.gw_tags.specs.Object.{Object}
 use Rattle.gw_services.specs.Parameter.{Parameter}
 use Rattle.gw_services.specs.Body.{IsWrong}
-use Rattle.gw_services.specs.Multi.{Reference, multi_view, IsMulti, HasMultiFault, HasReference, most_references, is_consistent, a_property, an_index, the_object, IsWrongOpening, IsBadName, at_property, at_index, IsBadReference, at_object, at_opening, empty_list, at_first, at_next}
+use Rattle.gw_services.specs.Multi.{Reference, AreNamed, IsMulti, HasMultiFault, HasReference, most_references, is_consistent, a_property, an_index, the_object, IsWrongOpening, IsBadName, at_property, at_index, IsBadReference, at_object, at_opening, empty_list, at_first, at_next}
+use Rattle.gw_services.specs.MultiView.{multi_view}
+use Rattle.gw_services.proofs.MultiEncoded.{multi_is}
 use Rattle.gw_services.specs.MultiReading.{multi_at, reference_at, references_at, step_at, judged, walked, finished, more_at, behind_these}
 use Rattle.gw_services.proofs.MultiWalk.{walk}
 use Rattle.gw_services.proofs.Contents.{either_bool}
@@ -122,3 +124,6 @@ first_alone octets r e = walk most_references None octets ∙ ap (walked most_re
 pub first_and_more : (octets : List ℕ) (r : Reference) (place : Option Object) (rest : List ℕ) → step_at most_references None octets ≡ Ok (r, more_at place rest)
     → multi_at octets ≡ behind_these (r ∷ []) (references_at 127 place rest)
 first_and_more octets r place rest e = walk most_references None octets ∙ ap (walked most_references) e
+
+pub read_named : (octets : List ℕ) (rs : List Reference) → AreOctets octets → multi_at octets ≡ Ok rs → AreNamed rs
+read_named octets rs fits e = multi_is octets rs (multi_takes octets rs fits e)

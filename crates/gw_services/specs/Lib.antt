@@ -10,6 +10,7 @@ pub mod WhoHas
 pub mod IAm
 pub mod IHave
 pub mod Multi
+pub mod MultiView
 pub mod MultiReading
 pub mod Reply
 pub mod Laws

@@ -1,5 +1,5 @@
 -- ReadPropertyMultiple (ISO 16484-5, clause 15.7).
-use Rattle.std.specs.Prelude.{◌≡◌, ◌≢◌, ℕ, zero, suc, Bool, true, false, List, [], ◌∷◌, ◌++◌, map, Option, Some, None}
+use Rattle.std.specs.Prelude.{◌≡◌, ◌≢◌, ℕ, zero, suc, Bool, true, false, List, [], ◌∷◌, ◌++◌, Option, Some, None}
 use Rattle.std.specs.Prelude.{is_some, not, ◌==◌, ◌&&◌, ◌||◌}
 use Rattle.gw_tags.specs.declared.tag.Kind.TheVariants.{Opening, Closing}
 use Rattle.gw_tags.specs.Tag.{BeginsWith, canonical}
@@ -9,8 +9,7 @@ use Rattle.gw_tags.specs.Number.{unsigned_encoding}
 use Rattle.gw_tags.specs.Object.{Object, object_view, object_octets}
 use Rattle.gw_services.specs.declared.fault.BodyFault.{BodyFault}
 use Rattle.gw_services.specs.declared.fault.BodyFault.TheVariants.{InvalidTag, Missing, TooMany, Inconsistent}
-use Rattle.gw_services.specs.declared.multi_req.Reference.{Reference as RustReference}
-use Rattle.gw_services.specs.declared.multi_req.MultiReq.{MultiReq}
+use Rattle.gw_services.specs.declared.reference.Reference.{Reference as RustReference}
 use Rattle.gw_services.specs.Limits.{last_property, last_number}
 use Rattle.gw_services.specs.Parameter.{Parameter, object, number, an_object, a_number, under}
 use Rattle.gw_services.specs.Body.{Begins, IsAbsent, IsWrong}
@@ -32,9 +31,6 @@ reference_view r = record {
   property = r.property;
   index = r.index;
 }
-
-abbrev pub multi_view : MultiReq → List Reference
-multi_view m = map reference_view m.references.items
 
 -- how many properties a body may name (ours)
 abbrev pub most_references : ℕ
@@ -201,3 +197,7 @@ reference_part r ends =
 abbrev pub multi_encoding : List Reference → List ℕ
 multi_encoding [] = []
 multi_encoding (r ∷ others) = reference_part r (list_ends others) ++ multi_encoding others
+
+-- a body names these references: what is written of them is one
+abbrev pub AreNamed : List Reference → Type 0
+AreNamed references = IsMulti (multi_encoding references) references

@@ -13,6 +13,7 @@ mod multi_req;
 mod next;
 mod parameter;
 mod read;
+mod reference;
 mod reply;
 mod request;
 mod segmentation;
@@ -31,9 +32,10 @@ pub use i_have::{decode_i_have, encode_i_have};
 pub use multi::{
     MAX_REFERENCES, decode_multi, encode_multi, list_ends, write_list_head, write_list_tail,
 };
-pub use multi_req::{MultiReq, Reference};
+pub use multi_req::MultiReq;
 pub use next::Next;
 pub use read::{decode_read, encode_read};
+pub use reference::Reference;
 pub use reply::{
     write_error_item, write_read_answer_head, write_read_answer_tail, write_value_item_head,
     write_value_item_tail,

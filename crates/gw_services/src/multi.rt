@@ -5,15 +5,17 @@ ghost use Rattle.std.specs.Option.{option_map};
 ghost use Rattle.gw_addr.specs.Appending.{IsAppended, IsAppendedWhole};
 ghost use Rattle.gw_addr.specs.Reading.{Gives};
 ghost use Rattle.gw_tags.specs.Object.{object_view};
-ghost use Rattle.gw_services.specs.Multi.{Reference as ReferenceFields, reference_view, multi_view, IsMulti, HasMultiFault, HasReference, is_consistent, is_set_name, most_references, head_part, tail_part, name_part, list_ends, reference_part, multi_encoding};
+ghost use Rattle.gw_services.specs.Multi.{Reference as ReferenceFields, reference_view, AreNamed, IsMulti, HasMultiFault, HasReference, is_consistent, is_set_name, most_references, head_part, tail_part, name_part, list_ends, reference_part, multi_encoding};
+ghost use Rattle.gw_services.specs.MultiView.{multi_view};
 ghost use Rattle.gw_services.specs.MultiReading.{opened_at, named_at, reference_at, next_at, references_at, step_at, multi_at, behind_these};
 ghost use Rattle.gw_services.specs.internal.Next.{next_view};
 
 use crate::fault::BodyFault;
-use crate::multi_req::{MultiReq, Reference};
+use crate::multi_req::MultiReq;
 use crate::next::Next;
 use crate::parameter::{number, number_maybe, object};
 use crate::read::put_number;
+use crate::reference::Reference;
 use crate::request::LAST_PROPERTY;
 use crate::walk::read_reference;
 use gw_addr::keep_whole;
@@ -144,13 +146,13 @@ fn references(
     }
 }
 
-/// What `decode_multi` gives, said by the reading functions alone. A first reference that is refused
-/// takes no memory.
-fn read(alloc: Global, octets: &[u8]) -> Result<MultiReq, BodyFault>
+/// The references of a body. A first one that is refused takes no memory.
+fn list_of(alloc: Global, octets: &[u8]) -> Result<Vec<Reference>, BodyFault>
     ensures nothing { octets.now ≡ [] → result ≡ Err BodyFault.Missing }
     ensures refused { (fault : BodyFault) →
         step_at most_references None octets.now ≡ Err fault → result ≡ Err fault }
-    ensures ok { IfOk result (λ m. multi_at octets.now ≡ Ok (multi_view m)) }
+    ensures ok { IfOk result
+        (λ list. multi_at octets.now ≡ Ok (map reference_view list.items)) }
     ensures err { (fault : BodyFault) → result ≡ Err fault → fault ≢ BodyFault.Memory
         → multi_at octets.now ≡ Err fault }
 {
@@ -164,7 +166,22 @@ fn read(alloc: Global, octets: &[u8]) -> Result<MultiReq, BodyFault>
     if let Next::More(current, rest) = next {
         references(MAX_REFERENCES - 1, current, rest, &mut list)?;
     }
-    Ok(MultiReq { references: list })
+    Ok(list)
+}
+
+/// What `decode_multi` gives, said by the reading functions alone.
+fn read(alloc: Global, octets: &[u8]) -> Result<MultiReq, BodyFault>
+    ensures nothing { octets.now ≡ [] → result ≡ Err BodyFault.Missing }
+    ensures refused { (fault : BodyFault) →
+        step_at most_references None octets.now ≡ Err fault → result ≡ Err fault }
+    ensures ok { IfOk result (λ m. multi_at octets.now ≡ Ok (multi_view m)) }
+    ensures err { (fault : BodyFault) → result ≡ Err fault → fault ≢ BodyFault.Memory
+        → multi_at octets.now ≡ Err fault }
+{
+    match list_of(alloc, octets) {
+        Ok(references) => Ok(MultiReq { references }),
+        Err(fault) => Err(fault),
+    }
 }
 
 /// The most references that so many octets can have.
@@ -299,9 +316,9 @@ fn put(out: &mut Vec<u8>, references: &[Reference]) -> Result<(), AllocError>
 ///
 /// 1 Memory, only where the buffer had no room.
 pub fn encode_multi(request: &MultiReq, out: &mut Vec<u8>) -> Result<(), AllocError>
-    // A body names at most 128 properties.
-    requires { vec_len request.now.references ≤ most_references }
-    ensures { IsAppendedWhole (multi_encoding (multi_view request.now)) out.old out.new result }
+    ensures octets { IsAppendedWhole (multi_encoding (multi_view request.now)) out.old out.new result }
+    // What is written is a body that names these properties.
+    ensures body { ∥ AreNamed (multi_view request.now) ∥₁ }
 {
     let len = out.len();
     let written = put(out, request.references.as_slice());

@@ -1,24 +1,9 @@
 //! What the body of a ReadPropertyMultiple request says (clause 15.7).
 
-ghost use Rattle.std.specs.Prelude.{◌≤◌};
-ghost use Rattle.gw_services.specs.Limits.{last_property};
+ghost use Rattle.std.specs.Prelude.{map};
+ghost use Rattle.gw_services.specs.Multi.{AreNamed, reference_view};
 
-use gw_tags::ObjectId;
-
-/// A property of an object, or one element of it, among those that a request asks for.
-#[derive(Clone, Copy, Debug)]
-pub struct Reference {
-    /// Whether an object's list begins with this one. One object may have several lists, one
-    /// behind the other.
-    pub begins: bool,
-    /// The object.
-    pub object: ObjectId,
-    /// The property, 0 to 4194303.
-    pub property: u32,
-    /// The index of an element.
-    pub index: Option<u32>,
-    pub ghost numbered: { property ≤ last_property },
-}
+use crate::reference::Reference;
 
 /// A ReadPropertyMultiple request: lists of properties, each of one object.
 ///
@@ -35,4 +20,7 @@ pub struct Reference {
 pub struct MultiReq {
     /// The properties in the order in which they are asked for.
     pub references: Vec<Reference>,
+    /// A body names them: 1 to 128, an object's list begins with the first, and no index stands beside
+    /// a set.
+    pub ghost body: { ∥ AreNamed (map reference_view references.items) ∥₁ },
 }

@@ -10,8 +10,8 @@ ghost use Rattle.gw_services.specs.internal.Next.{next_view};
 
 use crate::fault::BodyFault;
 use crate::multi::{is_consistent, next, reference};
-use crate::multi_req::Reference;
 use crate::next::Next;
+use crate::reference::Reference;
 use gw_tags::ObjectId;
 
 /// Reads one reference of the body of a ReadPropertyMultiple, of which so many may still come, in
