@@ -219,7 +219,8 @@ pub fn mask(value: &Value) -> Result<Mask, ConfigFault>
     mask_of(text).ok_or(ConfigFault::Range)
 }
 
-fn mask_of(text: &str) -> Option<Mask>
+/// The mask that is written so.
+pub fn mask_of(text: &str) -> Option<Mask>
     ensures { result ≡ mask_written text.now }
 {
     match Mask::parse(text) {

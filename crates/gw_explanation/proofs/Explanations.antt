@@ -1,6 +1,7 @@
 -- What a line shows.
-use Rattle.std.proofs.Common.{◌≡◌, ◌<◌, ◌+◌, Bool, true, false, ℕ, zero, suc, add-one, arith, get_or, take, if◌then◌else◌, List, [], ◌∷◌, ◌++◌, map, length, nat_lt, codes, Result, Ok, Err, OnOk, rules, refl, ap, ◌∙◌}
-use Rattle.std.specs.Prelude.{Float}
+use Rattle.std.proofs.Common.{◌≡◌, ◌<◌, ◌≤◌, ◌+◌, Bool, true, false, ℕ, zero, suc, add-one, arith, get_or, take, if◌then◌else◌, List, [], ◌∷◌, ◌++◌, map, length, nat_lt, codes, Result, Ok, Err, OnOk, rules, refl, ap, subst, sym, ◌∙◌}
+use Rattle.std.specs.Prelude.{Float, IfOk, Option, vec_items}
+use Rattle.std.specs.Global.{Vec}
 use Rattle.std.specs.List.{list_all}
 use Rattle.std.specs.Result.{is_ok}
 use Rattle.toml.proofs.Views.{view-Float}
@@ -11,9 +12,12 @@ use Rattle.toml.specs.declared.value.Value.TheVariants as value
 use Rattle.gw_configuration.specs.declared.fault.ConfigFault.{ConfigFault}
 use Rattle.gw_configuration.specs.declared.fault.ConfigFault.TheVariants.{TooMany}
 use Rattle.gw_configuration.specs.Configuration.{Configuration}
-use Rattle.gw_policy_text.specs.Document.{document, located_configuration}
-use Rattle.gw_explanation.specs.Explanation.{IsExplanation, fault_words, is_printed, place_words, shown, single_words, value_at}
-use Rattle.gw_configuration.specs.Located.{Find, Located, of_text}
+use Rattle.gw_policy_text.specs.Document.{configuration_of, document, located_configuration}
+use Rattle.gw_explanation.specs.Explanation.{Explains, IsNoDocument, IsTextWanted, IsWanted, IsExplanation, is_printed, position_words, shown, tables_in, tables_or}
+use Rattle.gw_explanation.specs.Wanted.{wanted_words}
+use Rattle.gw_explanation.specs.Place.{place_words, value_at}
+use Rattle.gw_explanation.specs.Told.{fault_words, single_words}
+use Rattle.gw_configuration.specs.Located.{Find, Located, Read, of_text}
 
 printed_shown : (octet : ℕ) → is_printed (shown octet) ≡ true
 printed_shown octet = on (is_printed octet) refl
@@ -41,11 +45,12 @@ pub fraction_words : (v : Value) (number : Float) → v ≡ value.Float number �
 fraction_words v number is = ap (λ (w : Value). single_words (view w)) is ∙ ap single_words (view-Float number)
 
 -- the line of a fault that was found
-pub explained : (located : Located) (top : Members) (fault : ConfigFault) (line wanted : List ℕ) (found : Find Configuration)
-    → located.fault ≡ fault → line ≡ map shown (place_words located top ++ fault_words fault (value_at located top) ++ wanted)
-    → found ≡ Err located → IsExplanation found top fault line
-explained located top fault line wanted found same words first =
-    record { located = located; first = first; same = same; wanted = wanted; words = words }
+pub explained : (located : Located) (top : Members) (Wanted : Located → List ℕ → Type 0) (fault : ConfigFault) (line last : List ℕ)
+    (found : Find Configuration) → located.fault ≡ fault
+    → line ≡ map shown (place_words located top ++ fault_words fault (value_at located top) ++ last) → Wanted located last
+    → found ≡ Err located → IsExplanation found top Wanted fault line
+explained located top Wanted fault line last found same words wanted first =
+    record { located = located; first = first; same = same; last = last; wanted = wanted; words = words }
 
 -- what stands in a buffer behind a text that was appended
 pub appended : {T F : Type 0} (result : Result T F) (old new text : List ℕ) → new ≡ (if is_ok result then old ++ text else old) → OnOk result (new ≡ old ++ text)
@@ -58,3 +63,46 @@ too_long text is = rw is refl
 pub no_document : (text : List ℕ) (fault : ConfigFault) → nat_lt 1048576 (length text) ≡ false → document text ≡ Err fault
     → located_configuration text ≡ Err (of_text fault)
 no_document text fault short is = rw (short, is) refl
+
+-- the tables of a text
+pub long_tables : (text : List ℕ) → nat_lt 1048576 (length text) ≡ true → tables_in text ≡ Err TooMany
+long_tables text is = rw is refl
+
+pub of_document : (text : List ℕ) (tables : Read Members) → nat_lt 1048576 (length text) ≡ false → document text ≡ tables
+    → tables_in text ≡ tables
+of_document text tables short is = rw short is
+
+-- the line of a text without tables, and of one with them
+pub no_tables : {E : Type 0} (text : List ℕ) (told fault : ConfigFault) (result : Result (Option (List ℕ)) E) → tables_in text ≡ Err told
+    → IfOk result (λ line. Explains (located_configuration text) (tables_or (Err told)) (λ (at : Located) (w : List ℕ). IsTextWanted text w) fault line)
+    → IfOk result (λ line. Explains (located_configuration text) (tables_or (tables_in text)) (IsWanted text (tables_in text)) fault line)
+no_tables text told fault result is line =
+    subst
+    (λ (t : Read Members). IfOk result (λ line. Explains (located_configuration text) (tables_or t) (IsWanted text t) fault line))
+    (sym is) line
+
+pub of_tables : {E : Type 0} (text : List ℕ) (top : Members) (fault : ConfigFault) (result : Result (Option (List ℕ)) E)
+    → nat_lt 1048576 (length text) ≡ false → document text ≡ Ok top
+    → IfOk result (λ line. Explains (configuration_of top) top (λ (at : Located) (w : List ℕ). w ≡ wanted_words at top) fault line)
+    → IfOk result (λ line. Explains (located_configuration text) (tables_or (tables_in text)) (IsWanted text (tables_in text)) fault line)
+of_tables text top fault result short is line =
+    let found : located_configuration text ≡ configuration_of top = rw (short, is) refl in
+    subst
+    (λ (f : Find Configuration). IfOk result (λ line. Explains f (tables_or (tables_in text)) (IsWanted text (tables_in text)) fault line))
+    (sym found)
+    (subst
+    (λ (t : Read Members). IfOk result (λ line. Explains (configuration_of top) (tables_or t) (IsWanted text t) fault line))
+    (sym (of_document text (Ok top) short is)) line)
+
+-- the words of a text that is read up to this place
+pub no_document_at : {E : Type 0} (text : List ℕ) (place : ℕ) (front reason : List ℕ) (result : Result (Vec ℕ) E) → place ≤ length text
+    → front ≡ take place text
+    → IfOk result (λ words. vec_items words ≡ codes "is no TOML document" ++ position_words front ++ codes ": " ++ reason)
+    → IfOk result (λ words. IsNoDocument text (vec_items words))
+no_document_at text place front reason (Ok words) within same told = record {
+  place = place;
+  within = within;
+  reason = reason;
+  told = told ∙ ap (λ (f : List ℕ). codes "is no TOML document" ++ position_words f ++ codes ": " ++ reason) same;
+}
+no_document_at text place front reason (Err failed) within same told = tt

@@ -1,1 +1,4 @@
 pub mod Explanation
+pub mod Place
+pub mod Told
+pub mod Wanted

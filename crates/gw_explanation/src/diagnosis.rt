@@ -1,18 +1,19 @@
 //! Where the fault of a configuration is, for an operator.
-ghost use Rattle.std.specs.Prelude.{◌≡◌, ◌≢◌, Err, IfOk};
+ghost use Rattle.std.specs.Prelude.{◌≡◌, ◌≢◌, ◌++◌, ◌==◌, ℕ, List, Err, IfOk, OnOk, codes, count_by, length, not, reverse};
+ghost use Rattle.std.specs.List.{take_while};
 ghost use Rattle.toml.specs.Data.{Members};
 ghost use Rattle.toml.specs.View.{table_view};
 ghost use Rattle.gw_configuration.specs.Configuration.{Configuration};
 ghost use Rattle.gw_policy_text.specs.Document.{configuration_of};
-ghost use Rattle.gw_explanation.specs.Explanation.{Explains, ExplainsText};
-ghost use Rattle.gw_configuration.specs.Located.{Find, located_view, of_text};
+ghost use Rattle.gw_explanation.specs.Explanation.{Explains, ExplainsText, IsNoDocument, IsTextWanted, position_words};
+ghost use Rattle.gw_explanation.specs.Wanted.{wanted_words};
+ghost use Rattle.gw_configuration.specs.Located.{Find, Located as PlainLocated, located_view, of_text};
 ghost use Rattle.gw_configuration.specs.declared.fault.ConfigFault.TheVariants.{Memory};
 
 use crate::explanation::Explanation;
 use crate::reason::put_wanted;
 use crate::told::{put_told, value_at};
-use crate::words::put_place;
-use gw_addr::put_decimal;
+use crate::words::{put_numbered, put_place};
 use gw_configuration::{ConfigFault, Located};
 use gw_policy_text::{MAX_OCTETS, config_of, document};
 use std::alloc::{AllocError, Global};
@@ -47,7 +48,7 @@ fn of_text(
     fault: ConfigFault,
 ) -> Result<Option<Explanation>, AllocError>
     ensures { (found : Find Configuration) (top : Members) → found ≡ Err (of_text told) →
-        IfOk result (λ line. Explains found top fault line) }
+        IfOk result (λ line. Explains found top (λ _ words. IsTextWanted text.now words) fault line) }
 {
     if told != fault {
         return Ok(None);
@@ -60,59 +61,75 @@ fn of_text(
 }
 
 /// What a text as a whole lacks: it is too long, or no document.
-fn text_wanted(alloc: Global, text: &[u8]) -> Result<Vec<u8>, AllocError> {
-    let mut words = Vec::new(alloc);
+fn text_wanted(alloc: Global, text: &[u8]) -> Result<Vec<u8>, AllocError>
+    ensures { IfOk result (λ words. IsTextWanted text.now words.items) }
+{
     if text.len() > MAX_OCTETS {
-        put_limit(&mut words)?;
-    } else {
-        put_no_document(&mut words, alloc, text)?;
+        return limit_words(alloc);
     }
+    match str::from_utf8(text) {
+        Ok(document) => no_document_words(alloc, document),
+        Err(_) => Vec::from_slice(alloc, b"is no TOML document, since it isn't UTF-8"),
+    }
+}
+
+/// How long a text may be.
+fn limit_words(alloc: Global) -> Result<Vec<u8>, AllocError>
+    ensures { IfOk result (λ words. words.items ≡ codes "at most 1048576 octets") }
+{
+    Vec::from_slice(alloc, b"at most 1048576 octets")
+}
+
+/// That a text is no document, where, and why by the words of the reader. `AllocError` where memory was
+/// refused, or the text is a document.
+fn no_document_words(alloc: Global, document: &str) -> Result<Vec<u8>, AllocError>
+    ensures { IfOk result (λ words. IsNoDocument document.now words.items) }
+{
+    let Err(error) = toml::table_from_str(alloc, document) else {
+        return Err(AllocError);
+    };
+    let Some(span) = error.span() else {
+        return Err(AllocError);
+    };
+    error_words(alloc, &document.as_bytes()[..span.start], error.message())
+}
+
+/// That a text is no document behind this front of it, and why.
+fn error_words(alloc: Global, front: &[u8], reason: &str) -> Result<Vec<u8>, AllocError>
+    ensures { IfOk result (λ words. words.items ≡
+        codes "is no TOML document" ++ position_words front.now ++ codes ": " ++ reason.now) }
+{
+    let mut words = Vec::from_slice(alloc, b"is no TOML document")?;
+    put_position(&mut words, front)?;
+    words.extend_from_slice(b": ")?;
+    words.extend_from_slice(reason.as_bytes())?;
     Ok(words)
 }
 
-/// Puts how long a text may be.
-fn put_limit(words: &mut Vec<u8>) -> Result<(), AllocError> {
-    words.extend_from_slice(b"at most ")?;
-    put_decimal(words, MAX_OCTETS)?;
-    words.extend_from_slice(b" octets")
+/// Puts the line and the column, both from 1, of what stands behind the front of a text.
+fn put_position(line: &mut Vec<u8>, front: &[u8]) -> Result<(), AllocError>
+    ensures { OnOk result (line.new.items ≡ line.old.items ++ position_words front.now) }
+{
+    put_numbered(line, ", line ", lines_before(front))?;
+    put_numbered(line, ", column ", octets_behind(front))
 }
 
-/// Puts that a text is no document, and why.
-fn put_no_document(words: &mut Vec<u8>, alloc: Global, text: &[u8]) -> Result<(), AllocError> {
-    words.extend_from_slice(b"is no TOML document")?;
-    let Ok(document) = str::from_utf8(text) else {
-        return words.extend_from_slice(b", since it isn't UTF-8");
-    };
-    match toml::table_from_str(alloc, document) {
-        Ok(_) => Ok(()),
-        Err(error) => put_error(words, text, &error),
-    }
+/// How many lines end in the front of a text.
+fn lines_before(front: &[u8]) -> usize
+    ensures { result ≡ count_by (λ c. c == 10) front.now }
+{
+    front.iter().filter(|octet| **octet == b'\n').count()
 }
 
-/// Puts why a text is no document, and where, by the line and the column that the reader tells.
-fn put_error(line: &mut Vec<u8>, text: &[u8], error: &Error) -> Result<(), AllocError> {
-    if let Some(span) = error.span() {
-        put_position(line, text, span.start)?;
-    }
-    line.extend_from_slice(b": ")?;
-    line.extend_from_slice(error.message().as_bytes())
-}
-
-/// Puts the line and the column of an octet, both from 1.
-fn put_position(line: &mut Vec<u8>, text: &[u8], start: usize) -> Result<(), AllocError> {
-    let Some(front) = text.get(..start) else {
-        return Ok(());
-    };
-    let ends = front.iter().filter(|octet| **octet == b'\n').count();
-    let behind = front
+/// How many octets it has behind the last line that ends there.
+fn octets_behind(front: &[u8]) -> usize
+    ensures { result ≡ length (take_while (λ c. not (c == 10)) (reverse front.now)) }
+{
+    front
         .iter()
         .rev()
         .take_while(|octet| **octet != b'\n')
-        .count();
-    line.extend_from_slice(b", line ")?;
-    put_decimal(line, ends.saturating_add(1))?;
-    line.extend_from_slice(b", column ")?;
-    put_decimal(line, behind.saturating_add(1))
+        .count()
 }
 
 /// Of the tables of a document.
@@ -122,7 +139,8 @@ fn in_tables(
     fault: ConfigFault,
 ) -> Result<Option<Explanation>, AllocError>
     ensures { let members = table_view top.now in
-        IfOk result (λ line. Explains (configuration_of members) members fault line) }
+        let Wanted : PlainLocated → List ℕ → Type 0 = λ found words. words ≡ wanted_words found members in
+        IfOk result (λ line. Explains (configuration_of members) members Wanted fault line) }
 {
     let Err(located) = config_of(alloc, top) else {
         return Ok(None);
@@ -139,7 +157,8 @@ fn of_fault(
 ) -> Result<Option<Explanation>, AllocError>
     ensures { (found : Find Configuration) →
         (located.now.fault ≢ Memory → found ≡ Err (located_view located.now)) →
-        IfOk result (λ line. Explains found (table_view top.now) fault line) }
+        let Wanted : PlainLocated → List ℕ → Type 0 = λ at words. words ≡ wanted_words at (table_view top.now) in
+        IfOk result (λ line. Explains found (table_view top.now) Wanted fault line) }
 {
     if located.fault == ConfigFault::Memory {
         return Err(AllocError);
@@ -148,11 +167,9 @@ fn of_fault(
         return Ok(None);
     }
     let value = value_at(located, top);
-    let mut wanted = Vec::new(alloc);
-    put_wanted(&mut wanted, located, top, value)?;
     let mut line = Vec::new(alloc);
     put_place(&mut line, located, top)?;
     put_told(&mut line, fault, value)?;
-    line.extend_from_slice(&wanted)?;
+    put_wanted(&mut line, located, top)?;
     Ok(Some(Explanation::of_words(alloc, &line)?))
 }

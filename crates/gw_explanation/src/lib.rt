@@ -3,6 +3,7 @@
 
 mod diagnosis;
 mod explanation;
+pub mod laws;
 mod reason;
 mod told;
 mod words;

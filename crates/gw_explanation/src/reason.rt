@@ -1,33 +1,73 @@
 //! What is wanted at the place of a fault, in words.
+ghost use Rattle.std.specs.Prelude.{◌≡◌, ◌<◌, ◌++◌, length, map, option_map, MatchOption, OnOk};
+ghost use Rattle.std.specs.List.{after_first, before_first, position_or_len};
+ghost use Rattle.toml.specs.View.{table_view, view};
+ghost use Rattle.gw_addr.specs.Address.{text_of};
+ghost use Rattle.gw_configuration.specs.Located.{located_view};
+ghost use Rattle.gw_explanation.specs.Wanted.{address_text, addresses_words, bits_in, bounds_words, due_words, every_port_words, first_address, first_octet, fixed_words, host_bits, is_reversed, is_slash, item_words, kind_at, kind_words, last_address, last_octet, length_range_words, length_words, list_kind_words, list_noun, list_words, missing_words, must_words, number_words, other_front, other_words, range_words, reversed_ends, scalar_words, shape_words, subnet_in, subnet_words, twice_words, two_front, two_words, type_words, wanted_words, within_32};
 
-use crate::told::put_value;
+use crate::told::{put_value, value_at};
 use crate::words::table_at;
-use gw_addr::{Mask, put_decimal};
+use gw_addr::{BipAddr, Mask, put_decimal};
 use gw_config_tables::range::between;
-use gw_config_tables::value::member;
+use gw_config_tables::value::{self, mask_of, member, string};
 use gw_configuration::{ConfigFault, Located, MAX_TEXT, Scalar, Shape};
-use gw_rules::{MAX_RANGES, Operation};
+use gw_rules::MAX_RANGES;
 use std::alloc::AllocError;
 use toml::{Table, Value};
 
-/// Puts what is wanted at the place of a fault, behind what is told of it.
+/// How many bits an octet has.
+const OCTET_BITS: u8 = 8;
+/// How many bits an address has.
+const ADDRESS_BITS: u8 = 32;
+/// The types of objects, each by its number.
+const TYPES: &str =
+    "5 Binary Value, 19 Multi-state Value, 40 CharacterString Value, 45 Integer Value, 48 Positive Integer Value";
+/// The operations, each by its name.
+const OPERATIONS: &str =
+    "cast, route, register, delete, read-table, write-table, learn, network, read, write, list";
+
+/// Puts what is wanted at the place of a fault, behind what is told of it. `AllocError` where memory was
+/// refused.
 pub(crate) fn put_wanted(
     line: &mut Vec<u8>,
     located: &Located<'_>,
     top: &Table,
+) -> Result<(), AllocError>
+    ensures { let words = wanted_words (located_view located.now) (table_view top.now) in
+        OnOk result (line.new.items ≡ line.old.items ++ words) }
+{
+    let kind = kind_at(located, top);
+    let value = value_at(located, top);
+    match located.fault {
+        ConfigFault::UnknownKey => Ok(()),
+        ConfigFault::Duplicate => put_twice(line, kind),
+        fault => put_shape(line, fault, located.wanted, located.item, value),
+    }
+}
+
+/// Puts what is wanted of a value, by the shape of its field.
+fn put_shape(
+    line: &mut Vec<u8>,
+    fault: ConfigFault,
+    wanted: Option<Shape>,
+    item: Option<usize>,
     value: Option<&Value>,
-) -> Result<(), AllocError> {
-    match (located.fault, located.wanted, value) {
-        (ConfigFault::UnknownKey, _, _) => Ok(()),
-        (ConfigFault::Duplicate, _, _) => put_twice(line, kind_at(located, top)),
-        (_, Some(shape), None) => put_missing(line, shape),
-        (fault, Some(shape), Some(value)) => put_must(line, fault, shape, located.item, value),
-        (_, None, _) => line.extend_from_slice(b"is at fault"),
+) -> Result<(), AllocError>
+    ensures { let words = shape_words fault wanted item (option_map (λ v. view v.now) value.entry) in
+        OnOk result (line.new.items ≡ line.old.items ++ words) }
+{
+    match (wanted, value) {
+        (Some(shape), None) => put_missing(line, shape),
+        (Some(shape), Some(value)) => put_must(line, fault, shape, item, value),
+        (None, _) => line.extend_from_slice(b"is at fault"),
     }
 }
 
 /// Of an instance, the type of its object.
-fn kind_at<'a>(located: &Located<'_>, top: &'a Table) -> Option<&'a Value> {
+fn kind_at<'a>(located: &Located<'_>, top: &'a Table) -> Option<&'a Value>
+    ensures { option_map (λ v. view v.now) result ≡ kind_at (located_view located.now) (table_view top.now) }
+{
     if located.key != "instance" {
         return None;
     }
@@ -35,17 +75,39 @@ fn kind_at<'a>(located: &Located<'_>, top: &'a Table) -> Option<&'a Value> {
 }
 
 /// Puts that a value stands twice.
-fn put_twice(line: &mut Vec<u8>, kind: Option<&Value>) -> Result<(), AllocError> {
+fn put_twice(line: &mut Vec<u8>, kind: Option<&Value>) -> Result<(), AllocError>
+    ensures { let words = twice_words (option_map (λ v. view v.now) kind.entry) in
+        OnOk result (line.new.items ≡ line.old.items ++ words) }
+{
     line.extend_from_slice(b" is named twice")?;
-    if let Some(kind) = kind {
-        line.extend_from_slice(b" for type ")?;
-        put_value(line, kind)?;
-    }
-    Ok(())
+    put_type(line, kind)
 }
 
-fn put_missing(line: &mut Vec<u8>, shape: Shape) -> Result<(), AllocError> {
+/// Puts the type of an object.
+fn put_type(line: &mut Vec<u8>, kind: Option<&Value>) -> Result<(), AllocError>
+    ensures { let words = type_words (option_map (λ v. view v.now) kind.entry) in
+        OnOk result (line.new.items ≡ line.old.items ++ words) }
+{
+    match kind {
+        Some(kind) => {
+            line.extend_from_slice(b" for type ")?;
+            put_value(line, kind)
+        }
+        None => Ok(()),
+    }
+}
+
+/// Puts what a value must be that isn't there.
+fn put_missing(line: &mut Vec<u8>, shape: Shape) -> Result<(), AllocError>
+    ensures { OnOk result (line.new.items ≡ line.old.items ++ missing_words shape) }
+{
     line.extend_from_slice(b"; it must be ")?;
+    put_due(line, shape)
+}
+
+fn put_due(line: &mut Vec<u8>, shape: Shape) -> Result<(), AllocError>
+    ensures { OnOk result (line.new.items ≡ line.old.items ++ due_words shape) }
+{
     match shape {
         Shape::One(of) => put_range(line, of),
         Shape::List { of, least, most } => put_list(line, of, least, most),
@@ -54,12 +116,21 @@ fn put_missing(line: &mut Vec<u8>, shape: Shape) -> Result<(), AllocError> {
 }
 
 /// Puts how many of what a list has.
-fn put_list(line: &mut Vec<u8>, of: Scalar, least: usize, most: usize) -> Result<(), AllocError> {
+fn put_list(line: &mut Vec<u8>, of: Scalar, least: usize, most: usize) -> Result<(), AllocError>
+    ensures { OnOk result (line.new.items ≡ line.old.items ++ list_words of least most) }
+{
     put_bounds(line, least as u64, most as u64)?;
-    line.extend_from_slice(match of {
-        Scalar::Table => b" tables in double brackets",
-        _ => b" texts in a list",
-    })
+    line.extend_from_slice(list_noun(of).as_bytes())
+}
+
+/// What the items of a list are.
+fn list_noun(of: Scalar) -> &'static str
+    ensures { result.now ≡ list_noun of }
+{
+    match of {
+        Scalar::Table => " tables in double brackets",
+        _ => " texts in a list",
+    }
 }
 
 /// Puts what a value must be.
@@ -69,108 +140,258 @@ fn put_must(
     shape: Shape,
     item: Option<usize>,
     value: &Value,
-) -> Result<(), AllocError> {
+) -> Result<(), AllocError>
+    ensures { let words = must_words fault shape item (view value.now) in
+        OnOk result (line.new.items ≡ line.old.items ++ words) }
+{
     match (shape, item) {
-        (Shape::One(of), _) | (Shape::List { of, .. }, Some(_)) => put_single(line, fault, of),
-        (Shape::Ranges(of), Some(_)) => put_range_item(line, fault, of, value),
+        (Shape::One(of), _) => put_scalar(line, fault, of),
+        (Shape::List { of, .. }, Some(_)) => put_scalar(line, fault, of),
         (Shape::List { of, least, most }, None) => put_length(line, fault, of, least, most),
+        (Shape::Ranges(of), Some(_)) => put_item(line, fault, of, value),
         (Shape::Ranges(of), None) => put_length(line, fault, of, 1, MAX_RANGES),
     }
 }
 
 /// Puts what a single value must be.
-fn put_single(line: &mut Vec<u8>, fault: ConfigFault, of: Scalar) -> Result<(), AllocError> {
-    match (of, fault) {
-        (_, ConfigFault::Kind) => {
+fn put_scalar(line: &mut Vec<u8>, fault: ConfigFault, of: Scalar) -> Result<(), AllocError>
+    ensures { OnOk result (line.new.items ≡ line.old.items ++ scalar_words fault of) }
+{
+    match fault {
+        ConfigFault::Kind => {
             line.extend_from_slice(b" must be ")?;
             line.extend_from_slice(kind_words(of).as_bytes())
         }
-        (Scalar::ObjectType | Scalar::Operation, _) => {
-            line.extend_from_slice(b" is none of ")?;
-            put_range(line, of)
-        }
-        _ => {
-            line.extend_from_slice(b" must be ")?;
-            put_range(line, of)
-        }
+        _ => put_other(line, of),
+    }
+}
+
+/// Puts what a value of the right kind must be.
+fn put_other(line: &mut Vec<u8>, of: Scalar) -> Result<(), AllocError>
+    ensures { OnOk result (line.new.items ≡ line.old.items ++ other_words of) }
+{
+    line.extend_from_slice(other_front(of).as_bytes())?;
+    put_range(line, of)
+}
+
+fn other_front(of: Scalar) -> &'static str
+    ensures { result.now ≡ other_front of }
+{
+    match of {
+        Scalar::ObjectType | Scalar::Operation => " is none of ",
+        _ => " must be ",
     }
 }
 
 /// Puts what an item for a field of a rule must be.
-fn put_range_item(
+fn put_item(
     line: &mut Vec<u8>,
     fault: ConfigFault,
     of: Scalar,
     item: &Value,
-) -> Result<(), AllocError> {
+) -> Result<(), AllocError>
+    ensures { let words = item_words fault of (view item.now) in
+        OnOk result (line.new.items ≡ line.old.items ++ words) }
+{
     if is_reversed(of, item) {
         return line.extend_from_slice(b" is reversed: the low end comes before the high one");
     }
-    put_single(line, fault, of)?;
-    if matches!(of, Scalar::Operation) {
-        return Ok(());
+    put_scalar(line, fault, of)?;
+    put_two(line, of, item)
+}
+
+/// Puts that an item may be two values.
+fn put_two(line: &mut Vec<u8>, of: Scalar, item: &Value) -> Result<(), AllocError>
+    ensures { OnOk result (line.new.items ≡ line.old.items ++ two_words of (view item.now)) }
+{
+    line.extend_from_slice(two_front(of).as_bytes())?;
+    put_addresses(line, address_text(of, item))
+}
+
+fn two_front(of: Scalar) -> &'static str
+    ensures { result.now ≡ two_front of }
+{
+    match of {
+        Scalar::Operation => "",
+        _ => ", or a list of two such, low and high",
     }
-    line.extend_from_slice(b", or a list of two such, low and high")?;
-    match (of, item.as_str()) {
-        (Scalar::Address, Some(text)) => put_addresses(line, text),
-        _ => Ok(()),
+}
+
+/// The text where an address is due.
+fn address_text(of: Scalar, item: &Value) -> Option<&str>
+    ensures { option_map (λ t. t.now) result ≡ address_text of (view item.now) }
+{
+    match of {
+        Scalar::Address => string(item),
+        _ => None,
     }
 }
 
 /// Whether an item is a list of two that would be a range the other way round.
-fn is_reversed(of: Scalar, item: &Value) -> bool {
-    match item.as_array() {
-        Some(ends) => match ends.as_slice() {
-            [low, high] => between(of, high, low).is_ok(),
-            _ => false,
+fn is_reversed(of: Scalar, item: &Value) -> bool
+    ensures { result ≡ is_reversed of (view item.now) }
+{
+    match value::list(item) {
+        Ok(ends) => are_reversed(of, ends),
+        Err(_) => false,
+    }
+}
+
+fn are_reversed(of: Scalar, ends: &[Value]) -> bool
+    ensures { result ≡ reversed_ends of (map view ends.now) }
+{
+    match ends {
+        [low, high] => match between(of, high, low) {
+            Ok(_) => true,
+            Err(_) => false,
         },
-        None => false,
+        _ => false,
     }
 }
 
 /// Puts, of a text without a UDP port, the range with every port of its addresses.
-fn put_addresses(line: &mut Vec<u8>, text: &str) -> Result<(), AllocError> {
-    let Some((low, high)) = addresses_of(text) else {
-        return Ok(());
-    };
+fn put_addresses(line: &mut Vec<u8>, text: Option<&str>) -> Result<(), AllocError>
+    ensures { let words = addresses_words (option_map (λ t. t.now) text.entry) in
+        OnOk result (line.new.items ≡ line.old.items ++ words) }
+{
+    match text {
+        Some(text) => put_subnet(line, subnet_in(text)),
+        None => Ok(()),
+    }
+}
+
+fn put_subnet(line: &mut Vec<u8>, subnet: Option<(Mask, u8)>) -> Result<(), AllocError>
+    ensures { OnOk result (line.new.items ≡ line.old.items ++ subnet_words subnet) }
+{
+    match subnet {
+        Some((four, bits)) => put_every_port(line, four, bits),
+        None => Ok(()),
+    }
+}
+
+/// Puts the range with every port of the addresses with the same first so many bits.
+fn put_every_port(line: &mut Vec<u8>, four: Mask, bits: u8) -> Result<(), AllocError>
+    ensures { OnOk result (line.new.items ≡ line.old.items ++ every_port_words four bits) }
+{
     line.extend_from_slice(b"; with every UDP port it is [\"")?;
-    put_ip(line, low)?;
-    line.extend_from_slice(b":0\", \"")?;
-    put_ip(line, high)?;
-    line.extend_from_slice(b":65535\"]")
+    put_first(line, four, bits)?;
+    line.extend_from_slice(b"\", \"")?;
+    put_last(line, four, bits)?;
+    line.extend_from_slice(b"\"]")
 }
 
-/// The first and the last address of a text `a.b.c.d` or `a.b.c.d/bits`.
-fn addresses_of(text: &str) -> Option<(u32, u32)> {
-    let Some((address, bits)) = text.split_once('/') else {
-        let address = number_of(text)?;
-        return Some((address, address));
-    };
-    let address = number_of(address)?;
-    let bits: u8 = bits.parse().ok()?;
-    if 32 < bits {
-        return None;
+fn put_first(line: &mut Vec<u8>, four: Mask, bits: u8) -> Result<(), AllocError>
+    ensures { OnOk result (line.new.items ≡ line.old.items ++ text_of (first_address four bits)) }
+{
+    first_address(four, bits).put_text(line)
+}
+
+fn put_last(line: &mut Vec<u8>, four: Mask, bits: u8) -> Result<(), AllocError>
+    ensures { OnOk result (line.new.items ≡ line.old.items ++ text_of (last_address four bits)) }
+{
+    last_address(four, bits).put_text(line)
+}
+
+/// The addresses of a text `a.b.c.d/bits`, or `a.b.c.d` with all 32.
+fn subnet_in(text: &str) -> Option<(Mask, u8)>
+    ensures { result ≡ subnet_in text.now }
+{
+    match split_at_slash(text) {
+        Some((address, bits)) => {
+            let four = mask_of(address)?;
+            let bits = bits_in(bits.as_bytes())?;
+            Some((four, bits))
+        }
+        None => {
+            let four = mask_of(text)?;
+            Some((four, ADDRESS_BITS))
+        }
     }
-    let hosts = u32::MAX.checked_shr(u32::from(bits)).unwrap_or(0);
-    Some((address & !hosts, address | hosts))
 }
 
-/// The four octets of a text `a.b.c.d` as one number.
-fn number_of(text: &str) -> Option<u32> {
-    let mask = Mask::parse(text)?;
-    let octets = mask.octets;
-    Some(u32::from_be_bytes(octets))
+/// What stands before the first slash, and what behind it.
+fn split_at_slash(text: &str) -> Option<(&str, &str)>
+    ensures { MatchOption result (position_or_len is_slash text.now ≡ length text.now)
+        (λ x. (x.0.now ≡ before_first is_slash text.now) × (x.1.now ≡ after_first is_slash text.now)
+        × (position_or_len is_slash text.now < length text.now)) }
+{
+    text.split_once('/')
 }
 
-fn put_ip(line: &mut Vec<u8>, address: u32) -> Result<(), AllocError> {
-    let octets = address.to_be_bytes();
-    let mut between = "";
-    for octet in &octets {
-        line.extend_from_slice(between.as_bytes())?;
-        put_decimal(line, *octet)?;
-        between = ".";
+/// A number of one or two digits, at most 32.
+fn bits_in(text: &[u8]) -> Option<u8>
+    ensures { result ≡ bits_in text.now }
+{
+    match text {
+        [digit] if digit.is_ascii_digit() => Some(*digit - b'0'),
+        [tens, ones] if tens.is_ascii_digit() && ones.is_ascii_digit() => {
+            within_32(10 * (*tens - b'0') + (*ones - b'0'))
+        }
+        _ => None,
     }
-    Ok(())
+}
+
+fn within_32(bits: u8) -> Option<u8>
+    ensures { result ≡ within_32 bits }
+{
+    if bits <= ADDRESS_BITS {
+        Some(bits)
+    } else {
+        None
+    }
+}
+
+/// The bits of an octet behind its first so many, each of them 1.
+fn host_bits(bits: u8) -> u8
+    ensures { result ≡ host_bits bits }
+{
+    if bits < OCTET_BITS { 255 >> bits } else { 0 }
+}
+
+/// The last octet of those with the same first so many bits.
+fn last_octet(octet: u8, bits: u8) -> u8
+    ensures { result ≡ last_octet octet bits }
+{
+    octet | host_bits(bits)
+}
+
+/// The first octet of those.
+fn first_octet(octet: u8, bits: u8) -> u8
+    ensures { result ≡ first_octet octet bits }
+{
+    last_octet(octet, bits).saturating_sub(host_bits(bits))
+}
+
+/// The first address of those with the same first so many bits, with the first UDP port.
+fn first_address(four: Mask, bits: u8) -> BipAddr
+    ensures { result ≡ first_address four bits }
+{
+    let [a, b, c, d] = four.octets;
+    BipAddr {
+        ip: [
+            first_octet(a, bits),
+            first_octet(b, bits.saturating_sub(8)),
+            first_octet(c, bits.saturating_sub(16)),
+            first_octet(d, bits.saturating_sub(24)),
+        ],
+        udp: 0,
+    }
+}
+
+/// The last address of those, with the last UDP port.
+fn last_address(four: Mask, bits: u8) -> BipAddr
+    ensures { result ≡ last_address four bits }
+{
+    let [a, b, c, d] = four.octets;
+    BipAddr {
+        ip: [
+            last_octet(a, bits),
+            last_octet(b, bits.saturating_sub(8)),
+            last_octet(c, bits.saturating_sub(16)),
+            last_octet(d, bits.saturating_sub(24)),
+        ],
+        udp: 65535,
+    }
 }
 
 /// Puts how many items a list may have, or that it has to be one.
@@ -180,12 +401,11 @@ fn put_length(
     of: Scalar,
     least: usize,
     most: usize,
-) -> Result<(), AllocError> {
-    match (fault, of) {
-        (ConfigFault::Kind, Scalar::Table) => {
-            line.extend_from_slice(b" must be tables in double brackets")
-        }
-        (ConfigFault::Kind, _) => line.extend_from_slice(b" must be a list"),
+) -> Result<(), AllocError>
+    ensures { OnOk result (line.new.items ≡ line.old.items ++ length_words fault of least most) }
+{
+    match fault {
+        ConfigFault::Kind => line.extend_from_slice(list_kind_words(of).as_bytes()),
         _ => {
             line.extend_from_slice(b" must have ")?;
             put_bounds(line, least as u64, most as u64)
@@ -193,8 +413,20 @@ fn put_length(
     }
 }
 
+/// That a value must be a list.
+fn list_kind_words(of: Scalar) -> &'static str
+    ensures { result.now ≡ list_kind_words of }
+{
+    match of {
+        Scalar::Table => " must be tables in double brackets",
+        _ => " must be a list",
+    }
+}
+
 /// The kind of a value.
-fn kind_words(of: Scalar) -> &'static str {
+fn kind_words(of: Scalar) -> &'static str
+    ensures { result.now ≡ kind_words of }
+{
     match of {
         Scalar::Number { .. } | Scalar::Signed | Scalar::ObjectType => "a whole number",
         Scalar::Text { .. } | Scalar::RuleName | Scalar::Operation => "a text in quotes",
@@ -206,55 +438,68 @@ fn kind_words(of: Scalar) -> &'static str {
 }
 
 /// Puts the range of a value, or the shape of a text.
-fn put_range(line: &mut Vec<u8>, of: Scalar) -> Result<(), AllocError> {
+fn put_range(line: &mut Vec<u8>, of: Scalar) -> Result<(), AllocError>
+    ensures { OnOk result (line.new.items ≡ line.old.items ++ range_words of) }
+{
     match of {
-        // Where there are no states, a default is none of them.
-        Scalar::Number { low, high } if high < low => line.extend_from_slice(b"one of the states"),
-        Scalar::Number { low, high } => put_bounds(line, low, high),
-        Scalar::Text { least } => {
-            line.extend_from_slice(b"a text of ")?;
-            put_bounds(line, least as u64, MAX_TEXT as u64)?;
-            line.extend_from_slice(b" octets")
-        }
-        Scalar::Operation => put_operations(line),
-        _ => line.extend_from_slice(shape_words(of).as_bytes()),
+        Scalar::Number { low, high } => put_number(line, low, high),
+        Scalar::Text { least } => put_length_range(line, least),
+        Scalar::Signed
+        | Scalar::ObjectType
+        | Scalar::RuleName
+        | Scalar::Operation
+        | Scalar::Address
+        | Scalar::Mask
+        | Scalar::Boolean
+        | Scalar::Table => line.extend_from_slice(fixed_words(of).as_bytes()),
     }
+}
+
+/// Puts how long a text may be.
+fn put_length_range(line: &mut Vec<u8>, least: usize) -> Result<(), AllocError>
+    ensures { OnOk result (line.new.items ≡ line.old.items ++ length_range_words least) }
+{
+    line.extend_from_slice(b"a text of ")?;
+    put_bounds(line, least as u64, MAX_TEXT as u64)?;
+    line.extend_from_slice(b" octets")
 }
 
 /// The shape of other values.
-fn shape_words(of: Scalar) -> &'static str {
+fn fixed_words(of: Scalar) -> &'static str
+    ensures { result.now ≡ fixed_words of }
+{
     match of {
+        Scalar::Number { .. } | Scalar::Text { .. } => "",
         Scalar::Signed => "-2147483648 to 2147483647",
         Scalar::ObjectType => TYPES,
         Scalar::RuleName => "1 to 32 of a to z, 0 to 9 and -, and not default",
+        Scalar::Operation => OPERATIONS,
         Scalar::Address => "an address and its UDP port, as 10.0.1.255:47808",
         Scalar::Mask => "a mask as 255.255.255.0",
-        _ => kind_words(of),
+        Scalar::Boolean => "true or false",
+        Scalar::Table => "a table",
     }
 }
 
-/// The types of objects, each by its number.
-const TYPES: &str =
-    "5 Binary Value, 19 Multi-state Value, 40 CharacterString Value, 45 Integer Value, \
-    48 Positive Integer Value";
-
-/// Puts the names of the operations.
-fn put_operations(line: &mut Vec<u8>) -> Result<(), AllocError> {
-    let mut between = "";
-    for operation in &Operation::ALL {
-        line.extend_from_slice(between.as_bytes())?;
-        line.extend_from_slice(operation.name().as_bytes())?;
-        between = ", ";
+/// Puts the range of a number. Where there are no states, a default is none of them.
+fn put_number(line: &mut Vec<u8>, low: u64, high: u64) -> Result<(), AllocError>
+    ensures { OnOk result (line.new.items ≡ line.old.items ++ number_words low high) }
+{
+    if high < low {
+        line.extend_from_slice(b"one of the states")
+    } else {
+        put_bounds(line, low, high)
     }
-    Ok(())
 }
 
 /// Puts the bounds of a number.
-fn put_bounds(line: &mut Vec<u8>, low: u64, high: u64) -> Result<(), AllocError> {
+fn put_bounds(line: &mut Vec<u8>, low: u64, high: u64) -> Result<(), AllocError>
+    ensures { OnOk result (line.new.items ≡ line.old.items ++ bounds_words low high) }
+{
     put_decimal(line, low)?;
     if low < high {
         line.extend_from_slice(b" to ")?;
-        put_decimal(line, high)?;
+        return put_decimal(line, high);
     }
     Ok(())
 }

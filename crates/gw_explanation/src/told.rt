@@ -1,7 +1,8 @@
 //! What is told first of a fault, in words: the value that stands there.
 ghost use Rattle.std.specs.Prelude.{◌≡◌, ◌++◌, length, map, option_map, OnOk};
 ghost use Rattle.toml.specs.View.{table_view, view};
-ghost use Rattle.gw_explanation.specs.Explanation.{fault_words, item_or, list_words, single_words, text_words, value_at, value_words};
+ghost use Rattle.gw_explanation.specs.Place.{item_or, value_at};
+ghost use Rattle.gw_explanation.specs.Told.{fault_words, list_words, single_words, text_words, value_words};
 ghost use Rattle.gw_configuration.specs.Located.{located_view};
 
 use crate::words::table_at;

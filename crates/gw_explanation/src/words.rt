@@ -1,7 +1,7 @@
 //! The place of a fault in words.
 ghost use Rattle.std.specs.Prelude.{◌≡◌, ◌++◌, OnOk, option_map};
 ghost use Rattle.toml.specs.View.{table_view};
-ghost use Rattle.gw_explanation.specs.Explanation.{item_part, key_part, listed_table, name_at, name_words, place_words, table_at, table_part, table_words};
+ghost use Rattle.gw_explanation.specs.Place.{item_part, key_part, listed_table, name_at, name_words, place_words, table_at, table_part, table_words};
 ghost use Rattle.gw_configuration.specs.Located.{numbered};
 ghost use Rattle.gw_configuration.specs.Located.{located_view};
 
@@ -57,7 +57,11 @@ fn put_part(line: &mut Vec<u8>, place: Place) -> Result<(), AllocError>
 }
 
 /// Puts one of several, by its number from 1.
-fn put_numbered(line: &mut Vec<u8>, word: &str, position: usize) -> Result<(), AllocError>
+pub(crate) fn put_numbered(
+    line: &mut Vec<u8>,
+    word: &str,
+    position: usize,
+) -> Result<(), AllocError>
     ensures { OnOk result (line.new.items ≡ line.old.items ++ numbered word.now position) }
 {
     line.extend_from_slice(word.as_bytes())?;

@@ -1,8 +1,11 @@
-use Rattle.std.proofs.Common.{rules, ◌≡◌, ◌≢◌, ◌++◌, map}
+use Rattle.std.proofs.Common.{rules, ◌≡◌, ◌≢◌, ◌++◌, ℕ, List, map, refl}
 use Rattle.toml.specs.View.{table_view}
 use Rattle.gw_configuration.specs.declared.fault.ConfigFault.TheVariants.{Memory}
-use Rattle.gw_explanation.specs.Explanation.{fault_words, place_words, shown, value_at}
-use Rattle.gw_configuration.specs.Located.{located_view}
+use Rattle.gw_explanation.specs.Explanation.{shown}
+use Rattle.gw_explanation.specs.Place.{place_words, value_at}
+use Rattle.gw_explanation.specs.Told.{fault_words}
+use Rattle.gw_explanation.specs.Wanted.{wanted_words}
+use Rattle.gw_configuration.specs.Located.{Located, located_view}
 use Rattle.gw_explanation.proofs.Explanations.{explained}
 use Rattle.gw_explanation.proofs.diagnosis.of_fault.Goals as goal
 
@@ -12,8 +15,9 @@ returns c found is =
     let top = table_view c.args.top.now in
     let other : c.args.located.now.fault ≢ Memory = search rules in
     let same : c.args.located.now.fault ≡ c.args.fault = search rules in
-    let wanted = c.put_wanted.new.line.items in
     let place : c.put_place.new.line.items ≡ place_words located top = search rules in
     let told : c.put_told.new.line.items ≡ place_words located top ++ fault_words c.args.fault (value_at located top) = search rules in
-    let words : c.in_ok-of_words.field-0 ≡ map shown (place_words located top ++ fault_words c.args.fault (value_at located top) ++ wanted) = search rules in
-    explained located top c.args.fault c.in_ok-of_words.field-0 wanted found same words (is other)
+    let whole : c.put_wanted.new.line.items ≡ place_words located top ++ fault_words c.args.fault (value_at located top) ++ wanted_words located top = search rules in
+    let words : c.in_ok-of_words.field-0 ≡ map shown (place_words located top ++ fault_words c.args.fault (value_at located top) ++ wanted_words located top) = search rules in
+    explained located top (λ (at : Located) (w : List ℕ). w ≡ wanted_words at top) c.args.fault c.in_ok-of_words.field-0 (wanted_words located top) found
+    same words refl (is other)
