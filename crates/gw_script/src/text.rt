@@ -29,7 +29,7 @@ pub fn append_send(
 
 /// Appends a line for each address that a datagram goes to, in order. The digits of its octets are made
 /// once, and the text of an address that is at hand not again. An `Err` only where the buffer had no room
-/// for the lines; then a part of them may stand there.
+/// for the lines; the buffer then holds what it held.
 pub fn append_sends_to(
     out: &mut Vec<u8>,
     port: u8,
@@ -37,17 +37,12 @@ pub fn append_sends_to(
     at_hand: &Option<SpelledAddr<'_>>,
     octets: &[u8],
 ) -> Result<(), AllocError>
-    ensures ok { let lines = send_lines port targets.now octets.now in
-        OnOk result (out.new.items ≡ out.old.items ++ lines) }
-    ensures room { let lines = send_lines port targets.now octets.now in
-        vec_len out.old + length lines ≤ vec_capacity out.old → IsOk result }
-    ensures capacity { vec_capacity out.old ≤ vec_capacity out.new }
+    ensures { let lines = send_lines port targets.now octets.now in
+        IsAppendedWhole lines out.old out.new result }
 {
-    let Some((first, others)) = targets.split_first() else {
-        return Ok(());
-    };
-    put_send(out, port, *first, at_hand, octets)?;
-    put_sends_again(out, port, others, at_hand, octets)
+    let len = out.len();
+    let put = put_sends(out, port, targets, at_hand, octets);
+    keep_whole(out, len, put)
 }
 
 /// Appends the line behind the last of an event. An `Err` only where the buffer had no room for it;
@@ -73,7 +68,27 @@ fn put_send(
     put_octet(out, b'\n')
 }
 
-/// Appends a line for each address that a datagram goes to, behind one of the same datagram.
+/// Appends a line for each address that a datagram goes to. A front of them stands there where a growth
+/// was refused.
+fn put_sends(
+    out: &mut Vec<u8>,
+    port: u8,
+    targets: &[BipAddr],
+    at_hand: &Option<SpelledAddr<'_>>,
+    octets: &[u8],
+) -> Result<(), AllocError>
+    ensures { let lines = send_lines port targets.now octets.now in
+        IsAppended lines out.old out.new result }
+{
+    let Some((first, others)) = targets.split_first() else {
+        return Ok(());
+    };
+    put_send(out, port, *first, at_hand, octets)?;
+    put_sends_again(out, port, others, at_hand, octets)
+}
+
+/// Appends a line for each address that a datagram goes to, behind one of the same datagram. A front of
+/// them stands there where a growth was refused.
 fn put_sends_again(
     out: &mut Vec<u8>,
     port: u8,
@@ -82,11 +97,8 @@ fn put_sends_again(
     octets: &[u8],
 ) -> Result<(), AllocError>
     requires { EndsWith out.old.items (send_tail octets.now) }
-    ensures ok { let lines = send_lines port targets.now octets.now in
-        OnOk result (out.new.items ≡ out.old.items ++ lines) }
-    ensures room { let lines = send_lines port targets.now octets.now in
-        vec_len out.old + length lines ≤ vec_capacity out.old → IsOk result }
-    ensures capacity { vec_capacity out.old ≤ vec_capacity out.new }
+    ensures { let lines = send_lines port targets.now octets.now in
+        IsAppended lines out.old out.new result }
 {
     for target in targets {
         put_send_again(out, port, *target, at_hand, octets)?;
