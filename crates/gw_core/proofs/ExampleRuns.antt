@@ -16,7 +16,7 @@ use Rattle.gw_relay.specs.State.{moved_by}
 use Rattle.gw_core.specs.Effects.{change_at, move_at, sends, effects_at, passes_end}
 use Rattle.gw_core.specs.History.{acts_of, run_after, written}
 use Rattle.gw_core.specs.Receive.{npdu_of, receive}
-use Rattle.gw_core.specs.Examples.{ReadIsAnswered, HiddenReadIsDenied, LocalReadIsUnheard, HiddenObjectIsUntold, UnknownObjectIsTold, EachCutIsDropped, WrongLengthsAreDropped, RoutedReadIsAnswered, CountsEnd, DenialsAreCountedOn, WriteIsSeen, RelinquishIsSeen, DeniedWriteIsUnseen, AllArePlaced, WhoIsIsAnswered, RegistrationEnds, BroadcastIsDistributed, LearnedRouteIsTaken, UnknownNetworkIsSought, GlobalWhoIsGoesOn, HiddenWriteIsUnseen, HidingIsSeen}
+use Rattle.gw_core.specs.Examples.{ReadIsAnswered, HiddenReadIsDenied, LocalReadIsUnheard, HiddenObjectIsUntold, UnknownObjectIsTold, EachCutIsDropped, WrongLengthsAreDropped, RoutedReadIsAnswered, CountsEnd, DenialsAreCountedOn, WriteIsSeen, RelinquishIsSeen, DeniedWriteIsUnseen, AllArePlaced, DeniedSetIsRefused, DeniedTableIsRefused, WhoIsIsAnswered, RegistrationEnds, BroadcastIsDistributed, LearnedRouteIsTaken, UnknownNetworkIsSought, GlobalWhoIsGoesOn, HiddenWriteIsUnseen, HidingIsSeen}
 
 -- all that a frame runs through
 unfoldable frames : ⊤
@@ -93,6 +93,14 @@ denied_write_is_unseen = refl
 pub all_are_placed : AllArePlaced
 unfolding frames reads passes steps
 all_are_placed = refl
+
+pub denied_set_is_refused : DeniedSetIsRefused
+unfolding frames reads passes steps
+denied_set_is_refused = refl
+
+pub denied_table_is_refused : DeniedTableIsRefused
+unfolding frames reads passes steps
+denied_table_is_refused = refl
 
 pub who_is_is_answered : WhoIsIsAnswered
 unfolding frames reads passes steps

@@ -19,5 +19,6 @@ pub mod WriteLemmas
 pub mod BlindLemmas
 pub mod FormatLemmas
 pub mod DeviceAskLemmas
+pub mod RelayAskLemmas
 pub mod RefusedLemmas
 pub mod ServedLemmas

@@ -10,16 +10,14 @@ use Rattle.gw_apdu.specs.declared.header.ConfirmedRequest.{ConfirmedRequest}
 use Rattle.gw_apdu.specs.declared.header.Header.{Header}
 use Rattle.gw_apdu.specs.declared.header.Header.TheVariants as header
 use Rattle.gw_apdu.specs.Apdu.{Fields as Apdu}
-use Rattle.gw_apdu.specs.Answers.{abort}
 use Rattle.gw_apdu.specs.Reading.{apdu_at}
-use Rattle.gw_apdu.specs.Reasons.{segmentation_not_supported}
 use Rattle.gw_bvll.specs.Bvll as bvll
 use Rattle.gw_bvll.specs.Bvll.{Message as Frame}
 use Rattle.gw_device.specs.declared.context.Context.{Context}
 use Rattle.gw_device.specs.Device.{apdu_response, header_response, or_silence, service_response}
 use Rattle.gw_device.specs.Read.{read_value}
 use Rattle.gw_device.specs.Multi.{Part, item, multi_ack, multi_ask, multi_part, properties_part, property_part, reference_part, set_part}
-use Rattle.gw_device.specs.Response.{Answer, Response, fitted, silence, to_client, told, turned_down, unchanged}
+use Rattle.gw_device.specs.Response.{Answer, Response, fitted, to_client, told, unchanged}
 use Rattle.gw_device.specs.Services.{set_of}
 use Rattle.gw_device.specs.WhoHas.{i_have_apdu, object_response, sought_object, who_has_ask, who_has_response}
 use Rattle.gw_device.specs.WhoIs.{i_am_apdu, if_allowed, is_within, who_is_ask, who_is_response}
@@ -30,7 +28,7 @@ use Rattle.gw_objects.specs.Objects.{Database, name_at, type_at}
 use Rattle.gw_objects.specs.Property.{properties, property_number}
 use Rattle.gw_relay.specs.Link.{link_answer, link_change}
 use Rattle.gw_relay.specs.Message.{Message}
-use Rattle.gw_relay.specs.Sends.{sending}
+use Rattle.gw_relay.specs.Sends.{Sending, sending}
 use Rattle.gw_relay.specs.State.{Commit, Relay, moved}
 use Rattle.gw_relay.specs.declared.change.Change.{Change}
 use Rattle.gw_relay.specs.declared.port.PortState.{PortState}
@@ -38,6 +36,7 @@ use Rattle.gw_rules.specs.Ask.{Ask, IsFor}
 use Rattle.gw_rules.specs.declared.operation.Operation.TheVariants as operations
 use Rattle.gw_rules.specs.declared.rule.Rule.{Rule}
 use Rattle.gw_rules.specs.RuleList.{allows}
+use Rattle.gw_rules.proofs.EachAsk.{each_both, each_weaker}
 use Rattle.gw_script.specs.Event.{Datagram, Tick}
 use Rattle.gw_services.specs.Choices.{who_has, who_is}
 use Rattle.gw_services.specs.Multi.{Reference, list_ends}
@@ -46,14 +45,15 @@ use Rattle.gw_services.specs.WhoHas.{who_has_at}
 use Rattle.gw_services.specs.WhoIs.{who_is_at}
 use Rattle.gw_services.specs.declared.fault.BodyFault.{BodyFault}
 use Rattle.gw_tags.specs.Object.{Object}
-use Rattle.gw_core.specs.Asks.{apdu_asks, asks, asks_for, serve_asks_for}
-use Rattle.gw_core.specs.Effects.{answer_sends, apdu_answer, change_at, change_for, changed, effects_at, move_at, relay_change_for, sends_for, serve_sends_for}
+use Rattle.gw_core.specs.Asks.{apdu_asks, asks, asks_for, cast_asks_for, manage_asks_for, message_asks, route_asks_for}
+use Rattle.gw_core.specs.Effects.{answer_sends, apdu_answer, change_at, change_for, changed, effects_at, message_sends, move_at, relay_change_for, sends_for, serve_sends_for}
 use Rattle.gw_core.specs.History.{next}
 use Rattle.gw_core.specs.Receive.{Received, dropped, managed, message, receive, unregistered}
 use Rattle.gw_core.specs.Refused.{DeniedListingsAreSilent, DeniedManagementIsRefused, DeniedMembersAreRefused, DeniedPropertiesAreRefused, OthersAreAnswered, RepliesAreTheirParts, access_error, ask_for, negative, parts, refused_part}
 use Rattle.gw_core.specs.Reply.{apdu_for, context_of}
 use Rattle.gw_core.specs.State.{device_network}
 use Rattle.gw_core.proofs.DeviceAskLemmas.{each_service}
+use Rattle.gw_core.proofs.RelayAskLemmas.{Else, IsElse, cast_is_else, messages_are_else, routing_is_else}
 
 -- ---- ReadPropertyMultiple
 
@@ -164,11 +164,13 @@ of_held P xs x held each = subst P held.2 (of_place P xs held.0 x held.1 each)
 
 -- where an ask to list is denied there is no answer
 abbrev Silent : List Rule → Response → Type 0
-Silent rules due = (ask : Ask) → Contains due.asks ask → IsFor operations.List ask → allows rules ask ≡ false → due.answer ≡ None
+Silent rules due = AllByRecursion (λ ask. IsFor operations.List ask → allows rules ask ≡ false → due.answer ≡ None) due.asks
 
 -- where none is to list there is none to be denied
-unlisted : (rules : List Rule) (due : Response) → AllByRecursion (λ ask. IsFor operations.List ask → ⊥) due.asks → Silent rules due
-unlisted rules due each ask held lists denied = absurd (of_held (λ ask. IsFor operations.List ask → ⊥) due.asks ask held each lists)
+unlisted : (rules : List Rule) (due : Response) → Else due.asks → Silent rules due
+unlisted rules due each =
+    each_weaker IsElse (λ ask. IsFor operations.List ask → allows rules ask ≡ false → due.answer ≡ None)
+    (λ ask other lists denied. absurd (other lists)) due.asks each
 
 silent_if : (rules : List Rule) (b : Bool) (x y : Response) → Silent rules x → Silent rules y → Silent rules (if b then x else y)
 silent_if rules true x y f g = f
@@ -177,70 +179,85 @@ silent_if rules false x y f g = g
 silent_body : {B : Type 0} (rules : List Rule) (respond : B → Response) (body : Result B BodyFault) → ((b : B) → Silent rules (respond b))
     → Silent rules (or_silence respond body)
 silent_body rules respond (Ok b) each = each b
-silent_body rules respond (Err fault) each = unlisted rules silence tt
+silent_body rules respond (Err fault) each = tt
 
 no_answer : (b : Bool) (x : Option Answer) → b ≡ false → ◌≡◌ {A = Option Answer} (if b then x else None) None
 no_answer true x is = absurd cc
 no_answer false x is = refl
 
 silent_one : (rules : List Rule) (ask : Ask) (apdu : Option (List ℕ)) → Silent rules (if_allowed rules ask apdu)
-silent_one rules ask apdu other held lists denied =
-    no_answer (allows rules ask) (told apdu)
-    (ap (allows rules) (of_held (λ (x : Ask). ask ≡ x) (ask ∷ []) other held (refl, tt)) ∙ denied)
+silent_one rules ask apdu = (λ lists denied. no_answer (allows rules ask) (told apdu) denied, tt)
 
 silent_object : (rules : List Rule) (d : Database) (context : Context) (sought : Option Object) → Silent rules (object_response rules d context sought)
-silent_object rules d context None = unlisted rules silence tt
-silent_object rules d context (Some object) = silent_one rules (who_has_ask d.configured context object) (option_map (i_have_apdu d.configured object) (name_at d.configured object))
+silent_object rules d context None = tt
+silent_object rules d context (Some object) =
+    silent_one rules (who_has_ask d.configured context object) (option_map (i_have_apdu d.configured object) (name_at d.configured object))
 
 silent_header : (rules : List Rule) (d : Database) (context : Context) (by : Header) (body : List ℕ) → Silent rules (header_response rules d context by body)
 silent_header rules d context (header.ConfirmedRequest request) body =
-    let nothing = unlisted rules silence tt in
-    silent_if rules context.broadcast _ _ nothing
-    (silent_if rules (is_some request.segment) _ _ (unlisted rules (turned_down (abort request.invoke segmentation_not_supported)) tt)
+    silent_if rules context.broadcast _ _ tt
+    (silent_if rules (is_some request.segment) _ _ tt
     (unlisted rules (service_response rules d context request body)
-    (each_service (λ ask. IsFor operations.List ask → ⊥) rules d context
-    (record { reads = λ service object p e. absurd cc; writes = λ write e. absurd cc }) request body)))
+    (each_service IsElse rules d context (record { reads = λ service object p e. absurd cc; writes = λ write e. absurd cc }) request body)))
 silent_header rules d context (header.UnconfirmedRequest service) body =
-    let nothing = unlisted rules silence tt in
     silent_if rules (service == who_has) _ _ (silent_body rules (who_has_response rules d context) (who_has_at body)
     (λ request. silent_if rules (is_within request.limits d.configured.device.instance) _ _
-    (silent_object rules d context (sought_object d.configured request.sought)) nothing))
+    (silent_object rules d context (sought_object d.configured request.sought)) tt))
     (silent_if rules (service == who_is) _ _ (silent_body rules (who_is_response rules d context) (who_is_at body)
     (λ request. silent_if rules (is_within request.limits d.configured.device.instance) _ _
-    (silent_one rules (who_is_ask d.configured context) (Some (i_am_apdu d.configured))) nothing))
-    nothing)
-silent_header rules d context (header.SimpleAck invoke service) body = unlisted rules silence tt
-silent_header rules d context (header.ComplexAck segment invoke service) body = unlisted rules silence tt
-silent_header rules d context (header.SegmentAck invoke sequence window) body = unlisted rules silence tt
-silent_header rules d context (header.Error invoke service) body = unlisted rules silence tt
-silent_header rules d context (header.Reject invoke reason) body = unlisted rules silence tt
-silent_header rules d context (header.Abort invoke reason) body = unlisted rules silence tt
+    (silent_one rules (who_is_ask d.configured context) (Some (i_am_apdu d.configured))) tt))
+    tt)
+silent_header rules d context (header.SimpleAck invoke service) body = tt
+silent_header rules d context (header.ComplexAck segment invoke service) body = tt
+silent_header rules d context (header.SegmentAck invoke sequence window) body = tt
+silent_header rules d context (header.Error invoke service) body = tt
+silent_header rules d context (header.Reject invoke reason) body = tt
+silent_header rules d context (header.Abort invoke reason) body = tt
 
 silent_apdu : (rules : List Rule) (d : Database) (context : Context) (x : Result Apdu ApduFault) → Silent rules (apdu_response rules d context x)
 silent_apdu rules d context (Ok x) = silent_header rules d context x.header x.rest
-silent_apdu rules d context (Err fault) = unlisted rules silence tt
+silent_apdu rules d context (Err fault) = tt
 
-no_place : (x : Ask) → Contains [] x → ⊥
-no_place x held = let below = held.1 in omega (arith, below)
+-- where an ask to list is denied these aren't sent
+abbrev AreKept : List Rule → List Sending → Ask → Type 0
+AreKept rules sends ask = IsFor operations.List ask → allows rules ask ≡ false → sends ≡ []
 
-silent_octets : (rules : List Rule) (d : Database) (m : Message) (context : Context) (octets : Option (List ℕ)) (ask : Ask)
-    → Contains (apdu_asks rules d context octets) ask → IsFor operations.List ask → allows rules ask ≡ false
-    → answer_sends (device_network d) m (apdu_answer rules d context octets) ≡ []
-silent_octets rules d m context None ask held lists denied = refl
-silent_octets rules d m context (Some octets) ask held lists denied =
-    ap (answer_sends (device_network d) m) (silent_apdu rules d context (apdu_at octets) ask held lists denied)
+silent_octets : (rules : List Rule) (d : Database) (m : Message) (context : Context) (octets : Option (List ℕ))
+    → AllByRecursion (AreKept rules (answer_sends (device_network d) m (apdu_answer rules d context octets))) (apdu_asks rules d context octets)
+silent_octets rules d m context None = tt
+silent_octets rules d m context (Some octets) =
+    let due = apdu_response rules d context (apdu_at octets) in
+    each_weaker (λ ask. IsFor operations.List ask → allows rules ask ≡ false → due.answer ≡ None)
+    (AreKept rules (answer_sends (device_network d) m due.answer))
+    (λ ask none lists denied. ap (answer_sends (device_network d) m) (none lists denied)) due.asks (silent_apdu rules d context (apdu_at octets))
 
-silent_received : (rules : List Rule) (d : Database) (received : Received) (ask : Ask) → Contains (serve_asks_for rules d received) ask
-    → IsFor operations.List ask → allows rules ask ≡ false → serve_sends_for rules d received ≡ []
-silent_received rules d dropped ask held lists denied = refl
-silent_received rules d (managed on from frame) ask held lists denied = refl
-silent_received rules d (unregistered m) ask held lists denied = refl
-silent_received rules d (message m) ask held lists denied =
+kept_else : (rules : List Rule) (sends : List Sending) (xs : List Ask) → Else xs → AllByRecursion (AreKept rules sends) xs
+kept_else rules sends xs each = each_weaker IsElse (AreKept rules sends) (λ ask other lists denied. absurd (other lists)) xs each
+
+none_sent : (rules : List Rule) (xs : List Ask) → AllByRecursion (AreKept rules []) xs
+none_sent rules [] = tt
+none_sent rules (x ∷ xs) = (λ lists denied. refl, none_sent rules xs)
+
+silent_received : (rules : List Rule) (relay : Relay) (d : Database) (received : Received)
+    → AllByRecursion (AreKept rules (serve_sends_for rules d received)) (asks_for rules relay d received)
+silent_received rules relay d dropped = tt
+silent_received rules relay d (managed on from frame) = none_sent rules (asks_for rules relay d (managed on from frame))
+silent_received rules relay d (unregistered m) = tt
+silent_received rules relay d (message m) =
     let network = device_network d in
-    silent_octets rules d m (context_of network m) (apdu_for network m.npdu) ask held lists denied
+    let sends = message_sends rules d m in
+    each_both (AreKept rules sends) (cast_asks_for (message m) ++ route_asks_for relay (message m) ++ manage_asks_for relay (message m)) (message_asks rules d m)
+    (kept_else rules sends _
+    (each_both IsElse (cast_asks_for (message m) ++ route_asks_for relay (message m)) (manage_asks_for relay (message m))
+    (each_both IsElse (cast_asks_for (message m)) (route_asks_for relay (message m)) (cast_is_else m) (routing_is_else relay m))
+    (messages_are_else relay m)))
+    (silent_octets rules d m (context_of network m) (apdu_for network m.npdu))
 
 pub denied_listings_are_silent : DeniedListingsAreSilent
-denied_listings_are_silent w e ask held lists denied = silent_received w.rules w.device (receive w e) ask held lists denied
+unfolding asks
+denied_listings_are_silent w e ask held lists denied =
+    of_held (AreKept w.rules (serve_sends_for w.rules w.device (receive w e))) (asks w e) ask held
+    (silent_received w.rules w.relay w.device (receive w e)) lists denied
 
 -- ---- tables
 

@@ -221,6 +221,26 @@ AllArePlaced = gives (hex (codes "810A0018012400640101FF00050D0E0C014000011E0908
     ++ codes "00000000000000000000000000004F29684E91004F29044E7507006163746976654F292E4E750900"
     ++ codes "696E6163746976654F1F"))
 
+-- ReadPropertyMultiple of ALL of hidden Binary Value 2: the set is denied, and its error is in its place.
+abbrev pub DeniedSetIsRefused : Type 0
+DeniedSetIsRefused = gives (hex (codes "810A0018012400640101FF00050E0E0C014000021E09081F"))
+    ≡ denies 1 0 (record (asks_for 2) { service = Some 14; property = Some 8 }) (codes "hide")
+    (hex (codes "810A001C010800640101300E0E0C014000021E29085E9102911B5F1F"))
+
+-- Where nothing is allowed, a Read-Broadcast-Distribution-Table gets its negative code.
+abbrev pub DeniedTableIsRefused : Type 0
+DeniedTableIsRefused =
+    effects (record setting { rules = [] }) (record { ticks = 0; denials = 0 }) []
+    (Datagram 1 (node 1 5) (hex (codes "81020004")))
+    ≡ denies 1 0 (record (asks_for 0) {
+      operation = Some 5;
+      destination_network = None;
+      service = Some 770;
+      object_type = None;
+      instance = None;
+      property = None;
+    }) (codes "default") (hex (codes "810000060020"))
+
 -- A Who-Is to everyone on the device's network is answered to everyone on the network of the requester.
 abbrev pub WhoIsIsAnswered : Type 0
 WhoIsIsAnswered = gives (hex (codes "810B000C0120006400FF1008"))

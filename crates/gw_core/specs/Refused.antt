@@ -29,7 +29,7 @@ use Rattle.gw_script.specs.Event.{Event}
 use Rattle.gw_services.specs.Multi.{Reference, head_part, list_ends, tail_part}
 use Rattle.gw_services.specs.Reply.{error_item}
 use Rattle.gw_tags.specs.Object.{Object}
-use Rattle.gw_core.specs.Asks.{asks, serve_asks_for}
+use Rattle.gw_core.specs.Asks.{asks}
 use Rattle.gw_core.specs.Effects.{effects_at, serve_sends_for}
 use Rattle.gw_core.specs.History.{next}
 use Rattle.gw_core.specs.Receive.{managed, receive}
@@ -105,11 +105,11 @@ DeniedMembersAreRefused =
 
 -- ---- Who-Is and Who-Has (clauses 16.9 and 16.10)
 
--- Where the device's ask to list itself or an object is denied, the device sends nothing.
+-- Where an event's ask to list the device or an object of it is denied, the device sends nothing.
 abbrev pub DeniedListingsAreSilent : Type 0
 DeniedListingsAreSilent =
-    (w : State) (e : Event) (ask : Ask) → Contains (serve_asks_for w.rules w.device (receive w e)) ask →
-    IsFor operations.List ask → allows w.rules ask ≡ false → serve_sends_for w.rules w.device (receive w e) ≡ []
+    (w : State) (e : Event) (ask : Ask) → Contains (asks w e) ask → IsFor operations.List ask →
+    allows w.rules ask ≡ false → serve_sends_for w.rules w.device (receive w e) ≡ []
 
 -- ---- the tables of a port (Annex J.2)
 

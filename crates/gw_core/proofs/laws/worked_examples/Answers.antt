@@ -1,4 +1,4 @@
-use Rattle.gw_core.proofs.ExampleRuns.{read_is_answered, hidden_read_is_denied, local_read_is_unheard, hidden_object_is_untold, unknown_object_is_told, each_cut_is_dropped, wrong_lengths_are_dropped, routed_read_is_answered, counts_end, denials_are_counted_on, write_is_seen, relinquish_is_seen, denied_write_is_unseen, all_are_placed, who_is_is_answered, registration_ends, broadcast_is_distributed, learned_route_is_taken, unknown_network_is_sought, global_who_is_goes_on, hidden_write_is_unseen, hiding_is_seen}
+use Rattle.gw_core.proofs.ExampleRuns.{read_is_answered, hidden_read_is_denied, local_read_is_unheard, hidden_object_is_untold, unknown_object_is_told, each_cut_is_dropped, wrong_lengths_are_dropped, routed_read_is_answered, counts_end, denials_are_counted_on, write_is_seen, relinquish_is_seen, denied_write_is_unseen, all_are_placed, denied_set_is_refused, denied_table_is_refused, who_is_is_answered, registration_ends, broadcast_is_distributed, learned_route_is_taken, unknown_network_is_sought, global_who_is_goes_on, hidden_write_is_unseen, hiding_is_seen}
 use Rattle.gw_core.proofs.laws.worked_examples.Goals as goal
 
 pub returns-clause-read_is_answered : goal.returns-clause-read_is_answered
@@ -43,6 +43,12 @@ returns-clause-denied_write_is_unseen c = denied_write_is_unseen
 
 pub returns-clause-all_are_placed : goal.returns-clause-all_are_placed
 returns-clause-all_are_placed c = all_are_placed
+
+pub returns-clause-denied_set_is_refused : goal.returns-clause-denied_set_is_refused
+returns-clause-denied_set_is_refused c = denied_set_is_refused
+
+pub returns-clause-denied_table_is_refused : goal.returns-clause-denied_table_is_refused
+returns-clause-denied_table_is_refused c = denied_table_is_refused
 
 pub returns-clause-who_is_is_answered : goal.returns-clause-who_is_is_answered
 returns-clause-who_is_is_answered c = who_is_is_answered
