@@ -2,7 +2,7 @@
 //! 6.2.2).
 
 ghost use Rattle.std.specs.Prelude.{◌≡◌, ◌+◌, ◌<◌, ◌≤◌, ◌^◌, ◌++◌, [], ◌∷◌, length, take, drop};
-ghost use Rattle.std.specs.Prelude.{IfOk, IsOk, OnOk, None, Ok, true, false};
+ghost use Rattle.std.specs.Prelude.{IfOk, IsOk, OnOk, None, Ok, true, false, vec_len};
 ghost use Rattle.std.specs.Int.{w16, to_be_bytes};
 ghost use Rattle.std.specs.Option.{option_map};
 ghost use Rattle.gw_device.specs.Response.{answer_view};
@@ -182,6 +182,14 @@ fn put_length(frame: &mut [u8])
     frame[2..4].copy_from_slice(&len);
 }
 
+/// How many octets the buffer of an answer to a node behind a router has at first: the answer's, and
+/// those that most replies have before it.
+fn routed_room(answer: &Answer) -> usize
+    ensures { result ≡ 32 + vec_len answer.now.octets }
+{
+    REPLY_HEADERS + answer.octets.len()
+}
+
 /// The datagram of an answer to a node behind a router, in a buffer of its own. None where the NPDU would be over
 /// 1497 octets.
 fn routed_octets(
@@ -194,7 +202,7 @@ fn routed_octets(
         IfOk result (λ made. option_map (λ v. v.items) made
         ≡ option_map (λ octets. bvll_encoding (original_unicast octets)) (npdu_octets npdu)) }
 {
-    let mut octets = Vec::with_capacity(alloc, REPLY_HEADERS + answer.octets.len())?;
+    let mut octets = Vec::with_capacity(alloc, routed_room(answer))?;
     put_frame(&mut octets)?;
     if !put_npdu(&mut octets, network, request, answer)? {
         return Ok(None);
