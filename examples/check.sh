@@ -301,6 +301,11 @@ sed 's/127\.4\.0\.255/127.255.255.255/' "$work/served.toml" > "$work/broadcast.t
 python3 "$here/loopback.py" broadcast "$program" "$work/broadcast.toml" > "$work/out" 2>&1
 same 'broadcasts are sent' "$(cat "$work/out")" 'sends=2 send_failures=0'
 
+# A fan that is off is read by a real socket, as in the script of a read.
+sed '0,/^default = 1$/s//default = 0/' "$work/served.toml" > "$work/first.toml"
+python3 "$here/loopback.py" first "$program" "$work/first.toml" 810A0016012400640101FF0005070C0C014000011955 > "$work/out" 2>&1
+same 'the first worked read by a real socket' "$(cat "$work/out")" 810A001801080064010130070C0C0140000119553E91003F
+
 python3 "$here/loopback.py" burst "$program" "$work/served.toml" > "$work/out" 2>&1
 same 'reads that come at once' "$(cat "$work/out")" '16 answers within a second
 16 answers within a second'

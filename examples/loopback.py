@@ -8,6 +8,7 @@
                                              says how many sends failed
     loopback.py broadcast PROGRAM FILE       runs it for eight turns, has it send two broadcasts and prints what its counts say of them
     loopback.py burst PROGRAM FILE           gives it 16 reads at once, and prints whether all were answered within a second
+    loopback.py first PROGRAM FILE OCTETS    gives a run of eight turns these octets, and prints its answer
 
 It prints the answers in hexadecimal and the exit status; what the gateway tells goes to standard error.
 """
@@ -121,6 +122,16 @@ def broadcast(program, file):
     print(*re.findall(r"\bsend(?:s|_failures)=\d+", told.decode())[-2:])
 
 
+def first(program, file, octets):
+    """Gives a gateway that takes eight turns one datagram, and prints its answer."""
+    gateway = subprocess.Popen([program, "run", "--config", file, "--turns", "8", "--verbose"], stdin=subprocess.DEVNULL, stderr=subprocess.PIPE)
+    line = open_line(CLIENT)
+    gateway.stderr.readline()
+    line.sendto(bytes.fromhex(octets), (PORT_1, UDP))
+    print(line.recvfrom(1508)[0].hex().upper())
+    gateway.communicate(timeout=20)
+
+
 def burst(program, file):
     """Gives 16 reads at once to each socket of port 1, and prints how many of them were answered, and whether within a second."""
     gateway = subprocess.Popen([program, "run", "--config", file, "--verbose"], stdin=subprocess.DEVNULL, stderr=subprocess.PIPE)
@@ -194,4 +205,5 @@ def ports(program, file, count):
     "short": short,
     "broadcast": broadcast,
     "burst": burst,
+    "first": first,
 }[sys.argv[1]](*sys.argv[2:])
