@@ -11,7 +11,7 @@
 # datagram that found no memory is given once more. A case then comes to what it does with ample memory; or it tells that
 # there was none, in its line or behind whole blocks of a script; or the program ends with status 1. Of a case of `serve` the events
 # that found no memory may be dropped. A case of `run` may end as the program does then, tell its fault without the note that explains
-# it, or serve on without the datagram; one of `fronts` is runs over and over, so it is passed by. A replay does what it does with ample memory, or ends with `bacgw: out of memory` and status 1, and what it wrote is
+# it, or serve on without the datagram; one of `fronts` is runs over and over, one of `behind` scripts once more, one of `brief` a long script in short: they are passed by. A replay does what it does with ample memory, or ends with `bacgw: out of memory` and status 1, and what it wrote is
 # whole blocks, each up to its line `end`, from the front of the right output. NAME.out has the right output; NAME.toml, where it is
 # there, is the configuration. A script of another folder whose right output the program doesn't print yet is left out.
 #
@@ -51,9 +51,9 @@ folder, top, only = Path(sys.argv[4]).resolve(), Path(sys.argv[5]), sys.argv[6]
 is_examples = folder == top / "examples"
 
 # The kinds whose section is one case.
-WHOLE = {"script", "explained", "again", "list", "check", "texts", "run", "fronts", "faults"}
-# The kinds that play a case of another kind again and again.
-REPEATED = {"fronts"}
+WHOLE = {"script", "brief", "explained", "again", "list", "check", "texts", "run", "fronts", "faults"}
+# The kinds that play cases of another kind again, or tell a long one in short.
+PASSED_BY = {"fronts", "behind", "brief"}
 
 
 # The line of the program that tells it.
@@ -216,7 +216,7 @@ def cases_of(text):
         for section in sections:
             head, body = section.split("\n", 1)
             kind, _, name = head.partition(" ")
-            if kind in REPEATED:
+            if kind in PASSED_BY:
                 continue
             front = f"== config {config}== {head}\n"
             if kind == "script":

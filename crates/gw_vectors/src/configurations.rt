@@ -44,6 +44,26 @@ fn replaced(alloc: Global, text: &str, old: &str, new: &str) -> io::Result<Strin
     Ok(replaced)
 }
 
+/// How many rules are put in front.
+const OTHERS: u32 = 40;
+
+/// A configuration with forty more rules in front. Each names a property of a broadcast, which has none, and so matches nothing.
+pub fn behind_others(alloc: Global, text: &str) -> io::Result<String> {
+    let (front, rules) = match text.find("[[rule]]") {
+        Some(place) => text.split_at(place),
+        None => (text, ""),
+    };
+    let mut others = String::from_str(alloc, front)?;
+    for number in 0..OTHERS {
+        let rule = format!(in alloc;
+            "\n[[rule]]\nname = \"other-{number}\"\nallow = false\noperation = [\"cast\"]\nproperty = [{number}]\n"
+        )?;
+        others.push_str(rule.as_str())?;
+    }
+    others.push_str(rules)?;
+    Ok(others)
+}
+
 fn utf8(octets: &[u8]) -> io::Result<&str> {
     match str::from_utf8(octets) {
         Ok(text) => Ok(text),

@@ -12,6 +12,7 @@ mod addresses;
 mod bodies;
 mod case;
 mod configurations;
+mod counts;
 mod denials;
 mod frames;
 mod logs;
@@ -52,6 +53,7 @@ fn answer_case(
         "audit" => denials::denial(alloc, line, out),
         "read" => logs::line(alloc, line, out),
         "objects" => objects::steps(alloc, config, line, out),
+        "counts" => counts::counts(alloc, line, out),
         "edits" => configurations::edit(alloc, config, line, out),
         "octets" => configurations::octets(alloc, line, out),
         "lines" => replays::line(alloc, line, out),
@@ -114,6 +116,7 @@ fn answer_section(alloc: Global, config: &str, section: &str, out: &mut Vec<u8>)
     match kind {
         "script" => replays::script(alloc, config, body, out),
         "explained" => replays::explained(alloc, config, body, out),
+        "brief" => replays::brief(alloc, config, body, out),
         "again" => replays::again(alloc, config, body, out),
         "list" => replays::list(alloc, config, body, out),
         "check" => configurations::check(alloc, body, out),
@@ -138,6 +141,23 @@ fn write_section<W: Write + Drop>(
     writer.write_all(&out)
 }
 
+/// Writes what a section comes to. A section `behind` plays the scripts of its group once more.
+fn write_any<W: Write + Drop>(
+    alloc: Global,
+    config: &str,
+    sections: &str,
+    section: &str,
+    writer: &mut BufWriter<W>,
+) -> io::Result<()> {
+    if !section.starts_with("behind ") {
+        return write_section(alloc, config, section, writer);
+    }
+    let mut out = Vec::new(alloc);
+    replays::behind(alloc, config, sections, &mut out)?;
+    write!(writer, "== {section}")?;
+    writer.write_all(&out)
+}
+
 /// A configuration, and each section under it.
 fn write_group<W: Write + Drop>(
     alloc: Global,
@@ -149,7 +169,7 @@ fn write_group<W: Write + Drop>(
     let config = configurations::text(alloc, config)?;
     writeln!(writer, "== config {name}")?;
     for section in sections.split("== ") {
-        write_section(alloc, config.as_str(), section, writer)?;
+        write_any(alloc, config.as_str(), sections, section, writer)?;
     }
     Ok(())
 }

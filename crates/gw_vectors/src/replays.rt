@@ -4,7 +4,7 @@ ghost use Rattle.std.specs.Prelude.{◌≤◌, IfSome};
 ghost use Rattle.gw_script.specs.Event.{IsOnPort, event_view};
 
 use crate::case::{is_case, put_octets, wanted};
-use crate::configurations::read;
+use crate::configurations::{behind_others, read};
 use gw_addr::BipAddr;
 use gw_core::{
     Counts, Denial, Effects, Event, Gateway, RunFault, Sends, StepFault, replay, replay_explaining,
@@ -56,6 +56,56 @@ pub fn script(alloc: Global, config: &str, body: &str, out: &mut Vec<u8>) -> io:
     let end = end_of(alloc, config, &mut reader, out)?;
     put_end(end, out)?;
     writeln!(out)
+}
+
+/// What the replay of a script writes in short: its first line and its last two, how many lines and octets it has, and a sum of these;
+/// and how it ends.
+pub fn brief(alloc: Global, config: &str, body: &str, out: &mut Vec<u8>) -> io::Result<()> {
+    let mut whole = Vec::new(alloc);
+    script(alloc, config, body, &mut whole)?;
+    let count = whole.split(|octet| *octet == b'\n').count();
+    for (number, line) in whole.split(|octet| *octet == b'\n').enumerate() {
+        if number == 0 || number.saturating_add(4) >= count {
+            out.extend_from_slice(line)?;
+            out.push(b'\n')?;
+        }
+    }
+    let sum = whole.iter().fold(0_u32, |sum, octet| {
+        sum.wrapping_mul(31).wrapping_add(u32::from(*octet))
+    });
+    writeln!(
+        out,
+        "{} lines, {} octets, sum {sum}",
+        count.saturating_sub(1),
+        whole.len()
+    )
+}
+
+/// Whether a script's replay writes and ends alike under two configurations.
+fn is_alike(alloc: Global, config: &str, other: &str, body: &str) -> io::Result<bool> {
+    let mut one = Vec::new(alloc);
+    let mut two = Vec::new(alloc);
+    script(alloc, config, body, &mut one)?;
+    script(alloc, other, body, &mut two)?;
+    Ok(one.as_slice() == two.as_slice())
+}
+
+/// How many scripts of these sections come to the same behind forty more rules that match nothing, in front of them the name of each
+/// that doesn't.
+pub fn behind(alloc: Global, config: &str, sections: &str, out: &mut Vec<u8>) -> io::Result<()> {
+    let other = behind_others(alloc, config)?;
+    let mut alike = 0_u32;
+    for section in sections.split("== ") {
+        if let Some(named) = section.strip_prefix("script ") {
+            let (name, body) = named.split_once('\n').unwrap_or((named, ""));
+            if is_alike(alloc, config, other.as_str(), body)? {
+                alike = alike.saturating_add(1);
+            } else {
+                writeln!(out, "not alike: {name}")?;
+            }
+        }
+    }
+    writeln!(out, "{alike} alike")
 }
 
 /// What the replay of a script writes that explains, and how it ends.

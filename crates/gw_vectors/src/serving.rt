@@ -61,7 +61,7 @@ fn put_call(
         return Err(ErrorKind::InvalidData.into());
     }
     put_end(&serve(alloc, gateway, wire, log, turns), out)?;
-    put_word(wire.calls(), out)?;
+    put_word(&wire.letters(alloc)?, out)?;
     put_word(log.held(), out)
 }
 
@@ -76,7 +76,7 @@ pub fn call(alloc: Global, config: &str, line: &str, out: &mut Vec<u8>) -> io::R
     let octets = number(words.next())?;
     let denials = number(words.next())?;
     let script = unfolded(alloc, words.next().unwrap_or(""))?;
-    let mut wire = MemWire::new(alloc, &script, failing_call)?;
+    let mut wire = MemWire::new(alloc, &script, failing_call);
     let mut log = Narrow::new(alloc, failing_write, octets)?;
     let mut gateway = make_gateway(alloc, config, Counts { ticks: 0, denials })?;
     put_call(alloc, &mut gateway, &mut wire, &mut log, turns, out)
@@ -108,7 +108,7 @@ pub fn reports(alloc: Global, config: &str, line: &str, out: &mut Vec<u8>) -> io
     let failing_write = number_or_none(words.next())?;
     let failing_report = number_or_none(words.next())?;
     let script = unfolded(alloc, words.next().unwrap_or(""))?;
-    let mut wire = MemWire::new(alloc, &script, failing_call)?;
+    let mut wire = MemWire::new(alloc, &script, failing_call);
     let mut log = Narrow::new(alloc, failing_write, AMPLE)?;
     let mut told = Narrow::new(alloc, failing_report, AMPLE)?;
     let mut gateway = make_gateway(alloc, config, BEFORE)?;

@@ -1,6 +1,10 @@
-//! A wire over memory, whose calls fail at the choice of a case.
+//! A wire over memory, whose calls fail at the choice of a case, and which tells each call with its answer.
 
-ghost use Rattle.std.specs.Prelude.{◌≡◌, None};
+ghost use Rattle.std.specs.Prelude.{◌≡◌, ◌∷◌, [], None, IfOk, IfErr, if◌then◌else◌};
+ghost use Rattle.gw_core.specs.Wire.{Tells, arrival, departure, failed_send};
+ghost use Rattle.gw_relay.specs.Sends.{sending};
+ghost use Rattle.gw_script.specs.Event.{Datagram};
+ghost use Rattle.gw_vectors.specs.Calls.{call_of, calls_of};
 
 use crate::replays::event_of;
 use gw_addr::BipAddr;
@@ -11,41 +15,121 @@ use std::alloc::{AllocError, Global};
 /// How many ports a wire over memory has.
 const PORTS: u8 = 2;
 
-/// How many calls are noted.
-const NOTED: usize = 64;
+/// A call of a wire, with its answer.
+#[derive(Drop)]
+enum Call {
+    /// A receive that found nothing.
+    EmptyReceive,
+    /// A receive that failed.
+    FailedReceive,
+    /// A receive of a tick.
+    Tick,
+    /// A receive of a datagram.
+    Arrival {
+        port: u8,
+        from: BipAddr,
+        octets: Vec<u8>,
+    },
+    /// A send.
+    Departure {
+        port: u8,
+        to: BipAddr,
+        octets: Vec<u8>,
+    },
+    /// A send that failed.
+    FailedSend {
+        port: u8,
+        to: BipAddr,
+        octets: Vec<u8>,
+    },
+}
+
+/// The letter of a call.
+fn letter(call: &Call) -> u8 {
+    match call {
+        Call::EmptyReceive => b'i',
+        Call::FailedReceive => b'x',
+        Call::Tick => b't',
+        Call::Arrival { .. } => b'd',
+        Call::Departure { .. } => b's',
+        Call::FailedSend { .. } => b'u',
+    }
+}
+
+/// The receive of a datagram.
+fn received(alloc: Global, port: u8, from: BipAddr, octets: &[u8]) -> Result<Call, AllocError>
+    ensures { IfOk result (λ call. call_of call ≡ arrival (Datagram port from octets.now)) }
+{
+    let octets = Vec::from_slice(alloc, octets)?;
+    Ok(Call::Arrival { port, from, octets })
+}
+
+/// A send, that failed or not.
+fn sent(
+    alloc: Global,
+    port: u8,
+    to: BipAddr,
+    octets: &[u8],
+    is_failed: bool,
+) -> Result<Call, AllocError>
+    ensures { IfOk result (λ call. call_of call ≡ if is_failed then failed_send (sending port octets.now to) else departure (sending port octets.now to)) }
+{
+    let octets = Vec::from_slice(alloc, octets)?;
+    if is_failed {
+        Ok(Call::FailedSend { port, to, octets })
+    } else {
+        Ok(Call::Departure { port, to, octets })
+    }
+}
 
 /// A wire whose events are the lines of a script, and whose call of one number, from 0, fails. What failed to be received comes at
-/// the next receive.
+/// the next receive. It tells its calls, as long as there is memory for them.
 #[derive(Drop)]
 pub struct MemWire<'a> {
+    alloc: Global,
     lines: &'a [u8],
     datagram: [u8; MAX_DATAGRAM],
     fails: Option<u64>,
     failures: u128,
-    calls: Vec<u8>,
+    calls: Option<Vec<Call>>,
 }
 
 impl<'a> MemWire<'a> {
     /// A wire to which nothing has come yet.
-    pub fn new(alloc: Global, lines: &'a [u8], fails: Option<u64>) -> Result<Self, AllocError> {
-        Ok(MemWire {
+    pub fn new(alloc: Global, lines: &'a [u8], fails: Option<u64>) -> Self {
+        MemWire {
+            alloc,
             lines,
             datagram: [0; MAX_DATAGRAM],
             fails,
             failures: 0,
-            calls: Vec::with_capacity(alloc, NOTED)?,
-        })
+            calls: Some(Vec::new(alloc)),
+        }
     }
 
     /// A letter for each call: a receive of a datagram `d`, of a tick `t`, or of nothing `i`, or one that failed `x`; a send `s`, or one
     /// that failed `u`.
-    pub fn calls(&self) -> &[u8] {
-        &self.calls
+    ///
+    /// # Errors
+    ///
+    /// Where there was no memory for a call, or there is none for the letters.
+    pub fn letters(&self, alloc: Global) -> Result<Vec<u8>, AllocError> {
+        let mut letters = Vec::new(alloc);
+        match &self.calls {
+            Some(calls) => {
+                for call in calls {
+                    letters.push(letter(call))?;
+                }
+                Ok(letters)
+            }
+            None => Err(AllocError),
+        }
     }
 
     /// Whether the call that begins now is the one that fails.
     fn is_failing(&mut self) -> bool
-        ensures { self.new.failures ≡ self.old.failures }
+        ensures failures { self.new.failures ≡ self.old.failures }
+        ensures calls { self.new.calls ≡ self.old.calls }
     {
         match self.fails {
             Some(0) => {
@@ -60,18 +144,24 @@ impl<'a> MemWire<'a> {
         }
     }
 
-    /// Notes a call, where there is room.
-    fn note(&mut self, letter: u8)
-        ensures { self.new.failures ≡ self.old.failures }
+    /// Tells a call; where there is no memory for it, it tells none from then on.
+    fn tell(&mut self, call: Result<Call, AllocError>)
+        ensures failures { self.new.failures ≡ self.old.failures }
+        ensures told { IfOk call (λ told. Tells (calls_of self.old.calls) (calls_of self.new.calls) (call_of told ∷ [])) }
+        ensures ends { IfErr call (λ fault. self.new.calls ≡ None) }
     {
-        if self.calls.len() < NOTED {
-            let _noted = self.calls.push(letter);
+        let calls = self.calls.take();
+        if let (Some(mut calls), Ok(call)) = (calls, call) {
+            if calls.push(call).is_ok() {
+                self.calls = Some(calls);
+            }
         }
     }
 
     /// The next line, which is empty where none is left.
     fn next_line(&mut self) -> &'a [u8]
-        ensures { self.new.failures ≡ self.old.failures }
+        ensures failures { self.new.failures ≡ self.old.failures }
+        ensures calls { self.new.calls ≡ self.old.calls }
     {
         let lines = self.lines;
         match lines.iter().position(|octet| *octet == b'\n') {
@@ -92,7 +182,7 @@ impl Wire for MemWire<'_> {
 
     ghost failure_count = { λ wire. wire.failures };
 
-    ghost calls = { λ wire. None };
+    ghost calls = { λ wire. calls_of wire.calls };
 
     fn ports(&self) -> u8 {
         PORTS
@@ -105,7 +195,7 @@ impl Wire for MemWire<'_> {
     fn recv(&mut self, buf: &mut [u8; RECEIVE_ROOM]) -> Result<Got, WireFault> {
         if self.is_failing() {
             self.failures += 1;
-            self.note(b'x');
+            self.tell(Ok(Call::FailedReceive));
             return Err(WireFault::Failed);
         }
         let line = self.next_line();
@@ -113,27 +203,29 @@ impl Wire for MemWire<'_> {
             Some(Event::Datagram { port, from, octets }) => {
                 let len = octets.len().min(RECEIVE_ROOM);
                 buf[..len].copy_from_slice(&octets[..len]);
-                self.note(b'd');
+                let call = received(self.alloc, port, from, &buf[..len]);
+                self.tell(call);
                 Ok(Got::Datagram { port, from, len })
             }
             Some(Event::Tick) => {
-                self.note(b't');
+                self.tell(Ok(Call::Tick));
                 Ok(Got::Tick)
             }
             None => {
-                self.note(b'i');
+                self.tell(Ok(Call::EmptyReceive));
                 Ok(Got::Idle)
             }
         }
     }
 
-    fn send(&mut self, _port: u8, _to: BipAddr, _octets: &[u8]) -> Result<(), WireFault> {
-        if self.is_failing() {
+    fn send(&mut self, port: u8, to: BipAddr, octets: &[u8]) -> Result<(), WireFault> {
+        let is_failing = self.is_failing();
+        let call = sent(self.alloc, port, to, octets, is_failing);
+        self.tell(call);
+        if is_failing {
             self.failures += 1;
-            self.note(b'u');
             return Err(WireFault::Failed);
         }
-        self.note(b's');
         Ok(())
     }
 }
