@@ -58,14 +58,14 @@ pub fn script(alloc: Global, config: &str, body: &str, out: &mut Vec<u8>) -> io:
     writeln!(out)
 }
 
-/// What the replay of a script writes in short: its first line and its last two, how many lines and octets it has, and a sum of these;
+/// What the replay of a script writes in short: its first line and its last three, how many lines and octets it has, and a sum of these;
 /// and how it ends.
 pub fn brief(alloc: Global, config: &str, body: &str, out: &mut Vec<u8>) -> io::Result<()> {
     let mut whole = Vec::new(alloc);
     script(alloc, config, body, &mut whole)?;
     let count = whole.split(|octet| *octet == b'\n').count();
     for (number, line) in whole.split(|octet| *octet == b'\n').enumerate() {
-        if number == 0 || number.saturating_add(4) >= count {
+        if !line.is_empty() && (number == 0 || number.saturating_add(4) >= count) {
             out.extend_from_slice(line)?;
             out.push(b'\n')?;
         }
