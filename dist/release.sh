@@ -3,8 +3,9 @@
 #
 #     dist/release.sh [--gate FILE] [FOLDER]      # into the folder dist/out unless told otherwise
 #
-# It wants the program built, as `./bacgw prove` leaves it, and of a commit, with nothing changed since. FILE is what `rt ci` printed for
-# that commit: its last line goes into the release, and a gate that failed makes none. Without it the release says that no gate is named.
+# It wants the program built, as `./bacgw prove` leaves it, with the stamp that it is the proved program of these sources, and of a
+# commit, with nothing changed since. FILE is what `rt ci` printed for that commit: its last line goes into the release, and a gate that
+# failed makes none. Without it the release says that no gate is named. One commit and one program make the same packs, octet for octet.
 # For the Debian package it wants dpkg-deb, and leaves it out where that isn't there.
 set -euo pipefail
 
@@ -25,47 +26,110 @@ while [ $# -gt 0 ]; do
 done
 
 [ -x "$program" ] || { echo "build bacgw first: ./bacgw prove" >&2; exit 1; }
+"$top/dist/stamp.sh" check || { echo "this is not the proved program of these sources: ./bacgw prove" >&2; exit 1; }
 [ -z "$(git -C "$top" status --porcelain)" ] || { echo "what is not committed can't be released" >&2; exit 1; }
 told=$("$program" --version)
 version=$(sed -n 's/^bacgw \([0-9.]*\),.*/\1/p' <<< "$told")
 [ -n "$version" ] || { echo "no version: $told" >&2; exit 1; }
 name=bacgw-$version-x86_64
 
+# The time of each file is that of the commit, and who may read it doesn't depend on the caller.
+export SOURCE_DATE_EPOCH LC_ALL=C TZ=UTC
+SOURCE_DATE_EPOCH=$(git -C "$top" log -1 --format=%ct)
+umask 022
+
 work=$(mktemp -d)
 trap 'rm -rf "$work"' EXIT
 pack=$work/$name
 mkdir -p "$pack/bin" "$to"
-cp "$program" "$pack/bin/bacgw"
-cp "$top/man/bacgw.1" "$here/install.sh" "$here/bacgw.service" "$here/bacgw.logrotate" "$here/site.toml" "$pack"
-cp -r "$here/completions" "$pack"
+install -m 755 "$program" "$pack/bin/bacgw"
+install -m 755 "$here/install.sh" "$pack"
+install -m 644 "$top/man/bacgw.1" "$here"/bacgw.* "$here/site.toml" "$pack"
+install -D -m 644 -t "$pack/completions" "$here"/completions/*
 {
     echo "program: $told"
     echo "commit: $(git -C "$top" rev-parse HEAD)"
     echo "gate: $gate"
     echo "sha256 of bin/bacgw: $(sha256sum < "$program" | cut -d' ' -f1)"
 } > "$pack/RELEASE"
-tar -C "$work" --sort=name --owner=0 --group=0 --numeric-owner -czf "$to/$name.tar.gz" "$name"
+tar -C "$work" --format=gnu --sort=name --mtime="@$SOURCE_DATE_EPOCH" --owner=0 --group=0 --numeric-owner -cf - "$name" |
+    gzip -9n > "$to/$name.tar.gz"
 (cd "$to" && sha256sum "$name.tar.gz" > "$name.tar.gz.sha256")
 echo "$to/$name.tar.gz"
 
 command -v dpkg-deb > /dev/null || { echo "no Debian package: dpkg-deb isn't there" >&2; exit 0; }
 room=$work/debian
+maintainer="${DEBFULLNAME:-Tozsibel} <${DEBEMAIL:-root@localhost}>"
 "$pack/install.sh" --prefix /usr --root "$room" > /dev/null
-install -D -m 644 "$pack/RELEASE" "$room/usr/share/doc/bacgw/RELEASE"
+# dpkg keeps what was edited itself.
+rm -r "$room/usr/share/bacgw"
+papers=$room/usr/share/doc/bacgw
+install -D -m 644 "$pack/RELEASE" "$papers/RELEASE"
 gzip -9n "$room/usr/share/man/man1/bacgw.1"
-mkdir -p "$room/DEBIAN"
-cat > "$room/DEBIAN/control" <<TEXT
+gzip -9n < "$top/CHANGELOG.md" > "$papers/NEWS.md.gz"
+cat <<TEXT | gzip -9n > "$papers/changelog.gz"
+bacgw ($version) unstable; urgency=medium
+
+  * Commit $(git -C "$top" rev-parse HEAD). What a user sees of it is in NEWS.md.gz.
+
+ -- $maintainer  $(date -R -d "@$SOURCE_DATE_EPOCH")
+TEXT
+cat > "$papers/copyright" <<TEXT
+Format: https://www.debian.org/doc/packaging-manuals/copyright-format/1.0/
+Upstream-Name: Tozsibel
+Source: commit $(git -C "$top" rev-parse HEAD)
+
+Files: *
+Copyright: the owner of Tozsibel
+License: none
+ The owner has given no licence yet: whoever got this package may use it as the owner allowed.
+TEXT
+
+control=$room/DEBIAN
+mkdir -p "$control"
+cat > "$control/control" <<TEXT
 Package: bacgw
 Version: $version
 Architecture: amd64
-Maintainer: ${DEBFULLNAME:-Tozsibel} <${DEBEMAIL:-root@localhost}>
-Depends: libc6
+Maintainer: $maintainer
+Installed-Size: $(du -sk --apparent-size --exclude=DEBIAN "$room" | cut -f1)
+Depends: libc6 (>= 2.34)
+Suggests: nftables
 Section: net
 Priority: optional
 Description: BACnet/IP gateway under a policy
  Router, broadcast manager and device under one list of rules, every function
  of which is proved.
 TEXT
-printf '/etc/bacgw/site.toml\n/etc/logrotate.d/bacgw\n' > "$room/DEBIAN/conffiles"
-dpkg-deb --root-owner-group --build "$room" "$to/bacgw_${version}_amd64.deb" > /dev/null
+(cd "$room" && find etc -type f -printf '/%p\n' | sort) > "$control/conffiles"
+(cd "$room" && find usr etc -type f -print0 | sort -z | xargs -0 md5sum) > "$control/md5sums"
+cat > "$control/postinst" <<'TEXT'
+#!/bin/sh
+# A gateway that ran goes on as the new program. The first time nothing is started: the operator names the site first.
+set -e
+if [ "$1" = configure ] && [ -d /run/systemd/system ]; then
+    systemctl daemon-reload || true
+    [ -z "$2" ] || systemctl try-restart bacgw.service || true
+fi
+if [ "$1" = configure ] && [ -z "$2" ]; then
+    echo 'bacgw: write /etc/bacgw/site.toml and /etc/systemd/system/bacgw.service.d/site.conf, then: systemctl enable --now bacgw'
+fi
+TEXT
+cat > "$control/prerm" <<'TEXT'
+#!/bin/sh
+set -e
+if [ "$1" = remove ] && [ -d /run/systemd/system ]; then
+    systemctl disable --now bacgw.service || true
+fi
+TEXT
+cat > "$control/postrm" <<'TEXT'
+#!/bin/sh
+set -e
+if [ -d /run/systemd/system ]; then
+    systemctl daemon-reload || true
+fi
+TEXT
+chmod 755 "$control/postinst" "$control/prerm" "$control/postrm"
+find "$room" -exec touch -h -d "@$SOURCE_DATE_EPOCH" {} +
+dpkg-deb -Zgzip -z9 --root-owner-group --build "$room" "$to/bacgw_${version}_amd64.deb" > /dev/null
 echo "$to/bacgw_${version}_amd64.deb"
