@@ -6,7 +6,8 @@
 # It wants the program built, as `./bacgw prove` leaves it, with the stamp that it is the proved program of these sources, and of a
 # commit, with nothing changed since. FILE is what `rt ci` printed for that commit: its last line goes into the release, and a gate that
 # failed makes none. Without it the release says that no gate is named. One commit and one program make the same packs, octet for octet.
-# For the Debian package it wants dpkg-deb, and leaves it out where that isn't there.
+# For the Debian package it wants dpkg-deb, and leaves it out where that isn't there; its maintainer is DEBFULLNAME and DEBEMAIL, or else
+# the author of the commit.
 set -euo pipefail
 
 here=$(cd "$(dirname "$0")" && pwd)
@@ -59,7 +60,8 @@ echo "$to/$name.tar.gz"
 
 command -v dpkg-deb > /dev/null || { echo "no Debian package: dpkg-deb isn't there" >&2; exit 0; }
 room=$work/debian
-maintainer="${DEBFULLNAME:-Tozsibel} <${DEBEMAIL:-root@localhost}>"
+maintainer=$(git -C "$top" log -1 --format='%an <%ae>')
+[ -z "${DEBEMAIL:-}" ] || maintainer="${DEBFULLNAME:-Tozsibel} <$DEBEMAIL>"
 "$pack/install.sh" --prefix /usr --root "$room" > /dev/null
 # dpkg keeps what was edited itself.
 rm -r "$room/usr/share/bacgw"
@@ -70,7 +72,8 @@ gzip -9n < "$top/CHANGELOG.md" > "$papers/NEWS.md.gz"
 cat <<TEXT | gzip -9n > "$papers/changelog.gz"
 bacgw ($version) unstable; urgency=medium
 
-  * Commit $(git -C "$top" rev-parse HEAD). What a user sees of it is in NEWS.md.gz.
+  * What a user sees is in NEWS.md.gz. The commit:
+    $(git -C "$top" rev-parse HEAD)
 
  -- $maintainer  $(date -R -d "@$SOURCE_DATE_EPOCH")
 TEXT
@@ -80,10 +83,13 @@ Upstream-Name: Tozsibel
 Source: commit $(git -C "$top" rev-parse HEAD)
 
 Files: *
-Copyright: the owner of Tozsibel
+Copyright: $(date -d "@$SOURCE_DATE_EPOCH" +%Y), the owner of Tozsibel
 License: none
  The owner has given no licence yet: whoever got this package may use it as the owner allowed.
 TEXT
+# The program is packed as it was proved and built, and so not stripped.
+mkdir -p "$room/usr/share/lintian/overrides"
+echo 'bacgw: unstripped-binary-or-object [usr/bin/bacgw]' > "$room/usr/share/lintian/overrides/bacgw"
 
 control=$room/DEBIAN
 mkdir -p "$control"
