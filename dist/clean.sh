@@ -42,11 +42,12 @@ echo "installed: $(inside bacgw --version)"
 inside bacgw check --config /etc/bacgw/site.toml
 
 ip netns add "$space"
-ip -n "$space" link add one type dummy
+ip -n "$space" link add one type veth peer name other
 ip -n "$space" addr add 192.0.2.2/24 broadcast + dev one
 ip -n "$space" addr add 192.0.2.9/24 dev one
 ip -n "$space" addr add 198.51.100.2/24 broadcast + dev one
 ip -n "$space" link set one up
+ip -n "$space" link set other up
 ip -n "$space" link set lo up
 # As an unprivileged user, as the unit does.
 ip netns exec "$space" chroot --userspec=65534:65534 "$root" /usr/bin/bacgw run --config /etc/bacgw/site.toml --verbose \

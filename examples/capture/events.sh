@@ -18,7 +18,7 @@ import sys, tomllib
 try:
     with open(sys.argv[1], "rb") as file:
         ports = tomllib.load(file).get("port", [])
-    rows = [f"{number} {port[\"address\"]} {port[\"broadcast\"]}" for number, port in enumerate(ports, 1)]
+    rows = ["%d %s %s" % (number, port["address"], port["broadcast"]) for number, port in enumerate(ports, 1)]
 except (OSError, ValueError, KeyError, TypeError, AttributeError) as fault:
     sys.exit(f"{sys.argv[1]}: no configuration: {fault!r}")
 if not rows:
