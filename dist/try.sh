@@ -31,9 +31,16 @@ answers "$root/usr/local/bin/bacgw" "$root/etc/bacgw/site.toml"
 echo '# mine' >> "$root/etc/bacgw/site.toml"
 "$pack/install.sh" --root "$root" > /dev/null
 [ "$(tail -1 "$root/etc/bacgw/site.toml")" = '# mine' ]
+# A unit or a file for logrotate that was edited stays too, and the new one is beside it; one that wasn't is replaced by a newer one.
+edited=("$root/etc/systemd/system/bacgw.service" "$root/etc/logrotate.d/bacgw")
+for file in "${edited[@]}"; do echo '# mine' >> "$file"; done
+echo '# newer' >> "$pack/bacgw.journald"
+"$pack/install.sh" --root "$root" > /dev/null
+for file in "${edited[@]}"; do [ "$(tail -1 "$file")" = '# mine' ] && [ -f "$file.new" ]; done
+[ "$(tail -1 "$root/usr/local/lib/systemd/journald@bacgw.conf.d/size.conf")" = '# newer' ]
 grep -q '^ExecStart=/usr/local/bin/bacgw ' "$root/etc/systemd/system/bacgw.service"
 [ -f "$root/usr/local/share/man/man1/bacgw.1" ] && [ -f "$root/etc/logrotate.d/bacgw" ]
-echo "installed twice: the configuration stays as it is"
+echo "installed again: the configuration, and what was edited, stays as it is"
 
 for package in "$from"/*.deb; do
     [ -e "$package" ] || continue

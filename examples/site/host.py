@@ -77,8 +77,10 @@ def main():
     with open_line(port=int(rest[0]) if word == "hear" else OURS, wait=2.0 if word == "hear" else 1.0) as line:
         if word == "read":
             line.sendto(request(1, 7), (rest[0], OURS))
-            answer = heard(line)
-            print("answered" if answer and answer[10] >> 4 == 3 else "no answer")
+            # A broadcast comes back to its sender too.
+            while (answer := heard(line)) and answer[10] >> 4 != 3:
+                pass
+            print("answered" if answer else "no answer")
         elif word == "register":
             line.sendto(bytes.fromhex("81050006003C"), (rest[0], OURS))
             print("granted" if heard(line) == bytes.fromhex("810000060000") else "no answer")

@@ -125,6 +125,7 @@ in_gateway sysctl -qw net.ipv4.ip_forward=1
 same "a host hears one of the other subnet past the gateway" "$(heard second 5000 first say 10.2.0.9 5000)" heard
 in_gateway sysctl -qw net.ipv4.ip_forward=0
 same "a read by the address of the other port" "$(first read 10.2.0.2)" answered
+same "a read by the broadcast address of the other port" "$(first read 10.2.0.255)" answered
 same "a message to UDP port 53 of a host" "$(heard second 53 first pass 10.2.0.9 53)" heard
 same "a message of port 2 to a host of the first subnet" "$(heard first 47809 first pass 10.1.0.5 47809)" heard
 echo "  in a flood of 5,000 a second: $(flooded)"
