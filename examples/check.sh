@@ -66,6 +66,16 @@ if command -v tshark > /dev/null; then
     status=$?
     : > "$work/err"
     agrees "$here/capture/site.pcap" 0 "$here/capture/site.script" /dev/null
+    # The same configuration in other words, and one without a port.
+    sed "s/\"/'/g; s/^\[\[port\]\]/  [[ port ]]/; s/^address/   address/; s/^broadcast = /\tbroadcast=/" "$here/site/site.toml" > "$work/odd.toml"
+    "$here/capture/events.sh" "$work/odd.toml" "$here/capture/site.pcap" > "$work/out" 2> /dev/null
+    status=$?
+    agrees 'a capture under a configuration in other words' 0 "$here/capture/site.script" /dev/null
+    echo 'format = 1' > "$work/portless.toml"
+    "$here/capture/events.sh" "$work/portless.toml" "$here/capture/site.pcap" > "$work/out" 2> "$work/err"
+    status=$?
+    echo "$work/portless.toml: no port" > "$work/told"
+    agrees 'a capture under a configuration without a port' 1 /dev/null "$work/told"
 fi
 
 # The asks of the refusals, each with its rule; and what the rules say of the lines of their log, of the middle words of these, and of
