@@ -111,11 +111,17 @@ TEXT
 (cd "$room" && find usr etc -type f -print0 | sort -z | xargs -0 md5sum) > "$control/md5sums"
 cat > "$control/postinst" <<'TEXT'
 #!/bin/sh
-# A gateway that ran goes on as the new program. The first time nothing is started: the operator names the site first.
+# A gateway that ran goes on as the new program, unless no subnet is allowed, where the new unit would mute it. The first time nothing is
+# started: the operator names the site first.
 set -e
 if [ "$1" = configure ] && [ -d /run/systemd/system ]; then
-    systemctl daemon-reload || true
-    [ -z "$2" ] || systemctl try-restart bacgw.service || true
+    if [ -n "$2" ] && ! grep -qs '^IPAddressAllow=.' /etc/systemd/system/bacgw.service.d/*.conf; then
+        echo "bacgw: a gateway that runs goes on as it is: allow the site's subnets in /etc/systemd/system/bacgw.service.d/site.conf,"
+        echo 'then: systemctl daemon-reload && systemctl restart bacgw'
+    else
+        systemctl daemon-reload || true
+        [ -z "$2" ] || systemctl try-restart bacgw.service || true
+    fi
 fi
 if [ "$1" = configure ] && [ -z "$2" ]; then
     echo 'bacgw: write /etc/bacgw/site.toml and /etc/systemd/system/bacgw.service.d/site.conf, then: systemctl enable --now bacgw'
@@ -131,7 +137,7 @@ TEXT
 cat > "$control/postrm" <<'TEXT'
 #!/bin/sh
 set -e
-if [ -d /run/systemd/system ]; then
+if [ "$1" != upgrade ] && [ -d /run/systemd/system ]; then
     systemctl daemon-reload || true
 fi
 TEXT
