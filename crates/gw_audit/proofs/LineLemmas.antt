@@ -1,9 +1,9 @@
 -- What is read back from a line.
-use Rattle.std.proofs.Common.{◌≡◌, ◌≢◌, ℕ, ◌^◌, ◌<◌, List, [], ◌∷◌, ◌++◌, refl, sym, ap, ap₂, ◌∙◌, arith, append_assoc, Option}
-use Rattle.std.specs.Prelude.{codes, true}
+use Rattle.std.proofs.Common.{◌≡◌, ◌≢◌, ℕ, ◌^◌, ◌<◌, List, [], ◌∷◌, ◌++◌, refl, sym, subst, ap, ap₂, ◌∙◌, arith, append_assoc, Option}
+use Rattle.std.specs.Prelude.{codes, Bool, true, false, ◌&&◌, IsTrue, length, nat_le}
 use Rattle.std.specs.Char.{IsAsciiDigit}
 use Rattle.std.specs.Fmt.{decimal}
-use Rattle.std.specs.List.{flat_map}
+use Rattle.std.specs.List.{flat_map, list_all}
 use Rattle.std.proofs.lemmas.Fmt.{decimal_injective}
 use Rattle.std.proofs.lemmas.List.{append_cancel_left, append_cancel_right}
 use Rattle.gw_addr.specs.declared.station.Source.{Source}
@@ -11,6 +11,7 @@ use Rattle.gw_addr.specs.Station.{two_digits}
 use Rattle.gw_addr.specs.Text.{Lacks}
 use Rattle.gw_addr.proofs.Lacking.{lacks_append, lacks_cons, not_in_decimal, same_split}
 use Rattle.gw_rules.specs.declared.field.FieldName.TheVariants as named
+use Rattle.gw_rules.specs.Name.{is_name, is_name_character}
 use Rattle.gw_audit.specs.declared.denial.Denial.{Denial}
 use Rattle.gw_audit.specs.Line.{field_text, line_text, operation_text}
 use Rattle.gw_audit.specs.Laws.{EndsOnce, IsDenial, IsOneLine, NamesOneDenial}
@@ -189,6 +190,33 @@ ends_counted c n text other small one =
 other_space : ◌≢◌ {A = ℕ} 32 10
 other_space e = absurd (omega arith)
 
+-- no name of a rule has a line feed
+no_feed : (c : ℕ) → is_name_character c ≡ true → c ≢ 10
+no_feed c is e = let wrong : false ≡ true = subst (λ x. is_name_character x ≡ true) e is in absurd cc
+
+left : (a b : Bool) → (a && b) ≡ true → a ≡ true
+left true b e = refl
+left false b e = absurd cc
+
+right : (a b : Bool) → (a && b) ≡ true → b ≡ true
+right true b e = e
+right false b e = absurd cc
+
+all_lack : (text : List ℕ) → list_all is_name_character text ≡ true → Lacks 10 text
+all_lack [] e = lacks_in_none 10
+all_lack (c ∷ cs) e =
+    lacks_cons 10 c cs (no_feed c (left (is_name_character c) (list_all is_name_character cs) e))
+    (all_lack cs (right (is_name_character c) (list_all is_name_character cs) e))
+
+is_so : (b : Bool) → IsTrue b → b ≡ true
+is_so true h = refl
+is_so false h = absurd cc
+
+name_lacks : (text : List ℕ) → IsTrue (is_name text) → Lacks 10 text
+name_lacks text h =
+    let all = list_all is_name_character text in
+    all_lack text (right (nat_le (length text) 32) all (right (nat_le 1 (length text)) (nat_le (length text) 32 && all) (is_so (is_name text) h)))
+
 ends_rule : (d : Denial) → Lacks 10 d.rule → IsOneLine (rule_on d)
 unfolding rule_on has_none
 ends_rule d plain =
@@ -208,7 +236,9 @@ ends_asked d is plain =
 
 pub ends_once : EndsOnce
 unfolding number_on tick_on port_on net_on mac_on
-ends_once d is plain =
+ends_once d kept =
+    let is = kept.numbers in
+    let plain = name_lacks d.rule kept.name in
     let asked = ends_asked d is plain in
     let mac = ends_after (flat_map two_digits d.source.mac) (32 ∷ operation_on d) (digits_lack 10 (omega arith) d.source.mac) (ends_cons 32 (operation_on d) other_space asked) in
     let net = ends_counted 58 d.source.net (mac_on d) (λ e. absurd (omega arith)) (omega (arith, is.network)) mac in

@@ -1,9 +1,10 @@
 -- What a line tells whoever reads the log.
-use Rattle.std.specs.Prelude.{◌≡◌, ℕ, ◌^◌, ◌<◌, List, [], ◌∷◌, ◌++◌, IfSome}
+use Rattle.std.specs.Prelude.{◌≡◌, ℕ, ◌^◌, ◌<◌, List, [], ◌∷◌, ◌++◌, IfSome, IsTrue}
 use Rattle.gw_addr.specs.Reading.{AreOctets}
 use Rattle.gw_addr.specs.Text.{Lacks}
 use Rattle.gw_rules.specs.declared.field.FieldName.{FieldName}
 use Rattle.gw_rules.specs.Fields.{value_of}
+use Rattle.gw_rules.specs.Name.{is_name}
 use Rattle.gw_audit.specs.declared.denial.Denial.{Denial}
 use Rattle.gw_audit.specs.Line.{line_text}
 
@@ -41,6 +42,11 @@ pub record IsOneLine (text : List ℕ) : Type 0 where
   pub ends : text ≡ front ++ 10 ∷ []
   pub lacks : Lacks 10 front
 
--- a line is one line, where the name of its rule has no line feed
+-- a denial as each value of the type is one: its numbers fit, and its rule has a name
+pub record IsKept (d : Denial) : Type 0 where
+  pub numbers : IsDenial d
+  pub name : IsTrue (is_name d.rule)
+
+-- a line is one line
 abbrev pub EndsOnce : Type 0
-EndsOnce = (d : Denial) → IsDenial d → Lacks 10 d.rule → IsOneLine (line_text d)
+EndsOnce = (d : Denial) → IsKept d → IsOneLine (line_text d)

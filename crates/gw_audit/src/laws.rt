@@ -3,14 +3,13 @@
 ghost use Rattle.std.specs.Prelude.{◌<◌, ◌^◌, IfSome};
 ghost use Rattle.gw_addr.specs.Reading.{AreOctets};
 ghost use Rattle.gw_audit.specs.Entry.{IsShowable};
-ghost use Rattle.gw_audit.specs.Laws.{EndsOnce, IsDenial, NamesOneDenial};
+ghost use Rattle.gw_audit.specs.Laws.{EndsOnce, IsDenial, IsKept, NamesOneDenial};
 ghost use Rattle.gw_audit.specs.Told.{TellsEach, TellsOnce, TellsWords};
 
 use crate::denial::Denial;
 
 /// A line names one denial, so a log can be searched: two denials with one line are the same in each
-/// field that it shows. And a line ends where its line feed stands, which it has once where the name
-/// of the rule has none.
+/// field that it shows. And a line ends with its line feed, of which it has one.
 pub fn lines()
     ensures one { NamesOneDenial }
     ensures ended { EndsOnce }
@@ -24,8 +23,10 @@ pub fn telling()
     ensures words { TellsWords }
 {}
 
-/// The numbers of each denial fit their types, so those laws hold of every one; and its line is read.
+/// The numbers of each denial fit their types, and its rule has a name, so those laws hold of every
+/// one; and its line is read.
 pub fn fits(denial: &Denial)
+    ensures kept { IsKept denial.now }
     ensures numbers { IsDenial denial.now }
     ensures shown { IsShowable denial.now }
 {

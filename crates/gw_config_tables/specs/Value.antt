@@ -9,6 +9,7 @@ use Rattle.gw_addr.specs.declared.bip.BipAddr.{BipAddr}
 use Rattle.gw_addr.specs.declared.mask.Mask.{Mask}
 use Rattle.gw_rules.specs.declared.operation.Operation.{Operation}
 use Rattle.gw_rules.specs.declared.operation.TheConstants.Operation.{ALL}
+use Rattle.gw_rules.specs.Name.{is_name}
 use Rattle.gw_rules.specs.Operation.{operation_name}
 use Rattle.gw_configuration.specs.declared.fault.ConfigFault.TheVariants.{Kind, Range}
 use Rattle.gw_configuration.specs.declared.object.ObjectKind.{ObjectKind}
@@ -64,15 +65,9 @@ kind_in value = reading kind_of (as_integer value)
 abbrev pub text_in : ℕ → Data → Read (List ℕ)
 text_in least value = reading (text_of_length least) (as_str value)
 
--- `a` to `z`, `0` to `9` and `-`
-abbrev pub is_name_character : ℕ → Bool
-is_name_character c = (nat_le 97 c && nat_le c 122) || ((nat_le 48 c && nat_le c 57) || c == 45)
-
--- the name of a rule: 1 to 32 of these characters, and not the word that the log has for no rule
+-- a name for a rule: not the word that the log has for no rule
 abbrev pub is_rule_name : List ℕ → Bool
-is_rule_name text =
-    nat_le 1 (length text) && (nat_le (length text) 32
-    && (list_all is_name_character text && not (pointwise nat_eq text (codes "default"))))
+is_rule_name text = is_name text && not (pointwise nat_eq text (codes "default"))
 
 abbrev pub rule_name : List ℕ → Option (List ℕ)
 rule_name text = if is_rule_name text then Some text else None

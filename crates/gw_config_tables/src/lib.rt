@@ -3,7 +3,6 @@
 #![tactic(auto)]
 
 mod field;
-pub mod laws;
 pub mod range;
 pub mod tables;
 pub mod value;

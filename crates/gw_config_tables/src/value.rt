@@ -1,21 +1,17 @@
 //! Single values of a configuration.
 ghost use Rattle.std.specs.Prelude.{◌≡◌, ◌≤◌, IfOk, length, map, option_map, option_copied};
-ghost use Rattle.std.specs.List.{list_all};
 ghost use Rattle.gw_addr.specs.Address.{IsAddress};
 ghost use Rattle.gw_addr.specs.Mask.{IsMask};
 ghost use Rattle.gw_addr.specs.Reading.{Gives};
 ghost use Rattle.toml.specs.Data.{Data, as_array, as_str, get_member};
 ghost use Rattle.toml.specs.View.{table_view, view};
 ghost use Rattle.gw_config_tables.specs.Written.{address_written, mask_written};
-ghost use Rattle.gw_config_tables.specs.Value.{address_in, boolean_in, kind_in, kind_numbered, list_in, mask_in, number_in, operation_in, rule_name_in, is_rule_name, is_name_character, operation_named, signed_in, table_in, text_in};
+ghost use Rattle.gw_config_tables.specs.Value.{address_in, boolean_in, kind_in, kind_numbered, list_in, mask_in, number_in, operation_in, rule_name_in, is_rule_name, operation_named, signed_in, table_in, text_in};
 
 use gw_addr::{BipAddr, Mask};
 use gw_configuration::{ConfigFault, MAX_TEXT, ObjectKind};
-use gw_rules::Operation;
+use gw_rules::{Operation, RuleName};
 use toml::{Table, Value};
-
-/// How many characters the name of a rule has at most.
-pub const MAX_RULE_NAME: usize = 32;
 
 /// The word that the log has where no rule matches.
 const NO_RULE: &str = "default";
@@ -148,22 +144,7 @@ pub fn rule_name(value: &Value) -> Result<&str, ConfigFault>
 fn is_rule_name(text: &str) -> bool
     ensures { result ≡ is_rule_name text.now }
 {
-    1 <= text.len()
-        && text.len() <= MAX_RULE_NAME
-        && are_name_characters(text.as_bytes())
-        && text != NO_RULE
-}
-
-fn are_name_characters(octets: &[u8]) -> bool
-    ensures { result ≡ list_all is_name_character octets.now }
-{
-    octets.iter().all(|octet| is_name_character(*octet))
-}
-
-fn is_name_character(octet: u8) -> bool
-    ensures { result ≡ is_name_character octet }
-{
-    matches!(octet, b'a'..=b'z' | b'0'..=b'9' | b'-')
+    RuleName::is_name(text) && text != NO_RULE
 }
 
 /// An operation, by its name. `Kind` where it is no text, `Range` where it names none.

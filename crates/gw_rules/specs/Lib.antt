@@ -4,6 +4,7 @@ pub mod Authorizer
 pub mod Field
 pub mod Fields
 pub mod Hides
+pub mod Name
 pub mod Operation
 pub mod Range
 pub mod Rule

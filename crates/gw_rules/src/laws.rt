@@ -16,7 +16,7 @@ ghost use Rattle.gw_rules.specs.Rule.{Matches, matches};
 ghost use Rattle.gw_rules.specs.RuleList.{Allows, IsFirst, IsNumberOf, KeepsCounts, KeepsOrder, allows, decide, first, keeps_counts, keeps_order};
 ghost use Rattle.gw_rules.specs.Service.{own_number, service_number};
 
-use crate::{Ask, Decision, FieldName, MAX_RANGES, MAX_RULES, Operation, Range, Refusal};
+use crate::{Ask, Decision, FieldName, MAX_NAME, MAX_RANGES, MAX_RULES, Operation, Range, Refusal};
 
 /// A rule matches an ask exactly where, for every field that the rule names, the ask has that field
 /// and one of the rule's ranges holds its value.
@@ -58,11 +58,12 @@ pub fn refusals()
         denied_of rules (asks ++ more) ≡ denied_of rules asks ++ denied_of rules more }
 {}
 
-/// The limits are 512 rules and four ranges for a field. The tests of a list's limits hold exactly
+/// The limits are 512 rules, four ranges for a field and 32 characters of a name. The tests of a list's limits hold exactly
 /// where there are at most so many, and where no range has its low end above its high end.
 pub fn limits()
     ensures rules { MAX_RULES ≡ 512 }
     ensures ranges { MAX_RANGES ≡ 4 }
+    ensures name { MAX_NAME ≡ 32 }
     ensures counts { (rules : List Rule) → IsTrue (keeps_counts rules) ↔ KeepsCounts rules }
     ensures order { (rules : List Rule) → IsTrue (keeps_order rules) ↔ KeepsOrder rules }
 {}

@@ -1,39 +1,72 @@
 //! The name of a rule.
-ghost use Rattle.std.specs.Prelude.{◌≡◌, IfOk, IsOkUnless};
+ghost use Rattle.std.specs.Prelude.{◌≡◌, ◌↔◌, IfOk, IsErrOf, IsFalse, IsTrue};
+ghost use Rattle.std.specs.List.{list_all};
+ghost use Rattle.gw_rules.specs.Name.{is_name, is_name_character};
 
 use crate::RuleFault;
 use std::alloc::Global;
 use std::marker::Model;
 
-/// The name of a rule, which the log shows where the rule denies. Contracts see its octets.
+/// How many characters a rule's name has at most.
+pub const MAX_NAME: usize = 32;
+
+/// The name of a rule, which the log shows if the rule denies: 1 to 32 of the characters `a` to `z`,
+/// `0` to `9` and `-`. Contracts see its octets.
 #[derive(Drop)]
 pub struct RuleName {
     text: String,
 }
 
 impl Model for RuleName {
-    ghost use Rattle.std.specs.Prelude.{List, ℕ, string_bytes};
+    ghost use Rattle.std.specs.Prelude.{List, ℕ, IsTrue, string_bytes};
+    ghost use Rattle.gw_rules.specs.Name.{is_name};
 
     ghost Value = { List ℕ };
 
     ghost view = { λ name. string_bytes name.text };
+
+    ghost invariant = { λ name. IsTrue (is_name (string_bytes name.text)) };
 }
 
 impl RuleName {
-    /// A name of this text, or `Memory` where there is none for it.
+    /// A name of this text. The faults: `Range` if it is no name; else `Memory` if there is none for it.
     pub fn new(alloc: Global, text: &str) -> Result<Self, RuleFault>
         ensures text { IfOk result (λ name. name ≡ text.now) }
-        ensures memory { IsOkUnless result RuleFault.Memory }
+        ensures range { IsErrOf result RuleFault.Range ↔ IsFalse (is_name text.now) }
+        ensures few { ¬ (IsErrOf result RuleFault.TooMany) }
     {
+        if !RuleName::is_name(text) {
+            return Err(RuleFault::Range);
+        }
         Ok(RuleName {
             text: String::from_str(alloc, text)?,
         })
     }
 
+    /// Whether a text is a name: 1 to 32 of the characters `a` to `z`, `0` to `9` and `-`.
+    pub fn is_name(text: &str) -> bool
+        ensures { result ≡ is_name text.now }
+    {
+        1 <= text.len() && text.len() <= MAX_NAME && are_name_characters(text.as_bytes())
+    }
+
     /// The text of the name.
     pub fn as_str(&self) -> &str
-        ensures { result.now ≡ self.now }
+        ensures text { result.now ≡ self.now }
+        ensures name { IsTrue (is_name self.now) }
     {
         self.text.as_str()
     }
+}
+
+fn are_name_characters(octets: &[u8]) -> bool
+    ensures { result ≡ list_all is_name_character octets.now }
+{
+    octets.iter().all(|octet| is_name_character(*octet))
+}
+
+fn is_name_character(octet: u8) -> bool
+    ensures { result ≡ is_name_character octet }
+{
+    matches!(octet, b'a'..=b'z' | b'0'..=b'9' | b'-')
 }

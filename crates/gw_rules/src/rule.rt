@@ -1,6 +1,7 @@
 //! A rule: the ranges by which it picks asks, and what it says of those that it matches.
-ghost use Rattle.std.specs.Prelude.{◌≡◌, [], ◌∷◌, ◌++◌, IfOk, IsOkUnless, OnOk};
+ghost use Rattle.std.specs.Prelude.{◌≡◌, ◌↔◌, [], ◌∷◌, ◌++◌, IfOk, IsErrOf, IsFalse, IsOkUnless, OnOk};
 ghost use Rattle.gw_rules.specs.Hides.{may_match, may_match_some, must_match, must_match_all, names_no_other, settles};
+ghost use Rattle.gw_rules.specs.Name.{is_name};
 ghost use Rattle.gw_rules.specs.Fields.{in_each, value_of, with_value};
 ghost use Rattle.gw_rules.specs.Rule.{has_few_ranges, has_ordered_ranges, matches, ranges_of, rule_without_fields, with_range};
 
@@ -36,11 +37,12 @@ impl Drop for Rule {
 }
 
 impl Rule {
-    /// A rule that names no field, and so matches every ask. `Memory` where there is none for the
-    /// name.
+    /// A rule that names no field, and so matches every ask. The faults: `Range` if its name is none, as
+    /// [`RuleName`] says; else `Memory` if there is none for it.
     pub fn new(alloc: Global, name: &str, allow: bool) -> Result<Self, RuleFault>
         ensures rule { IfOk result (λ rule. rule ≡ rule_without_fields name.now allow) }
-        ensures memory { IsOkUnless result RuleFault.Memory }
+        ensures range { IsErrOf result RuleFault.Range ↔ IsFalse (is_name name.now) }
+        ensures few { ¬ (IsErrOf result RuleFault.TooMany) }
     {
         Ok(Rule {
             name: RuleName::new(alloc, name)?,
