@@ -1,9 +1,11 @@
 pub mod Allowed
 pub mod Ask
+pub mod Asker
 pub mod Authorizer
 pub mod Field
 pub mod Fields
 pub mod Hides
+pub mod Keeping
 pub mod Name
 pub mod Operation
 pub mod Range

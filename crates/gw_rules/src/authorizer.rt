@@ -14,6 +14,7 @@ use std::marker::Model;
 /// Contracts see the judge and the list of the refusals.
 #[derive(Drop)]
 pub struct Authorizer<'a, J> {
+    alloc: Global,
     judge: &'a J,
     refusals: Refusals,
 }
@@ -33,9 +34,15 @@ impl<'a, J: Judge> Authorizer<'a, J> {
         ensures denied { result.denied ≡ [] }
     {
         Authorizer {
+            alloc,
             judge,
             refusals: Refusals::new(alloc),
         }
+    }
+
+    /// The allocator of what it keeps.
+    pub(crate) fn alloc(&self) -> Global {
+        self.alloc
     }
 
     /// Whether the policy allows the ask. A denied ask is kept, behind those that were denied

@@ -7,6 +7,7 @@
 #![tactic(auto)]
 
 mod ask;
+mod asker;
 mod authorizer;
 mod decision;
 mod fault;
@@ -18,12 +19,15 @@ mod name;
 mod operation;
 mod range;
 mod ranges;
+mod recorder;
 mod refusal;
 mod rule;
 mod rule_list;
 mod service;
+mod verdict;
 
 pub use ask::Ask;
+pub use asker::Asker;
 pub use authorizer::Authorizer;
 pub use decision::Decision;
 pub use fault::RuleFault;
@@ -34,7 +38,9 @@ pub use name::{MAX_NAME, RuleName};
 pub use operation::Operation;
 pub use range::Range;
 pub use ranges::{Ranges, admit};
+pub use recorder::Recorder;
 pub use refusal::{Refusal, Refusals};
 pub use rule::{MAX_RANGES, Rule};
 pub use rule_list::{MAX_RULES, RuleList};
 pub use service::Service;
+pub use verdict::{Verdict, Verdicts};

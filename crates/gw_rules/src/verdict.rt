@@ -1,0 +1,18 @@
+//! What a policy says of an ask, with the ask.
+
+use crate::Ask;
+use gw_addr::Sequence;
+
+/// An ask, and what the policy says of it.
+#[derive(Clone, Copy, PartialEq, Eq)]
+pub struct Verdict {
+    /// What was asked.
+    pub ask: Ask,
+    /// Whether the policy allows it.
+    pub is_allowed: bool,
+    /// The number of the first rule that matches it, counted from 1; `None` where no rule matches.
+    pub by: Option<u16>,
+}
+
+/// Verdicts in order. Contracts see the list of them.
+pub type Verdicts = Sequence<Verdict>;
