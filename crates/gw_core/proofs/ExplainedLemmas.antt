@@ -1,15 +1,16 @@
 -- The lines of what is asked.
 use Rattle.std.proofs.Common.{◌≡◌, ◌∙◌, sym, ap, refl, ℕ, ◌+◌, Bool, true, false, List, [], ◌∷◌, ◌++◌, filter, map, not, Option, Some, None}
 use Rattle.std.specs.List.{flat_map}
-use Rattle.std.proofs.lemmas.List.{append-nil}
 use Rattle.gw_rules.specs.Ask.{Ask}
 use Rattle.gw_rules.specs.Authorizer.{denied_of}
 use Rattle.gw_rules.specs.RuleList.{allows}
 use Rattle.gw_rules.specs.declared.refusal.Refusal.{Refusal}
 use Rattle.gw_rules.specs.declared.rule.Rule.{Rule}
+use Rattle.gw_rules.specs.declared.verdict.Verdict.{Verdict}
+use Rattle.gw_rules.specs.Asker.{verdicts_of}
+use Rattle.gw_core.specs.internal.Verdicts.{verdict_lines}
 use Rattle.gw_rules.proofs.Denials.{refused_asks}
 use Rattle.gw_objects.specs.Objects.{Database}
-use Rattle.gw_device.proofs.AskLemmas.{all_refused}
 use Rattle.gw_relay.specs.Cast.{accepts, is_unregistered}
 use Rattle.gw_relay.specs.Message.{Message, message_view}
 use Rattle.gw_relay.specs.State.{Relay}
@@ -60,7 +61,7 @@ lent_lines : (rules : List Rule) (relay : Relay) (d : Database) (received : Lent
     → asked ≡ asks_for rules relay d (received_view received)
     → ask_lines rules (origin_of received) asked ≡ ask_lines rules (origin (received_view received)) asked
 lent_lines rules relay d lent.Dropped asked are = refl
-lent_lines rules relay d (lent.Managed on from frame) asked are = refl
+lent_lines rules relay d (lent.Managed m) asked are = refl
 lent_lines rules relay d (lent.Message m) asked are =
     let view = message_view m in
     judged_lines rules relay d view asked (accepts view.here view.from view.frame) (is_unregistered view.here view.from view.frame) refl refl are
@@ -100,40 +101,22 @@ unfolding effects_at asks
 denied_lines_are_logged w e =
     lines_of w.rules (w.denials + 1) w.ticks (origin (receive w e)) (asks_for w.rules w.relay w.device (receive w e))
 
--- ---- asks that are refused where there are no rules
+-- ---- the lines of the verdicts that were kept
 
--- the refusals of a part are what it asks
-pub refused_part : (asked before after : List Ask) (lent refusals : List Refusal) → lent ≡ refusals → refusals ≡ denied_of [] asked
-    → after ≡ before ++ map (λ r. r.ask) lent → after ≡ before ++ asked
-refused_part asked before after lent refusals same are is =
-    is ∙ ap (λ (l : List Refusal). before ++ map (λ r. r.ask) l) (same ∙ are) ∙ ap (λ (l : List Ask). before ++ l) (all_refused asked)
+verdicts_lines : (rules : List Rule) (from : Option Origin) (asked : List Ask)
+    → verdict_lines rules from (verdicts_of rules asked) ≡ ask_lines rules from asked
+verdicts_lines rules None asked = refl
+verdicts_lines rules (Some from) [] = refl
+verdicts_lines rules (Some from) (ask ∷ asked) =
+    ap (λ (t : List ℕ). ask_line rules from.source ask ++ t) (verdicts_lines rules (Some from) asked)
 
-pub refused_none : (asked : List Ask) (lent refusals : List Refusal) → lent ≡ refusals → refusals ≡ denied_of [] asked → asked ≡ []
-    → lent ≡ []
-refused_none asked lent refusals same are none = same ∙ are ∙ ap (denied_of []) none
-
--- nothing is asked behind what a managed table asks
-pub four_none : (asked : List Ask) → asked ++ [] ++ [] ++ [] ++ [] ≡ asked
-four_none asked =
-    append-nil (asked ++ [] ++ [] ++ []) ∙ append-nil (asked ++ [] ++ []) ∙ append-nil (asked ++ []) ∙ append-nil asked
-
--- ---- the lines of what the code found asked
-
-pub told_lines : (policy lent_rules : List Rule) (relay : Relay) (d : Database) (received : LentReceived) (from : Origin)
-    (lent asked begun : List Ask) → Some from ≡ origin_of received → lent_rules ≡ policy → lent ≡ asked → begun ≡ []
-    → asked ≡ begun ++ asks_for policy relay d (received_view received)
-    → flat_map (ask_line lent_rules from.source) lent
+-- the lines of all verdicts on what is received are those of what is asked
+pub kept_lines : (policy : List Rule) (relay : Relay) (d : Database) (received : LentReceived) (kept begun : List Verdict) → begun ≡ []
+    → kept ≡ begun ++ verdicts_of policy (asks_for policy relay d (received_view received))
+    → verdict_lines policy (origin_of received) kept
     ≡ ask_lines policy (origin (received_view received)) (asks_for policy relay d (received_view received))
-told_lines policy lent_rules relay d received from lent asked begun is same lends none are =
-    ap (λ (r : List Rule). flat_map (ask_line r from.source) lent) same ∙ ap (flat_map (ask_line policy from.source)) lends
-    ∙ ap (λ (o : Option Origin). ask_lines policy o asked) is
-    ∙ asked_lines policy relay d received asked
-    (are ∙ ap (λ (l : List Ask). l ++ asks_for policy relay d (received_view received)) none)
-
-pub told_none : (policy : List Rule) (relay : Relay) (d : Database) (received : LentReceived) (asked begun : List Ask)
-    → None ≡ origin_of received → begun ≡ [] → asked ≡ begun ++ asks_for policy relay d (received_view received)
-    → [] ≡ ask_lines policy (origin (received_view received)) (asks_for policy relay d (received_view received))
-told_none policy relay d received asked begun is none are =
-    ap (λ (o : Option Origin). ask_lines policy o asked) is
-    ∙ asked_lines policy relay d received asked
-    (are ∙ ap (λ (l : List Ask). l ++ asks_for policy relay d (received_view received)) none)
+kept_lines policy relay d received kept begun none are =
+    let asked = asks_for policy relay d (received_view received) in
+    ap (verdict_lines policy (origin_of received)) (are ∙ ap (λ (l : List Verdict). l ++ verdicts_of policy asked) none)
+    ∙ verdicts_lines policy (origin_of received) asked
+    ∙ asked_lines policy relay d received asked refl

@@ -11,6 +11,7 @@ pub mod ServeLemmas
 pub mod ReportLemmas
 pub mod ReplayLemmas
 pub mod ExplainedLemmas
+pub mod TurnLemmas
 pub mod RespondLemmas
 pub mod PlainLemmas
 pub mod TrafficLemmas

@@ -48,11 +48,11 @@ no_kind : (payload : Payload) (kind : MessageKind) → is_apdu payload ≡ true 
 no_kind (apdu octets) kind e = refl
 no_kind (message m) kind e = absurd cc
 
-no_steps : (relay : Relay) (m : Message) → is_apdu m.npdu.payload ≡ true → manage_steps relay m ≡ []
+pub no_steps : (relay : Relay) (m : Message) → is_apdu m.npdu.payload ≡ true → manage_steps relay m ≡ []
 no_steps relay m is =
     rw (no_kind m.npdu.payload IAmRouterToNetwork is, no_kind m.npdu.payload WhoIsRouterToNetwork is, no_kind m.npdu.payload WhatIsNetworkNumber is) refl
 
-nothing_learned : (rules : List Rule) (m : Message) → is_apdu m.npdu.payload ≡ true → manage_change rules m ≡ None
+pub nothing_learned : (rules : List Rule) (m : Message) → is_apdu m.npdu.payload ≡ true → manage_change rules m ≡ None
 nothing_learned rules m is = rw (no_kind m.npdu.payload IAmRouterToNetwork is) refl
 
 -- what is done about such a message but for the device is what routing does

@@ -1,5 +1,5 @@
 -- What is done about a message, by whether it goes on to the network layer.
-use Rattle.std.proofs.Common.{◌≡◌, ◌∙◌, sym, ap, refl, Bool, true, false, List, [], ◌∷◌, ◌++◌, map, append_assoc, Option, None}
+use Rattle.std.proofs.Common.{◌≡◌, ◌∙◌, sym, ap, refl, ℕ, Bool, true, false, List, [], ◌∷◌, ◌++◌, map, append_assoc, Option, Some, None}
 use Rattle.std.specs.Prelude.{if◌then◌else◌}
 use Rattle.std.specs.Option.{option_or}
 use Rattle.std.proofs.lemmas.List.{append-nil}
@@ -14,15 +14,23 @@ use Rattle.gw_relay.specs.Route.{route_asks, route_sends}
 use Rattle.gw_relay.specs.Sends.{Sending}
 use Rattle.gw_relay.specs.State.{Relay}
 use Rattle.gw_relay.specs.declared.change.Change.{Change}
-use Rattle.gw_relay.specs.declared.response.RelayResponse.{RelayResponse}
+use Rattle.gw_relay.specs.declared.turn.Turn.{Turn}
 use Rattle.gw_relay.proofs.Asking.{strange_asks, strange_sends, unheard_asks, unheard_sends}
 use Rattle.gw_rules.specs.Ask.{Ask}
 use Rattle.gw_rules.specs.Authorizer.{denied_of}
 use Rattle.gw_rules.specs.declared.refusal.Refusal.{Refusal}
 use Rattle.gw_rules.specs.declared.rule.Rule.{Rule}
-use Rattle.gw_rules.proofs.Denials.{denied_of-append}
-use Rattle.gw_core.specs.Asks.{asks_for, message_asks}
-use Rattle.gw_core.specs.Effects.{change_for, message_change, message_sends, relay_change_for, sends_for}
+use Rattle.gw_rules.specs.Authorizer.{AuthorizerState}
+use Rattle.gw_rules.specs.Keeping.{kept_refusals}
+use Rattle.gw_core.specs.Asks.{apdu_asks, asks_for, message_asks}
+use Rattle.gw_core.specs.Effects.{answer_sends, apdu_answer, change_for, message_change, message_sends, relay_change_for, sends_for}
+use Rattle.gw_core.specs.Reply.{apdu_for, context_of}
+use Rattle.gw_core.specs.State.{device_network}
+use Rattle.gw_device.specs.declared.context.Context.{Context}
+use Rattle.gw_device.specs.Device.{device_answer}
+use Rattle.gw_device.specs.Response.{Answer}
+use Rattle.gw_core.proofs.DenialLemmas.{answer_put}
+use Rattle.gw_core.proofs.TurnLemmas.{same_refusals}
 use Rattle.gw_relay.specs.Message.{Message}
 use Rattle.gw_core.specs.Receive.{Received, dropped, unregistered, message}
 use Rattle.gw_core.specs.Respond.{IsResponse, passed_asks, passed_change, passed_sends}
@@ -64,39 +72,43 @@ pub sends_off : (rules : List Rule) (relay : Relay) (m : Message) → on m ≡ f
 sends_off rules relay m h = rw h (append-nil (cast_sends rules m))
 
 -- what is denied then, part by part
-pub denied_on : (rules : List Rule) (relay : Relay) (m : Message) → on m ≡ true
-    → denied_of rules (passed_asks relay m)
-    ≡ denied_of rules (cast_asks m)
-    ++ (denied_of rules (route_asks relay m)
-    ++ denied_of rules (manage_asks relay m))
-denied_on rules relay m h =
-    let cast = cast_asks m in
-    let route = route_asks relay m in
-    let manage = manage_asks relay m in
-    ap (denied_of rules) (asks_on relay m h) ∙ denied_of-append rules cast (route ++ manage)
-    ∙ ap (λ (l : List Refusal). denied_of rules cast ++ l) (denied_of-append rules route manage)
-
--- ---- what is added one behind the other
-
-pub joined : {A : Type 0} (before first second third : List A)
-    → ((before ++ first) ++ second) ++ third ≡ before ++ (first ++ (second ++ third))
-joined before first second third =
-    append_assoc (before ++ first) second third ∙ append_assoc before first (second ++ third)
-
--- what a response is where nothing was given before
-pub record Stands (rules : List Rule) (relay : Relay) (d : Database) (received : Received) (new : RelayResponse) : Type 0 where
+-- what a turn has that had nothing before, and whose asker keeps the denied asks
+pub record Stands {J : Type 0} (rules : List Rule) (relay : Relay) (d : Database) (received : Received)
+    (new : Turn (AuthorizerState J)) : Type 0 where
   pub sends : new.sends ≡ sends_for rules relay d received
-  pub refusals : new.refusals ≡ denied_of rules (asks_for rules relay d received)
+  pub refusals : new.asker.denied ≡ denied_of rules (asks_for rules relay d received)
   pub change : new.change ≡ relay_change_for rules received
 
-pub stands_alone : (rules : List Rule) (relay : Relay) (d : Database) (received : Received) (old new : RelayResponse) (granted : Option Write)
-    → old.sends ≡ [] → old.refusals ≡ [] → old.change ≡ None → IsResponse rules relay d received old new granted
+pub stands_alone : {J : Type 0} (rules : List Rule) (relay : Relay) (d : Database) (received : Received) (old new : Turn (AuthorizerState J))
+    (granted : Option Write) → old.sends ≡ [] → old.asker.denied ≡ [] → old.change ≡ None
+    → IsResponse (λ (a : AuthorizerState J). kept_refusals a.denied) (λ rules asks. kept_refusals (denied_of rules asks)) rules relay d received
+    old new granted
     → Stands rules relay d received new
 stands_alone rules relay d received old new granted sends refusals change is = record {
-  sends = is.sends ∙ ap (λ (l : List Sending). l ++ sends_for rules relay d received) sends;
-  refusals = is.refusals ∙ ap (λ (l : List Refusal). l ++ denied_of rules (asks_for rules relay d received)) refusals;
-  change = is.change ∙ ap (λ (x : Option Change). option_or x (relay_change_for rules received)) change;
+  sends = is.walked.sends ∙ ap (λ (l : List Sending). l ++ sends_for rules relay d received) sends;
+  refusals = same_refusals new.asker.denied (denied_of rules (asks_for rules relay d received))
+      (is.walked.verdicts ∙ ap (λ (l : List Refusal). kept_refusals l ++ kept_refusals (denied_of rules (asks_for rules relay d received))) refusals);
+  change = is.walked.change ∙ ap (λ (x : Option Change). option_or x (relay_change_for rules received)) change;
 }
+
+-- ---- what the device does about a message
+
+-- nothing, if there is no APDU for it
+pub unserved : (rules : List Rule) (d : Database) (m : Message) (network : ℕ) → network ≡ device_network d
+    → None ≡ apdu_for network m.npdu → (message_asks rules d m ≡ []) × (message_sends rules d m ≡ [])
+unserved rules d m network its none = (
+  ap (λ (n : ℕ). apdu_asks rules d (context_of n m) (apdu_for n m.npdu)) (sym its) ∙ ap (apdu_asks rules d (context_of network m)) (sym none),
+  ap (λ (n : ℕ). answer_sends n m (apdu_answer rules d (context_of n m) (apdu_for n m.npdu))) (sym its)
+      ∙ ap (λ (a : Option (List ℕ)). answer_sends network m (apdu_answer rules d (context_of network m) a)) (sym none),
+)
+
+-- the sends of its answer
+pub sends_put : (rules : List Rule) (d : Database) (m : Message) (network : ℕ) (context : Context) (octets : List ℕ) (answer : Option Answer)
+    → network ≡ device_network d → Some octets ≡ apdu_for network m.npdu → context ≡ context_of network m
+    → answer ≡ device_answer rules d context octets → answer_sends network m answer ≡ message_sends rules d m
+sends_put rules d m network context octets answer its apdu told is =
+    ap (answer_sends network m) (is ∙ sym (answer_put rules d m network context octets its apdu told))
+    ∙ ap (λ (n : ℕ). answer_sends n m (apdu_answer rules d (context_of (device_network d) m) (apdu_for (device_network d) m.npdu))) its
 
 -- an unregistered sender is told so
 told_so : (rules : List Rule) (m : Message) (frame : Frame) → m.frame ≡ frame → is_unregistered m.here m.from frame ≡ true
@@ -151,6 +163,9 @@ no_change true change e = absurd cc
 no_change false change e = refl
 
 -- nothing behind a list
+pub four_none : {A : Type 0} (xs : List A) → xs ++ [] ++ [] ++ [] ++ [] ≡ xs
+four_none xs = append-nil (xs ++ [] ++ [] ++ []) ∙ three_none xs
+
 three_none : {A : Type 0} (xs : List A) → xs ++ [] ++ [] ++ [] ≡ xs
 three_none xs = append-nil (xs ++ [] ++ []) ∙ append-nil (xs ++ []) ∙ append-nil xs
 
@@ -220,13 +235,6 @@ goes_by rules relay d m true false heard strange goes =
 
 pub goes : (rules : List Rule) (relay : Relay) (d : Database) (m : Message) → on m ≡ true → Goes rules relay d m
 goes rules relay d m is = goes_by rules relay d m (accepts m.here m.from m.frame) (is_unregistered m.here m.from m.frame) refl refl is
-
--- what is denied of a message that goes on
-pub goes_denied : (rules : List Rule) (relay : Relay) (d : Database) (m : Message) → on m ≡ true
-    → denied_of rules (asks_for rules relay d (judged m)) ≡ denied_of rules (passed_asks relay m)
-    ++ denied_of rules (message_asks rules d m)
-goes_denied rules relay d m is =
-    ap (denied_of rules) (goes rules relay d m is).asks ∙ denied_of-append rules (passed_asks relay m) (message_asks rules d m)
 
 -- ---- nothing is asked or sent
 

@@ -1,6 +1,6 @@
 -- The text of an event with its asks: a line for each ask, allowed or denied, with the rule that
 -- decides it; and behind them the lines of what the event does.
-use Rattle.std.specs.Prelude.{ℕ, List, [], ◌∷◌, ◌++◌, Option, Some, None, codes, if◌then◌else◌}
+use Rattle.std.specs.Prelude.{ℕ, Bool, List, [], ◌∷◌, ◌++◌, Option, Some, None, codes, if◌then◌else◌}
 use Rattle.std.specs.Fmt.{decimal}
 use Rattle.std.specs.List.{flat_map}
 use Rattle.gw_addr.specs.declared.station.Source.{Source}
@@ -20,10 +20,14 @@ abbrev pub by_text : List Rule → Option ℕ → List ℕ
 by_text rules None = codes " default"
 by_text rules (Some number) = codes " rule " ++ decimal number ++ codes " " ++ name_at rules number
 
--- what the policy says of an ask, and by which rule: `allow rule <number> <name>`, `deny rule
--- <number> <name>` or `deny default`
+-- what a policy says, and by which rule: `allow rule <number> <name>`, `deny rule <number> <name>` or
+-- `deny default`
+abbrev pub judged_text : List Rule → Bool → Option ℕ → List ℕ
+judged_text rules is_allowed by = (if is_allowed then codes "allow" else codes "deny") ++ by_text rules by
+
+-- what the policy says of an ask, and by which rule
 abbrev pub verdict_text : List Rule → Ask → List ℕ
-verdict_text rules ask = (if allows rules ask then codes "allow" else codes "deny") ++ by_text rules (first rules ask)
+verdict_text rules ask = judged_text rules (allows rules ask) (first rules ask)
 
 -- the line of one ask: `ask `, what was asked as a line of the log shows it, and the verdict
 abbrev pub ask_line : List Rule → Source → Ask → List ℕ

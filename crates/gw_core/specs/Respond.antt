@@ -14,12 +14,13 @@ use Rattle.gw_relay.specs.Sends.{Sending}
 use Rattle.gw_relay.specs.State.{Relay}
 use Rattle.gw_relay.specs.declared.change.Change.{Change}
 use Rattle.gw_rules.specs.Ask.{Ask}
-use Rattle.gw_rules.specs.Authorizer.{denied_of}
+use Rattle.gw_relay.specs.Turn.{IsWalked}
+use Rattle.gw_relay.specs.declared.turn.Turn.{Turn}
 use Rattle.gw_rules.specs.declared.rule.Rule.{Rule}
+use Rattle.gw_rules.specs.declared.verdict.Verdict.{Verdict}
 use Rattle.gw_objects.specs.Write.{Write}
-use Rattle.gw_relay.specs.declared.response.RelayResponse.{RelayResponse}
-use Rattle.gw_core.specs.Asks.{asks_for}
-use Rattle.gw_core.specs.Effects.{change_for, relay_change_for, sends_for}
+use Rattle.gw_core.specs.Asks.{asks_for, message_asks}
+use Rattle.gw_core.specs.Effects.{change_for, message_sends, relay_change_for, sends_for}
 use Rattle.gw_relay.specs.Message.{Message}
 use Rattle.gw_core.specs.Receive.{Received}
 
@@ -64,12 +65,23 @@ passed_response rules relay m = record {
   change = passed_change rules m;
 }
 
--- what is given behind what was before, and the write that is granted if there is one, are what is due about what is
--- received
-pub record IsResponse (rules : List Rule) (relay : Relay) (d : Database) (received : Received)
-    (old new : RelayResponse) (granted : Option Write) : Type 0 where
-  pub sends : new.sends ≡ old.sends ++ sends_for rules relay d received
-  pub refusals : new.refusals ≡ old.refusals ++ denied_of rules (asks_for rules relay d received)
-  pub change : new.change ≡ option_or old.change (relay_change_for rules received)
+-- what the device does about a message: it commits nothing of the relay
+abbrev pub message_response : List Rule → Database → Message → RelayDue
+message_response rules d m =
+    record { asks = message_asks rules d m; sends = message_sends rules d m; change = None }
+
+-- all that is due about what is received, but for the write to the device
+abbrev pub received_response : List Rule → Relay → Database → Received → RelayDue
+received_response rules relay d received = record {
+  asks = asks_for rules relay d received;
+  sends = sends_for rules relay d received;
+  change = relay_change_for rules received;
+}
+
+-- What is due about what is received is added to a turn, and the write that is granted, if there is one, is the one
+-- that is due.
+pub record IsResponse {A : Type 0} (kept : A → List Verdict) (kept_of : List Rule → List Ask → List Verdict) (rules : List Rule)
+    (relay : Relay) (d : Database) (received : Received) (old new : Turn A) (granted : Option Write) : Type 0 where
+  pub walked : IsWalked kept kept_of rules (received_response rules relay d received) old new
   pub write : granted ≡ change_for rules d received
   pub place : HasPlace d granted

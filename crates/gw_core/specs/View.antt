@@ -17,13 +17,13 @@ judged m =
 
 abbrev pub received_view : LentReceived → Received
 received_view lent.Dropped = dropped
-received_view (lent.Managed on from frame) = managed on.now from (frame_view frame.now)
+received_view (lent.Managed m) = managed m.here.now m.from (frame_view m.frame.now)
 received_view (lent.Message m) = judged (message_view m)
 
 -- whom the code takes a datagram to come from, unjudged
 abbrev pub origin_of : LentReceived → Option Origin
 origin_of lent.Dropped = None
-origin_of (lent.Managed on from frame) = Some (node_origin on.now from)
+origin_of (lent.Managed m) = Some (node_origin m.here.now m.from)
 origin_of (lent.Message m) = Some (message_origin (message_view m))
 
 abbrev pub origin_view : CodeOrigin → Origin

@@ -5,6 +5,7 @@ ghost use Rattle.std.specs.Option.{option_map};
 ghost use Rattle.gw_core.specs.Denials.{denials_from, denials_of, name_at, rule_name};
 ghost use Rattle.gw_core.specs.View.{origin_of, origin_view};
 
+use crate::event::Counts;
 use crate::receive::Received;
 use gw_addr::Source;
 use gw_audit::{Denial, Denials};
@@ -61,9 +62,9 @@ pub(crate) fn origin_of(received: &Received<'_>) -> Option<Origin>
 {
     match received {
         Received::Dropped => None,
-        Received::Managed { on, from, .. } => Some(Origin {
-            port: on.port.number,
-            source: local_source(on.port.network, *from),
+        Received::Managed(message) => Some(Origin {
+            port: message.here.port.number,
+            source: local_source(message.here.port.network, message.from),
         }),
         Received::Message(message) => Some(Origin {
             port: message.here.port.number,
@@ -72,25 +73,25 @@ pub(crate) fn origin_of(received: &Received<'_>) -> Option<Origin>
     }
 }
 
-/// The record of what was refused of what is received, counted on from a number. Where nothing was,
+/// The record of what was refused of what is received, counted on from these counts. If nothing was,
 /// it takes no memory.
-pub fn denials_of(
+pub(crate) fn denials_of(
     alloc: Global,
     rules: &RuleList,
-    number: u64,
-    tick: u64,
+    counts: Counts,
     received: &Received<'_>,
     refusals: &[Refusal],
 ) -> Result<Denials, AllocError>
-    requires { number + length refusals.now < 2 ^ 64 }
+    requires { counts.denials + 1 + length refusals.now < 2 ^ 64 }
     ensures denials { let from = origin_of received.now in
-        IfOk result (λ denials. denials ≡ denials_of rules.now number tick from refusals.now) }
+        let due = denials_of rules.now (counts.denials + 1) counts.ticks from refusals.now in
+        IfOk result (λ denials. denials ≡ due) }
     ensures silent { refusals.now ≡ [] → IsOk result }
 {
     if refusals.is_empty() {
         return Ok(Denials::new(alloc));
     }
-    denials_with_origin(alloc, rules, number, tick, received, refusals)
+    denials_with_origin(alloc, rules, counts, received, refusals)
 }
 
 /// The record of what was refused, which is seldom: the room for an origin is made only then.
@@ -98,40 +99,41 @@ pub fn denials_of(
 fn denials_with_origin(
     alloc: Global,
     rules: &RuleList,
-    number: u64,
-    tick: u64,
+    counts: Counts,
     received: &Received<'_>,
     refusals: &[Refusal],
 ) -> Result<Denials, AllocError>
-    requires { number + length refusals.now < 2 ^ 64 }
+    requires { counts.denials + 1 + length refusals.now < 2 ^ 64 }
     ensures { let from = origin_of received.now in
-        IfOk result (λ denials. denials ≡ denials_of rules.now number tick from refusals.now) }
+        let due = denials_of rules.now (counts.denials + 1) counts.ticks from refusals.now in
+        IfOk result (λ denials. denials ≡ due) }
 {
     match origin_of(received) {
-        Some(from) => denials_from(alloc, rules, number, tick, &from, refusals),
+        Some(from) => denials_from(alloc, rules, counts, &from, refusals),
         None => Ok(Denials::new(alloc)),
     }
 }
 
-/// The record of refusals, counted on from a number.
+/// The record of refusals, counted on from these counts.
 fn denials_from(
     alloc: Global,
     rules: &RuleList,
-    number: u64,
-    tick: u64,
+    counts: Counts,
     from: &Origin,
     refusals: &[Refusal],
 ) -> Result<Denials, AllocError>
-    requires { number + length refusals.now < 2 ^ 64 }
+    requires { counts.denials + 1 + length refusals.now < 2 ^ 64 }
     ensures { let from = origin_view from.now in
-        IfOk result (λ denials. denials ≡ denials_from rules.now number tick from refusals.now) }
+        let due = denials_from rules.now (counts.denials + 1) counts.ticks from refusals.now in
+        IfOk result (λ denials. denials ≡ due) }
 {
+    let first = counts.denials + 1;
     let mut denials = Denials::with_capacity(alloc, refusals.len())?;
     for (place, refusal) in refusals.iter().enumerate() {
         let rule = copy_name(alloc, rule_name(rules, refusal.by))?;
         denials.push(Denial {
-            number: number + place as u64,
-            tick,
+            number: first + place as u64,
+            tick: counts.ticks,
             port: from.port,
             source: from.source,
             ask: refusal.ask,

@@ -25,25 +25,26 @@ ghost use Rattle.gw_script.specs.Event.{Datagram, Tick};
 use crate::denial::denials_of;
 use crate::effects::Effects;
 use crate::event::Counts;
-use crate::explaining::append_asks;
+use crate::explaining::put_verdicts;
 use crate::fault::StepFault;
-use crate::receive::{Received, read_npdu, receive};
+use crate::receive::{Arrival, OwnNetworks, Received, read_npdu, receive};
 use crate::respond::{network_of, respond};
 use gw_addr::BipAddr;
 use gw_audit::Denials;
 use gw_configuration::Config;
 use gw_device::{Change, Device};
 use gw_npdu::NpduFault;
-use gw_relay::{Change as RelayChange, Relay, RelayResponse};
+use gw_relay::{Change as RelayChange, Relay, Turn};
 use gw_rule_index::Policy;
+use gw_rules::{Authorizer, Recorder};
 use std::alloc::{AllocError, Global};
 use std::marker::Model;
 
 /// Where each count of a gateway ends.
 const LAST_COUNT: u64 = 1 << 63;
 
-/// What is done about a datagram beside what the relay's answer has: the policy's denials, and the
-/// write to the device, where it is granted one.
+/// What is done about a datagram beside what its turn has: the policy's denials, and the write to the
+/// device, if it is granted one.
 #[derive(Drop)]
 struct Outcome {
     denials: Denials,
@@ -185,27 +186,40 @@ impl Gateway {
         LAST_COUNT - self.counts.denials
     }
 
+    /// The networks that it is on itself.
+    #[inline(always)]
+    fn own_networks(&self) -> OwnNetworks<'_>
+        ensures ports { result.ports.now ≡ self.now.relay.links }
+        ensures device { result.device ≡ device_network self.now.device }
+    {
+        OwnNetworks {
+            ports: self.relay.ports(),
+            device: network_of(&self.device).get(),
+        }
+    }
+
     /// What is done about what is received, while the gateway stays as it is: what is sent and what the
-    /// relay is to commit is added to an answer that has nothing. The faults are those of
+    /// relay is to commit is added to a turn that has nothing. The faults are those of
     /// [`Gateway::step`].
     #[inline(always)]
     fn outcome(
         &self,
         alloc: Global,
         received: &Received<'_>,
-        given: &mut RelayResponse,
+        turn: &mut Turn<Authorizer<'_, Policy>>,
     ) -> Result<Outcome, StepFault>
-        requires denials { self.now.denials ≤ 2 ^ 63 }
-        requires sends { given.old.sends ≡ [] }
-        requires refusals { given.old.refusals ≡ [] }
-        requires change { given.old.change ≡ None }
+        requires counted { self.now.denials ≤ 2 ^ 63 }
+        requires judge { turn.old.asker.judge ≡ self.now.rules }
+        requires denied { turn.old.asker.denied ≡ [] }
+        requires sends { turn.old.sends ≡ [] }
+        requires change { turn.old.change ≡ None }
         ensures sends { let received = received_view received.now in
             let due = sends_for self.now.rules self.now.relay self.now.device received in
-            OnOk result (given.new.sends ≡ due) }
+            OnOk result (turn.new.sends ≡ due) }
         ensures denials { let due = denials_for self.now (received_view received.now) in
             IfOk result (λ outcome. outcome.denials ≡ due) }
         ensures change { let received = received_view received.now in
-            OnOk result (given.new.change ≡ relay_change_for self.now.rules received) }
+            OnOk result (turn.new.change ≡ relay_change_for self.now.rules received) }
         ensures write { let received = received_view received.now in
             let due = change_for self.now.rules self.now.device received in
             IfOk result (λ outcome. outcome.write ≡ due) }
@@ -218,26 +232,13 @@ impl Gateway {
             asks_for self.now.rules self.now.relay self.now.device received ≡ [] →
             sends_for self.now.rules self.now.relay self.now.device received ≡ [] → IsOk result }
     {
-        let rules = self.policy.rules();
-        let write = respond(
-            alloc,
-            &self.policy,
-            &self.relay,
-            &self.device,
-            received,
-            given,
-        )?;
-        if given.refusals.len() as u64 > self.left() {
+        let write = respond(&self.relay, &self.device, received, turn)?;
+        let refusals = turn.asker.refusals();
+        if refusals.len() as u64 > self.left() {
             return Err(StepFault::CountEnd);
         }
-        let denials = denials_of(
-            alloc,
-            rules,
-            self.counts.denials + 1,
-            self.counts.ticks,
-            received,
-            given.refusals.as_slice(),
-        )?;
+        let rules = self.policy.rules();
+        let denials = denials_of(alloc, rules, self.counts, received, refusals)?;
         Ok(Outcome { denials, write })
     }
 
@@ -308,64 +309,42 @@ impl Gateway {
         ensures err { OnErr result (self.new ≡ self.old) }
     {
         let now = &*self;
-        let network = network_of(&now.device);
+        let arrival = Arrival { port, from, octets };
         let frame = gw_bvll::decode(octets);
         let mut npdu = Err(NpduFault::Short);
         read_npdu(&frame, &mut npdu);
-        let received = receive(
-            now.relay.links(),
-            network,
-            port,
-            from,
-            octets,
-            &frame,
-            &npdu,
-        );
-        let mut given = RelayResponse::nothing(alloc);
-        let Outcome { denials, write } = now.outcome(alloc, &received, &mut given)?;
-        self.move_on(given.change, write, denials.len() as u64)?;
-        Ok(Effects {
-            sends: given.sends,
-            denials,
-        })
+        let own = now.own_networks();
+        let received = receive(&own, &arrival, &frame, &npdu);
+        let mut turn = Turn::new(Authorizer::new(alloc, &now.policy));
+        let Outcome { denials, write } = now.outcome(alloc, &received, &mut turn)?;
+        let Turn { sends, change, .. } = turn;
+        self.move_on(change, write, denials.len() as u64)?;
+        Ok(Effects { sends, denials })
     }
 
     /// Appends a line for each ask that a datagram raises, allowed or denied, with the rule that decides
-    /// it. The datagram isn't taken. A part of the lines may stand there where a growth was refused.
+    /// it. The datagram isn't taken. If a growth was refused, a part of the lines may be there.
     pub(crate) fn append_asks(
         &self,
         alloc: Global,
-        port: u8,
-        from: BipAddr,
-        octets: &[u8],
+        arrival: &Arrival<'_>,
         out: &mut Vec<u8>,
     ) -> Result<(), AllocError>
-        ensures ok { let due = asks_text self.now (Datagram port from octets.now) in
+        ensures ok { let a = arrival.now in
+            let due = asks_text self.now (Datagram a.port a.from a.octets.now) in
             OnOk result (out.new.items ≡ out.old.items ++ due) }
-        ensures silent { NeedsNoMemory self.now (Datagram port from octets.now) → IsOk result }
+        ensures silent { let a = arrival.now in
+            NeedsNoMemory self.now (Datagram a.port a.from a.octets.now) → IsOk result }
         ensures capacity { vec_capacity out.old ≤ vec_capacity out.new }
     {
-        let network = network_of(&self.device);
-        let frame = gw_bvll::decode(octets);
+        let frame = gw_bvll::decode(arrival.octets);
         let mut npdu = Err(NpduFault::Short);
         read_npdu(&frame, &mut npdu);
-        let received = receive(
-            self.relay.links(),
-            network,
-            port,
-            from,
-            octets,
-            &frame,
-            &npdu,
-        );
-        append_asks(
-            alloc,
-            &self.policy,
-            &self.relay,
-            &self.device,
-            &received,
-            out,
-        )
+        let own = self.own_networks();
+        let received = receive(&own, arrival, &frame, &npdu);
+        let mut turn = Turn::new(Recorder::new(alloc, &self.policy));
+        respond(&self.relay, &self.device, &received, &mut turn)?;
+        put_verdicts(out, self.policy.rules(), &received, turn.asker.verdicts())
     }
 
     /// Takes a tick. `CountEnd` where the count of ticks would pass 2^63; then nothing changed.

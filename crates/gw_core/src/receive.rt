@@ -13,16 +13,35 @@ ghost use Rattle.gw_core.specs.Receive.{claims_direct, comes_in, is_direct, mana
 ghost use Rattle.gw_core.specs.internal.Frame.{octets_in};
 ghost use Rattle.gw_core.specs.View.{received_view};
 
+use gw_addr::BipAddr;
 use gw_addr::laws::one_to_one;
-use gw_addr::{BipAddr, NetNum};
 use gw_bvll::{Bvll, BvllFault};
 use gw_npdu::{AddressRef, Npdu, NpduFault};
-use gw_relay::{Message, PortState, link_at};
+use gw_relay::{Message, PortState, TableMessage, link_at};
 
 /// The longest datagram that is heard, in octets.
 const MAX_DATAGRAM: usize = gw_bvll::MAX_LEN;
 /// The longest NPDU that is heard, in octets.
 const MAX_NPDU: usize = gw_npdu::MAX_LEN;
+
+/// A datagram, and where it came.
+#[derive(Clone, Copy)]
+pub(crate) struct Arrival<'a> {
+    /// The number of the port that it came on, from 1.
+    pub port: u8,
+    /// Whom it came from.
+    pub from: BipAddr,
+    /// Its octets.
+    pub octets: &'a [u8],
+}
+
+/// The networks that the gateway itself is on.
+pub(crate) struct OwnNetworks<'a> {
+    /// The ports with their tables, in order.
+    pub ports: &'a [PortState],
+    /// The number of the device's network.
+    pub device: u16,
+}
 
 /// What a datagram is received as.
 #[derive(Clone, Copy)]
@@ -30,14 +49,7 @@ pub enum Received<'a> {
     /// Nothing: it has no sends and no denials, and changes nothing.
     Dropped,
     /// A frame that reads or changes a table of its port (Annex J.2.2, J.2.3, J.2.6 to J.2.8).
-    Managed {
-        /// The port that it came on, with its tables.
-        on: &'a PortState,
-        /// Whom it came from.
-        from: BipAddr,
-        /// The frame.
-        frame: &'a Bvll<'a>,
-    },
+    Managed(TableMessage<'a>),
     /// A message of the network layer. Whether it is heard, and no unregistered sender's, is judged when it is
     /// passed on.
     Message(Message<'a>),
@@ -74,24 +86,29 @@ fn payload_of<'a>(frame: &Bvll<'a>) -> Option<&'a [u8]>
     }
 }
 
-fn is_direct(links: &[PortState], device: NetNum, network: u16) -> bool
-    ensures { result ≡ is_direct links.now device network }
-{
-    network == device.get() || is_a_ports(links, network)
-}
+impl OwnNetworks<'_> {
+    /// Whether a network is the device's or a port's.
+    fn contains(&self, network: u16) -> bool
+        ensures { result ≡ is_direct self.now.ports.now self.now.device network }
+    {
+        network == self.device || self.is_a_ports(network)
+    }
 
-fn is_a_ports(links: &[PortState], network: u16) -> bool
-    ensures { result ≡ list_any (λ link. link.port.network == network) links.now }
-{
-    links.iter().any(|link| link.port.network.get() == network)
-}
+    fn is_a_ports(&self, network: u16) -> bool
+        ensures { result ≡ list_any (λ link. link.port.network == network) self.now.ports.now }
+    {
+        self.ports.iter().any(|link| link.port.network.get() == network)
+    }
 
-fn claims_direct(links: &[PortState], device: NetNum, source: &Option<AddressRef<'_>>) -> bool
-    ensures { result ≡ claims_direct links.now device (option_map address_view source.now) }
-{
-    match source {
-        None => false,
-        Some(address) => is_direct(links, device, address.network),
+    /// Whether a source is claimed on one of these networks.
+    fn are_claimed(&self, source: &Option<AddressRef<'_>>) -> bool
+        ensures { let claimed = option_map address_view source.now in
+            result ≡ claims_direct self.now.ports.now self.now.device claimed }
+    {
+        match source {
+            None => false,
+            Some(address) => self.contains(address.network),
+        }
     }
 }
 
@@ -126,8 +143,7 @@ pub(crate) fn read_npdu<'a>(
 #[inline(always)]
 #[tactic(auto, unfolding(crate::specs::Receive::npdu_of))]
 fn receive_payload<'a>(
-    links: &[PortState],
-    device: NetNum,
+    own: &OwnNetworks<'_>,
     here: &'a PortState,
     from: BipAddr,
     frame: &'a Bvll<'a>,
@@ -136,7 +152,7 @@ fn receive_payload<'a>(
     requires { let octets = unwrap_or (payload_of (frame_view frame.now)) [] in
         Gives npdu_view npdu.now (npdu_at octets) }
     ensures { let frame = frame_view frame.now in
-        received_view result ≡ receive_payload links.now device here.now from frame }
+        received_view result ≡ receive_payload own.now.ports.now own.now.device here.now from frame }
 {
     let Some(octets) = payload_of(frame) else {
         return Received::Dropped;
@@ -145,7 +161,7 @@ fn receive_payload<'a>(
         return Received::Dropped;
     }
     match npdu {
-        Ok(npdu) if !claims_direct(links, device, &npdu.source) => Received::Message(Message {
+        Ok(npdu) if !own.are_claimed(&npdu.source) => Received::Message(Message {
             here,
             from,
             frame,
@@ -155,33 +171,32 @@ fn receive_payload<'a>(
     }
 }
 
-/// What a datagram is received as on the port of this number, with the frame that its octets are and the NPDU that this
-/// brings: both stay where they were read.
+/// What a datagram is received as, with the frame that its octets are and the NPDU that this brings: both stay where
+/// they were read.
 #[inline(always)]
 pub(crate) fn receive<'a>(
-    links: &'a [PortState],
-    device: NetNum,
-    number: u8,
-    from: BipAddr,
-    octets: &[u8],
+    own: &OwnNetworks<'a>,
+    arrival: &Arrival<'_>,
     frame: &'a Result<Bvll<'a>, BvllFault>,
     npdu: &'a Result<Npdu<'a>, NpduFault>,
 ) -> Received<'a>
-    requires frame { Gives frame_view frame.now (bvll_at octets.now) }
+    requires frame { Gives frame_view frame.now (bvll_at arrival.now.octets.now) }
     requires npdu { Gives npdu_view npdu.now (npdu_at (octets_in frame.now)) }
-    ensures { received_view result ≡ receive_on links.now device number from octets.now }
+    ensures { let a = arrival.now in
+        received_view result ≡ receive_on own.now.ports.now own.now.device a.port a.from a.octets.now }
 {
-    let Some(on) = link_at(links, usize::from(number)) else {
+    let Some(here) = link_at(own.ports, usize::from(arrival.port)) else {
         return Received::Dropped;
     };
-    if !comes_in(on.port.address, from, octets) {
+    if !comes_in(here.port.address, arrival.from, arrival.octets) {
         return Received::Dropped;
     }
     let Ok(frame) = frame else {
         return Received::Dropped;
     };
+    let from = arrival.from;
     if manages(frame) {
-        return Received::Managed { on, from, frame };
+        return Received::Managed(TableMessage { here, from, frame });
     }
-    receive_payload(links, device, on, from, frame, npdu)
+    receive_payload(own, here, from, frame, npdu)
 }

@@ -102,7 +102,7 @@ pub fn replay<R: OctetSource, W: OctetSink>(
     ensures sure_writer { W.NeverFails writer.old → ¬ (IsErrOf result RunFault.Write) }
 {
     let mut flaw = LineFlaw::Form;
-    replay_telling(alloc, &Plain, config, reader, writer, &mut flaw)
+    replay_telling(&Plain { alloc }, config, reader, writer, &mut flaw)
 }
 
 /// As [`replay`], and before the lines of what an event does there is one for each of its asks, allowed or
@@ -136,12 +136,11 @@ pub fn replay_explaining<R: OctetSource, W: OctetSink>(
         ¬ (IsErrOf result RunFault.Read) }
     ensures sure_writer { W.NeverFails writer.old → ¬ (IsErrOf result RunFault.Write) }
 {
-    replay_telling(alloc, &Explaining, config, reader, writer, flaw)
+    replay_telling(&Explaining { alloc }, config, reader, writer, flaw)
 }
 
 /// Runs the events of a script through a fresh gateway, and tells each so.
 fn replay_telling<T: Telling, R: OctetSource, W: OctetSink>(
-    alloc: Global,
     telling: &T,
     config: Config,
     reader: &mut R,
@@ -158,6 +157,7 @@ fn replay_telling<T: Telling, R: OctetSource, W: OctetSink>(
         ¬ (IsErrOf result RunFault.Read) }
     ensures sure_writer { W.NeverFails writer.old → ¬ (IsErrOf result RunFault.Write) }
 {
+    let alloc = telling.alloc();
     let counts = Counts {
         ticks: 0,
         denials: 0,
@@ -175,7 +175,7 @@ fn replay_telling<T: Telling, R: OctetSource, W: OctetSink>(
         text,
         flaw: *flaw,
     };
-    let done = run.replay_script(alloc, telling, reader, writer);
+    let done = run.replay_script(telling, reader, writer);
     *flaw = run.flaw;
     done
 }
@@ -184,7 +184,6 @@ impl ScriptRun {
     /// Replays each line, in order.
     fn replay_script<T: Telling, R: OctetSource, W: OctetSink>(
         &mut self,
-        alloc: Global,
         telling: &T,
         reader: &mut R,
         writer: &mut W,
@@ -204,7 +203,7 @@ impl ScriptRun {
         ensures sure_writer { W.NeverFails writer.old → ¬ (IsErrOf result RunFault.Write) }
     {
         for number in 1..u64::MAX {
-            if !self.replay_line(alloc, telling, number, reader, writer)? {
+            if !self.replay_line(telling, number, reader, writer)? {
                 return Ok(());
             }
         }
@@ -214,7 +213,6 @@ impl ScriptRun {
     /// Replays the line of this number. It answers whether there was one.
     fn replay_line<T: Telling, R: OctetSource, W: OctetSink>(
         &mut self,
-        alloc: Global,
         telling: &T,
         number: u64,
         reader: &mut R,
@@ -253,7 +251,7 @@ impl ScriptRun {
             self.flaw = flaw_of(ports, line);
             return Err(RunFault::Line(number));
         };
-        telling.make_text(alloc, &mut self.gateway, &event, &sender, &mut self.text)?;
+        telling.make_text(&mut self.gateway, &event, &sender, &mut self.text)?;
         let Ok(()) = write_whole(writer, &self.text) else {
             return Err(RunFault::Write);
         };

@@ -278,8 +278,7 @@ fn is_local_broadcast(request: &Npdu<'_>, answer: &Answer) -> bool
 
 /// Adds the sends of an answer to a message behind others. An `Err` only where a growth of memory was refused; a part may
 /// then be added.
-fn put_reply(
-    alloc: Global,
+fn add_reply(
     network: NetNum,
     message: &Message<'_>,
     answer: Answer,
@@ -288,6 +287,7 @@ fn put_reply(
     ensures { let due = reply_sends network (message_view message.now) (answer_view answer) in
         OnOk result (sends.new ≡ sends.old ++ due) }
 {
+    let alloc = sends.alloc();
     let goes_to_all = is_local_broadcast(message.npdu, &answer);
     let Some(octets) = reply_octets(alloc, network, message.npdu, answer)? else {
         return Ok(());
@@ -303,8 +303,7 @@ fn put_reply(
 
 /// Adds the sends of an answer to a message, where there is one, behind others. An `Err` only where a growth of memory
 /// was refused, and none without an answer; a part may then be added.
-pub fn put_answer(
-    alloc: Global,
+pub(crate) fn add_answer(
     network: NetNum,
     message: &Message<'_>,
     answer: Option<Answer>,
@@ -315,7 +314,7 @@ pub fn put_answer(
     ensures silent { answer ≡ None → IsOk result }
 {
     match answer {
-        Some(answer) => put_reply(alloc, network, message, answer, sends),
+        Some(answer) => add_reply(network, message, answer, sends),
         None => Ok(()),
     }
 }

@@ -2,32 +2,29 @@
 //! send and change.
 
 ghost use Rattle.std.specs.Prelude.{◌≡◌, ◌++◌, [], List, false, IfOk, IsOk, OnOk};
-ghost use Rattle.gw_bvll.specs.Bvll.{view as frame_view};
 ghost use Rattle.gw_objects.specs.Objects.{Database};
 ghost use Rattle.gw_device.specs.Response.{HasPlace};
-ghost use Rattle.gw_rules.specs.Authorizer.{denied_of};
 ghost use Rattle.gw_rules.specs.declared.rule.Rule.{Rule};
 ghost use Rattle.gw_npdu.specs.Npdu.{view as npdu_view};
 ghost use Rattle.gw_relay.specs.Cast.{goes_on, is_unregistered};
 ghost use Rattle.gw_relay.specs.Manage.{manage_asks, manage_response};
+ghost use Rattle.gw_relay.specs.Message.{message_view};
+ghost use Rattle.gw_relay.specs.Turn.{IsWalked};
 ghost use Rattle.gw_core.specs.Asks.{asks_for, message_asks};
 ghost use Rattle.gw_core.specs.Effects.{message_change, message_sends, sends_for};
-ghost use Rattle.gw_relay.specs.Response.{IsAdded};
-ghost use Rattle.gw_core.specs.Receive.{managed};
-ghost use Rattle.gw_core.specs.Respond.{IsResponse, is_apdu, is_plain, passed_asks, passed_response};
+ghost use Rattle.gw_core.specs.Respond.{IsResponse, is_apdu, is_plain, message_response, passed_asks, passed_response};
 ghost use Rattle.gw_core.specs.State.{device_network};
-ghost use Rattle.gw_relay.specs.Message.{message_view};
 ghost use Rattle.gw_core.specs.View.{judged, received_view};
 
 use crate::receive::Received;
-use crate::reply::{apdu_for, context_of, put_answer};
-use gw_addr::{BipAddr, NetNum};
+use crate::reply::{add_answer, apdu_for, context_of};
+use gw_addr::NetNum;
 use gw_bvll::Bvll;
-use gw_device::{Change, Device, Reply};
+use gw_device::{Change, Device, Served};
 use gw_npdu::Payload;
-use gw_relay::{Message, PortState, Relay, RelayResponse, put_refusals};
-use gw_rules::Judge;
-use std::alloc::{AllocError, Global};
+use gw_relay::{Message, Relay, Turn};
+use gw_rules::Asker;
+use std::alloc::AllocError;
 
 /// The device's network.
 pub(crate) fn network_of(device: &Device) -> NetNum
@@ -44,48 +41,48 @@ fn is_apdu(message: &Message<'_>) -> bool
 }
 
 /// Adds what the network layer answers to a message (step 9). It answers to no APDU.
-fn put_managed<J: Judge>(
-    alloc: Global,
-    judge: &J,
+fn add_managed<A: Asker>(
     relay: &Relay,
     message: &Message<'_>,
-    given: &mut RelayResponse,
+    turn: &mut Turn<A>,
 ) -> Result<(), AllocError>
-    ensures relayed { (rules : List Rule) → J.StandsFor judge.now rules →
+    ensures walked { (rules : List Rule) → A.StandsFor turn.old.asker rules →
         let due = manage_response rules relay.now (message_view message.now) in
-        OnOk result (IsAdded rules due given.old given.new) }
+        OnOk result (IsWalked A.kept A.kept_of rules due turn.old turn.new) }
+    ensures stays { (rules : List Rule) →
+        A.StandsFor turn.old.asker rules → A.StandsFor turn.new.asker rules }
     ensures silent { manage_asks relay.now (message_view message.now) ≡ [] → IsOk result }
 {
     if is_apdu(message) {
         return Ok(());
     }
-    relay.manage(alloc, judge, message, given)
+    relay.add_manage(message, turn)
 }
 
-/// Adds what is done about any message but for the device: it is distributed; and where it goes on to the network
+/// Adds what is done about any message but for the device: it is distributed; and if it goes on to the network
 /// layer, it is routed and answered there. It answers whether it goes on.
 #[inline(never)]
-fn pass_on_each_way<J: Judge>(
-    alloc: Global,
-    judge: &J,
+fn add_each_way<A: Asker>(
     relay: &Relay,
     message: &Message<'_>,
-    given: &mut RelayResponse,
+    turn: &mut Turn<A>,
 ) -> Result<bool, AllocError>
-    ensures relayed { (rules : List Rule) → J.StandsFor judge.now rules →
+    ensures walked { (rules : List Rule) → A.StandsFor turn.old.asker rules →
         let due = passed_response rules relay.now (message_view message.now) in
-        OnOk result (IsAdded rules due given.old given.new) }
+        OnOk result (IsWalked A.kept A.kept_of rules due turn.old turn.new) }
+    ensures stays { (rules : List Rule) →
+        A.StandsFor turn.old.asker rules → A.StandsFor turn.new.asker rules }
     ensures goes_on { let m = message_view message.now in
         IfOk result (λ goes. goes ≡ goes_on m.here m.from m.frame) }
     ensures silent { let m = message_view message.now in
         passed_asks relay.now m ≡ [] → is_unregistered m.here m.from m.frame ≡ false → IsOk result }
 {
-    let goes_on = relay.cast(alloc, judge, message, given)?;
+    let goes_on = relay.add_cast(message, turn)?;
     if !goes_on {
         return Ok(false);
     }
-    relay.route(alloc, judge, message, given)?;
-    put_managed(alloc, judge, relay, message, given)?;
+    relay.add_route(message, turn)?;
+    add_managed(relay, message, turn)?;
     Ok(true)
 }
 
@@ -98,50 +95,44 @@ fn is_plain(message: &Message<'_>) -> bool
 }
 
 /// Adds what is done about a message but for the device (steps 4 and 6 to 9). It answers whether the message goes
-/// on to the network layer. What asks nothing and tells no unregistered sender wants no memory.
-pub(crate) fn pass_on<J: Judge>(
-    alloc: Global,
-    judge: &J,
+/// on to the network layer. What asks nothing and answers no unregistered sender wants no memory.
+fn add_passed<A: Asker>(
     relay: &Relay,
     message: &Message<'_>,
-    given: &mut RelayResponse,
+    turn: &mut Turn<A>,
 ) -> Result<bool, AllocError>
-    ensures relayed { (rules : List Rule) → J.StandsFor judge.now rules →
+    ensures walked { (rules : List Rule) → A.StandsFor turn.old.asker rules →
         let due = passed_response rules relay.now (message_view message.now) in
-        OnOk result (IsAdded rules due given.old given.new) }
+        OnOk result (IsWalked A.kept A.kept_of rules due turn.old turn.new) }
+    ensures stays { (rules : List Rule) →
+        A.StandsFor turn.old.asker rules → A.StandsFor turn.new.asker rules }
     ensures goes_on { let m = message_view message.now in
         IfOk result (λ goes. goes ≡ goes_on m.here m.from m.frame) }
     ensures silent { let m = message_view message.now in
         passed_asks relay.now m ≡ [] → is_unregistered m.here m.from m.frame ≡ false → IsOk result }
 {
     if is_plain(message) {
-        relay.route(alloc, judge, message, given)?;
+        relay.add_route(message, turn)?;
         return Ok(true);
     }
-    pass_on_each_way(alloc, judge, relay, message, given)
+    add_each_way(relay, message, turn)
 }
 
 /// Adds what the device does about a message (step 10), and answers the write that is granted, if there is
-/// one. A part may be added where a growth was refused.
-fn answer_apdu<J: Judge>(
-    alloc: Global,
-    judge: &J,
+/// one.
+fn add_served<A: Asker>(
     device: &Device,
     message: &Message<'_>,
-    given: &mut RelayResponse,
+    turn: &mut Turn<A>,
 ) -> Result<Option<Change>, AllocError>
-    ensures sends { (rules : List Rule) → J.StandsFor judge.now rules →
-        let due = message_sends rules device.now (message_view message.now) in
-        OnOk result (given.new.sends ≡ given.old.sends ++ due) }
-    ensures refusals { (rules : List Rule) → J.StandsFor judge.now rules →
-        let asks = message_asks rules device.now (message_view message.now) in
-        OnOk result (given.new.refusals ≡ given.old.refusals ++ denied_of rules asks) }
-    ensures change { OnOk result (given.new.change ≡ given.old.change) }
-    ensures write { (rules : List Rule) → J.StandsFor judge.now rules →
+    ensures walked { (rules : List Rule) → A.StandsFor turn.old.asker rules →
+        let due = message_response rules device.now (message_view message.now) in
+        OnOk result (IsWalked A.kept A.kept_of rules due turn.old turn.new) }
+    ensures write { (rules : List Rule) → A.StandsFor turn.old.asker rules →
         let due = message_change rules device.now (message_view message.now) in
         IfOk result (λ write. write ≡ due) }
     ensures place { IfOk result (λ write. HasPlace device.now write) }
-    ensures silent { (rules : List Rule) → J.StandsFor judge.now rules →
+    ensures silent { (rules : List Rule) → A.StandsFor turn.old.asker rules →
         let m = message_view message.now in
         message_asks rules device.now m ≡ [] → message_sends rules device.now m ≡ [] → IsOk result }
 {
@@ -150,90 +141,60 @@ fn answer_apdu<J: Judge>(
         return Ok(None);
     };
     let context = context_of(network, message);
-    let Reply {
-        answer,
-        refusals,
-        change,
-    } = device.answer(alloc, judge, &context, apdu)?;
-    put_answer(alloc, network, message, answer, &mut given.sends)?;
-    put_refusals(&mut given.refusals, refusals)?;
+    let Served { answer, change } = device.serve(&context, apdu, &mut turn.asker)?;
+    add_answer(network, message, answer, &mut turn.sends)?;
     Ok(change)
 }
 
 /// Adds what is done about a message (steps 4 and 6 to 10), and answers the write to the device that is granted, if
 /// there is one.
 #[inline(always)]
-fn respond_to_message<J: Judge>(
-    alloc: Global,
-    judge: &J,
+fn add_message<A: Asker>(
     relay: &Relay,
     device: &Device,
     message: &Message<'_>,
-    given: &mut RelayResponse,
+    turn: &mut Turn<A>,
 ) -> Result<Option<Change>, AllocError>
-    ensures response { (rules : List Rule) → J.StandsFor judge.now rules →
+    ensures response { (rules : List Rule) → A.StandsFor turn.old.asker rules →
         let due = judged (message_view message.now) in
-        IfOk result (IsResponse rules relay.now device.now due given.old given.new) }
-    ensures silent { (rules : List Rule) → J.StandsFor judge.now rules →
+        IfOk result (IsResponse A.kept A.kept_of rules relay.now device.now due turn.old turn.new) }
+    ensures silent { (rules : List Rule) → A.StandsFor turn.old.asker rules →
         let due = judged (message_view message.now) in
         asks_for rules relay.now device.now due ≡ [] →
         sends_for rules relay.now device.now due ≡ [] → IsOk result }
 {
-    let goes_on = pass_on(alloc, judge, relay, message, given)?;
+    let goes_on = add_passed(relay, message, turn)?;
     if !goes_on {
         return Ok(None);
     }
-    let write = answer_apdu(alloc, judge, device, message, given)?;
+    let write = add_served(device, message, turn)?;
     Ok(write)
 }
 
-/// Adds what is done about a frame that manages a table (step 3). It writes nothing to the device.
-fn respond_to_managed<J: Judge>(
-    alloc: Global,
-    judge: &J,
-    relay: &Relay,
-    on: &PortState,
-    from: BipAddr,
-    frame: &Bvll<'_>,
-    given: &mut RelayResponse,
-) -> Result<Option<Change>, AllocError>
-    ensures response { (rules : List Rule) (device : Database) → J.StandsFor judge.now rules →
-        let due = managed on.now from (frame_view frame.now) in
-        IfOk result (IsResponse rules relay.now device due given.old given.new) }
-    ensures silent { (rules : List Rule) (device : Database) →
-        let due = managed on.now from (frame_view frame.now) in
-        asks_for rules relay.now device due ≡ [] → IsOk result }
-{
-    relay.link(alloc, judge, on, from, frame, given)?;
-    Ok(None)
-}
-
-/// Adds what is done about what is received: what is sent, what the policy denied and what the relay commits. It
-/// answers the write to the device that is granted, if there is one. A part may be added where a growth was refused.
+/// Adds to a turn what is done about what is received: what is asked, what is sent, and what the relay commits. It
+/// answers the write to the device that is granted, if there is one. The only fault is want of memory; a part may
+/// then be added.
 #[inline(always)]
-pub(crate) fn respond<J: Judge>(
-    alloc: Global,
-    judge: &J,
+pub(crate) fn respond<A: Asker>(
     relay: &Relay,
     device: &Device,
     received: &Received<'_>,
-    given: &mut RelayResponse,
+    turn: &mut Turn<A>,
 ) -> Result<Option<Change>, AllocError>
-    ensures response { (rules : List Rule) → J.StandsFor judge.now rules →
+    ensures response { (rules : List Rule) → A.StandsFor turn.old.asker rules →
         let due = received_view received.now in
-        IfOk result (IsResponse rules relay.now device.now due given.old given.new) }
-    ensures silent { (rules : List Rule) → J.StandsFor judge.now rules →
+        IfOk result (IsResponse A.kept A.kept_of rules relay.now device.now due turn.old turn.new) }
+    ensures silent { (rules : List Rule) → A.StandsFor turn.old.asker rules →
         let due = received_view received.now in
         asks_for rules relay.now device.now due ≡ [] →
         sends_for rules relay.now device.now due ≡ [] → IsOk result }
 {
     match received {
         Received::Dropped => Ok(None),
-        Received::Managed { on, from, frame } => {
-            respond_to_managed(alloc, judge, relay, on, *from, frame, given)
+        Received::Managed(message) => {
+            relay.add_link(message, turn)?;
+            Ok(None)
         }
-        Received::Message(message) => {
-            respond_to_message(alloc, judge, relay, device, message, given)
-        }
+        Received::Message(message) => add_message(relay, device, message, turn),
     }
 }

@@ -10,6 +10,7 @@ ghost use Rattle.gw_core.specs.Shown.{event_text};
 
 use crate::fault::StepFault;
 use crate::gateway::Gateway;
+use crate::receive::Arrival;
 use crate::replaying::RunFault;
 use crate::shown::append_effects;
 use crate::whole_run::take_event;
@@ -23,10 +24,12 @@ pub(crate) trait Telling {
     /// The text of an event in the state in which it comes.
     ghost told: { Telling };
 
+    /// The allocator of what an event does.
+    fn alloc(&self) -> Global;
+
     /// Has the gateway take an event, and makes the text that tells it.
     fn make_text(
         &self,
-        alloc: Global,
         gateway: &mut Gateway,
         event: &Event<'_>,
         sender: &Option<SpelledAddr<'_>>,
@@ -41,10 +44,14 @@ pub(crate) trait Telling {
 }
 
 /// By what it does.
-pub(crate) struct Plain;
+pub(crate) struct Plain {
+    pub alloc: Global,
+}
 
 /// By what it asks, and then by what it does.
-pub(crate) struct Explaining;
+pub(crate) struct Explaining {
+    pub alloc: Global,
+}
 
 /// Appends a line for each ask that an event raises.
 fn append_asked(
@@ -60,7 +67,12 @@ fn append_asked(
 {
     match event {
         Event::Datagram { port, from, octets } => {
-            gateway.append_asks(alloc, *port, *from, octets, text)
+            let arrival = Arrival {
+                port: *port,
+                from: *from,
+                octets,
+            };
+            gateway.append_asks(alloc, &arrival, text)
         }
         Event::Tick => Ok(()),
     }
@@ -142,16 +154,19 @@ impl Telling for Plain {
 
     ghost told = { event_text };
 
+    fn alloc(&self) -> Global {
+        self.alloc
+    }
+
     fn make_text(
         &self,
-        alloc: Global,
         gateway: &mut Gateway,
         event: &Event<'_>,
         sender: &Option<SpelledAddr<'_>>,
         text: &mut Vec<u8>,
     ) -> Result<(), RunFault> {
         text.clear();
-        append_taken(alloc, gateway, event, sender, text)
+        append_taken(self.alloc, gateway, event, sender, text)
     }
 }
 
@@ -160,18 +175,21 @@ impl Telling for Explaining {
 
     ghost told = { explained_text };
 
+    fn alloc(&self) -> Global {
+        self.alloc
+    }
+
     fn make_text(
         &self,
-        alloc: Global,
         gateway: &mut Gateway,
         event: &Event<'_>,
         sender: &Option<SpelledAddr<'_>>,
         text: &mut Vec<u8>,
     ) -> Result<(), RunFault> {
         text.clear();
-        let Ok(()) = append_asked(alloc, gateway, event, text) else {
+        let Ok(()) = append_asked(self.alloc, gateway, event, text) else {
             return Err(RunFault::Memory);
         };
-        append_taken(alloc, gateway, event, sender, text)
+        append_taken(self.alloc, gateway, event, sender, text)
     }
 }

@@ -6,5 +6,5 @@ use Rattle.gw_core.proofs.denial.denials_from.Given as goal
 abbrev pub invariant-loop-place : goal.invariant-loop-place
 invariant-loop-place l =
     let from = origin_view l.from in
-    l.denials ++ denials_from l.rules (l.number + l.place) l.tick from (drop l.place l.refusals)
-    ≡ denials_from l.rules l.number l.tick from l.refusals
+    l.denials ++ denials_from l.rules (l.first + l.place) l.counts.ticks from (drop l.place l.refusals)
+    ≡ denials_from l.rules l.first l.counts.ticks from l.refusals
