@@ -5,7 +5,7 @@ use Rattle.std.specs.List.{list_all}
 use Rattle.gw_addr.specs.declared.TheConstants.{MAX_PORTS}
 use Rattle.gw_configuration.specs.Configuration.{Configuration, are_named, is_by, is_configurable, keeps_counts, keeps_limits}
 
-counts_kept : (c : Configuration) → 1 ≤ length c.ports → length c.ports ≤ MAX_PORTS → length c.routes ≤ 512 → length c.objects ≤ 256
+pub counts_kept : (c : Configuration) → 1 ≤ length c.ports → length c.ports ≤ MAX_PORTS → length c.routes ≤ 512 → length c.objects ≤ 256
     → list_all (is_by (length c.ports)) c.routes ≡ true → keeps_counts c ≡ true
 counts_kept c some most routes objects by =
     rw (le-leb _ _ some, le-leb _ _ most, le-leb _ _ routes, le-leb _ _ objects, by) refl
