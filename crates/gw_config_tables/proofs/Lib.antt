@@ -1,3 +1,4 @@
+pub mod Bounds
 pub mod Named
 pub mod Values
 pub mod Written

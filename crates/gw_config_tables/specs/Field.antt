@@ -8,7 +8,9 @@ use Rattle.std.specs.Result.{result_err}
 use Rattle.toml.specs.Data.{Data, Members, no_members, member, get_member}
 use Rattle.gw_addr.specs.Address.{big_endian, octets_of}
 use Rattle.gw_addr.specs.Reading.{◌>>=◌}
+use Rattle.gw_rules.specs.declared.field.FieldName.TheVariants as fields
 use Rattle.gw_rules.specs.declared.range.Range.{Range as RuleRange}
+use Rattle.gw_rules.specs.Bounds.{bounds}
 use Rattle.gw_rules.specs.Operation.{operation_number}
 use Rattle.gw_configuration.specs.declared.fault.ConfigFault.{ConfigFault}
 use Rattle.gw_configuration.specs.declared.fault.ConfigFault.TheVariants.{UnknownKey, Missing, Kind, Range, TooMany}
@@ -45,6 +47,13 @@ point_in (Number low high) value = number_in low high value
 point_in Operation value = operation_in value >>= λ operation. Ok (operation_number operation)
 point_in Address value = address_in value >>= λ address. Ok (big_endian (octets_of address))
 point_in _ value = Err Kind
+
+-- the numbers by which rules may know it; what is none of these three is read to no number
+abbrev pub bounds_of : Scalar → RuleRange
+bounds_of (Number low high) = record { low = low; high = high }
+bounds_of Operation = bounds fields.Operation
+bounds_of Address = bounds fields.SourceKey
+bounds_of _ = record { low = 0; high = 0 }
 
 -- which fault it is
 abbrev pub is_missing : Option ConfigFault → Bool

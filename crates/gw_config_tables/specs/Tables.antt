@@ -1,10 +1,14 @@
 -- The tables of a configuration, key by key, with what each key's value may be.
 use Rattle.std.specs.Prelude.{ℕ, ◌++◌, List, [], ◌∷◌, true, false, codes}
 use Rattle.gw_addr.specs.declared.TheConstants.{MAX_PORTS}
+use Rattle.gw_rules.specs.declared.field.FieldName.{FieldName}
+use Rattle.gw_rules.specs.declared.field.FieldName.TheVariants as fields
+use Rattle.gw_rules.specs.Bounds.{bounds}
 use Rattle.gw_configuration.specs.declared.object.ObjectKind.{ObjectKind}
 use Rattle.gw_configuration.specs.declared.object.ObjectKind.TheVariants.{BinaryValue, MultiStateValue}
 use Rattle.gw_configuration.specs.declared.object.ObjectKind.TheVariants.{CharacterStringValue, IntegerValue}
 use Rattle.gw_configuration.specs.declared.object.ObjectKind.TheVariants.{PositiveIntegerValue}
+use Rattle.gw_configuration.specs.declared.shape.Scalar.{Scalar}
 use Rattle.gw_configuration.specs.declared.shape.Scalar.TheVariants.{Number, Signed, ObjectType, Text, RuleName}
 use Rattle.gw_configuration.specs.declared.shape.Scalar.TheVariants.{Operation, Boolean, Address, Mask, Table}
 use Rattle.gw_configuration.specs.declared.shape.Shape.{Shape}
@@ -112,18 +116,29 @@ object_fields IntegerValue states =
 object_fields PositiveIntegerValue states =
     common_fields (number 0 4294967295) ++ needs (codes "units") (number 0 65535) ∷ []
 
+-- what a rule may name for a field: an operation by its name, a source by its address, and of all else a number within
+-- the bounds of the field
+abbrev pub scalar_of : FieldName → Scalar
+scalar_of fields.Operation = Operation
+scalar_of fields.SourceKey = Address
+scalar_of field = Number (bounds field).low (bounds field).high
+
+-- ranges for a field of a rule
+abbrev pub ranges : List ℕ → FieldName → Field
+ranges key field = may key (Ranges (scalar_of field))
+
 abbrev pub rule_fields : List Field
 rule_fields =
     needs (codes "name") (One RuleName)
     ∷ needs (codes "allow") (One Boolean)
-    ∷ may (codes "operation") (Ranges Operation)
-    ∷ may (codes "port") (Ranges (Number 1 MAX_PORTS))
-    ∷ may (codes "source_network") (Ranges (Number 1 65534))
-    ∷ may (codes "source") (Ranges Address)
-    ∷ may (codes "destination") (Ranges (Number 1 65534))
-    ∷ may (codes "service") (Ranges (Number 0 1031))
-    ∷ may (codes "object_type") (Ranges (Number 0 1023))
-    ∷ may (codes "instance") (Ranges (Number 0 4194303))
-    ∷ may (codes "property") (Ranges (Number 0 4194303))
-    ∷ may (codes "priority") (Ranges (Number 1 16))
+    ∷ ranges (codes "operation") fields.Operation
+    ∷ ranges (codes "port") fields.Port
+    ∷ ranges (codes "source_network") fields.SourceNetwork
+    ∷ ranges (codes "source") fields.SourceKey
+    ∷ ranges (codes "destination") fields.DestinationNetwork
+    ∷ ranges (codes "service") fields.Service
+    ∷ ranges (codes "object_type") fields.ObjectType
+    ∷ ranges (codes "instance") fields.Instance
+    ∷ ranges (codes "property") fields.Property
+    ∷ ranges (codes "priority") fields.Priority
     ∷ []

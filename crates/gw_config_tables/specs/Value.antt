@@ -9,7 +9,7 @@ use Rattle.gw_addr.specs.declared.bip.BipAddr.{BipAddr}
 use Rattle.gw_addr.specs.declared.mask.Mask.{Mask}
 use Rattle.gw_rules.specs.declared.operation.Operation.{Operation}
 use Rattle.gw_rules.specs.declared.operation.TheConstants.Operation.{ALL}
-use Rattle.gw_rules.specs.Name.{is_name}
+use Rattle.gw_rules.specs.Name.{is_name, is_no_rule}
 use Rattle.gw_rules.specs.Operation.{operation_name}
 use Rattle.gw_configuration.specs.declared.fault.ConfigFault.TheVariants.{Kind, Range}
 use Rattle.gw_configuration.specs.declared.object.ObjectKind.{ObjectKind}
@@ -67,7 +67,7 @@ text_in least value = reading (text_of_length least) (as_str value)
 
 -- a name for a rule: not the word that the log has for no rule
 abbrev pub is_rule_name : List ℕ → Bool
-is_rule_name text = is_name text && not (pointwise nat_eq text (codes "default"))
+is_rule_name text = is_name text && not (is_no_rule text)
 
 abbrev pub rule_name : List ℕ → Option (List ℕ)
 rule_name text = if is_rule_name text then Some text else None

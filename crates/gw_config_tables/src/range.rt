@@ -1,26 +1,51 @@
 //! Items for a field of a rule: one value, or a list of two, low and high.
-ghost use Rattle.std.specs.Prelude.{◌≡◌, map};
+ghost use Rattle.std.specs.Prelude.{◌≡◌, map, IfOk, IsTrue};
 ghost use Rattle.std.specs.List.{list_any};
 ghost use Rattle.std.specs.Result.{result_err};
+ghost use Rattle.gw_addr.specs.Address.{big_endian, octets_of};
 ghost use Rattle.gw_addr.specs.Reading.{Gives};
+ghost use Rattle.gw_rules.specs.declared.field.FieldName.TheVariants as fields;
+ghost use Rattle.gw_rules.specs.Bounds.{bounds, is_within};
+ghost use Rattle.gw_rules.specs.Operation.{operation_number};
+ghost use Rattle.gw_rules.specs.Range.{holds};
 ghost use Rattle.toml.specs.View.{view};
-ghost use Rattle.gw_config_tables.specs.Field.{between, is_kind, ordered, point_in, range_between, range_in, range_of_list, two_ends};
+ghost use Rattle.gw_config_tables.specs.Field.{between, bounds_of, is_kind, ordered, point_in, range_between, range_in, range_of_list, two_ends};
 
-use crate::value::{address, list, number, operation};
+use crate::value::{address, list, number, operation, whole_address};
+use gw_addr::BipAddr;
 use gw_configuration::{ConfigFault, Scalar};
-use gw_rules::Range;
+use gw_rules::{Operation, Range};
 use toml::Value;
 
 /// The number by which rules know a value.
 fn point(of: Scalar, value: &Value) -> Result<u64, ConfigFault>
-    ensures { Gives (λ n. n) result (point_in of (view value.now)) }
+    ensures number { Gives (λ n. n) result (point_in of (view value.now)) }
+    ensures held { IfOk result (λ n. IsTrue (holds n (bounds_of of))) }
 {
     match of {
         Scalar::Number { low, high } => number(low, high, value),
-        Scalar::Operation => Ok(operation(value)?.number()),
-        Scalar::Address => Ok(address(value)?.key48()),
+        Scalar::Operation => Ok(operation_number(operation(value)?)),
+        Scalar::Address => Ok(key(address(value)?)),
         _ => Err(ConfigFault::Kind),
     }
+}
+
+/// The number by which rules know an operation.
+#[tactic(auto, using(crate::proofs::Bounds::operation_held))]
+fn operation_number(operation: Operation) -> u64
+    ensures number { result ≡ operation_number operation }
+    ensures held { IsTrue (holds result (bounds fields.Operation)) }
+{
+    operation.number()
+}
+
+/// The number by which rules know an address.
+#[tactic(auto, using(crate::proofs::Bounds::key_held))]
+fn key(address: BipAddr) -> u64
+    ensures number { result ≡ big_endian (octets_of address) }
+    ensures held { IsTrue (holds result (bounds fields.SourceKey)) }
+{
+    whole_address(address).key48()
 }
 
 fn have_kind(of: Scalar, ends: &[Value]) -> bool
@@ -43,7 +68,8 @@ fn ordered(low: u64, high: u64) -> Result<Range, ConfigFault>
 /// The range from one value to another. `Kind`, or `Range`, also where the low end is above the
 /// high one.
 pub fn between(of: Scalar, low: &Value, high: &Value) -> Result<Range, ConfigFault>
-    ensures { Gives (λ r. r) result (between of (view low.now) (view high.now)) }
+    ensures range { Gives (λ r. r) result (between of (view low.now) (view high.now)) }
+    ensures within { IfOk result (λ r. IsTrue (is_within (bounds_of of) r)) }
 {
     let low = point(of, low)?;
     let high = point(of, high)?;
@@ -51,7 +77,8 @@ pub fn between(of: Scalar, low: &Value, high: &Value) -> Result<Range, ConfigFau
 }
 
 fn two_ends(of: Scalar, ends: &[Value]) -> Result<Range, ConfigFault>
-    ensures { Gives (λ r. r) result (two_ends of (map view ends.now)) }
+    ensures range { Gives (λ r. r) result (two_ends of (map view ends.now)) }
+    ensures within { IfOk result (λ r. IsTrue (is_within (bounds_of of) r)) }
 {
     match ends {
         [low, high] => between(of, low, high),
@@ -62,7 +89,8 @@ fn two_ends(of: Scalar, ends: &[Value]) -> Result<Range, ConfigFault>
 /// A list of two, low and high; a value of a wrong kind in it comes before all else.
 #[tactic(auto, using(crate::proofs::Values::any_view))]
 fn range_between(of: Scalar, ends: &[Value]) -> Result<Range, ConfigFault>
-    ensures { Gives (λ r. r) result (range_between of (map view ends.now)) }
+    ensures range { Gives (λ r. r) result (range_between of (map view ends.now)) }
+    ensures within { IfOk result (λ r. IsTrue (is_within (bounds_of of) r)) }
 {
     if have_kind(of, ends) {
         return Err(ConfigFault::Kind);
@@ -71,7 +99,8 @@ fn range_between(of: Scalar, ends: &[Value]) -> Result<Range, ConfigFault>
 }
 
 fn range_of_list(of: Scalar, ends: &[Value]) -> Result<Range, ConfigFault>
-    ensures { Gives (λ r. r) result (range_of_list of (map view ends.now)) }
+    ensures range { Gives (λ r. r) result (range_of_list of (map view ends.now)) }
+    ensures within { IfOk result (λ r. IsTrue (is_within (bounds_of of) r)) }
 {
     match of {
         Scalar::Operation => Err(ConfigFault::Kind),
@@ -79,9 +108,10 @@ fn range_of_list(of: Scalar, ends: &[Value]) -> Result<Range, ConfigFault>
     }
 }
 
-/// The range that an item names. `Kind` or `Range`.
+/// The range that an item names, within the bounds of such values. `Kind` or `Range`.
 pub fn range(of: Scalar, item: &Value) -> Result<Range, ConfigFault>
-    ensures { Gives (λ r. r) result (range_in of (view item.now)) }
+    ensures range { Gives (λ r. r) result (range_in of (view item.now)) }
+    ensures within { IfOk result (λ r. IsTrue (is_within (bounds_of of) r)) }
 {
     match list(item) {
         Ok(ends) => range_of_list(of, ends),

@@ -1,39 +1,19 @@
 //! The tables of a configuration, key by key, with what each key's value may be.
 ghost use Rattle.std.specs.Prelude.{◌≡◌};
+ghost use Rattle.gw_rules.specs.Bounds.{bounds};
+ghost use Rattle.gw_config_tables.specs.Field.{bounds_of};
 ghost use Rattle.gw_config_tables.specs.Tables as spec;
 ghost use Rattle.gw_configuration.specs.declared.object.ObjectKind.{ObjectKind};
 
 use crate::Field;
 use gw_addr::MAX_PORTS;
 use gw_configuration::{MAX_OBJECTS, MAX_PEERS, MAX_ROUTES, MAX_STATES, Scalar, Shape};
-use gw_rules::MAX_RULES;
+use gw_rules::{FieldName, MAX_RULES, Range};
 
-/// A network.
-pub const NETWORK: Scalar = Scalar::Number {
+const NETWORK: Shape = Shape::One(Scalar::Number {
     low: 1,
     high: 65534,
-};
-/// The number of a port.
-pub const PORT: Scalar = Scalar::Number {
-    low: 1,
-    high: MAX_PORTS as u64,
-};
-/// A service, by the number that rules have for it.
-pub const SERVICE: Scalar = Scalar::Number { low: 0, high: 1031 };
-/// The type of an object, of ten bits.
-pub const OBJECT_TYPE: Scalar = Scalar::Number { low: 0, high: 1023 };
-/// The instance of an object, of 22 bits.
-pub const ANY_INSTANCE: Scalar = Scalar::Number {
-    low: 0,
-    high: 4_194_303,
-};
-/// A property, of 22 bits.
-pub const PROPERTY: Scalar = Scalar::Number {
-    low: 0,
-    high: 4_194_303,
-};
-/// The priority of a write.
-pub const PRIORITY: Scalar = Scalar::Number { low: 1, high: 16 };
+});
 
 const INSTANCE: Shape = Shape::One(Scalar::Number {
     low: 0,
@@ -77,7 +57,7 @@ pub fn device_fields() -> [Field; 11]
     ensures { result ≡ spec.device_fields }
 {
     [
-        Field::needs("network", Shape::One(NETWORK)),
+        Field::needs("network", NETWORK),
         Field::needs("instance", INSTANCE),
         Field::needs("name", NAME),
         Field::needs("vendor", SHORT),
@@ -106,7 +86,7 @@ pub fn port_fields() -> [Field; 4]
     ensures { result ≡ spec.port_fields }
 {
     [
-        Field::needs("network", Shape::One(NETWORK)),
+        Field::needs("network", NETWORK),
         Field::needs("address", ADDRESS),
         Field::needs("broadcast", ADDRESS),
         Field::may("peer", tables(0, MAX_PEERS)),
@@ -130,7 +110,7 @@ pub fn route_fields(ports: u8) -> [Field; 3]
 {
     let high = u64::from(ports);
     [
-        Field::needs("network", Shape::One(NETWORK)),
+        Field::needs("network", NETWORK),
         Field::needs("port", Shape::One(Scalar::Number { low: 1, high })),
         Field::needs("next", ADDRESS),
     ]
@@ -221,6 +201,36 @@ pub fn positive_integer_fields() -> [Field; 6]
     ]
 }
 
+/// What a rule may name for a field: an operation by its name, a source by its address, and of all else
+/// a number within the bounds of the field.
+pub fn scalar_of(field: FieldName) -> Scalar
+    ensures scalar { result ≡ spec.scalar_of field }
+    ensures bounds { bounds_of result ≡ bounds field }
+{
+    match field {
+        FieldName::Operation => Scalar::Operation,
+        FieldName::SourceKey => Scalar::Address,
+        _ => within(field.bounds()),
+    }
+}
+
+/// A number in this range.
+fn within(bounds: Range) -> Scalar
+    ensures { result ≡ Scalar.Number bounds.low bounds.high }
+{
+    Scalar::Number {
+        low: bounds.low,
+        high: bounds.high,
+    }
+}
+
+/// Ranges for a field of a rule.
+fn ranges(key: &'static str, field: FieldName) -> Field
+    ensures { result ≡ spec.ranges key.now field }
+{
+    Field::may(key, Shape::Ranges(scalar_of(field)))
+}
+
 /// The fields of a rule.
 pub fn rule_fields() -> [Field; 12]
     ensures { result ≡ spec.rule_fields }
@@ -228,15 +238,15 @@ pub fn rule_fields() -> [Field; 12]
     [
         Field::needs("name", Shape::One(Scalar::RuleName)),
         Field::needs("allow", Shape::One(Scalar::Boolean)),
-        Field::may("operation", Shape::Ranges(Scalar::Operation)),
-        Field::may("port", Shape::Ranges(PORT)),
-        Field::may("source_network", Shape::Ranges(NETWORK)),
-        Field::may("source", Shape::Ranges(Scalar::Address)),
-        Field::may("destination", Shape::Ranges(NETWORK)),
-        Field::may("service", Shape::Ranges(SERVICE)),
-        Field::may("object_type", Shape::Ranges(OBJECT_TYPE)),
-        Field::may("instance", Shape::Ranges(ANY_INSTANCE)),
-        Field::may("property", Shape::Ranges(PROPERTY)),
-        Field::may("priority", Shape::Ranges(PRIORITY)),
+        ranges("operation", FieldName::Operation),
+        ranges("port", FieldName::Port),
+        ranges("source_network", FieldName::SourceNetwork),
+        ranges("source", FieldName::SourceKey),
+        ranges("destination", FieldName::DestinationNetwork),
+        ranges("service", FieldName::Service),
+        ranges("object_type", FieldName::ObjectType),
+        ranges("instance", FieldName::Instance),
+        ranges("property", FieldName::Property),
+        ranges("priority", FieldName::Priority),
     ]
 }

@@ -1,8 +1,9 @@
 //! Single values of a configuration.
-ghost use Rattle.std.specs.Prelude.{◌≡◌, ◌≤◌, IfOk, length, map, option_map, option_copied};
+ghost use Rattle.std.specs.Prelude.{◌≡◌, ◌≤◌, IfOk, IsFalse, IsTrue, length, map, option_map, option_copied};
 ghost use Rattle.gw_addr.specs.Address.{IsAddress};
 ghost use Rattle.gw_addr.specs.Mask.{IsMask};
 ghost use Rattle.gw_addr.specs.Reading.{Gives};
+ghost use Rattle.gw_rules.specs.Name.{is_name, is_no_rule};
 ghost use Rattle.toml.specs.Data.{Data, as_array, as_str, get_member};
 ghost use Rattle.toml.specs.View.{table_view, view};
 ghost use Rattle.gw_config_tables.specs.Written.{address_written, mask_written};
@@ -12,9 +13,6 @@ use gw_addr::{BipAddr, Mask};
 use gw_configuration::{ConfigFault, MAX_TEXT, ObjectKind};
 use gw_rules::{Operation, RuleName};
 use toml::{Table, Value};
-
-/// The word that the log has where no rule matches.
-const NO_RULE: &str = "default";
 
 /// The value at a key.
 pub fn member<'a>(table: &'a Table, key: &str) -> Option<&'a Value>
@@ -130,7 +128,9 @@ pub fn list(value: &Value) -> Result<&[Value], ConfigFault>
 
 /// The name of a rule. `Kind` where it is no text, `Range` where it is another.
 pub fn rule_name(value: &Value) -> Result<&str, ConfigFault>
-    ensures { Gives (λ t. t.now) result (rule_name_in (view value.now)) }
+    ensures name { Gives (λ t. t.now) result (rule_name_in (view value.now)) }
+    ensures shape { IfOk result (λ t. IsTrue (is_name t.now)) }
+    ensures own { IfOk result (λ t. IsFalse (is_no_rule t.now)) }
 {
     let Some(text) = string(value) else {
         return Err(ConfigFault::Kind);
@@ -144,7 +144,7 @@ pub fn rule_name(value: &Value) -> Result<&str, ConfigFault>
 fn is_rule_name(text: &str) -> bool
     ensures { result ≡ is_rule_name text.now }
 {
-    RuleName::is_name(text) && text != NO_RULE
+    RuleName::is_name(text) && !RuleName::is_no_rule(text)
 }
 
 /// An operation, by its name. `Kind` where it is no text, `Range` where it names none.
@@ -183,7 +183,7 @@ fn address_of(text: &str) -> Option<BipAddr>
 }
 
 /// The address, which is four octets and a port.
-fn whole_address(address: BipAddr) -> BipAddr
+pub(crate) fn whole_address(address: BipAddr) -> BipAddr
     ensures same { result ≡ address }
     ensures whole { IsAddress address }
 {

@@ -1,8 +1,10 @@
 -- What a gateway is configured with.
-use Rattle.std.specs.Prelude.{ℕ, Bool, ◌&&◌, ◌==◌, nat_le, if◌then◌else◌, List, length}
+use Rattle.std.specs.Prelude.{ℕ, Bool, ◌&&◌, ◌==◌, not, nat_le, if◌then◌else◌, List, length}
 use Rattle.std.specs.List.{list_all}
 use Rattle.gw_addr.specs.declared.TheConstants.{MAX_PORTS}
 use Rattle.gw_rules.specs.declared.rule.Rule.{Rule}
+use Rattle.gw_rules.specs.Bounds.{are_bounded}
+use Rattle.gw_rules.specs.Name.{is_no_rule}
 use Rattle.gw_configuration.specs.declared.device.Device.{Device}
 use Rattle.gw_configuration.specs.declared.format.Format.{Format}
 use Rattle.gw_configuration.specs.declared.format.Format.TheVariants as formats
@@ -27,8 +29,24 @@ format_of number = if number == 1 then formats.One else formats.Two
 abbrev pub is_by : ℕ → Route → Bool
 is_by ports route = nat_le 1 route.port && nat_le route.port ports
 
+-- a name isn't empty
+abbrev pub is_named : List ℕ → Bool
+is_named name = nat_le 1 (length name)
+
+-- the device and each object have a name
+abbrev pub are_named : Device → List Object → Bool
+are_named device objects = is_named device.name && list_all (λ object. is_named object.name) objects
+
+-- a rule that a configuration can have: it isn't named as the log names no rule, and its fields can have what it names
+abbrev pub is_configurable : Rule → Bool
+is_configurable rule = not (is_no_rule rule.name) && are_bounded rule.ranges
+
 -- 1 to 8 ports, at most 512 routes, each by one of the ports, and at most 256 objects
-abbrev pub keeps_limits : Configuration → Bool
-keeps_limits c =
+abbrev pub keeps_counts : Configuration → Bool
+keeps_counts c =
     nat_le 1 (length c.ports) && (nat_le (length c.ports) MAX_PORTS && (nat_le (length c.routes) 512
     && (nat_le (length c.objects) 256 && list_all (is_by (length c.ports)) c.routes)))
+
+-- these, names that aren't empty, and rules that a configuration can have
+abbrev pub keeps_limits : Configuration → Bool
+keeps_limits c = keeps_counts c && (are_named c.device c.objects && list_all is_configurable c.rules)

@@ -1,7 +1,9 @@
 -- What a function returned, held against what the definition gives.
 use Rattle.std.specs.Prelude.{◌≡◌, ◌≢◌, Option, Some, Result, Ok, Err}
 use Rattle.gw_configuration.specs.declared.fault.ConfigFault.{ConfigFault}
-use Rattle.gw_configuration.specs.declared.fault.ConfigFault.TheVariants.{Memory}
+use Rattle.gw_configuration.specs.declared.fault.ConfigFault.TheVariants.{Memory, Range, TooMany}
+use Rattle.gw_rules.specs.declared.fault.RuleFault.{RuleFault}
+use Rattle.gw_rules.specs.declared.fault.RuleFault.TheVariants as rules
 use Rattle.gw_configuration.specs.declared.located.Located.{Located as Lent}
 use Rattle.gw_configuration.specs.Located.{Find, Located, located_view}
 
@@ -27,3 +29,9 @@ IsErrOf located (Err lent) = located_view lent ≡ located
 -- so is the fault of a table, with its place
 abbrev pub TellsFault : {X : Type 0} → Result X Lent → Option Located → Type 0
 TellsFault result found = (located : Located) → found ≡ Some located → IsErrOf located result
+
+-- what a fault of a rule or of a list of rules is to a configuration
+abbrev pub fault_of : RuleFault → ConfigFault
+fault_of rules.TooMany = TooMany
+fault_of rules.Range = Range
+fault_of rules.Memory = Memory

@@ -2,7 +2,7 @@
 ghost use Rattle.std.specs.Prelude.{◌≡◌, ◌≤◌, length, IsFalse, IsTrue};
 ghost use Rattle.std.specs.List.{list_all};
 ghost use Rattle.gw_addr.specs.declared.TheConstants.{MAX_PORTS};
-ghost use Rattle.gw_configuration.specs.Configuration.{is_by};
+ghost use Rattle.gw_configuration.specs.Configuration.{is_by, is_configurable, is_named};
 ghost use Rattle.gw_configuration.specs.Duplicates.{has_duplicates, unique};
 ghost use Rattle.gw_configuration.specs.Reading.{Finds};
 
@@ -65,9 +65,10 @@ impl Config {
         self.parts.format()
     }
 
-    /// The gateway's own device.
+    /// The gateway's own device, which has a name.
     pub fn device(&self) -> &Device
         ensures device { result.now ≡ self.now.device }
+        ensures named { IsTrue (is_named self.now.device.name) }
         // No network, address, identifier or name stands twice in the whole configuration.
         ensures once { IsFalse (has_duplicates self.now) }
     {
@@ -94,17 +95,19 @@ impl Config {
         self.parts.routes()
     }
 
-    /// The objects in order, at most 256.
+    /// The objects in order, at most 256, each with a name.
     pub fn objects(&self) -> &[Object]
         ensures objects { result.now ≡ self.now.objects }
         ensures most { length self.now.objects ≤ 256 }
+        ensures named { IsTrue (list_all (λ object. is_named object.name) self.now.objects) }
     {
         self.parts.objects()
     }
 
-    /// The policy.
+    /// The policy, of rules whose fields can have what they name, and of which none is named `default`.
     pub fn rules(&self) -> &RuleList
-        ensures { result.now ≡ self.now.rules }
+        ensures rules { result.now ≡ self.now.rules }
+        ensures configurable { IsTrue (list_all is_configurable self.now.rules) }
     {
         self.parts.rules()
     }

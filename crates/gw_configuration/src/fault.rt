@@ -1,7 +1,9 @@
 //! Why a text is no configuration.
 ghost use Rattle.std.specs.Prelude.{◌≡◌};
 ghost use Rattle.gw_configuration.specs.declared.fault.ConfigFault.TheVariants.{Memory};
+ghost use Rattle.gw_configuration.specs.Reading.{fault_of};
 
+use gw_rules::RuleFault;
 use std::alloc::{AllocError, AllocFailed};
 use thiserror::Error;
 
@@ -48,5 +50,17 @@ impl<T: Drop> From<AllocFailed<T>> for ConfigFault {
 
     fn from(_error: AllocFailed<T>) -> Self {
         ConfigFault::Memory
+    }
+}
+
+impl From<RuleFault> for ConfigFault {
+    ghost from_gives = { λ rule fault. fault ≡ fault_of rule };
+
+    fn from(fault: RuleFault) -> Self {
+        match fault {
+            RuleFault::TooMany => ConfigFault::TooMany,
+            RuleFault::Range => ConfigFault::Range,
+            RuleFault::Memory => ConfigFault::Memory,
+        }
     }
 }

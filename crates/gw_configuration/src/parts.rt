@@ -2,11 +2,11 @@
 ghost use Rattle.std.specs.Prelude.{◌≡◌, ◌≤◌, Some, None, length, if◌then◌else◌, IsTrue};
 ghost use Rattle.std.specs.List.{list_all};
 ghost use Rattle.gw_addr.specs.declared.TheConstants.{MAX_PORTS};
-ghost use Rattle.gw_configuration.specs.Configuration.{Configuration, is_by, keeps_limits};
+ghost use Rattle.gw_configuration.specs.Configuration.{Configuration, are_named, is_by, is_configurable, is_named, keeps_limits};
 
 use crate::{Device, Format, Object, Port, Route};
 use gw_addr::{MAX_PORTS, Sequence};
-use gw_rules::RuleList;
+use gw_rules::{Rule, RuleList, RuleName};
 use std::marker::Model;
 
 /// How many routes it starts with at most.
@@ -42,7 +42,7 @@ impl Model for Parts {
     ghost use Rattle.std.specs.Prelude.{◌≤◌, length, IsTrue};
     ghost use Rattle.std.specs.List.{list_all};
     ghost use Rattle.gw_addr.specs.declared.TheConstants.{MAX_PORTS};
-    ghost use Rattle.gw_configuration.specs.Configuration.{Configuration, is_by};
+    ghost use Rattle.gw_configuration.specs.Configuration.{Configuration, are_named, is_by, is_configurable};
 
     ghost Value = { Configuration };
 
@@ -56,12 +56,14 @@ impl Model for Parts {
     } };
 
     ghost invariant = { λ c. (1 ≤ length c.ports) × ((length c.ports ≤ MAX_PORTS) × ((length c.routes ≤ 512)
-        × ((length c.objects ≤ 256) × IsTrue (list_all (is_by (length c.ports)) c.routes)))) };
+        × ((length c.objects ≤ 256) × (IsTrue (list_all (is_by (length c.ports)) c.routes)
+        × (IsTrue (are_named c.device c.objects) × IsTrue (list_all is_configurable c.rules)))))) };
 }
 
 impl Parts {
-    /// These parts, or `None` where a limit isn't kept: there is no port or more than 8, there are more
-    /// than 512 routes or 256 objects, or a route is by a port that isn't there.
+    /// These parts, or `None` if a limit isn't kept: there is no port or more than 8, there are more
+    /// than 512 routes or 256 objects, a route is by a port that isn't there, the device or an object has
+    /// an empty name, or a rule is named `default` or names what its field can't have.
     pub fn new(
         format: Format,
         device: Device,
@@ -83,7 +85,12 @@ impl Parts {
             && ports.len() <= MAX_PORTS
             && routes.len() <= MAX_ROUTES
             && objects.len() <= MAX_OBJECTS;
-        if few && are_by(ports.len(), routes.as_slice()) {
+        let named = are_named(&device, objects.as_slice());
+        if few
+            && are_by(ports.len(), routes.as_slice())
+            && named
+            && are_configurable(rules.rules())
+        {
             Some(Parts {
                 format,
                 device,
@@ -104,9 +111,10 @@ impl Parts {
         self.format
     }
 
-    /// The gateway's own device.
+    /// The gateway's own device, which has a name.
     pub fn device(&self) -> &Device
-        ensures { result.now ≡ self.now.device }
+        ensures device { result.now ≡ self.now.device }
+        ensures named { IsTrue (is_named self.now.device.name) }
     {
         &self.device
     }
@@ -129,17 +137,19 @@ impl Parts {
         self.routes.as_slice()
     }
 
-    /// The objects in order, at most 256.
+    /// The objects in order, at most 256, each with a name.
     pub fn objects(&self) -> &[Object]
         ensures objects { result.now ≡ self.now.objects }
         ensures most { length self.now.objects ≤ 256 }
+        ensures named { IsTrue (list_all (λ object. is_named object.name) self.now.objects) }
     {
         self.objects.as_slice()
     }
 
-    /// The policy.
+    /// The policy, of rules whose fields can have what they name, and of which none is named `default`.
     pub fn rules(&self) -> &RuleList
-        ensures { result.now ≡ self.now.rules }
+        ensures rules { result.now ≡ self.now.rules }
+        ensures configurable { IsTrue (list_all is_configurable self.now.rules) }
     {
         &self.rules
     }
@@ -165,4 +175,24 @@ fn are_by(ports: usize, routes: &[Route]) -> bool
     ensures { result ≡ list_all (is_by ports) routes.now }
 {
     routes.iter().all(|route| 1 <= route.port && usize::from(route.port) <= ports)
+}
+
+/// Whether the device and each object have a name.
+fn are_named(device: &Device, objects: &[Object]) -> bool
+    ensures { result ≡ are_named device.now objects.now }
+{
+    !device.name.as_str().is_empty() && have_names(objects)
+}
+
+fn have_names(objects: &[Object]) -> bool
+    ensures { result ≡ list_all (λ object. is_named object.name) objects.now }
+{
+    objects.iter().all(|object| !object.name.as_str().is_empty())
+}
+
+/// Whether a configuration can have each of these rules.
+fn are_configurable(rules: &[Rule]) -> bool
+    ensures { result ≡ list_all is_configurable rules.now }
+{
+    rules.iter().all(|rule| !RuleName::is_no_rule(rule.name.as_str()) && rule.is_bounded())
 }

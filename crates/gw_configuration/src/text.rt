@@ -1,5 +1,5 @@
 //! The texts of a configuration.
-ghost use Rattle.std.specs.Prelude.{◌≡◌, ◌≤◌, length};
+ghost use Rattle.std.specs.Prelude.{◌≡◌, ◌≤◌, length, IfOk};
 ghost use Rattle.gw_configuration.specs.Reading.{Gives, Tells};
 ghost use Rattle.gw_configuration.specs.Text.{text_within};
 
@@ -38,6 +38,7 @@ impl Text {
     pub fn new(alloc: Global, least: usize, text: &str) -> Result<Self, ConfigFault>
         ensures text { Gives (λ t. t) result (text_within least text.now) }
         ensures told { Tells result (text_within least text.now) }
+        ensures least { IfOk result (λ t. least ≤ length t) }
     {
         if text.len() < least || MAX_TEXT < text.len() {
             return Err(ConfigFault::Range);

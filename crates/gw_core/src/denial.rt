@@ -1,8 +1,8 @@
 //! The record of what the policy denies.
 
 ghost use Rattle.std.specs.Prelude.{◌≡◌, ◌<◌, ◌+◌, ◌^◌, [], length, IfOk, IsOk};
-ghost use Rattle.std.specs.Option.{option_map};
-ghost use Rattle.gw_core.specs.Denials.{denials_from, denials_of, name_at, rule_name};
+ghost use Rattle.std.specs.Option.{option_map, option_map_or};
+ghost use Rattle.gw_core.specs.Denials.{default_name, denials_from, denials_of, name_at, rule_name};
 ghost use Rattle.gw_core.specs.View.{origin_of, origin_view};
 
 use crate::event::Counts;
@@ -10,41 +10,43 @@ use crate::receive::Received;
 use gw_addr::Source;
 use gw_audit::{Denial, Denials};
 use gw_relay::local_source;
-use gw_rules::{Refusal, RuleList, RuleName};
+use gw_rules::{NO_RULE, Refusal, Rule, RuleList, RuleName};
 use std::alloc::{AllocError, Global};
-
-/// The name under which an ask is denied where no rule matches it.
-const DEFAULT_NAME: &str = "default";
 
 /// The name of the rule of this number, from 1, or `default`.
 pub(crate) fn name_at(rules: &RuleList, number: u16) -> &str
     ensures { result.now ≡ name_at rules.now number }
 {
-    if number == 0 {
-        return DEFAULT_NAME;
-    }
-    match rules.rules().get(usize::from(number) - 1) {
+    match rule_at(rules, number) {
         Some(rule) => rule.name.as_str(),
-        None => DEFAULT_NAME,
+        None => NO_RULE,
     }
 }
 
-/// The name of the rule that denied an ask, or `default`.
-fn rule_name(rules: &RuleList, by: Option<u16>) -> &str
-    ensures { result.now ≡ rule_name rules.now by }
+/// The rule of this number, from 1.
+fn rule_at(rules: &RuleList, number: u16) -> Option<&Rule>
+    ensures { option_map_or (λ rule. rule.now.name) result default_name ≡ name_at rules.now number }
+{
+    rules.rules().get(usize::from(number.checked_sub(1)?))
+}
+
+/// A copy of the name of the rule that denied an ask, or of `default`.
+fn rule_name(alloc: Global, rules: &RuleList, by: Option<u16>) -> Result<RuleName, AllocError>
+    ensures { IfOk result (λ name. name ≡ rule_name rules.now by) }
 {
     match by {
-        Some(number) => name_at(rules, number),
-        None => DEFAULT_NAME,
+        Some(number) => copy_at(alloc, rules, number),
+        None => RuleName::of_no_rule(alloc),
     }
 }
 
-fn copy_name(alloc: Global, name: &str) -> Result<RuleName, AllocError>
-    ensures { IfOk result (λ copy. copy ≡ name.now) }
+/// A copy of the name of the rule of this number, from 1, or of `default`.
+fn copy_at(alloc: Global, rules: &RuleList, number: u16) -> Result<RuleName, AllocError>
+    ensures { IfOk result (λ name. name ≡ name_at rules.now number) }
 {
-    match RuleName::new(alloc, name) {
-        Ok(name) => Ok(name),
-        Err(_) => Err(AllocError),
+    match rule_at(rules, number) {
+        Some(rule) => rule.name.copy(alloc),
+        None => RuleName::of_no_rule(alloc),
     }
 }
 
@@ -130,7 +132,7 @@ fn denials_from(
     let first = counts.denials + 1;
     let mut denials = Denials::with_capacity(alloc, refusals.len())?;
     for (place, refusal) in refusals.iter().enumerate() {
-        let rule = copy_name(alloc, rule_name(rules, refusal.by))?;
+        let rule = rule_name(alloc, rules, refusal.by)?;
         denials.push(Denial {
             number: first + place as u64,
             tick: counts.ticks,

@@ -8,6 +8,8 @@ use Rattle.gw_addr.specs.declared.TheConstants.{MAX_PORTS}
 use Rattle.gw_addr.specs.declared.bip.BipAddr.{BipAddr}
 use Rattle.gw_addr.specs.declared.mask.Mask.{Mask}
 use Rattle.gw_addr.specs.declared.entry.BdtEntry.{BdtEntry}
+use Rattle.gw_rules.specs.declared.field.FieldName.{FieldName}
+use Rattle.gw_rules.specs.declared.field.FieldName.TheVariants as fields
 use Rattle.gw_rules.specs.declared.fields.Fields.{Fields}
 use Rattle.gw_rules.specs.declared.range.Range.{Range as RuleRange}
 use Rattle.gw_rules.specs.declared.rule.Rule.{Rule}
@@ -23,15 +25,13 @@ use Rattle.gw_configuration.specs.declared.object.ObjectValue.{ObjectValue}
 use Rattle.gw_configuration.specs.declared.object.ObjectValue.TheVariants as values
 use Rattle.gw_configuration.specs.declared.port.Port.{Port}
 use Rattle.gw_configuration.specs.declared.route.Route.{Route}
-use Rattle.gw_configuration.specs.declared.shape.Scalar.{Scalar}
-use Rattle.gw_configuration.specs.declared.shape.Scalar.TheVariants.{Number, Operation, Address}
 use Rattle.gw_configuration.specs.Configuration.{Configuration, format_of}
 use Rattle.gw_configuration.specs.Located.{Find, Located, Read, unless, whole}
 use Rattle.gw_configuration.specs.States.{States}
 use Rattle.gw_configuration.specs.Text.{text_within}
 use Rattle.gw_config_tables.specs.Field.{at_field, field_fault, located_in, range_in}
 use Rattle.gw_config_tables.specs.Tables.{device_fields, object_fields, peer_fields, port_fields, route_fields}
-use Rattle.gw_config_tables.specs.Tables.{rule_fields, type_field}
+use Rattle.gw_config_tables.specs.Tables.{rule_fields, scalar_of, type_field}
 use Rattle.gw_config_tables.specs.Value.{address_in, boolean_in, kind_in, list_in, mask_in, number_in, rule_name_in}
 use Rattle.gw_config_tables.specs.Value.{signed_in, table_in, text_in}
 
@@ -254,8 +254,8 @@ object_in object value = whole (table_in value) >>= object_of object
 
 -- a rule
 
-abbrev pub ranges_at : Scalar → List ℕ → Members → Read (List RuleRange)
-ranges_at scalar key table = list_at 0 4 key table >>= each (range_in scalar)
+abbrev pub ranges_at : FieldName → List ℕ → Members → Read (List RuleRange)
+ranges_at field key table = list_at 0 4 key table >>= each (range_in (scalar_of field))
 
 abbrev pub rule_name_at : List ℕ → Members → Read (List ℕ)
 rule_name_at key table = at key table >>= rule_name_in
@@ -265,16 +265,16 @@ boolean_at key table = at key table >>= boolean_in
 
 abbrev pub fields_of : Members → Read (Fields (List RuleRange))
 fields_of table = do
-  operation ← ranges_at Operation (codes "operation") table
-  port ← ranges_at (Number 1 MAX_PORTS) (codes "port") table
-  source_network ← ranges_at (Number 1 65534) (codes "source_network") table
-  source_key ← ranges_at Address (codes "source") table
-  destination_network ← ranges_at (Number 1 65534) (codes "destination") table
-  service ← ranges_at (Number 0 1031) (codes "service") table
-  object_type ← ranges_at (Number 0 1023) (codes "object_type") table
-  instance ← ranges_at (Number 0 4194303) (codes "instance") table
-  property ← ranges_at (Number 0 4194303) (codes "property") table
-  priority ← ranges_at (Number 1 16) (codes "priority") table
+  operation ← ranges_at fields.Operation (codes "operation") table
+  port ← ranges_at fields.Port (codes "port") table
+  source_network ← ranges_at fields.SourceNetwork (codes "source_network") table
+  source_key ← ranges_at fields.SourceKey (codes "source") table
+  destination_network ← ranges_at fields.DestinationNetwork (codes "destination") table
+  service ← ranges_at fields.Service (codes "service") table
+  object_type ← ranges_at fields.ObjectType (codes "object_type") table
+  instance ← ranges_at fields.Instance (codes "instance") table
+  property ← ranges_at fields.Property (codes "property") table
+  priority ← ranges_at fields.Priority (codes "priority") table
   Ok (record {
     operation = operation;
     port = port;

@@ -1,9 +1,10 @@
 //! What the gateway's own device is read to.
 
-ghost use Rattle.std.specs.Prelude.{◌≡◌};
+ghost use Rattle.std.specs.Prelude.{◌≡◌, IfOk, IsTrue};
 ghost use Rattle.toml.specs.View.{table_view};
 ghost use Rattle.gw_policy_text.specs.Parts.{device_of, device_parts};
 ghost use Rattle.gw_config_tables.specs.Field.{located_in};
+ghost use Rattle.gw_configuration.specs.Configuration.{is_named};
 ghost use Rattle.gw_configuration.specs.Reading.{Finds, Gives, TellsFault};
 ghost use Rattle.gw_configuration.specs.declared.located.Place.TheVariants as places;
 ghost use Rattle.gw_config_tables.specs.Tables.{device_fields};
@@ -21,6 +22,7 @@ use toml::Table;
 #[tactic(auto, unfolding(crate::specs::Parts::device_of))]
 pub(crate) fn device<'a>(alloc: Global, table: &'a Table) -> Result<Device, Located<'a>>
     ensures device { Finds (λ d. d) result (device_of (table_view table.now)) }
+    ensures named { IfOk result (λ d. IsTrue (is_named d.name)) }
     ensures told { TellsFault result (located_in places.Device device_fields (table_view table.now)) }
 {
     match located_in(Place::Device, &device_fields(), table) {
@@ -31,7 +33,8 @@ pub(crate) fn device<'a>(alloc: Global, table: &'a Table) -> Result<Device, Loca
 
 /// The parts of a table without a fault.
 fn device_parts(alloc: Global, table: &Table) -> Result<Device, ConfigFault>
-    ensures { Gives (λ d. d) result (device_parts (table_view table.now)) }
+    ensures device { Gives (λ d. d) result (device_parts (table_view table.now)) }
+    ensures named { IfOk result (λ d. IsTrue (is_named d.name)) }
 {
     Ok(Device {
         network: network_at("network", table)?,

@@ -1,9 +1,11 @@
 //! What the objects of a configuration are read to.
-ghost use Rattle.std.specs.Prelude.{◌≡◌, ◌≤◌, codes, length, map, option_map, IfOk};
+ghost use Rattle.std.specs.Prelude.{◌≡◌, ◌≤◌, codes, length, map, option_map, IfOk, IsTrue};
+ghost use Rattle.std.specs.List.{list_all};
 ghost use Rattle.gw_addr.specs.Reading as plain;
 ghost use Rattle.toml.specs.View.{table_view, view};
 ghost use Rattle.gw_policy_text.specs.Parts.{binary_value, character_string_value, count_at, each, each_at, integer_value, kind_at, multi_state_value, object_in, object_of, object_of_kind, object_parts, positive_integer_value, signed_at, states_with, type_located, value_of};
 ghost use Rattle.gw_config_tables.specs.Field.{located_in};
+ghost use Rattle.gw_configuration.specs.Configuration.{is_named};
 ghost use Rattle.gw_configuration.specs.Located.{located_view};
 ghost use Rattle.gw_configuration.specs.Reading.{Finds, Gives, Tells, TellsFault};
 ghost use Rattle.gw_config_tables.specs.Tables.{object_fields};
@@ -33,6 +35,7 @@ pub(crate) fn objects<'a>(
 ) -> Result<Sequence<Object>, Located<'a>>
     ensures count { IfOk result (λ os. length os ≡ length values.now) }
     ensures objects { Finds (λ os. os) result (each_at object_in 0 (map view values.now)) }
+    ensures named { IfOk result (λ os. IsTrue (list_all (λ o. is_named o.name) os)) }
 {
     let mut all = Sequence::new(alloc);
     for (place, value) in values.iter().enumerate() {
@@ -43,7 +46,8 @@ pub(crate) fn objects<'a>(
 
 /// The object that a value says, at this position.
 fn object<'a>(alloc: Global, object: usize, value: &'a Value) -> Result<Object, Located<'a>>
-    ensures { Finds (λ o. o) result (object_in object (view value.now)) }
+    ensures object { Finds (λ o. o) result (object_in object (view value.now)) }
+    ensures named { IfOk result (λ o. IsTrue (is_named o.name)) }
 {
     object_of_table(alloc, object, table(value)?)
 }
@@ -54,7 +58,8 @@ fn object_of_table<'a>(
     object: usize,
     table: &'a Table,
 ) -> Result<Object, Located<'a>>
-    ensures { Finds (λ o. o) result (object_of object (table_view table.now)) }
+    ensures object { Finds (λ o. o) result (object_of object (table_view table.now)) }
+    ensures named { IfOk result (λ o. IsTrue (is_named o.name)) }
 {
     match type_located(object, table) {
         Some(located) => Err(located),
@@ -87,6 +92,7 @@ fn object_of_kind<'a>(
     table: &'a Table,
 ) -> Result<Object, Located<'a>>
     ensures object { Finds (λ o. o) result (object_of_kind object kind (table_view table.now)) }
+    ensures named { IfOk result (λ o. IsTrue (is_named o.name)) }
     ensures told { let states = count_at (codes "states") (table_view table.now) in
         TellsFault result (located_in (places.Object object) (object_fields kind states) (table_view table.now)) }
 {
@@ -124,7 +130,8 @@ fn count_at(table: &Table) -> usize
 
 /// The parts of a table without a fault.
 fn object_parts(alloc: Global, kind: ObjectKind, table: &Table) -> Result<Object, ConfigFault>
-    ensures { Gives (λ o. o) result (object_parts kind (table_view table.now)) }
+    ensures object { Gives (λ o. o) result (object_parts kind (table_view table.now)) }
+    ensures named { IfOk result (λ o. IsTrue (is_named o.name)) }
 {
     let instance = instance_at("instance", table)?;
     let name = text_at(alloc, 1, "name", table)?;

@@ -4,7 +4,7 @@ ghost use Rattle.std.specs.List.{list_all};
 ghost use Rattle.toml.specs.View.{table_view};
 ghost use Rattle.gw_addr.specs.declared.TheConstants.{MAX_PORTS};
 ghost use Rattle.gw_policy_text.specs.Parts.{device_at, objects_at, parts_of, parts_of_format, policy_of, ports_at, routes_at, rules_at};
-ghost use Rattle.gw_configuration.specs.Configuration.{is_by};
+ghost use Rattle.gw_configuration.specs.Configuration.{is_by, is_configurable, is_named};
 ghost use Rattle.gw_configuration.specs.Reading.{Finds, Gives};
 
 use crate::format::format_at;
@@ -15,7 +15,7 @@ use gw_config_tables::value;
 use gw_configuration::{
     ConfigFault, Device, Format, Located, MAX_OBJECTS, MAX_ROUTES, Object, Parts, Port, Route,
 };
-use gw_rules::{MAX_RULES, Rule, RuleFault, RuleList};
+use gw_rules::{MAX_RULES, Rule, RuleList};
 use std::alloc::Global;
 use toml::Table;
 
@@ -39,7 +39,8 @@ fn parts_of_format<'a>(alloc: Global, format: Format, top: &'a Table) -> Result<
 }
 
 fn device_at<'a>(alloc: Global, top: &'a Table) -> Result<Device, Located<'a>>
-    ensures { Finds (λ d. d) result (device_at (codes "device") (table_view top.now)) }
+    ensures device { Finds (λ d. d) result (device_at (codes "device") (table_view top.now)) }
+    ensures named { IfOk result (λ d. IsTrue (is_named d.name)) }
 {
     device::device(alloc, value::table(at("device", top)?)?)
 }
@@ -63,24 +64,23 @@ fn routes_at<'a>(alloc: Global, ports: u8, top: &'a Table) -> Result<Sequence<Ro
 fn objects_at<'a>(alloc: Global, top: &'a Table) -> Result<Sequence<Object>, Located<'a>>
     ensures objects { Finds (λ os. os) result (objects_at (codes "object") (table_view top.now)) }
     ensures most { IfOk result (λ os. length os ≤ 256) }
+    ensures named { IfOk result (λ os. IsTrue (list_all (λ o. is_named o.name) os)) }
 {
     objects::objects(alloc, list_at(0, MAX_OBJECTS, "object", top)?)
 }
 
 fn rules_at<'a>(alloc: Global, top: &'a Table) -> Result<Vec<Rule>, Located<'a>>
-    ensures { Finds (λ rs. rs.items) result (rules_at (codes "rule") (table_view top.now)) }
+    ensures rules { Finds (λ rs. rs.items) result (rules_at (codes "rule") (table_view top.now)) }
+    ensures configurable { IfOk result (λ rs. IsTrue (list_all is_configurable rs.items)) }
 {
     rules::rules(alloc, list_at(0, MAX_RULES, "rule", top)?)
 }
 
 /// The rules as a policy.
 fn policy_of(rules: Vec<Rule>) -> Result<RuleList, ConfigFault>
-    ensures { Gives (λ rs. rs) result (policy_of rules.items) }
+    ensures policy { Gives (λ rs. rs) result (policy_of rules.items) }
+    ensures same { IfOk result (λ rs. rs ≡ rules.items) }
 {
-    match RuleList::new(rules) {
-        Ok(list) => Ok(list),
-        Err(RuleFault::TooMany) => Err(ConfigFault::TooMany),
-        Err(RuleFault::Range) => Err(ConfigFault::Range),
-        Err(RuleFault::Memory) => Err(ConfigFault::Memory),
-    }
+    let list = RuleList::new(rules)?;
+    Ok(list)
 }

@@ -92,6 +92,7 @@ pub(crate) fn text_at(
 ) -> Result<Text, ConfigFault>
     ensures text { Gives (λ t. t) result (text_at least key.now (table_view table.now)) }
     ensures told { Tells result (text_at least key.now (table_view table.now)) }
+    ensures least { IfOk result (λ t. least ≤ length t) }
 {
     match string(at(key, table)?) {
         Some(text) => Text::new(alloc, least, text),

@@ -8,6 +8,8 @@ use Rattle.gw_rules.specs.declared.range.Range.{Range}
 use Rattle.gw_rules.specs.declared.rule.Rule.{Rule}
 use Rattle.gw_rules.specs.declared.rule.TheConstants.{MAX_RANGES}
 use Rattle.gw_rules.specs.declared.rule_list.TheConstants.{MAX_RULES}
+use Rattle.gw_rules.specs.declared.field.FieldName.{FieldName}
+use Rattle.gw_rules.specs.Bounds.{HasBoundedRanges, are_bounded, bounds, is_within}
 use Rattle.gw_rules.specs.Range.{is_ordered}
 use Rattle.gw_rules.specs.Rule.{ranges_of, HasFewRanges, has_few_ranges, HasOrderedRanges, has_ordered_ranges}
 use Rattle.gw_rules.specs.RuleList.{keeps_counts, keeps_order, KeepsCounts, KeepsOrder}
@@ -39,6 +41,21 @@ has_order rule t field =
 order_passes : (rule : Rule) → HasOrderedRanges rule → has_ordered_ranges rule ≡ true
 order_passes rule ordered =
     each_field_from (λ f. list_all is_ordered (ranges_of f rule)) (λ f. (ordered_iff (ranges_of f rule)).1 (ordered f))
+
+-- each range is within its field's bounds exactly where the test holds
+pub bounded_iff : (rule : Rule) → (are_bounded rule.ranges ≡ true) ↔ HasBoundedRanges rule
+bounded_iff rule =
+    let within = λ (field : FieldName) (ranges : List Range).
+        all_iff (is_within (bounds field)) (λ range. ((bounds field).low ≤ range.low) × (range.high ≤ (bounds field).high))
+        (λ range t.
+            let parts = and_parts (nat_le (bounds field).low range.low) (nat_le range.high (bounds field).high) t in
+            (leb-true (bounds field).low range.low parts.0, leb-true range.high (bounds field).high parts.1))
+        (λ range in_words. and_from (nat_le (bounds field).low range.low) (nat_le range.high (bounds field).high) (le-leb (bounds field).low range.low in_words.0) (le-leb range.high (bounds field).high in_words.1))
+        ranges in
+    (
+      λ t field. (within field (ranges_of field rule)).0 (each_field_at (λ f. list_all (is_within (bounds f)) (ranges_of f rule)) t field),
+      λ words. each_field_from (λ f. list_all (is_within (bounds f)) (ranges_of f rule)) (λ f. (within f (ranges_of f rule)).1 (words f)),
+    )
 
 -- the counts are kept exactly where there are few rules, each with few ranges
 pub counts_iff : (rules : List Rule) → (keeps_counts rules ≡ true) ↔ KeepsCounts rules

@@ -10,6 +10,7 @@ ghost use Rattle.gw_rules.specs.declared.rule.Rule.{Rule};
 ghost use Rattle.gw_rules.specs.declared.service.Service.{Service};
 ghost use Rattle.gw_rules.specs.Ask.{Ask};
 ghost use Rattle.gw_rules.specs.Authorizer.{denied_of};
+ghost use Rattle.gw_rules.specs.Bounds.{HasBoundedRanges, are_bounded, bounds};
 ghost use Rattle.gw_rules.specs.Field.{field_number};
 ghost use Rattle.gw_rules.specs.Operation.{operation_name, operation_number};
 ghost use Rattle.gw_rules.specs.Rule.{Matches, matches};
@@ -66,6 +67,16 @@ pub fn limits()
     ensures name { MAX_NAME ≡ 32 }
     ensures counts { (rules : List Rule) → IsTrue (keeps_counts rules) ↔ KeepsCounts rules }
     ensures order { (rules : List Rule) → IsTrue (keeps_order rules) ↔ KeepsOrder rules }
+{}
+
+/// The bounds of the ten fields, in the order of their numbers. The test of a rule's ranges holds exactly
+/// where each of them lies within the bounds of its field.
+pub fn bounds()
+    ensures lows { map (λ field. (bounds field).low) FieldName.ALL ≡
+        1 ∷ 1 ∷ 1 ∷ 0 ∷ 1 ∷ 0 ∷ 0 ∷ 0 ∷ 0 ∷ 1 ∷ [] }
+    ensures highs { map (λ field. (bounds field).high) FieldName.ALL ≡
+        11 ∷ 8 ∷ 65534 ∷ 281474976710655 ∷ 65534 ∷ 1031 ∷ 1023 ∷ 4194303 ∷ 4194303 ∷ 16 ∷ [] }
+    ensures bounded { (rule : Rule) → IsTrue (are_bounded rule.ranges) ↔ HasBoundedRanges rule }
 {}
 
 /// `FieldName::ALL` has each of the ten fields once, in the order of their numbers.

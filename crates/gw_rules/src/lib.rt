@@ -34,7 +34,7 @@ pub use fault::RuleFault;
 pub use field::FieldName;
 pub use fields::Fields;
 pub use judge::Judge;
-pub use name::{MAX_NAME, RuleName};
+pub use name::{MAX_NAME, NO_RULE, RuleName};
 pub use operation::Operation;
 pub use range::Range;
 pub use ranges::{Ranges, admit};

@@ -1,14 +1,16 @@
 //! The name of a rule.
-ghost use Rattle.std.specs.Prelude.{◌≡◌, ◌↔◌, IfOk, IsErrOf, IsFalse, IsTrue};
+ghost use Rattle.std.specs.Prelude.{◌≡◌, ◌↔◌, codes, IfOk, IsErrOf, IsFalse, IsTrue};
 ghost use Rattle.std.specs.List.{list_all};
-ghost use Rattle.gw_rules.specs.Name.{is_name, is_name_character};
+ghost use Rattle.gw_rules.specs.Name.{is_name, is_name_character, is_no_rule};
 
 use crate::RuleFault;
-use std::alloc::Global;
+use std::alloc::{AllocError, Global};
 use std::marker::Model;
 
 /// How many characters a rule's name has at most.
 pub const MAX_NAME: usize = 32;
+/// The name that the log shows if no rule matches.
+pub const NO_RULE: &str = "default";
 
 /// The name of a rule, which the log shows if the rule denies: 1 to 32 of the characters `a` to `z`,
 /// `0` to `9` and `-`. Contracts see its octets.
@@ -43,11 +45,36 @@ impl RuleName {
         })
     }
 
+    /// The name [`NO_RULE`].
+    pub fn of_no_rule(alloc: Global) -> Result<Self, AllocError>
+        ensures { IfOk result (λ name. name ≡ codes "default") }
+    {
+        Ok(RuleName {
+            text: String::from_str(alloc, NO_RULE)?,
+        })
+    }
+
+    /// A copy of the name.
+    pub fn copy(&self, alloc: Global) -> Result<Self, AllocError>
+        ensures { IfOk result (λ copy. copy ≡ self.now) }
+    {
+        Ok(RuleName {
+            text: String::from_str(alloc, self.as_str())?,
+        })
+    }
+
     /// Whether a text is a name: 1 to 32 of the characters `a` to `z`, `0` to `9` and `-`.
     pub fn is_name(text: &str) -> bool
         ensures { result ≡ is_name text.now }
     {
         1 <= text.len() && text.len() <= MAX_NAME && are_name_characters(text.as_bytes())
+    }
+
+    /// Whether a text is [`NO_RULE`].
+    pub fn is_no_rule(text: &str) -> bool
+        ensures { result ≡ is_no_rule text.now }
+    {
+        text == NO_RULE
     }
 
     /// The text of the name.

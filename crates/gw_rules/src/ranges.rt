@@ -1,6 +1,7 @@
 //! The ranges that a rule has for one field.
 ghost use Rattle.std.specs.Prelude.{◌≡◌};
 ghost use Rattle.std.specs.List.{list_all, list_any};
+ghost use Rattle.gw_rules.specs.Bounds.{is_within};
 ghost use Rattle.gw_rules.specs.Range.{admits, holds, is_ordered};
 
 use crate::Range;
@@ -15,6 +16,13 @@ pub fn are_ordered(ranges: &[Range]) -> bool
     ensures { result ≡ list_all is_ordered ranges.now }
 {
     ranges.iter().all(|range| range.low <= range.high)
+}
+
+/// Whether each range is within another.
+pub fn are_within(ranges: &[Range], outer: Range) -> bool
+    ensures { result ≡ list_all (is_within outer) ranges.now }
+{
+    ranges.iter().all(|range| range.is_within(&outer))
 }
 
 /// Whether a rule with these ranges for a field can match an ask that has this value there.

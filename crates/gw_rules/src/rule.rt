@@ -1,11 +1,12 @@
 //! A rule: the ranges by which it picks asks, and what it says of those that it matches.
 ghost use Rattle.std.specs.Prelude.{◌≡◌, ◌↔◌, [], ◌∷◌, ◌++◌, IfOk, IsErrOf, IsFalse, IsOkUnless, OnOk};
+ghost use Rattle.gw_rules.specs.Bounds.{are_bounded};
 ghost use Rattle.gw_rules.specs.Hides.{may_match, may_match_some, must_match, must_match_all, names_no_other, settles};
 ghost use Rattle.gw_rules.specs.Name.{is_name};
 ghost use Rattle.gw_rules.specs.Fields.{in_each, value_of, with_value};
 ghost use Rattle.gw_rules.specs.Rule.{has_few_ranges, has_ordered_ranges, matches, ranges_of, rule_without_fields, with_range};
 
-use crate::ranges::{admit, are_ordered};
+use crate::ranges::{admit, are_ordered, are_within};
 use crate::{Ask, FieldName, Fields, Range, Ranges, RuleFault, RuleName};
 use std::alloc::{AllocError, Global};
 
@@ -66,6 +67,15 @@ impl Rule {
         ensures { result.now ≡ ranges_of field self.now }
     {
         self.ranges.get(field)
+    }
+
+    /// Whether each range of the rule is within the bounds of its field.
+    pub fn is_bounded(&self) -> bool
+        ensures { result ≡ are_bounded self.now.ranges }
+    {
+        FieldName::ALL
+            .iter()
+            .all(|field| are_within(self.ranges(*field).as_slice(), field.bounds()))
     }
 
     /// Whether the rule matches the ask.

@@ -3,7 +3,7 @@
 use crate::case::{number, number_or_none, octets_of, wanted};
 use gw_addr::{Mac, NetNum, Source};
 use gw_audit::Denial;
-use gw_rules::{Ask, Operation, RuleName};
+use gw_rules::{Ask, Operation, RuleFault, RuleName};
 use std::alloc::Global;
 use std::io;
 use std::io::ErrorKind;
@@ -36,7 +36,8 @@ fn station(alloc: Global, network: Option<&str>, digits: Option<&str>) -> io::Re
 fn rule(alloc: Global, name: Option<&str>) -> io::Result<RuleName> {
     match RuleName::new(alloc, wanted(name)?) {
         Ok(name) => Ok(name),
-        Err(_) => Err(ErrorKind::OutOfMemory.into()),
+        Err(RuleFault::Memory) => Err(ErrorKind::OutOfMemory.into()),
+        Err(_) => Err(ErrorKind::InvalidData.into()),
     }
 }
 
