@@ -15,7 +15,7 @@ use Rattle.gw_relay.specs.Asks.{bound_for}
 use Rattle.gw_relay.specs.Initial.{initial}
 use Rattle.gw_relay.specs.Message.{Message}
 use Rattle.gw_relay.specs.Named.{named_asks}
-use Rattle.gw_relay.specs.Route.{copied, copy, is_local, leaves, on_way, others, route_ask, route_steps, sent_on, steps_by}
+use Rattle.gw_relay.specs.Route.{copy, copy_to_port, forward, is_local, leaves, on_way, others, route_ask, route_steps, steps_by}
 use Rattle.gw_relay.specs.Sends.{Sending}
 use Rattle.gw_relay.specs.State.{Move, Relay, moved, moved_by}
 use Rattle.gw_relay.specs.State as move
@@ -47,12 +47,12 @@ step_with asks sends = record { asks = asks; sends = sends }
 one_way : (relay : Relay) (m : Message) (d : Destination) (by : Way) → relay.format ≡ One → on_way relay m d by ≡ way_step relay m d by
 one_way relay m d by is =
     let route = route_ask m (bound_for m.npdu) in
-    ap (λ (named : List Ask). step_with (route ∷ named) (sent_on relay m d by)) (none_named relay.format route m.npdu.payload is)
+    ap (λ (named : List Ask). step_with (route ∷ named) (forward relay m d by)) (none_named relay.format route m.npdu.payload is)
 
 one_copy : (format : Format) (m : Message) (d : Destination) (link : PortState) → format ≡ One → copy format m d link ≡ copy_step m d link
 one_copy format m d link is =
     let route = route_ask m (Some link.port.network) in
-    ap (λ (named : List Ask). step_with (route ∷ named) (copied m d link)) (none_named format route m.npdu.payload is)
+    ap (λ (named : List Ask). step_with (route ∷ named) (copy_to_port m d link)) (none_named format route m.npdu.payload is)
 
 each_copy : (format : Format) (m : Message) (d : Destination) (links : List PortState) → format ≡ One
     → map (copy format m d) links ≡ map (copy_step m d) links

@@ -13,7 +13,7 @@ use Rattle.gw_rules.specs.declared.operation.Operation.TheVariants.{Route}
 use Rattle.gw_rules.specs.declared.rule.Rule.{Rule}
 use Rattle.gw_relay.specs.Asks.{bound_for, message_ask}
 use Rattle.gw_relay.specs.Message.{Message}
-use Rattle.gw_relay.specs.Route.{has_hops, is_local, leaves, next_hop, others, sent_on}
+use Rattle.gw_relay.specs.Route.{forward, has_hops, is_local, leaves, next_hop, others}
 use Rattle.gw_relay.specs.Sends.{Sending}
 use Rattle.gw_relay.specs.State.{Relay, moved}
 use Rattle.gw_relay.specs.Steps.{Step, asks_of, broadcast, sends_of, step}
@@ -32,7 +32,7 @@ use Rattle.gw_core.specs.State.{State}
 
 -- one ask for one way, and what hangs on it
 abbrev pub way_step : Relay → Message → Destination → Way → Step
-way_step relay m d by = step (message_ask Route m (bound_for m.npdu)) (sent_on relay m d by)
+way_step relay m d by = step (message_ask Route m (bound_for m.npdu)) (forward relay m d by)
 
 -- one ask for the copy of a global broadcast for another port
 abbrev pub copy_step : Message → Destination → PortState → Step

@@ -36,7 +36,7 @@ use Rattle.gw_relay.specs.Asks.{bound_for, link_ask}
 use Rattle.gw_relay.specs.Cast.{cast_asks, goes_on, is_broadcast}
 use Rattle.gw_relay.specs.Laws.{AreFrom, BroadcastsCarryTheirClaim, NetworkMessagesCarryTheirClaim, RoutesAreKept, RoutingCarriesTheClaim, TableAsksReadNothing, TablesAreKept}
 use Rattle.gw_relay.specs.Link.{link_change}
-use Rattle.gw_relay.specs.Manage.{is_i_am_router, is_what_is_network_number, is_who_is_router, learn_ask, learn_steps, learned, manage_asks, named_networks, question_of, question_steps}
+use Rattle.gw_relay.specs.Manage.{is_i_am_router, is_what_is_network_number, is_who_is_router, keep_allowed, learn_ask, learn_steps, manage_asks, named_networks, question_of, question_steps}
 use Rattle.gw_relay.specs.Message.{Message}
 use Rattle.gw_relay.specs.Named.{apdu_asks, forward_asks, header_asks, multi_asks, named_ask, named_asks, read_asks, reference_ask, request_asks, unnamed_ask, write_asks}
 use Rattle.gw_relay.specs.Route.{copy, is_local, leaves, others, route_ask, steps_by}
@@ -96,7 +96,7 @@ table_asks_read_nothing port from (bvll.original_broadcast npdu) = tt
 -- ---- the routes
 
 none_learned : (rules : List Rule) (m : Message) (networks : List ℕ)
-    → NoneAllowed (IsFor operations.Learn) rules (map (learn_ask m) networks) → learned rules m networks ≡ []
+    → NoneAllowed (IsFor operations.Learn) rules (map (learn_ask m) networks) → keep_allowed rules m networks ≡ []
 none_learned rules m [] h = refl
 none_learned rules m (n ∷ networks) h =
     let denied : allows rules (learn_ask m n) ≡ false = h.0 refl in
@@ -104,7 +104,7 @@ none_learned rules m (n ∷ networks) h =
 
 moved_by : (b : Bool) (rules : List Rule) (relay : Relay) (m : Message) → is_i_am_router m.npdu ≡ b
     → NoneAllowed (IsFor operations.Learn) rules (manage_asks relay m)
-    → moved (option_map Commit (if b then Some (Learnings m.here.port.number m.link (learned rules m (named_networks m))) else None)) relay ≡ relay
+    → moved (option_map Commit (if b then Some (Learnings m.here.port.number m.link (keep_allowed rules m (named_networks m))) else None)) relay ≡ relay
 moved_by true rules relay m is h =
     ap (λ (networks : List ℕ). after (Learnings m.here.port.number m.link networks) relay)
     (none_learned rules m (named_networks m) (subst (NoneAllowed (IsFor operations.Learn) rules) (learned_asks relay m is) h))

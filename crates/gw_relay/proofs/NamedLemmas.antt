@@ -2,11 +2,9 @@
 use Rattle.std.proofs.Common.{◌≡◌, ◌∙◌, sym, ap, refl, ℕ, ◌-◌, Bool, true, false, ◌&&◌, List, [], ◌∷◌, ◌++◌, append_assoc, Option, Result, Ok, Err}
 use Rattle.std.specs.Prelude.{is_ok}
 use Rattle.gw_rules.specs.Ask.{Ask}
-use Rattle.gw_rules.specs.Authorizer.{AuthorizerState, denied_of}
 use Rattle.gw_rules.specs.RuleList.{allows}
-use Rattle.gw_rules.specs.declared.refusal.Refusal.{Refusal}
 use Rattle.gw_rules.specs.declared.rule.Rule.{Rule}
-use Rattle.gw_rules.proofs.Denials.{denied_of-append}
+use Rattle.gw_rules.specs.declared.verdict.Verdict.{Verdict}
 use Rattle.gw_services.specs.Multi.{Reference}
 use Rattle.gw_services.specs.MultiReading.{and_more, finished, more_at, references_at, step_at, walked}
 use Rattle.gw_services.specs.declared.fault.BodyFault.{BodyFault}
@@ -61,17 +59,21 @@ and-true true = refl
 and-true false = refl
 
 -- one ask that is put
-pub asked_one : {J : Type 0} (rules : List Rule) (ask : Ask) (old new : AuthorizerState J) (b : Bool) → b ≡ allows rules ask
-    → new.denied ≡ old.denied ++ denied_of rules (ask ∷ []) → AreAsked rules (ask ∷ []) old new b
-asked_one rules ask old new b is denied = record { answer = is ∙ and-true (allows rules ask); denied = denied }
+pub asked_one : {A : Type 0} (kept : A → List Verdict) (kept_of : List Rule → List Ask → List Verdict)
+    (rules : List Rule) (ask : Ask) (old new : A) (b : Bool)
+    → b ≡ allows rules ask → kept new ≡ kept old ++ kept_of rules (ask ∷ [])
+    → AreAsked kept kept_of rules (ask ∷ []) old new b
+asked_one kept kept_of rules ask old new b is asked = record { answer = is ∙ and-true (allows rules ask); verdicts = asked }
 
 -- and others behind it
-pub asked_behind : {J : Type 0} (rules : List Rule) (ask : Ask) (asks : List Ask) (old mid new : AuthorizerState J) (b c : Bool)
-    → b ≡ allows rules ask → mid.denied ≡ old.denied ++ denied_of rules (ask ∷ []) → AreAsked rules asks mid new c
-    → AreAsked rules (ask ∷ asks) old new (b && c)
-asked_behind rules ask asks old mid new b c is denied behind = record {
+pub asked_behind : {A : Type 0} (kept : A → List Verdict) (kept_of : List Rule → List Ask → List Verdict)
+    → ((rules : List Rule) (one two : List Ask) → kept_of rules (one ++ two) ≡ kept_of rules one ++ kept_of rules two)
+    → (rules : List Rule) (ask : Ask) (asks : List Ask) (old mid new : A) (b c : Bool)
+    → b ≡ allows rules ask → kept mid ≡ kept old ++ kept_of rules (ask ∷ []) → AreAsked kept kept_of rules asks mid new c
+    → AreAsked kept kept_of rules (ask ∷ asks) old new (b && c)
+asked_behind kept kept_of both rules ask asks old mid new b c is asked behind = record {
   answer = rw (is, behind.answer) refl;
-  denied = behind.denied ∙ ap (λ (l : List Refusal). l ++ denied_of rules asks) denied
-      ∙ append_assoc old.denied (denied_of rules (ask ∷ [])) (denied_of rules asks)
-      ∙ ap (λ (l : List Refusal). old.denied ++ l) (sym (denied_of-append rules (ask ∷ []) asks));
+  verdicts = behind.verdicts ∙ ap (λ (l : List Verdict). l ++ kept_of rules asks) asked
+      ∙ append_assoc (kept old) (kept_of rules (ask ∷ [])) (kept_of rules asks)
+      ∙ ap (λ (l : List Verdict). kept old ++ l) (sym (both rules (ask ∷ []) asks));
 }

@@ -5,6 +5,7 @@ pub mod History
 pub mod Claim
 pub mod Message
 pub mod Response
+pub mod Turn
 pub mod Asks
 pub mod Named
 pub mod Link

@@ -93,21 +93,21 @@ asker m = unwrap_or m.npdu.source (node m.here.port m.link)
 
 -- the answer for a network, by its way: none where it is reached by the port of the question, and
 -- where no way is known the other ports' routers are asked for one
-abbrev pub told : Relay → Message → ℕ → Way → List Sending
-told relay m network (Port other) =
+abbrev pub answer_who_is_router : Relay → Message → ℕ → Way → List Sending
+answer_who_is_router relay m network (Port other) =
     if other == m.here.port.number then [] else broadcast (i_am_router (network ∷ [])) m.here
-told relay m network Device = broadcast (i_am_router (network ∷ [])) m.here
-told relay m network (Router route) =
+answer_who_is_router relay m network Device = broadcast (i_am_router (network ∷ [])) m.here
+answer_who_is_router relay m network (Router route) =
     if route.port == m.here.port.number then [] else broadcast (i_am_router (network ∷ [])) m.here
-told relay m network Unknown =
+answer_who_is_router relay m network Unknown =
     flat_map (broadcast (who_is_router (Some (asker m)) network))
     (others m.here.port.number relay.links)
-told relay m network Everywhere = []
+answer_who_is_router relay m network Everywhere = []
 
 -- one network is asked for
 abbrev pub question_of : Relay → Message → ℕ → Step
 question_of relay m network =
-    step (network_ask m (Some network)) (told relay m network (way relay.routes network))
+    step (network_ask m (Some network)) (answer_who_is_router relay m network (way relay.routes network))
 
 -- all networks are asked for that aren't reached by the port
 abbrev pub question_of_all : Relay → Message → Step
@@ -159,14 +159,14 @@ abbrev pub manage_sends : List Rule → Relay → Message → List Sending
 manage_sends rules relay m = sends_of rules (manage_steps relay m)
 
 -- the networks that the policy lets be learned
-abbrev pub learned : List Rule → Message → List ℕ → List ℕ
-learned rules m networks = filter (λ n. allows rules (learn_ask m n)) networks
+abbrev pub keep_allowed : List Rule → Message → List ℕ → List ℕ
+keep_allowed rules m networks = filter (λ n. allows rules (learn_ask m n)) networks
 
 -- its change: they are reached by the port, and the link source is the next router
 abbrev pub manage_change : List Rule → Message → Option Change
 manage_change rules m =
     if is_i_am_router m.npdu
-    then Some (Learnings m.here.port.number m.link (learned rules m (named_networks m)))
+    then Some (Learnings m.here.port.number m.link (keep_allowed rules m (named_networks m)))
     else None
 
 -- what is answered to it

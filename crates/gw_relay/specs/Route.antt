@@ -109,8 +109,8 @@ delivered mac npdu link =
 
 -- No way is known: the sender is told, and each other port's routers are asked for one. There is
 -- none of it for a Reject-Message-To-Network. The message itself isn't kept (ours).
-abbrev pub sought : Relay → Message → ℕ → List Sending
-sought relay m network =
+abbrev pub reject_and_search : Relay → Message → ℕ → List Sending
+reject_and_search relay m network =
     if is_kind RejectMessageToNetwork m.npdu.payload then []
     else unicast m.here.port.number m.link (reject network m.npdu)
     ++ flat_map (broadcast (who_is_router None network)) (others m.here.port.number relay.links)
@@ -121,12 +121,12 @@ routed m d route =
     if has_hops d then unicast route.port route.next (next_hop m) else []
 
 -- by the way of the destination's network, which is one
-abbrev pub sent_on : Relay → Message → Destination → Way → List Sending
-sent_on relay m d (Port number) =
+abbrev pub forward : Relay → Message → Destination → Way → List Sending
+forward relay m d (Port number) =
     at_port [] (delivered d.address.mac (last_hop m)) relay.links number
-sent_on relay m d (Router route) = routed m d route
-sent_on relay m d Unknown = sought relay m d.address.network
-sent_on relay m d other = []
+forward relay m d (Router route) = routed m d route
+forward relay m d Unknown = reject_and_search relay m d.address.network
+forward relay m d other = []
 
 -- ---- what is asked
 
@@ -145,18 +145,18 @@ leaves number other = false
 abbrev pub on_way : Relay → Message → Destination → Way → Step
 on_way relay m d way = record {
   asks = forward_asks relay.format (route_ask m (bound_for m.npdu)) m.npdu.payload;
-  sends = sent_on relay m d way;
+  sends = forward relay m d way;
 }
 
 -- what is sent on another port of a global broadcast
-abbrev pub copied : Message → Destination → PortState → List Sending
-copied m d link = if has_hops d then broadcast (next_hop m) link else []
+abbrev pub copy_to_port : Message → Destination → PortState → List Sending
+copy_to_port m d link = if has_hops d then broadcast (next_hop m) link else []
 
 -- the copy of a global broadcast for another port
 abbrev pub copy : Format → Message → Destination → PortState → Step
 copy format m d link = record {
   asks = forward_asks format (route_ask m (Some link.port.network)) m.npdu.payload;
-  sends = copied m d link;
+  sends = copy_to_port m d link;
 }
 
 -- by the way of DNET: a copy for each other port, or one way

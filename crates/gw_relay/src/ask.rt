@@ -61,8 +61,8 @@ pub(crate) fn bound_for(npdu: &Npdu<'_>) -> Option<u64>
     }
 }
 
-/// Puts into an ask whom a message comes from, what it is, and the network that it goes to, where it does.
-pub(crate) fn put_message_fields(ask: &mut Ask, message: &Message<'_>, destination: Option<u64>)
+/// Sets in an ask whom a message comes from, what it is, and the network that it goes to, if it does.
+pub(crate) fn set_message_fields(ask: &mut Ask, message: &Message<'_>, destination: Option<u64>)
     ensures { let m = message_view message.now in
         ask.new ≡ record ask.old {
           port = Some m.here.port.number;

@@ -10,21 +10,22 @@ ghost use Rattle.gw_rules.specs.declared.rule.Rule.{Rule};
 ghost use Rattle.gw_relay.specs.Cast.{cast_asks, cast_response, devices, devices_but, directed, goes_on, is_broadcast, accepts, is_unregistered, managers, passed_on, spread, subnet, targets};
 ghost use Rattle.gw_relay.specs.Link.{answer_to, refused};
 ghost use Rattle.gw_relay.specs.Message.{message_view};
-ghost use Rattle.gw_relay.specs.Response.{IsAdded};
+ghost use Rattle.gw_relay.specs.Turn.{IsWalked};
 ghost use Rattle.gw_relay.specs.Sends.{sendings_of, sent};
 ghost use Rattle.gw_relay.specs.internal.Rooms.{broadcast_npdu};
 ghost use Rattle.gw_relay.specs.internal.Serving.{judged};
 
-use crate::ask::{bound_for, put_message_fields};
+use crate::ask::{bound_for, set_message_fields};
 use crate::message::Message;
 use crate::octets::message_octets;
 use crate::outgoing::Outgoing;
 use crate::port::PortState;
-use crate::response::RelayResponse;
+use crate::relay::Relay;
 use crate::sends::{Batch, Sends};
+use crate::turn::Turn;
 use gw_addr::{BdtEntry, BipAddr};
 use gw_bvll::Bvll;
-use gw_rules::{Ask, Authorizer, Judge, Operation};
+use gw_rules::{Ask, Asker, Operation};
 use std::alloc::{AllocError, Global};
 
 /// How many octets of a Forwarded-NPDU stand before its NPDU (Annex J.2.5).
@@ -133,9 +134,8 @@ impl PortState {
     }
 
     /// Adds the sends of a broadcast that was judged.
-    fn put_judged(
+    fn add_judged(
         &self,
-        alloc: Global,
         from: BipAddr,
         frame: &Bvll<'_>,
         is_allowed: bool,
@@ -145,16 +145,15 @@ impl PortState {
             OnOk result (sends.new ≡ sends.old ++ sent) }
     {
         if is_allowed {
-            self.distribute(alloc, from, frame, sends)
+            self.distribute(from, frame, sends)
         } else {
-            self.put_refusal(alloc, from, frame, sends)
+            self.add_refusal(from, frame, sends)
         }
     }
 
     /// Adds the sends of a broadcast that is allowed: one message to all its targets.
     fn distribute(
         &self,
-        alloc: Global,
         from: BipAddr,
         frame: &Bvll<'_>,
         sends: &mut Sends,
@@ -163,8 +162,9 @@ impl PortState {
             let targets = targets self.now from (frame_view frame.now) in
             OnOk result (sends.new ≡ sends.old ++ sent self.now.port.number targets message) }
     {
+        let alloc = sends.alloc();
         let mut targets = Vec::with_capacity(alloc, self.most_targets(frame))?;
-        self.put_targets(from, frame, &mut targets)?;
+        self.add_targets(from, frame, &mut targets)?;
         let message = passed_on(from, frame);
         let len = forwarded_len(frame);
         match batch_of(alloc, self.port.number, targets, &message, len)? {
@@ -194,8 +194,8 @@ impl PortState {
         }
     }
 
-    /// Appends whom a broadcast goes to.
-    fn put_targets(
+    /// Adds whom a broadcast goes to.
+    fn add_targets(
         &self,
         from: BipAddr,
         frame: &Bvll<'_>,
@@ -205,31 +205,31 @@ impl PortState {
             OnOk result (out.new.items ≡ out.old.items ++ targets) }
     {
         match frame {
-            Bvll::OriginalBroadcast(_) => self.put_all(out),
+            Bvll::OriginalBroadcast(_) => self.add_all(out),
             Bvll::Distribute(_) => {
                 out.push(self.port.broadcast)?;
-                self.put_managers(out)?;
-                self.put_devices_but(from, out)
+                self.add_managers(out)?;
+                self.add_devices_but(from, out)
             }
             Bvll::Forwarded { .. } => {
-                self.put_subnet(out)?;
-                self.put_devices(out)
+                self.add_subnet(out)?;
+                self.add_devices(out)
             }
             _ => Ok(()),
         }
     }
 
-    /// Appends all peers and foreign devices.
-    fn put_all(&self, out: &mut Vec<BipAddr>) -> Result<(), AllocError>
+    /// Adds all peers and foreign devices.
+    fn add_all(&self, out: &mut Vec<BipAddr>) -> Result<(), AllocError>
         ensures { let all = managers self.now ++ devices self.now in
             OnOk result (out.new.items ≡ out.old.items ++ all) }
     {
-        self.put_managers(out)?;
-        self.put_devices(out)
+        self.add_managers(out)?;
+        self.add_devices(out)
     }
 
-    /// Appends where a broadcast goes for each peer.
-    fn put_managers(&self, out: &mut Vec<BipAddr>) -> Result<(), AllocError>
+    /// Adds where a broadcast goes for each peer.
+    fn add_managers(&self, out: &mut Vec<BipAddr>) -> Result<(), AllocError>
         ensures { OnOk result (out.new.items ≡ out.old.items ++ managers self.now) }
     {
         for peer in self.bdt.peers(self.port.address) {
@@ -238,8 +238,8 @@ impl PortState {
         Ok(())
     }
 
-    /// Appends the foreign devices.
-    fn put_devices(&self, out: &mut Vec<BipAddr>) -> Result<(), AllocError>
+    /// Adds the foreign devices.
+    fn add_devices(&self, out: &mut Vec<BipAddr>) -> Result<(), AllocError>
         ensures { OnOk result (out.new.items ≡ out.old.items ++ devices self.now) }
     {
         for device in self.fdt.addresses() {
@@ -248,8 +248,8 @@ impl PortState {
         Ok(())
     }
 
-    /// Appends the foreign devices but one.
-    fn put_devices_but(&self, address: BipAddr, out: &mut Vec<BipAddr>) -> Result<(), AllocError>
+    /// Adds the foreign devices but one.
+    fn add_devices_but(&self, address: BipAddr, out: &mut Vec<BipAddr>) -> Result<(), AllocError>
         ensures { OnOk result (out.new.items ≡ out.old.items ++ devices_but address self.now) }
     {
         for device in self.fdt.addresses() {
@@ -260,8 +260,8 @@ impl PortState {
         Ok(())
     }
 
-    /// Appends the subnet's broadcast address, where a peer's message reached the port alone.
-    fn put_subnet(&self, out: &mut Vec<BipAddr>) -> Result<(), AllocError>
+    /// Adds the subnet's broadcast address, where a peer's message reached the port alone.
+    fn add_subnet(&self, out: &mut Vec<BipAddr>) -> Result<(), AllocError>
         ensures { OnOk result (out.new.items ≡ out.old.items ++ subnet self.now) }
     {
         if self.bdt.own_mask(self.port.address) == ALL_ONES {
@@ -280,22 +280,17 @@ impl PortState {
         if npdu.len() > gw_npdu::MAX_LEN {
             return Ok(sends);
         }
-        self.put_spread(alloc, Outgoing::copied(alloc, npdu)?, &mut sends)?;
+        self.add_spread(Outgoing::copied(alloc, npdu)?, &mut sends)?;
         Ok(sends)
     }
 
     /// Adds the broadcast of an NPDU by the gateway. The message to peers and foreign devices takes
     /// its octets from the buffer of the one on the subnet.
-    pub(crate) fn put_spread(
-        &self,
-        alloc: Global,
-        npdu: Outgoing,
-        sends: &mut Sends,
-    ) -> Result<(), AllocError>
+    pub(crate) fn add_spread(&self, npdu: Outgoing, sends: &mut Sends) -> Result<(), AllocError>
         ensures { OnOk result (sends.new ≡ sends.old ++ spread self.now npdu) }
     {
         let port = self.port.number;
-        let elsewhere = self.elsewhere(alloc, npdu.npdu())?;
+        let elsewhere = self.elsewhere(sends.alloc(), npdu.npdu())?;
         sends.push(Batch::to_one(port, self.port.broadcast, npdu.into_broadcast()))?;
         match elsewhere {
             Some(forwarded) => sends.push(forwarded),
@@ -311,7 +306,7 @@ impl PortState {
             ≡ sent self.now.port.number all message) }
     {
         let mut targets = Vec::with_capacity(alloc, self.entry_count())?;
-        self.put_all(&mut targets)?;
+        self.add_all(&mut targets)?;
         if targets.is_empty() {
             return Ok(None);
         }
@@ -324,63 +319,64 @@ impl PortState {
     }
 }
 
-/// Distributes the broadcast that brought a message, where the policy allows it, and adds what that gives. It
-/// answers whether the message goes on to the network layer.
-pub(crate) fn cast<J: Judge>(
-    alloc: Global,
-    judge: &J,
-    message: &Message<'_>,
-    given: &mut RelayResponse,
-) -> Result<bool, AllocError>
-    ensures relayed { (rules : List Rule) → J.StandsFor judge.now rules →
-        let due = cast_response rules (message_view message.now) in
-        OnOk result (IsAdded rules due given.old given.new) }
-    ensures goes_on { let m = message_view message.now in
-        IfOk result (λ goes. goes ≡ goes_on m.here m.from m.frame) }
-    ensures err { OnErr result (given.new ≡ given.old) }
-    // What asks nothing and tells no unregistered sender wants no memory.
-    ensures silent { let m = message_view message.now in
-        cast_asks m ≡ [] → is_unregistered m.here m.from m.frame ≡ false → IsOk result }
-{
-    let here = message.here;
-    let from = message.from;
-    if !here.accepts(from, message.frame) {
-        return Ok(false);
+impl Relay {
+    /// Distributes the broadcast that brought a message (Annex J.4, J.5): if the policy allows it,
+    /// one message goes to all peers and foreign devices that are due. What that gives is added to
+    /// the turn. It answers whether the message goes on to the network layer: to routing, network
+    /// messages and the device. It changes nothing. The only fault is want of memory, and then a part
+    /// may be added.
+    pub fn add_cast<A: Asker>(
+        &self,
+        message: &Message<'_>,
+        turn: &mut Turn<A>,
+    ) -> Result<bool, AllocError>
+        ensures turn { (rules : List Rule) → A.StandsFor turn.old.asker rules →
+            let due = cast_response rules (message_view message.now) in
+            OnOk result (IsWalked A.kept A.kept_of rules due turn.old turn.new) }
+        ensures stays { (rules : List Rule) → A.StandsFor turn.old.asker rules → A.StandsFor turn.new.asker rules }
+        ensures goes_on { let m = message_view message.now in
+            IfOk result (λ goes. goes ≡ goes_on m.here m.from m.frame) }
+        // What asks nothing and refuses no unregistered sender wants no memory.
+        ensures silent { let m = message_view message.now in
+            cast_asks m ≡ [] → is_unregistered m.here m.from m.frame ≡ false → IsOk result }
+        ensures unasked { let m = message_view message.now in
+            cast_asks m ≡ [] → is_unregistered m.here m.from m.frame ≡ false → turn.new ≡ turn.old }
+    {
+        let here = message.here;
+        let from = message.from;
+        if !here.accepts(from, message.frame) {
+            return Ok(false);
+        }
+        if here.is_unregistered(from, message.frame) {
+            here.add_refusal(from, message.frame, &mut turn.sends)?;
+            return Ok(false);
+        }
+        message.add_accepted_cast(turn)?;
+        Ok(true)
     }
-    if here.is_unregistered(from, message.frame) {
-        here.put_refusal(alloc, from, message.frame, &mut given.sends)?;
-        return Ok(false);
-    }
-    cast_accepted(alloc, judge, message, given)?;
-    Ok(true)
 }
 
-/// Distributes a broadcast that is accepted, and no unregistered sender's, and adds what that gives.
-fn cast_accepted<J: Judge>(
-    alloc: Global,
-    judge: &J,
-    message: &Message<'_>,
-    given: &mut RelayResponse,
-) -> Result<(), AllocError>
-    requires { let m = message_view message.now in goes_on m.here m.from m.frame ≡ true }
-    ensures relayed { (rules : List Rule) → J.StandsFor judge.now rules →
-        let due = cast_response rules (message_view message.now) in
-        OnOk result (IsAdded rules due given.old given.new) }
-    ensures err { OnErr result (given.new ≡ given.old) }
-    ensures silent { cast_asks (message_view message.now) ≡ [] → IsOk result }
-{
-    if !is_broadcast(message.frame) {
-        return Ok(());
+impl Message<'_> {
+    /// Distributes a broadcast that is accepted, and no unregistered sender's, and adds what that gives.
+    fn add_accepted_cast<A: Asker>(&self, turn: &mut Turn<A>) -> Result<(), AllocError>
+        requires { let m = message_view self.now in goes_on m.here m.from m.frame ≡ true }
+        ensures turn { (rules : List Rule) → A.StandsFor turn.old.asker rules →
+            let due = cast_response rules (message_view self.now) in
+            OnOk result (IsWalked A.kept A.kept_of rules due turn.old turn.new) }
+        ensures stays { (rules : List Rule) → A.StandsFor turn.old.asker rules → A.StandsFor turn.new.asker rules }
+        ensures silent { cast_asks (message_view self.now) ≡ [] → IsOk result }
+        ensures unasked { cast_asks (message_view self.now) ≡ [] → turn.new ≡ turn.old }
+    {
+        if !is_broadcast(self.frame) {
+            return Ok(());
+        }
+        let mut ask = Ask::new(Operation::Cast);
+        set_message_fields(&mut ask, self, bound_for(self.npdu));
+        let is_allowed = turn.asker.authorize(&ask)?;
+        let here = self.here;
+        here.add_judged(self.from, self.frame, is_allowed, &mut turn.sends)?;
+        Ok(())
     }
-    let mut authorizer = Authorizer::new(alloc, judge);
-    let mut ask = Ask::new(Operation::Cast);
-    put_message_fields(&mut ask, message, bound_for(message.npdu));
-    let is_allowed = authorizer.authorize(&ask)?;
-    let mut sends = Sends::new(alloc);
-    let here = message.here;
-    here.put_judged(alloc, message.from, message.frame, is_allowed, &mut sends)?;
-    given.add(sends, authorizer.into_refusals())?;
-    Ok(())
 }
 
 /// A message, of about so many octets, to each of the addresses. None where it is too long, or

@@ -70,13 +70,13 @@ fn direct_of(
     ensures { IfOk result (λ nets. nets.items ≡ map (λ p. p.network) ports.now ++ device ∷ []) }
 {
     let mut nets = Vec::with_capacity(alloc, ports.len() + 1)?;
-    put_networks(ports, &mut nets)?;
+    add_networks(ports, &mut nets)?;
     nets.push(device)?;
     Ok(nets)
 }
 
-/// Appends the networks of the ports.
-fn put_networks(ports: &[ConfiguredPort], nets: &mut Vec<NetNum>) -> Result<(), AllocError>
+/// Adds the networks of the ports.
+fn add_networks(ports: &[ConfiguredPort], nets: &mut Vec<NetNum>) -> Result<(), AllocError>
     ensures { OnOk result (nets.new.items ≡ nets.old.items ++ map (λ p. p.network) ports.now) }
 {
     for port in ports {

@@ -23,10 +23,12 @@ mod relay;
 mod response;
 mod route;
 mod sends;
+mod turn;
 
 pub use change::Change;
-pub use message::{Message, local_source};
+pub use message::{Message, TableMessage, local_source};
 pub use port::{Port, PortState, link_at};
 pub use relay::Relay;
-pub use response::{RelayResponse, put_refusals};
+pub use response::RelayResponse;
 pub use sends::{Batch, Sends};
+pub use turn::Turn;

@@ -9,21 +9,23 @@ ghost use Rattle.gw_bvll.specs.Entries.{lent};
 ghost use Rattle.gw_rules.specs.declared.rule.Rule.{Rule};
 ghost use Rattle.gw_relay.specs.Asks.{link_asks};
 ghost use Rattle.gw_relay.specs.Link.{answer_to, change_of, is_granted, link_response, refused, told};
-ghost use Rattle.gw_relay.specs.Response.{IsAdded};
+ghost use Rattle.gw_relay.specs.Turn.{IsWalked};
 ghost use Rattle.gw_relay.specs.Sends.{sending};
 ghost use Rattle.gw_relay.specs.internal.Grants.{granted_change};
 ghost use Rattle.gw_relay.specs.internal.Serving.{served, served_change};
 
 use crate::ask::{link_ask, management_of};
 use crate::change::Change;
+use crate::message::TableMessage;
 use crate::octets::{bdt_ack, fdt_ack, result_octets};
 use crate::port::PortState;
-use crate::response::RelayResponse;
+use crate::relay::Relay;
 use crate::sends::{Batch, Sends};
+use crate::turn::Turn;
 use gw_addr::{BdtEntry, BipAddr};
 use gw_bdt_fdt::{Bdt, MAX_REGISTRATIONS};
 use gw_bvll::{BdtEntries, Bvll, ResultCode};
-use gw_rules::{Authorizer, Judge};
+use gw_rules::Asker;
 use std::alloc::{AllocError, Global};
 
 /// Whether a frame is granted what it asks for.
@@ -34,42 +36,43 @@ enum Grant {
     Refused,
 }
 
-impl PortState {
-    /// Answers a frame that reads or changes a table of the port. The answer goes to the sender; a
-    /// frame of another kind gets none, and asks nothing. What that gives is added. The only fault is want of
-    /// memory; then nothing is added.
-    pub(crate) fn handle_table_message<J: Judge>(
+impl Relay {
+    /// Answers a frame that reads or changes a table of the port that it came on (Annex J.2, J.4,
+    /// J.5): the policy is asked once, and the answer goes to the sender. A frame of another kind
+    /// asks nothing and gets no answer. What that gives is added to the turn. It changes nothing. The
+    /// only fault is want of memory, and then a part may be added; what asks nothing wants none.
+    pub fn add_link<A: Asker>(
         &self,
-        alloc: Global,
-        judge: &J,
-        from: BipAddr,
-        frame: &Bvll<'_>,
-        given: &mut RelayResponse,
+        message: &TableMessage<'_>,
+        turn: &mut Turn<A>,
     ) -> Result<(), AllocError>
-        ensures relayed { (rules : List Rule) → J.StandsFor judge.now rules →
-            let due = link_response rules self.now from (view frame.now) in
-            OnOk result (IsAdded rules due given.old given.new) }
-        ensures err { OnErr result (given.new ≡ given.old) }
-        ensures silent { link_asks self.now.port from (view frame.now) ≡ [] → IsOk result }
+        ensures turn { (rules : List Rule) → A.StandsFor turn.old.asker rules →
+            let m = message.now in
+            let due = link_response rules m.here.now m.from (view m.frame.now) in
+            OnOk result (IsWalked A.kept A.kept_of rules due turn.old turn.new) }
+        ensures stays { (rules : List Rule) → A.StandsFor turn.old.asker rules → A.StandsFor turn.new.asker rules }
+        ensures silent { let m = message.now in
+            link_asks m.here.now.port m.from (view m.frame.now) ≡ [] → IsOk result }
+        ensures unasked { let m = message.now in
+            link_asks m.here.now.port m.from (view m.frame.now) ≡ [] → turn.new ≡ turn.old }
     {
+        let (here, from, frame) = (message.here, message.from, message.frame);
         let Some(operation) = management_of(frame) else {
             return Ok(());
         };
-        let mut authorizer = Authorizer::new(alloc, judge);
-        let ask = link_ask(&self.port, from, frame, operation);
-        let is_allowed = authorizer.authorize(&ask)?;
-        let mut sends = Sends::new(alloc);
-        let change = self.put_table_answer(alloc, from, frame, is_allowed, &mut sends)?;
-        given.add(sends, authorizer.into_refusals())?;
-        given.put_change(change);
+        let ask = link_ask(&here.port, from, frame, operation);
+        let is_allowed = turn.asker.authorize(&ask)?;
+        let change = here.add_table_answer(from, frame, is_allowed, &mut turn.sends)?;
+        turn.set_change(change);
         Ok(())
     }
+}
 
+impl PortState {
     /// Adds the answer to a frame that was judged. It answers what that changes.
     #[inline(always)]
-    fn put_table_answer(
+    fn add_table_answer(
         &self,
-        alloc: Global,
         from: BipAddr,
         frame: &Bvll<'_>,
         is_allowed: bool,
@@ -81,16 +84,16 @@ impl PortState {
             IfOk result (λ change. change ≡ due) }
     {
         if !is_allowed {
-            self.put_refusal(alloc, from, frame, sends)?;
+            self.add_refusal(from, frame, sends)?;
             return Ok(None);
         }
-        match self.grant(alloc, from, frame)? {
+        match self.grant(sends.alloc(), from, frame)? {
             Grant::Granted(change) => {
-                self.put_told(alloc, from, frame, sends)?;
+                self.add_told(from, frame, sends)?;
                 Ok(change)
             }
             Grant::Refused => {
-                self.put_refusal(alloc, from, frame, sends)?;
+                self.add_refusal(from, frame, sends)?;
                 Ok(None)
             }
         }
@@ -165,9 +168,8 @@ impl PortState {
     }
 
     /// Adds the answer to a frame that has what it asked for.
-    fn put_told(
+    fn add_told(
         &self,
-        alloc: Global,
         from: BipAddr,
         frame: &Bvll<'_>,
         sends: &mut Sends,
@@ -175,18 +177,19 @@ impl PortState {
         ensures { let sent = map (answer_to self.now.port from) (told self.now (view frame.now)) in
             OnOk result (sends.new ≡ sends.old ++ sent) }
     {
+        let alloc = sends.alloc();
         match frame {
-            Bvll::ReadBdt => self.put_answer(from, bdt_ack(alloc, &self.bdt)?, sends),
-            Bvll::ReadFdt => self.put_answer(from, fdt_ack(alloc, &self.fdt)?, sends),
+            Bvll::ReadBdt => self.add_answer(from, bdt_ack(alloc, &self.bdt)?, sends),
+            Bvll::ReadFdt => self.add_answer(from, fdt_ack(alloc, &self.fdt)?, sends),
             Bvll::WriteBdt(_) | Bvll::Register { .. } | Bvll::Delete(_) => {
-                self.put_answer(from, result_octets(alloc, ResultCode::SUCCESS)?, sends)
+                self.add_answer(from, result_octets(alloc, ResultCode::SUCCESS)?, sends)
             }
             _ => Ok(()),
         }
     }
 
     /// Adds an answer of these octets. After an `Err` the sends are as before.
-    fn put_answer(
+    fn add_answer(
         &self,
         from: BipAddr,
         octets: Vec<u8>,
@@ -201,9 +204,8 @@ impl PortState {
 
     /// Adds the answer to a frame that doesn't have what it asked for: the code of its function. After
     /// an `Err` the sends are as before.
-    pub(crate) fn put_refusal(
+    pub(crate) fn add_refusal(
         &self,
-        alloc: Global,
         from: BipAddr,
         frame: &Bvll<'_>,
         sends: &mut Sends,
@@ -215,7 +217,7 @@ impl PortState {
         let Some(code) = ResultCode::refusal(frame.function()) else {
             return Ok(());
         };
-        self.put_answer(from, result_octets(alloc, code)?, sends)
+        self.add_answer(from, result_octets(sends.alloc(), code)?, sends)
     }
 }
 

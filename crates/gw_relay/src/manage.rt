@@ -3,33 +3,31 @@
 
 ghost use Rattle.std.specs.Prelude.{◌≡◌, ◌++◌, ◌∷◌, [], List, map, nat_le, true, false, None, IfOk, IsOk, OnErr, OnOk};
 ghost use Rattle.gw_npdu.specs.Npdu.{view as npdu_view};
-ghost use Rattle.gw_rules.specs.Authorizer.{denied_of};
 ghost use Rattle.gw_rules.specs.declared.rule.Rule.{Rule};
 ghost use Rattle.gw_relay.specs.Asks.{message_ask};
-ghost use Rattle.gw_relay.specs.Manage.{answer_steps, are_networks, is_for_all, is_i_am_router, is_what_is_network_number, is_who_is_router, i_am_router, learn_ask, learned, manage_asks, manage_response, network_number_is, network_octets, networks_in, number_step, question_of, question_of_all, question_steps, told};
+ghost use Rattle.gw_relay.specs.Manage.{answer_steps, answer_who_is_router, are_networks, is_for_all, is_i_am_router, is_what_is_network_number, is_who_is_router, i_am_router, keep_allowed, learn_ask, manage_asks, manage_response, network_number_is, network_octets, networks_in, number_step, question_of, question_of_all, question_steps};
 ghost use Rattle.gw_relay.specs.Message.{message_view};
-ghost use Rattle.gw_relay.specs.Response.{IsAdded};
+ghost use Rattle.gw_relay.specs.Turn.{IsWalked};
 ghost use Rattle.gw_relay.specs.Route.{made};
 ghost use Rattle.gw_relay.specs.Steps.{asks_of, broadcast};
 ghost use Rattle.gw_relay.specs.internal.Serving.{learn_response};
 ghost use Rattle.gw_relay.specs.internal.Taken.{AreTaken};
 ghost use Rattle.gw_npdu.specs.Kind.{kind_number};
 
-use crate::ask::put_message_fields;
+use crate::ask::set_message_fields;
 use crate::change::Change;
 use crate::message::Message;
-use crate::npdu::{is_kind, message_of, put_broadcast};
+use crate::npdu::{is_kind, message_of};
 use crate::outgoing::Outgoing;
 use crate::port::PortState;
 use crate::relay::Relay;
-use crate::response::RelayResponse;
-use crate::route::put_who_is_router;
 use crate::sends::Sends;
+use crate::turn::Turn;
 use gw_addr::{NetNum, Sequence, put_number};
 use gw_npdu::{AddressRef, Destination, MessageKind, Npdu};
 use gw_routes::Way;
-use gw_rules::{Ask, Authorizer, Judge, Operation};
-use std::alloc::{AllocError, Global};
+use gw_rules::{Ask, Asker, Operation};
+use std::alloc::AllocError;
 
 /// The number of a network is configured, not learned (clause 6.4.20).
 const CONFIGURED: u8 = 1;
@@ -95,7 +93,7 @@ fn ask_of(operation: Operation, message: &Message<'_>, network: Option<NetNum>) 
         None => None,
     };
     let mut ask = Ask::new(operation);
-    put_message_fields(&mut ask, message, destination);
+    set_message_fields(&mut ask, message, destination);
     ask
 }
 
@@ -110,305 +108,268 @@ fn put_networks(networks: &[NetNum], out: &mut Vec<u8>) -> Result<(), AllocError
     put_networks(rest, out)
 }
 
-/// Broadcasts a message of a type that the gateway makes.
-fn put_message(
-    alloc: Global,
-    here: &PortState,
-    kind: MessageKind,
-    octets: &[u8],
-    sends: &mut Sends,
-) -> Result<(), AllocError>
-    requires { nat_le 128 (kind_number kind) ≡ false }
-    ensures { let sent = broadcast (made None None kind octets.now) here.now in
-        OnOk result (sends.new ≡ sends.old ++ sent) }
-{
-    let message = message_of(kind, octets);
-    put_broadcast(alloc, here, Outgoing::made(alloc, &message)?, sends)
+impl PortState {
+    /// Broadcasts a message of a type that the gateway makes.
+    fn add_message(
+        &self,
+        kind: MessageKind,
+        octets: &[u8],
+        sends: &mut Sends,
+    ) -> Result<(), AllocError>
+        requires { nat_le 128 (kind_number kind) ≡ false }
+        ensures { let sent = broadcast (made None None kind octets.now) self.now in
+            OnOk result (sends.new ≡ sends.old ++ sent) }
+    {
+        let message = message_of(kind, octets);
+        self.add_broadcast(Outgoing::made(sends.alloc(), &message)?, sends)
+    }
+
+    /// Broadcasts an I-Am-Router-To-Network for these networks (clause 6.4.2).
+    fn add_i_am_router(&self, networks: &[NetNum], sends: &mut Sends) -> Result<(), AllocError>
+        ensures { let sent = broadcast (i_am_router networks.now) self.now in
+            OnOk result (sends.new ≡ sends.old ++ sent) }
+    {
+        let mut octets = Vec::new(sends.alloc());
+        put_networks(networks, &mut octets)?;
+        let kind = MessageKind::IAmRouterToNetwork;
+        self.add_message(kind, octets.as_slice(), sends)
+    }
+
+    /// Broadcasts an I-Am-Router-To-Network for one network (clause 6.4.2).
+    fn add_i_am_router_to(&self, network: NetNum, sends: &mut Sends) -> Result<(), AllocError>
+        ensures { let sent = broadcast (i_am_router (network ∷ [])) self.now in
+            OnOk result (sends.new ≡ sends.old ++ sent) }
+    {
+        let octets = network.get().to_be_bytes();
+        self.add_message(MessageKind::IAmRouterToNetwork, &octets, sends)
+    }
+
+    /// Broadcasts a Network-Number-Is (clause 6.4.20).
+    fn add_number_is(&self, sends: &mut Sends) -> Result<(), AllocError>
+        ensures { let sent = broadcast (network_number_is self.now.port.network) self.now in
+            OnOk result (sends.new ≡ sends.old ++ sent) }
+    {
+        let [high, low] = self.port.network.get().to_be_bytes();
+        let kind = MessageKind::NetworkNumberIs;
+        self.add_message(kind, &[high, low, CONFIGURED], sends)
+    }
 }
 
-/// Broadcasts an I-Am-Router-To-Network for these networks (clause 6.4.2).
-fn put_i_am_router(
-    alloc: Global,
-    here: &PortState,
-    networks: &[NetNum],
-    sends: &mut Sends,
-) -> Result<(), AllocError>
-    ensures { let sent = broadcast (i_am_router networks.now) here.now in
-        OnOk result (sends.new ≡ sends.old ++ sent) }
-{
-    let mut octets = Vec::new(alloc);
-    put_networks(networks, &mut octets)?;
-    let kind = MessageKind::IAmRouterToNetwork;
-    put_message(alloc, here, kind, octets.as_slice(), sends)
-}
-
-/// Broadcasts an I-Am-Router-To-Network for one network (clause 6.4.2).
-fn put_i_am_router_to(
-    alloc: Global,
-    here: &PortState,
-    network: NetNum,
-    sends: &mut Sends,
-) -> Result<(), AllocError>
-    ensures { let sent = broadcast (i_am_router (network ∷ [])) here.now in
-        OnOk result (sends.new ≡ sends.old ++ sent) }
-{
-    let octets = network.get().to_be_bytes();
-    put_message(alloc, here, MessageKind::IAmRouterToNetwork, &octets, sends)
-}
-
-/// Broadcasts a Network-Number-Is (clause 6.4.20).
-fn put_number_is(alloc: Global, here: &PortState, sends: &mut Sends) -> Result<(), AllocError>
-    ensures { let sent = broadcast (network_number_is here.now.port.network) here.now in
-        OnOk result (sends.new ≡ sends.old ++ sent) }
-{
-    let [high, low] = here.port.network.get().to_be_bytes();
-    let kind = MessageKind::NetworkNumberIs;
-    put_message(alloc, here, kind, &[high, low, CONFIGURED], sends)
-}
-
-/// Passes a question for a network on to the other ports' routers, with who asked.
-fn forward_who_is_router(
-    alloc: Global,
-    relay: &Relay,
-    message: &Message<'_>,
-    network: NetNum,
-    sends: &mut Sends,
-) -> Result<(), AllocError>
-    ensures { let sent = told relay.now (message_view message.now) network Way.Unknown in
-        OnOk result (sends.new ≡ sends.old ++ sent) }
-{
-    let here = &message.here.port;
-    let node = message.link().to_octets();
-    let asker = message.npdu.source.unwrap_or(AddressRef {
-        network: here.network.get(),
-        mac: &node,
-    });
-    let asker = Some(asker);
-    put_who_is_router(
-        alloc,
-        here.number,
-        &asker,
-        network.get(),
-        relay.links(),
-        sends,
-    )
-}
-
-/// Answers a question for a network, by its way.
-fn answer_who_is_router(
-    alloc: Global,
-    relay: &Relay,
-    message: &Message<'_>,
-    network: NetNum,
-    way: &Way,
-    sends: &mut Sends,
-) -> Result<(), AllocError>
-    ensures { let sent = told relay.now (message_view message.now) network way.now in
-        OnOk result (sends.new ≡ sends.old ++ sent) }
-{
-    let here = message.here;
-    match way {
-        Way::Port(other) if *other == usize::from(here.port.number) => Ok(()),
-        Way::Router(route) if route.port == here.port.number => Ok(()),
-        Way::Port(_) | Way::Device | Way::Router(_) => {
-            put_i_am_router_to(alloc, here, network, sends)
+impl Message<'_> {
+    /// Asks, and answers a What-Is-Network-Number (clause 6.4.19).
+    fn add_number_answer<A: Asker>(&self, turn: &mut Turn<A>) -> Result<(), AllocError>
+        ensures steps { (rules : List Rule) → A.StandsFor turn.old.asker rules →
+            let step = number_step (message_view self.now) in
+            OnOk result (AreTaken A.kept A.kept_of rules (step ∷ []) turn.old turn.new) }
+        ensures stays { (rules : List Rule) → A.StandsFor turn.old.asker rules → A.StandsFor turn.new.asker rules }
+    {
+        let ask = ask_of(Operation::Network, self, None);
+        if turn.asker.authorize(&ask)? {
+            self.here.add_number_is(&mut turn.sends)
+        } else {
+            Ok(())
         }
-        Way::Unknown => forward_who_is_router(alloc, relay, message, network, sends),
-        Way::Everywhere => Ok(()),
     }
-}
 
-/// Asks, and answers a question for a network.
-fn put_answer<J: Judge>(
-    alloc: Global,
-    relay: &Relay,
-    message: &Message<'_>,
-    network: NetNum,
-    authorizer: &mut Authorizer<'_, J>,
-    sends: &mut Sends,
-) -> Result<(), AllocError>
-    ensures steps { (rules : List Rule) → J.StandsFor authorizer.old.judge rules →
-        let step = question_of relay.now (message_view message.now) network in
-        OnOk result (AreTaken rules (step ∷ []) authorizer.old authorizer.new sends.old sends.new) }
-{
-    let ask = ask_of(Operation::Network, message, Some(network));
-    if !authorizer.authorize(&ask)? {
-        return Ok(());
+    /// Asks for each network that a router names, and keeps those that may be learned.
+    fn keep_allowed<A: Asker>(
+        &self,
+        octets: &[u8],
+        networks: &mut Sequence<NetNum>,
+        asker: &mut A,
+    ) -> Result<(), AllocError>
+        requires { are_networks octets.now ≡ true }
+        ensures networks { (rules : List Rule) → A.StandsFor asker.old rules →
+            let kept = keep_allowed rules (message_view self.now) (networks_in octets.now) in
+            OnOk result (networks.new ≡ networks.old ++ kept) }
+        ensures verdicts { (rules : List Rule) → A.StandsFor asker.old rules →
+            let asks = map (learn_ask (message_view self.now)) (networks_in octets.now) in
+            OnOk result (A.kept asker.new ≡ A.kept asker.old ++ A.kept_of rules asks) }
+        ensures stays { (rules : List Rule) → A.StandsFor asker.old rules → A.StandsFor asker.new rules }
+    {
+        let [high, low, rest @ ..] = octets else {
+            return Ok(());
+        };
+        let network = NetNum::new(u16::from_be_bytes([*high, *low])).unwrap();
+        let ask = ask_of(Operation::Learn, self, Some(network));
+        if asker.authorize(&ask)? {
+            networks.push(network)?;
+        }
+        self.keep_allowed(rest, networks, asker)
     }
-    let way = relay.routes().find(network.get());
-    answer_who_is_router(alloc, relay, message, network, &way, sends)
-}
 
-/// Asks, and answers a question for all networks.
-fn put_answer_to_all<J: Judge>(
-    alloc: Global,
-    relay: &Relay,
-    message: &Message<'_>,
-    authorizer: &mut Authorizer<'_, J>,
-    sends: &mut Sends,
-) -> Result<(), AllocError>
-    ensures steps { (rules : List Rule) → J.StandsFor authorizer.old.judge rules →
-        let step = question_of_all relay.now (message_view message.now) in
-        OnOk result (AreTaken rules (step ∷ []) authorizer.old authorizer.new sends.old sends.new) }
-{
-    let ask = ask_of(Operation::Network, message, None);
-    if !authorizer.authorize(&ask)? {
-        return Ok(());
-    }
-    let here = message.here;
-    let networks = relay.routes().reachable_from(alloc, here.port.number)?;
-    put_i_am_router(alloc, here, networks.as_slice(), sends)
-}
-
-/// Asks, and answers a Who-Is-Router-To-Network by its octets.
-fn put_answers<J: Judge>(
-    alloc: Global,
-    relay: &Relay,
-    message: &Message<'_>,
-    octets: &[u8],
-    authorizer: &mut Authorizer<'_, J>,
-    sends: &mut Sends,
-) -> Result<(), AllocError>
-    ensures steps { (rules : List Rule) → J.StandsFor authorizer.old.judge rules →
-        let steps = question_steps relay.now (message_view message.now) octets.now in
-        OnOk result (AreTaken rules steps authorizer.old authorizer.new sends.old sends.new) }
-    ensures silent { let steps = question_steps relay.now (message_view message.now) octets.now in
-        asks_of steps ≡ [] → IsOk result }
-    ensures unasked { let steps = question_steps relay.now (message_view message.now) octets.now in
-        asks_of steps ≡ [] → authorizer.new ≡ authorizer.old }
-    ensures unsent { let steps = question_steps relay.now (message_view message.now) octets.now in
-        asks_of steps ≡ [] → sends.new ≡ sends.old }
-{
-    match octets {
-        [] => put_answer_to_all(alloc, relay, message, authorizer, sends),
-        [_] => Ok(()),
-        [high, low] => match NetNum::new(u16::from_be_bytes([*high, *low])) {
-            Some(network) => put_answer(alloc, relay, message, network, authorizer, sends),
-            None => Ok(()),
-        },
-        [_, _, _, ..] => Ok(()),
-    }
-}
-
-/// Asks, and answers a What-Is-Network-Number (clause 6.4.19).
-fn put_number_answer<J: Judge>(
-    alloc: Global,
-    message: &Message<'_>,
-    authorizer: &mut Authorizer<'_, J>,
-    sends: &mut Sends,
-) -> Result<(), AllocError>
-    ensures steps { (rules : List Rule) → J.StandsFor authorizer.old.judge rules →
-        let step = number_step (message_view message.now) in
-        OnOk result (AreTaken rules (step ∷ []) authorizer.old authorizer.new sends.old sends.new) }
-{
-    let ask = ask_of(Operation::Network, message, None);
-    if authorizer.authorize(&ask)? {
-        put_number_is(alloc, message.here, sends)
-    } else {
+    /// Asks for each network that a router names, and keeps those to be committed that may be learned.
+    fn learn<A: Asker>(&self, turn: &mut Turn<A>) -> Result<(), AllocError>
+        requires { is_i_am_router (message_view self.now).npdu ≡ true }
+        ensures turn { (rules : List Rule) → A.StandsFor turn.old.asker rules →
+            let due = learn_response rules (message_view self.now) in
+            OnOk result (IsWalked A.kept A.kept_of rules due turn.old turn.new) }
+        ensures stays { (rules : List Rule) → A.StandsFor turn.old.asker rules → A.StandsFor turn.new.asker rules }
+    {
+        let mut networks = Sequence::new(turn.alloc());
+        let octets = self.npdu.payload.octets();
+        self.keep_allowed(octets, &mut networks, &mut turn.asker)?;
+        turn.set_change(Some(Change::Learnings {
+            port: self.here.port.number,
+            next: self.link(),
+            networks,
+        }));
         Ok(())
     }
 }
 
-/// Asks for each network that a router names, and keeps those that may be learned.
-fn keep_allowed<J: Judge>(
-    authorizer: &mut Authorizer<'_, J>,
-    message: &Message<'_>,
-    octets: &[u8],
-    networks: &mut Sequence<NetNum>,
-) -> Result<(), AllocError>
-    requires { are_networks octets.now ≡ true }
-    ensures networks { (rules : List Rule) → J.StandsFor authorizer.old.judge rules →
-        let kept = learned rules (message_view message.now) (networks_in octets.now) in
-        OnOk result (networks.new ≡ networks.old ++ kept) }
-    ensures denied { (rules : List Rule) → J.StandsFor authorizer.old.judge rules →
-        let asks = map (learn_ask (message_view message.now)) (networks_in octets.now) in
-        OnOk result (authorizer.new.denied ≡ authorizer.old.denied ++ denied_of rules asks) }
-    ensures judge { authorizer.new.judge ≡ authorizer.old.judge }
-{
-    let [high, low, rest @ ..] = octets else {
-        return Ok(());
-    };
-    let network = NetNum::new(u16::from_be_bytes([*high, *low])).unwrap();
-    let ask = ask_of(Operation::Learn, message, Some(network));
-    if authorizer.authorize(&ask)? {
-        networks.push(network)?;
+impl Relay {
+    /// Passes a question for a network on to the other ports' routers, with who asked.
+    fn forward_who_is_router(
+        &self,
+        message: &Message<'_>,
+        network: NetNum,
+        sends: &mut Sends,
+    ) -> Result<(), AllocError>
+        ensures { let sent = answer_who_is_router self.now (message_view message.now) network Way.Unknown in
+            OnOk result (sends.new ≡ sends.old ++ sent) }
+    {
+        let here = &message.here.port;
+        let node = message.link().to_octets();
+        let asker = message.npdu.source.unwrap_or(AddressRef {
+            network: here.network.get(),
+            mac: &node,
+        });
+        let asker = Some(asker);
+        self.add_who_is_router(here.number, &asker, network.get(), sends)
     }
-    keep_allowed(authorizer, message, rest, networks)
-}
 
-/// Asks for each network that a router names, and keeps those to be committed that may be learned.
-fn learn<J: Judge>(
-    alloc: Global,
-    judge: &J,
-    message: &Message<'_>,
-    given: &mut RelayResponse,
-) -> Result<(), AllocError>
-    requires { is_i_am_router (message_view message.now).npdu ≡ true }
-    ensures relayed { (rules : List Rule) → J.StandsFor judge.now rules →
-        let due = learn_response rules (message_view message.now) in
-        OnOk result (IsAdded rules due given.old given.new) }
-    ensures err { OnErr result (given.new ≡ given.old) }
-{
-    let mut authorizer = Authorizer::new(alloc, judge);
-    let mut networks = Sequence::new(alloc);
-    let octets = message.npdu.payload.octets();
-    keep_allowed(&mut authorizer, message, octets, &mut networks)?;
-    given.add(Sends::new(alloc), authorizer.into_refusals())?;
-    given.put_change(Some(Change::Learnings {
-        port: message.here.port.number,
-        next: message.link(),
-        networks,
-    }));
-    Ok(())
-}
+    /// Answers a question for a network, by its way.
+    fn answer_who_is_router(
+        &self,
+        message: &Message<'_>,
+        network: NetNum,
+        way: &Way,
+        sends: &mut Sends,
+    ) -> Result<(), AllocError>
+        ensures { let sent = answer_who_is_router self.now (message_view message.now) network way.now in
+            OnOk result (sends.new ≡ sends.old ++ sent) }
+    {
+        let here = message.here;
+        match way {
+            Way::Port(other) if *other == usize::from(here.port.number) => Ok(()),
+            Way::Router(route) if route.port == here.port.number => Ok(()),
+            Way::Port(_) | Way::Device | Way::Router(_) => here.add_i_am_router_to(network, sends),
+            Way::Unknown => self.forward_who_is_router(message, network, sends),
+            Way::Everywhere => Ok(()),
+        }
+    }
 
-/// Asks, and answers a question by its type.
-fn put_by_type<J: Judge>(
-    alloc: Global,
-    relay: &Relay,
-    message: &Message<'_>,
-    authorizer: &mut Authorizer<'_, J>,
-    sends: &mut Sends,
-) -> Result<(), AllocError>
-    ensures steps { (rules : List Rule) → J.StandsFor authorizer.old.judge rules →
-        let steps = answer_steps relay.now (message_view message.now) in
-        OnOk result (AreTaken rules steps authorizer.old authorizer.new sends.old sends.new) }
-    ensures silent { asks_of (answer_steps relay.now (message_view message.now)) ≡ [] → IsOk result }
-    ensures unasked { asks_of (answer_steps relay.now (message_view message.now)) ≡ [] →
-        authorizer.new ≡ authorizer.old }
-    ensures unsent { asks_of (answer_steps relay.now (message_view message.now)) ≡ [] →
-        sends.new ≡ sends.old }
-{
-    if is_who_is_router(message.npdu) {
-        let octets = message.npdu.payload.octets();
-        return put_answers(alloc, relay, message, octets, authorizer, sends);
+    /// Asks, and answers a question for a network.
+    fn add_answer<A: Asker>(
+        &self,
+        message: &Message<'_>,
+        network: NetNum,
+        turn: &mut Turn<A>,
+    ) -> Result<(), AllocError>
+        ensures steps { (rules : List Rule) → A.StandsFor turn.old.asker rules →
+            let step = question_of self.now (message_view message.now) network in
+            OnOk result (AreTaken A.kept A.kept_of rules (step ∷ []) turn.old turn.new) }
+        ensures stays { (rules : List Rule) → A.StandsFor turn.old.asker rules → A.StandsFor turn.new.asker rules }
+    {
+        let ask = ask_of(Operation::Network, message, Some(network));
+        if !turn.asker.authorize(&ask)? {
+            return Ok(());
+        }
+        let way = self.routes().find(network.get());
+        self.answer_who_is_router(message, network, &way, &mut turn.sends)
     }
-    if is_what_is_network_number(message.npdu) {
-        return put_number_answer(alloc, message, authorizer, sends);
-    }
-    Ok(())
-}
 
-/// Answers a network layer message, or learns from it, and adds what that gives.
-pub(crate) fn manage<J: Judge>(
-    alloc: Global,
-    judge: &J,
-    relay: &Relay,
-    message: &Message<'_>,
-    given: &mut RelayResponse,
-) -> Result<(), AllocError>
-    ensures relayed { (rules : List Rule) → J.StandsFor judge.now rules →
-        let due = manage_response rules relay.now (message_view message.now) in
-        OnOk result (IsAdded rules due given.old given.new) }
-    ensures err { OnErr result (given.new ≡ given.old) }
-    ensures silent { manage_asks relay.now (message_view message.now) ≡ [] → IsOk result }
-{
-    if is_i_am_router(message.npdu) {
-        return learn(alloc, judge, message, given);
+    /// Asks, and answers a question for all networks.
+    fn add_answer_to_all<A: Asker>(
+        &self,
+        message: &Message<'_>,
+        turn: &mut Turn<A>,
+    ) -> Result<(), AllocError>
+        ensures steps { (rules : List Rule) → A.StandsFor turn.old.asker rules →
+            let step = question_of_all self.now (message_view message.now) in
+            OnOk result (AreTaken A.kept A.kept_of rules (step ∷ []) turn.old turn.new) }
+        ensures stays { (rules : List Rule) → A.StandsFor turn.old.asker rules → A.StandsFor turn.new.asker rules }
+    {
+        let ask = ask_of(Operation::Network, message, None);
+        if !turn.asker.authorize(&ask)? {
+            return Ok(());
+        }
+        let here = message.here;
+        let networks = self.routes().reachable_from(turn.alloc(), here.port.number)?;
+        here.add_i_am_router(networks.as_slice(), &mut turn.sends)
     }
-    let mut authorizer = Authorizer::new(alloc, judge);
-    let mut sends = Sends::new(alloc);
-    put_by_type(alloc, relay, message, &mut authorizer, &mut sends)?;
-    given.add(sends, authorizer.into_refusals())?;
-    Ok(())
+
+    /// Asks, and answers a Who-Is-Router-To-Network by its octets.
+    fn add_answers<A: Asker>(
+        &self,
+        message: &Message<'_>,
+        octets: &[u8],
+        turn: &mut Turn<A>,
+    ) -> Result<(), AllocError>
+        ensures steps { (rules : List Rule) → A.StandsFor turn.old.asker rules →
+            let steps = question_steps self.now (message_view message.now) octets.now in
+            OnOk result (AreTaken A.kept A.kept_of rules steps turn.old turn.new) }
+        ensures stays { (rules : List Rule) → A.StandsFor turn.old.asker rules → A.StandsFor turn.new.asker rules }
+        ensures silent { let steps = question_steps self.now (message_view message.now) octets.now in
+            asks_of steps ≡ [] → IsOk result }
+        ensures unasked { let steps = question_steps self.now (message_view message.now) octets.now in
+            asks_of steps ≡ [] → turn.new ≡ turn.old }
+    {
+        match octets {
+            [] => self.add_answer_to_all(message, turn),
+            [_] => Ok(()),
+            [high, low] => match NetNum::new(u16::from_be_bytes([*high, *low])) {
+                Some(network) => self.add_answer(message, network, turn),
+                None => Ok(()),
+            },
+            [_, _, _, ..] => Ok(()),
+        }
+    }
+
+    /// Asks, and answers a question by its type.
+    fn add_by_type<A: Asker>(
+        &self,
+        message: &Message<'_>,
+        turn: &mut Turn<A>,
+    ) -> Result<(), AllocError>
+        ensures steps { (rules : List Rule) → A.StandsFor turn.old.asker rules →
+            let steps = answer_steps self.now (message_view message.now) in
+            OnOk result (AreTaken A.kept A.kept_of rules steps turn.old turn.new) }
+        ensures stays { (rules : List Rule) → A.StandsFor turn.old.asker rules → A.StandsFor turn.new.asker rules }
+        ensures silent { asks_of (answer_steps self.now (message_view message.now)) ≡ [] → IsOk result }
+        ensures unasked { asks_of (answer_steps self.now (message_view message.now)) ≡ [] →
+            turn.new ≡ turn.old }
+    {
+        if is_who_is_router(message.npdu) {
+            let octets = message.npdu.payload.octets();
+            return self.add_answers(message, octets, turn);
+        }
+        if is_what_is_network_number(message.npdu) {
+            return message.add_number_answer(turn);
+        }
+        Ok(())
+    }
+
+    /// Answers a network layer message (clause 6.4): a Who-Is-Router-To-Network and a
+    /// What-Is-Network-Number get an answer, and of an I-Am-Router-To-Network each network that the
+    /// policy allows is to be learned. What that gives is added to the turn. It changes nothing. The
+    /// only fault is want of memory, and then a part may be added; what asks nothing wants none.
+    pub fn add_manage<A: Asker>(
+        &self,
+        message: &Message<'_>,
+        turn: &mut Turn<A>,
+    ) -> Result<(), AllocError>
+        ensures turn { (rules : List Rule) → A.StandsFor turn.old.asker rules →
+            let due = manage_response rules self.now (message_view message.now) in
+            OnOk result (IsWalked A.kept A.kept_of rules due turn.old turn.new) }
+        ensures stays { (rules : List Rule) → A.StandsFor turn.old.asker rules → A.StandsFor turn.new.asker rules }
+        ensures silent { manage_asks self.now (message_view message.now) ≡ [] → IsOk result }
+        ensures unasked { manage_asks self.now (message_view message.now) ≡ [] → turn.new ≡ turn.old }
+    {
+        if is_i_am_router(message.npdu) {
+            return message.learn(turn);
+        }
+        self.add_by_type(message, turn)
+    }
 }

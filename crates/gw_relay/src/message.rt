@@ -13,6 +13,17 @@ use gw_addr::{BipAddr, Mac, NetNum, Source};
 use gw_bvll::Bvll;
 use gw_npdu::{AddressRef, Npdu};
 
+/// A frame that reads or changes a table of its port, with where it came.
+#[derive(Clone, Copy)]
+pub struct TableMessage<'a> {
+    /// The port that it came on, with its tables.
+    pub here: &'a PortState,
+    /// Whom it came from.
+    pub from: BipAddr,
+    /// The frame.
+    pub frame: &'a Bvll<'a>,
+}
+
 /// A message of the network layer.
 #[derive(Clone, Copy)]
 pub struct Message<'a> {

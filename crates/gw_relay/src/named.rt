@@ -16,7 +16,7 @@ ghost use Rattle.gw_relay.specs.internal.Taken.{AreAsked};
 use gw_apdu::{Apdu, ConfirmedRequest, Header};
 use gw_configuration::Format;
 use gw_npdu::Payload;
-use gw_rules::{Ask, Authorizer, Judge, Operation};
+use gw_rules::{Ask, Asker, Operation};
 use gw_services::{
     MAX_REFERENCES, Next, READ_PROPERTY, READ_PROPERTY_MULTIPLE, Reference, WRITE_PROPERTY,
     decode_read, decode_write, read_reference,
@@ -111,119 +111,119 @@ fn are_references(left: u8, current: Option<ObjectId>, octets: &[u8]) -> bool
     }
 }
 
-/// Puts one ask, and tells whether it is allowed.
-fn authorize_one<J: Judge>(
-    authorizer: &mut Authorizer<'_, J>,
+/// Puts one ask, and answers whether it is allowed.
+fn authorize_one<A: Asker>(
+    asker: &mut A,
     ask: &Ask,
 ) -> Result<bool, AllocError>
-    ensures asked { (rules : List Rule) → J.StandsFor authorizer.old.judge rules →
-        IfOk result (AreAsked rules (ask.now ∷ []) authorizer.old authorizer.new) }
-    ensures judge { authorizer.new.judge ≡ authorizer.old.judge }
+    ensures asked { (rules : List Rule) → A.StandsFor asker.old rules →
+        IfOk result (AreAsked A.kept A.kept_of rules (ask.now ∷ []) asker.old asker.new) }
+    ensures stays { (rules : List Rule) → A.StandsFor asker.old rules → A.StandsFor asker.new rules }
 {
-    let is_allowed = authorizer.authorize(ask)?;
+    let is_allowed = asker.authorize(ask)?;
     Ok(is_allowed)
 }
 
 /// Puts the ask of each of these references, of which so many may still come, in the list of the
-/// current object; and tells whether all are allowed. The caller has seen that they can be read.
-fn authorize_references<J: Judge>(
-    authorizer: &mut Authorizer<'_, J>,
+/// current object; and answers whether all are allowed. The caller has seen that they can be read.
+fn authorize_references<A: Asker>(
+    asker: &mut A,
     route: &Ask,
     left: u8,
     current: Option<ObjectId>,
     octets: &[u8],
 ) -> Result<bool, AllocError>
     ensures asked { let read = references_at left (option_map object_view current) octets.now in
-        is_ok read ≡ true → (rules : List Rule) → J.StandsFor authorizer.old.judge rules →
-        IfOk result (AreAsked rules (multi_asks route.now read) authorizer.old authorizer.new) }
-    ensures judge { authorizer.new.judge ≡ authorizer.old.judge }
+        is_ok read ≡ true → (rules : List Rule) → A.StandsFor asker.old rules →
+        IfOk result (AreAsked A.kept A.kept_of rules (multi_asks route.now read) asker.old asker.new) }
+    ensures stays { (rules : List Rule) → A.StandsFor asker.old rules → A.StandsFor asker.new rules }
 {
     let Ok((reference, next)) = read_reference(left, current, octets) else {
         return Ok(true);
     };
     let ask = reference_ask(route, &reference);
-    let is_allowed = authorizer.authorize(&ask)?;
+    let is_allowed = asker.authorize(&ask)?;
     match next {
         Next::Finished => Ok(is_allowed),
         Next::More(current, rest) => {
-            let are_allowed = authorize_references(authorizer, route, left - 1, current, rest)?;
+            let are_allowed = authorize_references(asker, route, left - 1, current, rest)?;
             Ok(is_allowed && are_allowed)
         }
     }
 }
 
-/// Puts the asks of a ReadPropertyMultiple, and tells whether all are allowed.
-fn authorize_multi<J: Judge>(
-    authorizer: &mut Authorizer<'_, J>,
+/// Puts the asks of a ReadPropertyMultiple, and answers whether all are allowed.
+fn authorize_multi<A: Asker>(
+    asker: &mut A,
     route: &Ask,
     body: &[u8],
 ) -> Result<bool, AllocError>
-    ensures asked { (rules : List Rule) → J.StandsFor authorizer.old.judge rules →
+    ensures asked { (rules : List Rule) → A.StandsFor asker.old rules →
         let asks = multi_asks route.now (multi_at body.now) in
-        IfOk result (AreAsked rules asks authorizer.old authorizer.new) }
-    ensures judge { authorizer.new.judge ≡ authorizer.old.judge }
+        IfOk result (AreAsked A.kept A.kept_of rules asks asker.old asker.new) }
+    ensures stays { (rules : List Rule) → A.StandsFor asker.old rules → A.StandsFor asker.new rules }
 {
     if are_references(MAX_REFERENCES, None, body) {
-        authorize_references(authorizer, route, MAX_REFERENCES, None, body)
+        authorize_references(asker, route, MAX_REFERENCES, None, body)
     } else {
-        authorize_one(authorizer, &unnamed_ask(route, Operation::Read))
+        authorize_one(asker, &unnamed_ask(route, Operation::Read))
     }
 }
 
-/// Puts the ask of a segment, of which it can't be told what it names.
-fn authorize_segment<J: Judge>(
-    authorizer: &mut Authorizer<'_, J>,
+/// Puts the ask of a segment, which doesn't show what it names.
+fn authorize_segment<A: Asker>(
+    asker: &mut A,
     route: &Ask,
     service: u8,
 ) -> Result<bool, AllocError>
-    ensures asked { (rules : List Rule) → J.StandsFor authorizer.old.judge rules →
+    ensures asked { (rules : List Rule) → A.StandsFor asker.old rules →
         let asks = segment_asks route.now service in
-        IfOk result (AreAsked rules asks authorizer.old authorizer.new) }
-    ensures judge { authorizer.new.judge ≡ authorizer.old.judge }
+        IfOk result (AreAsked A.kept A.kept_of rules asks asker.old asker.new) }
+    ensures stays { (rules : List Rule) → A.StandsFor asker.old rules → A.StandsFor asker.new rules }
 {
     match service {
         READ_PROPERTY | READ_PROPERTY_MULTIPLE => {
-            authorize_one(authorizer, &unnamed_ask(route, Operation::Read))
+            authorize_one(asker, &unnamed_ask(route, Operation::Read))
         }
-        WRITE_PROPERTY => authorize_one(authorizer, &unnamed_ask(route, Operation::Write)),
+        WRITE_PROPERTY => authorize_one(asker, &unnamed_ask(route, Operation::Write)),
         _ => Ok(true),
     }
 }
 
-/// Puts the asks of a request, and tells whether all are allowed.
-fn authorize_request<J: Judge>(
-    authorizer: &mut Authorizer<'_, J>,
+/// Puts the asks of a request, and answers whether all are allowed.
+fn authorize_request<A: Asker>(
+    asker: &mut A,
     route: &Ask,
     request: &ConfirmedRequest,
     body: &[u8],
 ) -> Result<bool, AllocError>
-    ensures asked { (rules : List Rule) → J.StandsFor authorizer.old.judge rules →
+    ensures asked { (rules : List Rule) → A.StandsFor asker.old rules →
         let asks = request_asks route.now request.now body.now in
-        IfOk result (AreAsked rules asks authorizer.old authorizer.new) }
-    ensures judge { authorizer.new.judge ≡ authorizer.old.judge }
+        IfOk result (AreAsked A.kept A.kept_of rules asks asker.old asker.new) }
+    ensures stays { (rules : List Rule) → A.StandsFor asker.old rules → A.StandsFor asker.new rules }
 {
     if request.segment.is_some() {
-        return authorize_segment(authorizer, route, request.service);
+        return authorize_segment(asker, route, request.service);
     }
     match request.service {
-        READ_PROPERTY => authorize_one(authorizer, &read_ask(route, body)),
-        READ_PROPERTY_MULTIPLE => authorize_multi(authorizer, route, body),
-        WRITE_PROPERTY => authorize_one(authorizer, &write_ask(route, body)),
+        READ_PROPERTY => authorize_one(asker, &read_ask(route, body)),
+        READ_PROPERTY_MULTIPLE => authorize_multi(asker, route, body),
+        WRITE_PROPERTY => authorize_one(asker, &write_ask(route, body)),
         _ => Ok(true),
     }
 }
 
-/// Puts the asks of what a message names, and tells whether all are allowed.
-fn authorize_named<J: Judge>(
-    authorizer: &mut Authorizer<'_, J>,
+/// Puts the asks of what a message names, and answers whether all are allowed.
+fn authorize_named<A: Asker>(
+    asker: &mut A,
     format: Format,
     route: &Ask,
     payload: &Payload<'_>,
 ) -> Result<bool, AllocError>
-    ensures asked { (rules : List Rule) → J.StandsFor authorizer.old.judge rules →
+    ensures asked { (rules : List Rule) → A.StandsFor asker.old rules →
         let asks = named_asks format route.now (payload_view payload.now) in
-        IfOk result (AreAsked rules asks authorizer.old authorizer.new) }
-    ensures judge { authorizer.new.judge ≡ authorizer.old.judge }
+        IfOk result (AreAsked A.kept A.kept_of rules asks asker.old asker.new) }
+    ensures stays { (rules : List Rule) → A.StandsFor asker.old rules → A.StandsFor asker.new rules }
 {
     let (Format::Two, Payload::Apdu(octets)) = (format, payload) else {
         return Ok(true);
@@ -234,25 +234,25 @@ fn authorize_named<J: Judge>(
                 header: Header::ConfirmedRequest(request),
                 rest,
             },
-        ) => authorize_request(authorizer, route, &request, rest),
+        ) => authorize_request(asker, route, &request, rest),
         _ => Ok(true),
     }
 }
 
 /// Puts a `route` ask, and behind it those of what the message names, whether or not it is allowed;
-/// and tells whether all are.
-pub(crate) fn authorize_forward<J: Judge>(
-    authorizer: &mut Authorizer<'_, J>,
+/// and answers whether all are.
+pub(crate) fn authorize_forward<A: Asker>(
+    asker: &mut A,
     format: Format,
     route: &Ask,
     payload: &Payload<'_>,
 ) -> Result<bool, AllocError>
-    ensures asked { (rules : List Rule) → J.StandsFor authorizer.old.judge rules →
+    ensures asked { (rules : List Rule) → A.StandsFor asker.old rules →
         let asks = forward_asks format route.now (payload_view payload.now) in
-        IfOk result (AreAsked rules asks authorizer.old authorizer.new) }
-    ensures judge { authorizer.new.judge ≡ authorizer.old.judge }
+        IfOk result (AreAsked A.kept A.kept_of rules asks asker.old asker.new) }
+    ensures stays { (rules : List Rule) → A.StandsFor asker.old rules → A.StandsFor asker.new rules }
 {
-    let goes = authorizer.authorize(route)?;
-    let are_allowed = authorize_named(authorizer, format, route, payload)?;
+    let goes = asker.authorize(route)?;
+    let are_allowed = authorize_named(asker, format, route, payload)?;
     Ok(goes && are_allowed)
 }

@@ -11,7 +11,7 @@ use crate::port::PortState;
 use crate::sends::{Batch, Sends};
 use gw_addr::BipAddr;
 use gw_npdu::{MessageKind, NetMessage, Npdu, Payload, Priority};
-use std::alloc::{AllocError, Global};
+use std::alloc::AllocError;
 
 /// Whether a payload is a network layer message of a type (clause 6.2.4).
 pub(crate) fn is_kind(payload: &Payload<'_>, kind: MessageKind) -> bool
@@ -42,8 +42,8 @@ pub(crate) fn message_of<'a>(kind: MessageKind, octets: &'a [u8]) -> Npdu<'a>
     }
 }
 
-/// Adds an NPDU to one address, where there is one.
-pub(crate) fn put_unicast(
+/// Adds an NPDU to one address, if there is one.
+pub(crate) fn add_unicast(
     port: u8,
     to: BipAddr,
     npdu: Option<Outgoing>,
@@ -57,17 +57,18 @@ pub(crate) fn put_unicast(
     }
 }
 
-/// Adds a broadcast by the gateway of an NPDU, where there is one.
-pub(crate) fn put_broadcast(
-    alloc: Global,
-    link: &PortState,
-    npdu: Option<Outgoing>,
-    sends: &mut Sends,
-) -> Result<(), AllocError>
-    ensures { OnOk result (sends.new ≡ sends.old ++ broadcast_of npdu link.now) }
-{
-    match npdu {
-        Some(npdu) => link.put_spread(alloc, npdu, sends),
-        None => Ok(()),
+impl PortState {
+    /// Adds a broadcast by the gateway of an NPDU, if there is one.
+    pub(crate) fn add_broadcast(
+        &self,
+        npdu: Option<Outgoing>,
+        sends: &mut Sends,
+    ) -> Result<(), AllocError>
+        ensures { OnOk result (sends.new ≡ sends.old ++ broadcast_of npdu self.now) }
+    {
+        match npdu {
+            Some(npdu) => self.add_spread(npdu, sends),
+            None => Ok(()),
+        }
     }
 }

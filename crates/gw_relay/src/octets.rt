@@ -49,7 +49,7 @@ fn put_empty(message: &Bvll<'_>, octets: &mut Vec<u8>) -> Result<(), AllocError>
 }
 
 /// Writes the header of a message with this function over its first four octets (Annex J.2).
-pub(crate) fn put_header(message: &mut [u8], function: Function)
+pub(crate) fn set_header(message: &mut [u8], function: Function)
     requires least { HEADER_LEN ≤ length message.old }
     requires most { length message.old < 2 ^ 16 }
     ensures { let len = to_be_bytes w16 (length message.old) in
@@ -61,7 +61,7 @@ pub(crate) fn put_header(message: &mut [u8], function: Function)
 }
 
 /// Writes the length of a message into its header (Annex J.2).
-fn put_length(message: &mut [u8])
+fn set_length(message: &mut [u8])
     requires least { HEADER_LEN ≤ length message.old }
     requires most { length message.old < 2 ^ 16 }
     ensures { let len = to_be_bytes w16 (length message.old) in
@@ -78,7 +78,7 @@ pub(crate) fn result_octets(alloc: Global, code: ResultCode) -> Result<Vec<u8>, 
     let [high, low] = code.0.to_be_bytes();
     let mut octets = Vec::with_capacity(alloc, RESULT_LEN)?;
     octets.extend_from_slice(&[0, 0, 0, 0, high, low])?;
-    put_header(octets.as_mut_slice(), Function::Result);
+    set_header(octets.as_mut_slice(), Function::Result);
     Ok(octets)
 }
 
@@ -112,7 +112,7 @@ pub(crate) fn bdt_ack(alloc: Global, bdt: &Bdt) -> Result<Vec<u8>, AllocError>
     let mut octets = Vec::with_capacity(alloc, ack_len(entries.len()))?;
     put_empty(&Bvll::ReadBdtAck(no_bdt_entries()), &mut octets)?;
     gw_bvll::put_entries(&mut octets, entries)?;
-    put_length(octets.as_mut_slice());
+    set_length(octets.as_mut_slice());
     Ok(octets)
 }
 
@@ -124,6 +124,6 @@ pub(crate) fn fdt_ack(alloc: Global, fdt: &Fdt) -> Result<Vec<u8>, AllocError>
     let mut octets = Vec::with_capacity(alloc, ack_len(fdt.count()))?;
     put_empty(&Bvll::ReadFdtAck(no_fdt_entries()), &mut octets)?;
     gw_bvll::put_entries(&mut octets, &fdt.rows(alloc)?)?;
-    put_length(octets.as_mut_slice());
+    set_length(octets.as_mut_slice());
     Ok(octets)
 }

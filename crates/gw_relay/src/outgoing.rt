@@ -8,7 +8,7 @@ ghost use Rattle.gw_npdu.specs.Onward.{onward, onward_view};
 ghost use Rattle.gw_relay.specs.Steps.{npdu_octets};
 ghost use Rattle.gw_relay.specs.internal.Outgoing.{framed};
 
-use crate::octets::{HEADER_LEN, put_header};
+use crate::octets::{HEADER_LEN, set_header};
 use gw_bvll::Function;
 use gw_npdu::{EncodeFault, Npdu, Onward};
 use std::alloc::{AllocError, Global};
@@ -112,7 +112,7 @@ impl Outgoing {
         ensures most { length self ≤ max_len }
     {
         let mut octets = self.octets;
-        put_header(octets.as_mut_slice(), function);
+        set_header(octets.as_mut_slice(), function);
         octets
     }
 }

@@ -20,21 +20,17 @@ ghost use Rattle.gw_relay.specs.History.{Acts, AreStatesAfter, acts_after, acts_
 ghost use Rattle.gw_relay.specs.State.{after, at_port, later, link_at, wants_room};
 ghost use Rattle.gw_relay.specs.declared.port.Port.{Port};
 
-use crate::cast::cast;
 use crate::change::Change;
 use crate::initial::{links_of, routes_of};
 use crate::links::{make, tick_each};
-use crate::manage::manage;
-use crate::message::Message;
+use crate::message::{Message, TableMessage};
 use crate::port::{PortState, link_at};
 use crate::response::RelayResponse;
-use crate::route::route;
 use crate::sends::Sends;
-use gw_addr::BipAddr;
-use gw_bvll::Bvll;
+use crate::turn::Turn;
 use gw_configuration::{Config, Format};
 use gw_routes::Routes;
-use gw_rules::Judge;
+use gw_rules::{Authorizer, Judge};
 use std::alloc::{AllocError, Global};
 use std::marker::Model;
 
@@ -104,32 +100,31 @@ impl Relay {
         link_at(self.links.as_slice(), usize::from(port))
     }
 
-    /// Answers a frame that reads or changes a table of the port that it came on (Annex J.2, J.4,
-    /// J.5): the policy is asked once, and the answer goes to the sender. A frame of another kind
-    /// asks nothing and gets no answer. What that gives is added. It changes nothing. The only fault is
-    /// want of memory, and then nothing is added; what asks nothing wants none.
+    /// Does what [`add_link`](Self::add_link) does, and keeps the refusals. The only fault is want of
+    /// memory, and then nothing is added; what asks nothing wants none.
     pub fn link<J: Judge>(
         &self,
         alloc: Global,
         judge: &J,
-        on: &PortState,
-        from: BipAddr,
-        frame: &Bvll<'_>,
+        message: &TableMessage<'_>,
         given: &mut RelayResponse,
     ) -> Result<(), AllocError>
         ensures relayed { (rules : List Rule) → J.StandsFor judge.now rules →
-            let due = link_response rules on.now from (frame_view frame.now) in
+            let m = message.now in
+            let due = link_response rules m.here.now m.from (frame_view m.frame.now) in
             OnOk result (IsAdded rules due given.old given.new) }
         ensures err { OnErr result (given.new ≡ given.old) }
-        ensures silent { link_asks on.now.port from (frame_view frame.now) ≡ [] → IsOk result }
+        ensures silent { let m = message.now in
+            link_asks m.here.now.port m.from (frame_view m.frame.now) ≡ [] → IsOk result }
     {
-        on.handle_table_message(alloc, judge, from, frame, given)
+        let mut turn = Turn::new(Authorizer::new(alloc, judge));
+        self.add_link(message, &mut turn)?;
+        given.add_turn(turn)?;
+        Ok(())
     }
 
-    /// Distributes the broadcast that brought a message (Annex J.4, J.5): where the policy allows it,
-    /// one message goes to all peers and foreign devices that are due. What that gives is added. It answers
-    /// whether the message goes on to the network layer: to routing, network messages and the device. It
-    /// changes nothing. The only fault is want of memory, and then nothing is added.
+    /// Does what [`add_cast`](Self::add_cast) does, and keeps the refusals. The only fault is want of
+    /// memory, and then nothing is added.
     pub fn cast<J: Judge>(
         &self,
         alloc: Global,
@@ -143,11 +138,14 @@ impl Relay {
         ensures goes_on { let m = message_view message.now in
             IfOk result (λ goes. goes ≡ goes_on m.here m.from m.frame) }
         ensures err { OnErr result (given.new ≡ given.old) }
-        // What asks nothing and tells no unregistered sender wants no memory.
+        // What asks nothing and refuses no unregistered sender wants no memory.
         ensures silent { let m = message_view message.now in
             cast_asks m ≡ [] → is_unregistered m.here m.from m.frame ≡ false → IsOk result }
     {
-        cast(alloc, judge, message, given)
+        let mut turn = Turn::new(Authorizer::new(alloc, judge));
+        let goes_on = self.add_cast(message, &mut turn)?;
+        given.add_turn(turn)?;
+        Ok(goes_on)
     }
 
     /// The sends of a broadcast by the gateway on the port of this number: on its subnet, and to
@@ -164,7 +162,7 @@ impl Relay {
     }
 
     /// The ports with their tables, in order.
-    pub fn links(&self) -> &[PortState]
+    pub fn ports(&self) -> &[PortState]
         ensures { result.now ≡ self.now.links }
     {
         self.links.as_slice()
@@ -184,10 +182,7 @@ impl Relay {
         &self.routes
     }
 
-    /// Routes a message (clause 6.5). By the way of its destination the policy is asked, and what is
-    /// allowed is sent: to a station of another port's network or to all there, to the next router,
-    /// or to all other ports. Where no way is known the link source is told so, and the other ports'
-    /// routers are asked for one. What that gives is added. It changes nothing. The only fault is want of
+    /// Does what [`add_route`](Self::add_route) does, and keeps the refusals. The only fault is want of
     /// memory, and then nothing is added; what asks nothing wants none.
     #[inline(always)]
     pub fn route<J: Judge>(
@@ -203,13 +198,14 @@ impl Relay {
         ensures err { OnErr result (given.new ≡ given.old) }
         ensures silent { route_asks self.now (message_view message.now) ≡ [] → IsOk result }
     {
-        route(alloc, judge, self, message, given)
+        let mut turn = Turn::new(Authorizer::new(alloc, judge));
+        self.add_route(message, &mut turn)?;
+        given.add_turn(turn)?;
+        Ok(())
     }
 
-    /// Answers a network layer message (clause 6.4): a Who-Is-Router-To-Network and a
-    /// What-Is-Network-Number get an answer, and of an I-Am-Router-To-Network each network that the
-    /// policy allows is to be learned. What that gives is added. It changes nothing. The only fault is want of
-    /// memory, and then nothing is added; what asks nothing wants none.
+    /// Does what [`add_manage`](Self::add_manage) does, and keeps the refusals. The only fault is want
+    /// of memory, and then nothing is added; what asks nothing wants none.
     pub fn manage<J: Judge>(
         &self,
         alloc: Global,
@@ -223,7 +219,10 @@ impl Relay {
         ensures err { OnErr result (given.new ≡ given.old) }
         ensures silent { manage_asks self.now (message_view message.now) ≡ [] → IsOk result }
     {
-        manage(alloc, judge, self, message, given)
+        let mut turn = Turn::new(Authorizer::new(alloc, judge));
+        self.add_manage(message, &mut turn)?;
+        given.add_turn(turn)?;
+        Ok(())
     }
 
     /// Makes a change whole. Where a registration finds no room, a deletion no registration, or

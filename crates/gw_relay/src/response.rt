@@ -5,7 +5,8 @@ ghost use Rattle.std.specs.Option.{option_or};
 
 use crate::change::Change;
 use crate::sends::Sends;
-use gw_rules::{Refusal, Refusals};
+use crate::turn::Turn;
+use gw_rules::{Authorizer, Judge, Refusal, Refusals};
 use std::alloc::{AllocError, Global};
 
 /// What a relay answers to a frame or to its message: it changed nothing yet.
@@ -35,7 +36,7 @@ impl RelayResponse {
 
     /// Keeps what is to be committed, where there is nothing yet.
     #[inline(always)]
-    pub(crate) fn put_change(&mut self, change: Option<Change>)
+    pub(crate) fn set_change(&mut self, change: Option<Change>)
         ensures sends { self.new.sends ≡ self.old.sends }
         ensures refusals { self.new.refusals ≡ self.old.refusals }
         ensures change { self.new.change ≡ option_or self.old.change change }
@@ -43,6 +44,23 @@ impl RelayResponse {
         if self.change.is_none() {
             self.change = change;
         }
+    }
+
+    /// Adds what a turn sends, what was denied to it, and what it changes. An `Err` if there is no memory
+    /// for it: all is as before.
+    pub(crate) fn add_turn<J: Judge>(
+        &mut self,
+        turn: Turn<Authorizer<'_, J>>,
+    ) -> Result<(), AllocError>
+        ensures sends { OnOk result (self.new.sends ≡ self.old.sends ++ turn.entry.sends) }
+        ensures refusals { OnOk result (self.new.refusals ≡ self.old.refusals ++ turn.entry.asker.denied) }
+        ensures change { OnOk result (self.new.change ≡ option_or self.old.change turn.entry.change) }
+        ensures err { OnErr result (self.new ≡ self.old) }
+        ensures silent { turn.entry.sends ≡ [] → turn.entry.asker.denied ≡ [] → IsOk result }
+    {
+        self.add(turn.sends, turn.asker.into_refusals())?;
+        self.set_change(turn.change);
+        Ok(())
     }
 
     /// Adds sends and refusals behind those before. An `Err` where there is no memory for them: all
@@ -56,7 +74,7 @@ impl RelayResponse {
         ensures first { self.old.sends ≡ [] → self.old.refusals ≡ [] → IsOk result }
     {
         let had = self.refusals.len();
-        put_refusals(&mut self.refusals, refusals)?;
+        add_refusals(&mut self.refusals, refusals)?;
         let Ok(()) = self.sends.append(sends) else {
             self.refusals.truncate(had);
             return Err(AllocError);
@@ -68,7 +86,7 @@ impl RelayResponse {
 /// Adds refusals behind others. An `Err` where there is no memory for the list: it is as before. Where
 /// there are none to add, or were none before, it takes no memory.
 #[inline(always)]
-pub fn put_refusals(refusals: &mut Refusals, later: Refusals) -> Result<(), AllocError>
+fn add_refusals(refusals: &mut Refusals, later: Refusals) -> Result<(), AllocError>
     ensures ok { OnOk result (refusals.new ≡ refusals.old ++ later) }
     ensures err { OnErr result (refusals.new ≡ refusals.old) }
     ensures silent { later ≡ [] → IsOk result }

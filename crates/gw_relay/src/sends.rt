@@ -201,6 +201,11 @@ impl Sends {
         }
     }
 
+    /// The allocator of the list.
+    pub(crate) fn alloc(&self) -> Global {
+        self.alloc
+    }
+
     /// How many datagrams there are.
     pub fn len(&self) -> u64
         ensures { result ≡ length self.now }

@@ -5,7 +5,7 @@ use Rattle.gw_bvll.specs.Bvll.{Message as Frame}
 use Rattle.gw_rules.specs.declared.rule.Rule.{Rule}
 use Rattle.gw_relay.specs.Cast.{passed_on, targets}
 use Rattle.gw_relay.specs.Link.{answer_to, change_of, is_granted, refused, told}
-use Rattle.gw_relay.specs.Manage.{learn_ask, learned, named_networks}
+use Rattle.gw_relay.specs.Manage.{keep_allowed, learn_ask, named_networks}
 use Rattle.gw_relay.specs.Message.{Message}
 use Rattle.gw_relay.specs.Response.{Response}
 use Rattle.gw_relay.specs.Sends.{Sending, sent}
@@ -35,5 +35,5 @@ abbrev pub learn_response : List Rule → Message → Response
 learn_response rules m = record {
   asks = map (learn_ask m) (named_networks m);
   sends = [];
-  change = Some (Learnings m.here.port.number m.link (learned rules m (named_networks m)));
+  change = Some (Learnings m.here.port.number m.link (keep_allowed rules m (named_networks m)));
 }

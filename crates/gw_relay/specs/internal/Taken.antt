@@ -2,20 +2,22 @@
 use Rattle.std.specs.Prelude.{◌≡◌, Bool, List, ◌++◌}
 use Rattle.std.specs.List.{list_all}
 use Rattle.gw_rules.specs.Ask.{Ask}
-use Rattle.gw_rules.specs.Authorizer.{AuthorizerState, denied_of}
 use Rattle.gw_rules.specs.RuleList.{allows}
 use Rattle.gw_rules.specs.declared.rule.Rule.{Rule}
-use Rattle.gw_relay.specs.Sends.{Sending}
+use Rattle.gw_rules.specs.declared.verdict.Verdict.{Verdict}
 use Rattle.gw_relay.specs.Steps.{Step, asks_of, sends_of}
+use Rattle.gw_relay.specs.declared.turn.Turn.{Turn}
 
--- behind what was sent and denied before stands what these steps send, and what is denied of their asks
-pub record AreTaken {J : Type 0} (rules : List Rule) (steps : List Step) (old new : AuthorizerState J)
-    (before after : List Sending) : Type 0 where
-  pub sends : after ≡ before ++ sends_of rules steps
-  pub denied : new.denied ≡ old.denied ++ denied_of rules (asks_of steps)
+-- What these steps send is added behind the sends, and what is kept of their asks behind what was kept.
+-- Nothing more is to be committed.
+pub record AreTaken {A : Type 0} (kept : A → List Verdict) (kept_of : List Rule → List Ask → List Verdict)
+    (rules : List Rule) (steps : List Step) (old new : Turn A) : Type 0 where
+  pub sends : new.sends ≡ old.sends ++ sends_of rules steps
+  pub verdicts : kept new.asker ≡ kept old.asker ++ kept_of rules (asks_of steps)
+  pub change : new.change ≡ old.change
 
--- behind what was denied before stands what is denied of these asks; and whether all are allowed is told
-pub record AreAsked {J : Type 0} (rules : List Rule) (asks : List Ask) (old new : AuthorizerState J) (allowed : Bool)
-    : Type 0 where
+-- What is kept of these asks is added behind what was kept; and the answer is whether all are allowed.
+pub record AreAsked {A : Type 0} (kept : A → List Verdict) (kept_of : List Rule → List Ask → List Verdict)
+    (rules : List Rule) (asks : List Ask) (old new : A) (allowed : Bool) : Type 0 where
   pub answer : allowed ≡ list_all (allows rules) asks
-  pub denied : new.denied ≡ old.denied ++ denied_of rules asks
+  pub verdicts : kept new ≡ kept old ++ kept_of rules asks

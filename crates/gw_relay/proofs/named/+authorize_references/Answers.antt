@@ -1,7 +1,6 @@
 use Rattle.std.proofs.Common.{◌≡◌, ◌∙◌, sym, ap, subst, Ok, List, ◌∷◌, [], ◌++◌, ◌-◌, Bool, ◌&&◌, refl}
 use Rattle.std.specs.Option.{option_map}
 use Rattle.gw_rules.specs.Ask.{Ask}
-use Rattle.gw_rules.specs.Authorizer.{denied_of}
 use Rattle.gw_rules.specs.RuleList.{allows}
 use Rattle.gw_services.specs.Multi.{reference_view}
 use Rattle.gw_services.specs.MultiReading.{references_at}
@@ -21,59 +20,59 @@ returns-in_default-clause-asked g t c = λ reads rules stands.
 pub returns-in-Finished-clause-asked : goal.returns-in-Finished-clause-asked
 returns-in-Finished-clause-asked g t c = λ reads rules stands.
     let r = reference_view c.in-Ok.reference in
-    let old = c.args.authorizer.now in
+    let old = c.args.asker.now in
     let new = c.authorize.new.self in
     let current = option_map object_view c.args.current in
     let step = c.in-Ok.ensures.step ∙ ap (λ (next : Next). Ok (r, next_view next)) c.in-Finished.is in
     let answer = c.in_ok-is_allowed.ensures.answer rules stands ∙ ap (allows rules) c.reference_ask-ask.ensures in
-    let denied = c.in_ok-is_allowed.ensures.denied rules stands
-    ∙ ap (λ (ask : Ask). old.denied ++ denied_of rules (ask ∷ [])) c.reference_ask-ask.ensures in
-    let one = asked_one rules (reference_ask c.args.route.now r) old new c.in_ok-is_allowed.is_allowed answer denied in
-    subst (λ (asks : List Ask). AreAsked rules asks old new c.in_ok-is_allowed.is_allowed)
+    let kept = c.in_ok-is_allowed.ensures.kept rules stands
+    ∙ ap (λ (ask : Ask). g.A.Asker.kept old ++ g.A.Asker.kept_of rules (ask ∷ [])) c.reference_ask-ask.ensures in
+    let one = asked_one g.A.Asker.kept g.A.Asker.kept_of rules (reference_ask c.args.route.now r) old new c.in_ok-is_allowed.is_allowed answer kept in
+    subst (λ (asks : List Ask). AreAsked g.A.Asker.kept g.A.Asker.kept_of rules asks old new c.in_ok-is_allowed.is_allowed)
     (sym (last_asks c.args.route.now c.args.left current c.args.octets.now r step)) one
 
 pub returns-then-is_allowed-clause-asked : goal.returns-then-is_allowed-clause-asked
 returns-then-is_allowed-clause-asked g t c = λ reads rules stands.
     let r = reference_view c.in-Ok.reference in
-    let old = c.args.authorizer.now in
+    let old = c.args.asker.now in
     let mid = c.authorize.new.self in
-    let new = c.authorize_references.new.authorizer in
+    let new = c.authorize_references.new.asker in
     let current = option_map object_view c.args.current in
     let place = option_map object_view c.in-More.current in
     let rest = c.in-More.rest.now in
     let step = c.in-Ok.ensures.step ∙ ap (λ (next : Next). Ok (r, next_view next)) c.in-More.is in
     let answer = c.in_ok-is_allowed.ensures.answer rules stands ∙ ap (allows rules) c.reference_ask-ask.ensures in
-    let denied = c.in_ok-is_allowed.ensures.denied rules stands
-    ∙ ap (λ (ask : Ask). old.denied ++ denied_of rules (ask ∷ [])) c.reference_ask-ask.ensures in
+    let kept = c.in_ok-is_allowed.ensures.kept rules stands
+    ∙ ap (λ (ask : Ask). g.A.Asker.kept old ++ g.A.Asker.kept_of rules (ask ∷ [])) c.reference_ask-ask.ensures in
     let others = sym (read_more c.args.left current place c.args.octets.now rest r step) ∙ reads in
-    let behind = c.in_ok-are_allowed-in-More.ensures.asked others rules (rw c.in_ok-is_allowed.ensures.judge stands) in
+    let behind = c.in_ok-are_allowed-in-More.ensures.asked others rules (c.in_ok-is_allowed.ensures.stays rules stands) in
     let asks = multi_asks c.args.route.now (references_at (c.args.left - 1) place rest) in
     let are = c.in_ok-are_allowed-in-More.are_allowed in
-    let both = asked_behind rules (reference_ask c.args.route.now r) asks old mid new c.in_ok-is_allowed.is_allowed are answer denied behind in
-    subst (λ (all : List Ask). AreAsked rules all old new are)
+    let both = asked_behind g.A.Asker.kept g.A.Asker.kept_of g.met.A.Asker.kept_both rules (reference_ask c.args.route.now r) asks old mid new c.in_ok-is_allowed.is_allowed are answer kept behind in
+    subst (λ (all : List Ask). AreAsked g.A.Asker.kept g.A.Asker.kept_of rules all old new are)
     (sym (more_asks c.args.route.now c.args.left current place c.args.octets.now rest r step reads))
-    (subst (λ (b : Bool). AreAsked rules (reference_ask c.args.route.now r ∷ asks) old new (b && are)) c.if-is_allowed.true both)
+    (subst (λ (b : Bool). AreAsked g.A.Asker.kept g.A.Asker.kept_of rules (reference_ask c.args.route.now r ∷ asks) old new (b && are)) c.if-is_allowed.true both)
 
 pub returns-else-is_allowed-clause-asked : goal.returns-else-is_allowed-clause-asked
 returns-else-is_allowed-clause-asked g t c = λ reads rules stands.
     let r = reference_view c.in-Ok.reference in
-    let old = c.args.authorizer.now in
+    let old = c.args.asker.now in
     let mid = c.authorize.new.self in
-    let new = c.authorize_references.new.authorizer in
+    let new = c.authorize_references.new.asker in
     let current = option_map object_view c.args.current in
     let place = option_map object_view c.in-More.current in
     let rest = c.in-More.rest.now in
     let step = c.in-Ok.ensures.step ∙ ap (λ (next : Next). Ok (r, next_view next)) c.in-More.is in
     let answer = c.in_ok-is_allowed.ensures.answer rules stands ∙ ap (allows rules) c.reference_ask-ask.ensures in
-    let denied = c.in_ok-is_allowed.ensures.denied rules stands
-    ∙ ap (λ (ask : Ask). old.denied ++ denied_of rules (ask ∷ [])) c.reference_ask-ask.ensures in
+    let kept = c.in_ok-is_allowed.ensures.kept rules stands
+    ∙ ap (λ (ask : Ask). g.A.Asker.kept old ++ g.A.Asker.kept_of rules (ask ∷ [])) c.reference_ask-ask.ensures in
     let others = sym (read_more c.args.left current place c.args.octets.now rest r step) ∙ reads in
-    let behind = c.in_ok-are_allowed-in-More.ensures.asked others rules (rw c.in_ok-is_allowed.ensures.judge stands) in
+    let behind = c.in_ok-are_allowed-in-More.ensures.asked others rules (c.in_ok-is_allowed.ensures.stays rules stands) in
     let asks = multi_asks c.args.route.now (references_at (c.args.left - 1) place rest) in
     let are = c.in_ok-are_allowed-in-More.are_allowed in
-    let both = asked_behind rules (reference_ask c.args.route.now r) asks old mid new c.in_ok-is_allowed.is_allowed are answer denied behind in
+    let both = asked_behind g.A.Asker.kept g.A.Asker.kept_of g.met.A.Asker.kept_both rules (reference_ask c.args.route.now r) asks old mid new c.in_ok-is_allowed.is_allowed are answer kept behind in
     let first = c.in_ok-is_allowed.is_allowed in
     let none : (first && are) ≡ first = rw c.if-is_allowed.false refl in
-    subst (λ (all : List Ask). AreAsked rules all old new first)
+    subst (λ (all : List Ask). AreAsked g.A.Asker.kept g.A.Asker.kept_of rules all old new first)
     (sym (more_asks c.args.route.now c.args.left current place c.args.octets.now rest r step reads))
-    (subst (λ (b : Bool). AreAsked rules (reference_ask c.args.route.now r ∷ asks) old new b) none both)
+    (subst (λ (b : Bool). AreAsked g.A.Asker.kept g.A.Asker.kept_of rules (reference_ask c.args.route.now r ∷ asks) old new b) none both)

@@ -6,8 +6,8 @@ use Rattle.gw_bvll.specs.Entries.{lent}
 use Rattle.gw_relay.proofs.Lengths.{bdt_fits}
 use Rattle.gw_relay.proofs.octets.bdt_ack.Goals as goal
 
-pub put_length-requires-clause-most : goal.put_length-requires-clause-most
-put_length-requires-clause-most c =
+pub set_length-requires-clause-most : goal.set_length-requires-clause-most
+set_length-requires-clause-most c =
     let few : are_too_many c.entries-entries.result.now ≡ false = ap are_too_many c.entries-entries.ensures.entries
     ∙ c.entries-entries.ensures.few in
     bdt_fits c.put_empty.new.octets.items c.as_mut_slice.result.now _ c.entries-entries.result.now c.no_bdt_entries.ensures

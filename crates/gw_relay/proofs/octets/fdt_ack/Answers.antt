@@ -7,8 +7,8 @@ use Rattle.gw_bvll.specs.Entries.{lent}
 use Rattle.gw_relay.proofs.Lengths.{fdt_fits}
 use Rattle.gw_relay.proofs.octets.fdt_ack.Goals as goal
 
-pub put_length-requires-clause-most : goal.put_length-requires-clause-most
-put_length-requires-clause-most c =
+pub set_length-requires-clause-most : goal.set_length-requires-clause-most
+set_length-requires-clause-most c =
     let few : length c.deref.result.now ≤ 128 =
     omega (
       arith,

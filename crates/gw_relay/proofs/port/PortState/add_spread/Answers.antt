@@ -3,7 +3,7 @@ use Rattle.std.proofs.lemmas.List.{append-nil}
 use Rattle.std.proofs.lemmas.Result.{on_ok_weaker}
 use Rattle.gw_relay.specs.Sends.{Sending, sendings_of}
 use Rattle.gw_relay.proofs.Spreading.{spread_both}
-use Rattle.gw_relay.proofs.port.PortState.put_spread.Goals as goal
+use Rattle.gw_relay.proofs.port.PortState.add_spread.Goals as goal
 
 pub returns-in-Some : goal.returns-in-Some
 returns-in-Some c =

@@ -2,7 +2,7 @@ use Rattle.std.proofs.Common.{◌≡◌, ◌++◌, filter, not}
 use Rattle.gw_bdt_fdt.specs.Internal.{addresses_left}
 use Rattle.gw_bdt_fdt.specs.Registrations.{same}
 use Rattle.gw_relay.specs.Cast.{devices_but}
-use Rattle.gw_relay.proofs.port.PortState.put_devices_but.Given as goal
+use Rattle.gw_relay.proofs.port.PortState.add_devices_but.Given as goal
 
 -- what is appended and what is left are all of them but one
 abbrev pub invariant-loop-device : goal.invariant-loop-device

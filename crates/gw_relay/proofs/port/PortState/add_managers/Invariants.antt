@@ -1,7 +1,7 @@
 use Rattle.std.proofs.Common.{◌≡◌, ◌++◌, map}
 use Rattle.gw_bdt_fdt.specs.Internal.{peers_left}
 use Rattle.gw_relay.specs.Cast.{directed, managers}
-use Rattle.gw_relay.proofs.port.PortState.put_managers.Given as goal
+use Rattle.gw_relay.proofs.port.PortState.add_managers.Given as goal
 
 -- what is appended and what is left are all of them
 abbrev pub invariant-loop-peer : goal.invariant-loop-peer

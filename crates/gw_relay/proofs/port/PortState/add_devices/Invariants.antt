@@ -1,7 +1,7 @@
 use Rattle.std.proofs.Common.{◌≡◌, ◌++◌}
 use Rattle.gw_bdt_fdt.specs.Internal.{addresses_left}
 use Rattle.gw_relay.specs.Cast.{devices}
-use Rattle.gw_relay.proofs.port.PortState.put_devices.Given as goal
+use Rattle.gw_relay.proofs.port.PortState.add_devices.Given as goal
 
 -- what is appended and what is left are all of them
 abbrev pub invariant-loop-device : goal.invariant-loop-device

@@ -1,5 +1,0 @@
-use Rattle.std.proofs.Common.{length}
-use Rattle.gw_relay.proofs.route.+put_copies.Given as goal
-
-abbrev pub decreases-put_copies : goal.decreases-put_copies
-decreases-put_copies g l = length l.links.now
