@@ -3,4 +3,4 @@ pub mod PropertyLemmas
 pub mod Unread
 pub mod RequestLemmas
 pub mod Writes
-pub mod AskLemmas
+pub mod AskerLemmas

@@ -9,4 +9,3 @@ pub mod WhoIs
 pub mod WhoHas
 pub mod Device
 pub mod Laws
-pub mod internal

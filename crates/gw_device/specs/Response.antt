@@ -14,6 +14,7 @@ use Rattle.gw_rules.specs.Authorizer.{denied_of}
 use Rattle.gw_device.specs.declared.context.Context.{Context}
 use Rattle.gw_device.specs.declared.answer.Answer.{Answer as RustAnswer}
 use Rattle.gw_device.specs.declared.reply.Reply.{Reply}
+use Rattle.gw_device.specs.declared.served.Served.{Served}
 
 -- an APDU, and whether it goes to everyone on the requester's network
 pub record Answer : Type 0 where
@@ -37,6 +38,11 @@ pub record Response : Type 0 where
   pub asks : List Ask
   pub answer : Option Answer
   pub change : Option Write
+
+-- What the code serves has this answer and this change.
+pub record IsServed (due : Response) (served : Served) : Type 0 where
+  pub answer : option_map answer_view served.answer ≡ due.answer
+  pub change : served.change ≡ due.change
 
 -- A reply of the code has this answer, the asks that the rules deny, in order, and this change.
 pub record IsReply (rules : List Rule) (due : Response) (reply : Reply) : Type 0 where

@@ -14,16 +14,16 @@ ghost use Rattle.gw_services.specs.WhoIs.{who_is_view};
 ghost use Rattle.gw_services.specs.Write.{write_view};
 ghost use Rattle.gw_device.specs.Device.{device_answer, device_asks, device_change, device_response};
 ghost use Rattle.gw_device.specs.Read.{read_response};
-ghost use Rattle.gw_device.specs.Response.{HasPlace, IsReply, answer_view};
+ghost use Rattle.gw_device.specs.Response.{HasPlace, IsReply, IsServed, answer_view};
 ghost use Rattle.gw_device.specs.WhoHas.{who_has_response};
 ghost use Rattle.gw_device.specs.WhoIs.{who_is_response};
 ghost use Rattle.gw_device.specs.Write.{write_response};
 
-use crate::{Asks, Change, Context, Reply, asking, dispatch, read, who_has, who_is, write};
-use gw_apdu::ConfirmedRequest;
+use crate::access::Access;
+use crate::{Change, Client, Context, Reply, Served};
 use gw_configuration::Config;
 use gw_objects::{Configured, ObjectDb};
-use gw_rules::Judge;
+use gw_rules::{Asker, Authorizer, Judge};
 use gw_services::{ReadReq, WhoHas, WhoIs, WriteReq};
 use std::alloc::{AllocError, Global};
 use std::marker::Model;
@@ -63,6 +63,46 @@ impl Device {
         self.objects.configured()
     }
 
+    /// The objects, for an APDU of which this is known.
+    fn access<'a>(&'a self, context: &'a Context) -> Access<'a>
+        ensures objects { result.objects.now ≡ self.now }
+        ensures context { result.context.now ≡ context.now }
+    {
+        Access {
+            objects: &self.objects,
+            context,
+        }
+    }
+
+    /// What the device gives to an APDU beside what it asks: the answer if there is one, and the
+    /// change that is granted, if there is one. Nothing is changed. Each ask is put to `asker`, in
+    /// order and before any look-up.
+    ///
+    /// # Errors
+    ///
+    /// 1 Memory. The asker may then have kept a part of what it is to keep.
+    pub fn serve<A: Asker>(
+        &self,
+        context: &Context,
+        apdu: &[u8],
+        asker: &mut A,
+    ) -> Result<Served, AllocError>
+        ensures served { (rules : List Rule) → A.StandsFor asker.old rules → IfOk result
+            (IsServed (device_response rules self.now context.now apdu.now)) }
+        ensures asks { (rules : List Rule) → A.StandsFor asker.old rules →
+            let due = device_asks rules self.now context.now apdu.now in
+            OnOk result (A.kept asker.new ≡ A.kept asker.old ++ A.kept_of rules due) }
+        ensures stays { (rules : List Rule) → A.StandsFor asker.old rules →
+            A.StandsFor asker.new rules }
+        ensures place { IfOk result (λ served. HasPlace self.now served.change) }
+        // What is neither asked about nor answered needs no memory.
+        ensures silent { (rules : List Rule) →
+            device_asks rules self.now context.now apdu.now ≡ [] →
+            device_answer rules self.now context.now apdu.now ≡ None → IsOk result }
+    {
+        self.access(context).serve(apdu, asker)
+    }
+
     /// What the device gives to an APDU: the answer if there is one, what the policy denied, and
     /// the change that is granted, if there is one. Nothing is changed.
     ///
@@ -89,36 +129,12 @@ impl Device {
             device_asks rules self.now context.now apdu.now ≡ [] →
             device_answer rules self.now context.now apdu.now ≡ None → IsOk result }
     {
-        dispatch::answer(alloc, &self.objects, judge, context, apdu)
+        let mut authorizer = Authorizer::new(alloc, judge);
+        let served = self.serve(context, apdu, &mut authorizer)?;
+        Ok(Reply::new(served, authorizer))
     }
 
-    /// Adds what an APDU asks of the policy, allowed or denied, in order, behind what stands in `asks`. Nothing
-    /// is changed.
-    ///
-    /// # Errors
-    ///
-    /// 1 Memory. A part of the asks may then stand there.
-    pub fn put_asks<J: Judge>(
-        &self,
-        alloc: Global,
-        judge: &J,
-        context: &Context,
-        apdu: &[u8],
-        asks: &mut Asks,
-    ) -> Result<(), AllocError>
-        ensures asks { (rules : List Rule) → J.StandsFor judge.now rules →
-            let due = device_asks rules self.now context.now apdu.now in
-            OnOk result (asks.new ≡ asks.old ++ due) }
-        // What is neither asked about nor answered needs no memory.
-        ensures silent { (rules : List Rule) →
-            device_asks rules self.now context.now apdu.now ≡ [] →
-            device_answer rules self.now context.now apdu.now ≡ None → IsOk result }
-    {
-        asking::put_asks(alloc, &self.objects, judge, context, apdu, asks)
-    }
-
-    /// What the device gives to a ReadProperty (clause 15.5), whose header says which client it is
-    /// and what that takes.
+    /// What the device gives to a ReadProperty (clause 15.5).
     ///
     /// # Errors
     ///
@@ -127,18 +143,20 @@ impl Device {
         &self,
         alloc: Global,
         judge: &J,
-        context: &Context,
-        header: &ConfirmedRequest,
+        client: &Client<'_>,
         request: &ReadReq,
     ) -> Result<Reply, AllocError>
         ensures reply { (rules : List Rule) → J.StandsFor judge.now rules →
-            let read = read_view request.now in
-            IfOk result (IsReply rules (read_response rules self.now context.now header.now read)) }
+            let read = read_view request.now in IfOk result (IsReply rules
+            (read_response rules self.now client.now.context.now client.now.header.now read)) }
     {
-        read::read(alloc, &self.objects, judge, context, header, request)
+        let mut authorizer = Authorizer::new(alloc, judge);
+        let access = self.access(client.context);
+        let served = access.read(client.header, request, &mut authorizer)?;
+        Ok(Reply::new(served, authorizer))
     }
 
-    /// What the device gives to a WriteProperty (clause 15.9) with this invoke id.
+    /// What the device gives to a WriteProperty (clause 15.9).
     ///
     /// # Errors
     ///
@@ -147,16 +165,18 @@ impl Device {
         &self,
         alloc: Global,
         judge: &J,
-        context: &Context,
-        invoke: u8,
+        client: &Client<'_>,
         request: &WriteReq<'_>,
     ) -> Result<Reply, AllocError>
         ensures reply { (rules : List Rule) → J.StandsFor judge.now rules →
-            let write = write_view request.now in
-            IfOk result (IsReply rules (write_response rules self.now context.now invoke write)) }
+            let write = write_view request.now in IfOk result (IsReply rules
+            (write_response rules self.now client.now.context.now client.now.header.now.invoke write)) }
         ensures place { IfOk result (λ reply. HasPlace self.now reply.change) }
     {
-        write::write(alloc, &self.objects, judge, context, invoke, request)
+        let mut authorizer = Authorizer::new(alloc, judge);
+        let access = self.access(client.context);
+        let served = access.write(client.header.invoke, request, &mut authorizer)?;
+        Ok(Reply::new(served, authorizer))
     }
 
     /// What the device gives to a Who-Is (clause 16.10).
@@ -175,7 +195,9 @@ impl Device {
             let request = who_is_view request.now in
             IfOk result (IsReply rules (who_is_response rules self.now context.now request)) }
     {
-        who_is::who_is(alloc, &self.objects, judge, context, request)
+        let mut authorizer = Authorizer::new(alloc, judge);
+        let served = self.access(context).who_is(request, &mut authorizer)?;
+        Ok(Reply::new(served, authorizer))
     }
 
     /// What the device gives to a Who-Has (clause 16.9).
@@ -194,7 +216,9 @@ impl Device {
             let request = who_has_view request.now in
             IfOk result (IsReply rules (who_has_response rules self.now context.now request)) }
     {
-        who_has::who_has(alloc, &self.objects, judge, context, request)
+        let mut authorizer = Authorizer::new(alloc, judge);
+        let served = self.access(context).who_has(request, &mut authorizer)?;
+        Ok(Reply::new(served, authorizer))
     }
 
     /// Makes a change that this device granted (clause 19.2). It takes no memory.

@@ -2,9 +2,9 @@
 //! look-up (ISO 16484-5, clauses 12, 15, 16 and 20).
 #![tactic(auto)]
 
+mod access;
 mod answer;
-mod ask;
-mod asking;
+mod client;
 mod context;
 mod device;
 mod dispatch;
@@ -13,6 +13,7 @@ pub mod laws;
 mod multi;
 mod read;
 mod reply;
+mod served;
 mod services;
 mod short;
 mod who_has;
@@ -20,7 +21,8 @@ mod who_is;
 mod write;
 
 pub use answer::{Answer, HEADER_ROOM};
-pub use asking::{Asks, NoRules, put_refused};
+pub use client::Client;
 pub use context::Context;
 pub use device::Device;
-pub use reply::{Change, Reply};
+pub use reply::Reply;
+pub use served::{Change, Served};

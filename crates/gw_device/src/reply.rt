@@ -1,45 +1,13 @@
-//! What the device gives to one APDU.
+//! What the device gives to one APDU, with what the policy denied.
 
-ghost use Rattle.std.specs.Prelude.{◌≡◌, ◌≤◌, [], None, drop, vec_len};
-ghost use Rattle.std.specs.Option.{option_map};
-ghost use Rattle.gw_device.specs.Response.{answer_view, to_client};
+ghost use Rattle.std.specs.Prelude.{◌≡◌, ◌++◌, List};
+ghost use Rattle.gw_rules.specs.declared.rule.Rule.{Rule};
+ghost use Rattle.gw_rules.specs.Authorizer.{denied_of};
+ghost use Rattle.gw_rules.specs.Keeping.{kept_refusals};
+ghost use Rattle.gw_device.specs.Response.{IsReply, IsServed, Response};
 
-use crate::Answer;
-use gw_objects::Put;
-use gw_rules::Refusals;
-use std::alloc::Global;
-use std::marker::Model;
-
-/// A write that is granted, for [`Device::commit`](crate::Device::commit). Contracts see what it
-/// does, and to which object.
-#[derive(Drop)]
-pub struct Change {
-    put: Put,
-}
-
-impl Model for Change {
-    ghost use Rattle.gw_objects.specs.Write.{Write};
-
-    ghost Value = { Write };
-
-    ghost view = { λ c. c.put };
-}
-
-impl Change {
-    /// The change that this write is.
-    pub(crate) fn new(put: Put) -> Self
-        ensures { result ≡ put }
-    {
-        Change { put }
-    }
-
-    /// The write.
-    pub(crate) fn into_put(self) -> Put
-        ensures { result ≡ self }
-    {
-        self.put
-    }
-}
+use crate::{Answer, Change, Served};
+use gw_rules::{Authorizer, Judge, Refusals};
 
 /// What the device gives to one APDU. Nothing has changed yet.
 #[derive(Drop)]
@@ -53,34 +21,17 @@ pub struct Reply {
 }
 
 impl Reply {
-    /// Nothing is asked, answered or changed. It takes no memory.
-    pub(crate) fn silence(alloc: Global) -> Self
-        ensures answer { result.answer ≡ None }
-        ensures refusals { result.refusals ≡ [] }
-        ensures change { result.change ≡ None }
+    /// What was served, with what the policy denied of what was asked for it.
+    pub(crate) fn new<J: Judge>(served: Served, authorizer: Authorizer<'_, J>) -> Self
+        ensures change { result.change ≡ served.change }
+        ensures reply { (rules : List Rule) (due : Response) → IsServed due served →
+            kept_refusals authorizer.entry.denied ≡ kept_refusals (denied_of rules due.asks) →
+            IsReply rules due result }
     {
         Reply {
-            answer: None,
-            refusals: Refusals::new(alloc),
-            change: None,
-        }
-    }
-
-    /// The answer to a request that is turned down before anything is asked: an APDU behind the room for its
-    /// headers.
-    pub(crate) fn turned_down(alloc: Global, octets: Vec<u8>) -> Self
-        requires { 10 ≤ vec_len octets }
-        ensures answer { option_map answer_view result.answer ≡ to_client (drop 10 octets.items) }
-        ensures refusals { result.refusals ≡ [] }
-        ensures change { result.change ≡ None }
-    {
-        Reply {
-            answer: Some(Answer {
-                octets,
-                broadcast: false,
-            }),
-            refusals: Refusals::new(alloc),
-            change: None,
+            answer: served.answer,
+            refusals: authorizer.into_refusals(),
+            change: served.change,
         }
     }
 }

@@ -3,21 +3,18 @@
 ghost use Rattle.std.specs.Prelude.{None, ◌≡◌, ◌≤◌, ◌++◌, ◌∷◌, [], List, length, IfOk, IsOk, OnOk};
 ghost use Rattle.std.specs.Option.{option_map};
 ghost use Rattle.gw_rules.specs.declared.rule.Rule.{Rule};
-ghost use Rattle.gw_rules.specs.Authorizer.{denied_of};
-ghost use Rattle.gw_rules.specs.RuleList.{allows};
 ghost use Rattle.gw_objects.specs.Objects.{name_at};
 ghost use Rattle.gw_services.specs.WhoHas.{sought_view, who_has_view};
 ghost use Rattle.gw_tags.specs.Object.{object_view};
-ghost use Rattle.gw_device.specs.Response.{IsReply, answer_view, told, with_room};
+ghost use Rattle.gw_device.specs.Response.{IsServed, answer_view, told, with_room};
 ghost use Rattle.gw_device.specs.WhoHas.{i_have_apdu, object_response, sought_object, who_has_ask, who_has_response};
-ghost use Rattle.gw_device.specs.WhoIs.{if_allowed};
 
-use crate::ask::property_ask;
+use crate::Served;
+use crate::access::Access;
 use crate::short::begin_apdu;
-use crate::who_is::{is_within, put_unconfirmed};
-use crate::{Answer, Context, Reply};
-use gw_objects::{Configured, ObjectDb, Property};
-use gw_rules::{Ask, Authorizer, Judge, Operation, Service};
+use crate::who_is::put_unconfirmed;
+use gw_objects::{Configured, Property};
+use gw_rules::{Ask, Asker, Operation, Service};
 use gw_services::{I_HAVE, IHave, Sought, WHO_HAS, WhoHas, encode_i_have};
 use gw_tags::{CharacterString, ObjectId};
 use std::alloc::{AllocError, Global};
@@ -26,31 +23,6 @@ use std::alloc::{AllocError, Global};
 const UTF_8: u8 = 0;
 /// How many octets an I-Have has without its name, at most.
 const MOST_OCTETS: usize = 16;
-
-/// The object that is sought, whether or not it is there; by a name, the one that has it.
-fn sought_object(objects: &ObjectDb, sought: &Sought<'_>) -> Option<ObjectId>
-    ensures { option_map object_view result ≡ sought_object objects.now.configured
-        (sought_view sought.now) }
-{
-    match sought {
-        Sought::Object(object) => Some(*object),
-        Sought::Name(name) if name.charset == UTF_8 => objects.find_name(name.octets),
-        Sought::Name(_) => None,
-    }
-}
-
-fn who_has_ask(configured: &Configured, context: &Context, object: ObjectId) -> Ask
-    ensures { result ≡ who_has_ask configured.now context.now (object_view object) }
-{
-    property_ask(
-        Operation::List,
-        Service::Unconfirmed(WHO_HAS),
-        configured,
-        context,
-        object,
-        Property::ObjectName.number(),
-    )
-}
 
 /// The I-Have of an object of that name, behind the room for headers.
 fn i_have_apdu(
@@ -77,75 +49,95 @@ fn i_have_apdu(
     Ok(octets)
 }
 
-/// The answer about an object that may be told of, where it is there.
-fn object_answer(
-    alloc: Global,
-    objects: &ObjectDb,
-    object: ObjectId,
-) -> Result<Option<Answer>, AllocError>
-    ensures { let object = object_view object in
-        let name = name_at objects.now.configured object in
-        let due = told (option_map (i_have_apdu objects.now.configured object) name) in
-        IfOk result (λ answer. option_map answer_view answer ≡ due) }
-{
-    let Some(name) = objects.name(object) else {
-        return Ok(None);
-    };
-    let octets = i_have_apdu(alloc, objects.configured(), object, name.as_str())?;
-    Ok(Some(Answer {
-        octets,
-        broadcast: true,
-    }))
-}
-
-/// What the device gives to a Who-Has of an object.
-fn about<J: Judge>(
-    alloc: Global,
-    objects: &ObjectDb,
-    judge: &J,
-    context: &Context,
-    object: ObjectId,
-) -> Result<Reply, AllocError>
-    ensures reply { (rules : List Rule) → J.StandsFor judge.now rules → IfOk result
-        (IsReply rules (object_response rules objects.now context.now
-        (Some (object_view object)))) }
-    ensures place { IfOk result (λ reply. reply.change ≡ None) }
-{
-    let mut authorizer = Authorizer::new(alloc, judge);
-    let answer = if authorizer.authorize(&who_has_ask(objects.configured(), context, object))? {
-        object_answer(alloc, objects, object)?
-    } else {
-        None
-    };
-    Ok(Reply {
-        answer,
-        refusals: authorizer.into_refusals(),
-        change: None,
-    })
-}
-
-/// What the device gives to a Who-Has (clause 16.9). `AllocError` where memory was refused.
-pub(crate) fn who_has<J: Judge>(
-    alloc: Global,
-    objects: &ObjectDb,
-    judge: &J,
-    context: &Context,
-    request: &WhoHas<'_>,
-) -> Result<Reply, AllocError>
-    ensures reply { (rules : List Rule) → J.StandsFor judge.now rules → IfOk result
-        (IsReply rules (who_has_response rules objects.now context.now
-        (who_has_view request.now))) }
-    ensures place { IfOk result (λ reply. reply.change ≡ None) }
-    // What asks nothing needs no memory.
-    ensures silent { (rules : List Rule) →
-        (who_has_response rules objects.now context.now (who_has_view request.now)).asks ≡ []
-        → IsOk result }
-{
-    if !is_within(&request.limits, objects.configured()) {
-        return Ok(Reply::silence(alloc));
+impl Access<'_> {
+    /// The object that is sought, whether or not it is there; by a name, the one that has it.
+    fn sought_object(&self, sought: &Sought<'_>) -> Option<ObjectId>
+        ensures { option_map object_view result ≡ sought_object self.now.objects.now.configured
+            (sought_view sought.now) }
+    {
+        match sought {
+            Sought::Object(object) => Some(*object),
+            Sought::Name(name) if name.charset == UTF_8 => self.objects.find_name(name.octets),
+            Sought::Name(_) => None,
+        }
     }
-    match sought_object(objects, &request.sought) {
-        Some(object) => about(alloc, objects, judge, context, object),
-        None => Ok(Reply::silence(alloc)),
+
+    /// The ask for an object that is sought.
+    fn who_has_ask(&self, object: ObjectId) -> Ask
+        ensures { result
+            ≡ who_has_ask self.now.objects.now.configured self.now.context.now (object_view object) }
+    {
+        self.property_ask(
+            Operation::List,
+            Service::Unconfirmed(WHO_HAS),
+            object,
+            Property::ObjectName.number(),
+        )
+    }
+
+    /// What is told of an object that may be told of, where it is there.
+    fn tell_object(&self, alloc: Global, object: ObjectId) -> Result<Served, AllocError>
+        ensures answer { let object = object_view object in
+            let name = name_at self.now.objects.now.configured object in
+            let due = told (option_map (i_have_apdu self.now.objects.now.configured object) name) in
+            IfOk result (λ served. option_map answer_view served.answer ≡ due) }
+        ensures place { IfOk result (λ served. served.change ≡ None) }
+    {
+        let Some(name) = self.objects.name(object) else {
+            return Ok(Served::silence());
+        };
+        let octets = i_have_apdu(alloc, self.objects.configured(), object, name.as_str())?;
+        Ok(Served::to_everyone(octets))
+    }
+
+    /// What the device gives to a Who-Has of an object.
+    fn about<A: Asker>(&self, object: ObjectId, asker: &mut A) -> Result<Served, AllocError>
+        ensures served { (rules : List Rule) → A.StandsFor asker.old rules →
+            let sought = Some (object_view object) in IfOk result
+            (IsServed (object_response rules self.now.objects.now self.now.context.now sought)) }
+        ensures asks { (rules : List Rule) → A.StandsFor asker.old rules →
+            let sought = Some (object_view object) in
+            let due = object_response rules self.now.objects.now self.now.context.now sought in
+            OnOk result (A.kept asker.new ≡ A.kept asker.old ++ A.kept_of rules due.asks) }
+        ensures stays { (rules : List Rule) → A.StandsFor asker.old rules →
+            A.StandsFor asker.new rules }
+        ensures place { IfOk result (λ served. served.change ≡ None) }
+    {
+        if asker.authorize(&self.who_has_ask(object))? {
+            self.tell_object(asker.alloc(), object)
+        } else {
+            Ok(Served::silence())
+        }
+    }
+
+    /// What the device gives to a Who-Has (clause 16.9). `AllocError` where memory was refused.
+    pub fn who_has<A: Asker>(
+        &self,
+        request: &WhoHas<'_>,
+        asker: &mut A,
+    ) -> Result<Served, AllocError>
+        ensures served { (rules : List Rule) → A.StandsFor asker.old rules →
+            let request = who_has_view request.now in IfOk result
+            (IsServed (who_has_response rules self.now.objects.now self.now.context.now request)) }
+        ensures asks { (rules : List Rule) → A.StandsFor asker.old rules →
+            let request = who_has_view request.now in
+            let due = who_has_response rules self.now.objects.now self.now.context.now request in
+            OnOk result (A.kept asker.new ≡ A.kept asker.old ++ A.kept_of rules due.asks) }
+        ensures stays { (rules : List Rule) → A.StandsFor asker.old rules →
+            A.StandsFor asker.new rules }
+        ensures place { IfOk result (λ served. served.change ≡ None) }
+        // What asks nothing needs no memory.
+        ensures silent { (rules : List Rule) →
+            let request = who_has_view request.now in
+            (who_has_response rules self.now.objects.now self.now.context.now request).asks ≡ []
+            → IsOk result }
+    {
+        if !self.is_within(&request.limits) {
+            return Ok(Served::silence());
+        }
+        match self.sought_object(&request.sought) {
+            Some(object) => self.about(object, asker),
+            None => Ok(Served::silence()),
+        }
     }
 }
