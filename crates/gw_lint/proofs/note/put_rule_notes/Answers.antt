@@ -10,4 +10,4 @@ returns c =
     three c.put_object_note.result c.args.out.now.items c.put_network_note.new.out.items c.put_overlap_notes.new.out.items
     c.put_object_note.new.out.items (network_note config number rule) (overlap_notes config.rules number rule)
     (object_note c.args.shapes.now config number) c.in_ok-put_network_note.ensures
-    (rw c.rules.ensures at c.in_ok-put_overlap_notes.ensures) c.put_object_note.ensures
+    (rw c.rules.ensures.rules at c.in_ok-put_overlap_notes.ensures) c.put_object_note.ensures

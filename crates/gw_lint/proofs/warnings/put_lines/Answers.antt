@@ -4,7 +4,7 @@ use Rattle.gw_lint.proofs.warnings.put_lines.Goals as goal
 
 pub returns : goal.returns
 returns c =
-    then_put (then_put (rw c.ports-ports.ensures.ports at c.in_ok-put_ports.ensures) (rw (c.ports-ports.ensures.ports, c.routes.ensures.routes) at c.in_ok-put_routes.ensures)) (rw (c.ports-ports.ensures.ports, c.rules-2.ensures.rules, c.rules.ensures) at c.put_rules.ensures)
+    then_put (then_put (rw c.ports-ports.ensures.ports at c.in_ok-put_ports.ensures) (rw (c.ports-ports.ensures.ports, c.routes.ensures.routes) at c.in_ok-put_routes.ensures)) (rw (c.ports-ports.ensures.ports, c.rules-2.ensures.rules, c.rules.ensures.rules) at c.put_rules.ensures)
 
 pub returns-in_err-put_ports : goal.returns-in_err-put_ports
 returns-in_err-put_ports c =
