@@ -26,7 +26,7 @@ use Rattle.gw_relay.specs.State as move
 use Rattle.gw_routes.specs.History.{History as Learned}
 use Rattle.gw_core.specs.Denials.{denials_at}
 use Rattle.gw_core.specs.Effects.{change_at, changed, effects_at, move_at, passes_end, relay_change_for, ticks_of}
-use Rattle.gw_core.specs.History.{acts_of, state_after, with_granted, with_move, written, RoutesGoOn, RoutesStand, TablesGoOn, TablesStand, WritesGoOn, WritesStand, next, IsStateAfter, run_after, run_from, state_from, history_after, StopsAtEnd}
+use Rattle.gw_core.specs.History.{acts_of, state_after, with_granted, with_move, written, next, IsStateAfter, run_after, run_from, state_from, history_after, StopsAtEnd}
 use Rattle.gw_core.specs.Laws.{ConfigurationStays, StepsExtendHistories, RunsExtendHistories}
 use Rattle.gw_core.specs.Receive.{receive}
 use Rattle.gw_core.specs.State.{State}
@@ -232,35 +232,6 @@ written_stays (write ∷ writes) d = written_stays writes d
 
 pub configuration_stays : ConfigurationStays
 configuration_stays c k h = written_stays (acts_of c k h).writes (database_of c)
-
--- what stands after a granted write, where the write is another's word
-pub writes_go_on : (w v : State) (e : Event) (granted : Option Write) → granted ≡ change_at w e
-    → ((c : Configuration) (writes : List Write) → WritesStand c writes w → WritesStand c (with_granted granted writes) v)
-    → WritesGoOn w e v
-writes_go_on w v e granted is go c writes stand = subst (λ (g : Option Write). WritesStand c (with_granted g writes) v) is
-    (go c writes stand)
-
--- a tick is granted no write
-pub no_change_at_tick : (w : State) → None ≡ change_at w Tick
-unfolding change_at receive
-no_change_at_tick w = refl
-
--- the same of the ports' tables
-pub tables_go_on : (w v : State) (e : Event) (m : Option Move) → m ≡ move_at w e
-    → ((c : Configuration) (acts : List PortActs) → TablesStand c acts w → TablesStand c (acts_moved m acts) v) → TablesGoOn w e v
-tables_go_on w v e m is go c acts stand = subst (λ (x : Option Move). TablesStand c (acts_moved x acts) v) is (go c acts stand)
-
--- and of the routes
-pub routes_go_on : (w v : State) (e : Event) (m : Option Move) → m ≡ move_at w e
-    → ((c : Configuration) (learned : Learned) → RoutesStand c learned w → RoutesStand c (learned_moved m w.relay.routes learned) v)
-    → RoutesGoOn w e v
-routes_go_on w v e m is go c learned stand = subst (λ (x : Option Move). RoutesStand c (learned_moved x w.relay.routes learned) v) is
-    (go c learned stand)
-
--- a tick is a tick of the relay
-pub move_at_tick : (w : State) → Some move.Tick ≡ move_at w Tick
-unfolding move_at receive
-move_at_tick w = refl
 
 -- ---- the links
 

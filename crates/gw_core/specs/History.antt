@@ -101,31 +101,15 @@ history_after h (e ∷ l) = history_after (e ∷ h) l
 abbrev pub WritesStand : Configuration → List Write → State → Type 0
 WritesStand c writes w = AreSlotsAfter (defaults_of c) writes w.device.states
 
--- What stood before an event stands after it, with the write that it is granted, where it is granted one.
-abbrev pub WritesGoOn : State → Event → State → Type 0
-WritesGoOn before event after = (c : Configuration) (writes : List Write) →
-    WritesStand c writes before → WritesStand c (with_granted (change_at before event) writes) after
-
 -- The ports' tables are those that the last granted entries, the granted registrations and deletions and
 -- the ticks left (Annex J.4, J.5).
 abbrev pub TablesStand : Configuration → List PortActs → State → Type 0
 TablesStand c acts w = AreStatesAfter w.relay.links (ports_from 1 c.ports) acts
 
--- What stood before an event stands after it, with what becomes of the tables, where something does.
-abbrev pub TablesGoOn : State → Event → State → Type 0
-TablesGoOn before event after = (c : Configuration) (acts : List PortActs) →
-    TablesStand c acts before → TablesStand c (acts_moved (move_at before event) acts) after
-
 -- The routes are the configured ones, and those of the networks that were granted to be learned (clause 6.6).
 abbrev pub RoutesStand : Configuration → Learned → State → Type 0
 RoutesStand c learned w =
     IsTableAfter w.relay.routes (direct_of c) (map routed_of c.routes) learned
-
--- What stood before an event stands after it, with the networks that are learned, where some are.
-abbrev pub RoutesGoOn : State → Event → State → Type 0
-RoutesGoOn before event after = (c : Configuration) (learned : Learned) →
-    RoutesStand c learned before
-    → RoutesStand c (learned_moved (move_at before event) before.relay.routes learned) after
 
 -- What came of a history on each port: the entries of the last granted table of peers, or the configured ones,
 -- and the granted registrations and deletions and the ticks, newest first.

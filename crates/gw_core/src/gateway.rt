@@ -1,24 +1,14 @@
 //! The gateway: its state, and what it answers to one event.
 
-ghost use Rattle.std.specs.Prelude.{◌≡◌, ◌+◌, ◌≤◌, ◌<◌, ◌^◌, ◌↔◌, ◌++◌, ℕ, [], false, true, length, map, None, vec_capacity};
-ghost use Rattle.std.specs.Prelude.{IsOk, IfOk, OnOk, OnErr, IsErrOf, List};
+ghost use Rattle.std.specs.Prelude.{◌≡◌, ◌+◌, ◌≤◌, ◌<◌, ◌^◌, ◌↔◌, ◌++◌, [], true, length, map, None, vec_capacity};
+ghost use Rattle.std.specs.Prelude.{IsOk, IfOk, OnOk, OnErr, IsErrOf};
 ghost use Rattle.std.specs.Option.{option_map};
 ghost use Rattle.gw_addr.specs.declared.TheConstants.{MAX_PORTS};
-ghost use Rattle.gw_objects.specs.Write.{Write};
-ghost use Rattle.gw_configuration.specs.Configuration.{Configuration};
 ghost use Rattle.gw_device.specs.Response.{HasPlace};
-ghost use Rattle.gw_relay.specs.History.{acts_moved, initial_acts, learned_moved};
-ghost use Rattle.gw_relay.specs.History.{Acts as PortActs};
-ghost use Rattle.gw_relay.specs.History.{AreStatesAfter};
+ghost use Rattle.gw_relay.specs.History.{initial_acts};
 ghost use Rattle.gw_relay.specs.State.{Commit, moved};
-ghost use Rattle.gw_relay.specs.declared.port.Port.{Port};
-ghost use Rattle.gw_routes.specs.History.{History as Learned};
-ghost use Rattle.gw_routes.specs.History.{IsStateAfter as IsTableAfter};
-ghost use Rattle.gw_routes.specs.Table.{Routed};
-ghost use Rattle.gw_objects.specs.History.{IsStateAfter as AreSlotsAfter};
-ghost use Rattle.gw_objects.specs.declared.value.PropertyValue.{PropertyValue};
 ghost use Rattle.gw_core.specs.Effects.{changed};
-ghost use Rattle.gw_core.specs.History.{with_granted};
+ghost use Rattle.gw_core.specs.State.{device_network};
 ghost use Rattle.gw_core.specs.Explained.{asks_text};
 ghost use Rattle.gw_script.specs.Event.{Datagram, Tick};
 
@@ -55,13 +45,6 @@ struct Outcome {
 /// changed.
 fn commit_change(relay: &mut Relay, change: Option<RelayChange>) -> Result<(), AllocError>
     ensures state { OnOk result (relay.new ≡ moved (option_map Commit change) relay.old) }
-    ensures tables { OnOk result ((ports : List Port) (acts : List PortActs) →
-        AreStatesAfter relay.old.links ports acts →
-        AreStatesAfter relay.new.links ports (acts_moved (option_map Commit change) acts)) }
-    ensures routes { OnOk result ((direct : List ℕ) (configured : Routed) (learned : Learned) →
-        IsTableAfter relay.old.routes direct configured learned →
-        IsTableAfter relay.new.routes direct configured
-        (learned_moved (option_map Commit change) relay.old.routes learned)) }
     ensures err { OnErr result (relay.new ≡ relay.old) }
     ensures no_growth { change ≡ None → IsOk result }
 {
@@ -74,10 +57,7 @@ fn commit_change(relay: &mut Relay, change: Option<RelayChange>) -> Result<(), A
 /// Makes a write to the device, where there is one. It takes no memory.
 fn commit_write(device: &mut Device, write: Option<Change>)
     requires place { HasPlace device.old write }
-    ensures state { device.new ≡ changed write device.old }
-    ensures writes { (defaults : List PropertyValue) (writes : List Write) →
-        AreSlotsAfter defaults writes device.old.states →
-        AreSlotsAfter defaults (with_granted write writes) device.new.states }
+    ensures { device.new ≡ changed write device.old }
 {
     if let Some(write) = write {
         device.commit(write);
@@ -128,7 +108,7 @@ impl Gateway {
     ghost use Rattle.gw_core.specs.Asks.{asks_for};
     ghost use Rattle.gw_core.specs.Denials.{denials_for};
     ghost use Rattle.gw_core.specs.Effects.{NeedsNoMemory, change_for, nothing, passes_end, relay_change_for, sends_for};
-    ghost use Rattle.gw_core.specs.History.{IsStateAfter, IsStep, RoutesGoOn, RoutesStand, TablesGoOn, TablesStand, WritesGoOn, WritesStand};
+    ghost use Rattle.gw_core.specs.History.{IsStateAfter, IsStep, RoutesStand, TablesStand, WritesStand};
     ghost use Rattle.gw_core.specs.View.{received_view};
 
     /// A gateway of this configuration that goes on from these counts. The only fault is want of
@@ -258,14 +238,6 @@ impl Gateway {
           device = changed write self.old.device;
           denials = self.old.denials + denied;
         }) }
-        ensures writes { OnOk result ((c : Configuration) (writes : List Write) →
-            WritesStand c writes self.old → WritesStand c (with_granted write writes) self.new) }
-        ensures tables { OnOk result ((c : Configuration) (acts : List PortActs) →
-            TablesStand c acts self.old →
-            TablesStand c (acts_moved (option_map Commit change) acts) self.new) }
-        ensures routes { OnOk result ((c : Configuration) (learned : Learned) →
-            RoutesStand c learned self.old → RoutesStand c
-            (learned_moved (option_map Commit change) self.old.relay.routes learned) self.new) }
         ensures err { OnErr result (self.new ≡ self.old) }
         ensures no_growth { change ≡ None → IsOk result }
     {
@@ -292,15 +264,6 @@ impl Gateway {
         // What it does, and the state then.
         ensures step { IfOk result
             (λ given. IsStep self.old (Datagram port from octets.now) given self.new) }
-        // The slots and the defaults of the device are what the granted writes left.
-        ensures writes { OnOk result
-            (WritesGoOn self.old (Datagram port from octets.now) self.new) }
-        // The ports' tables are what the granted changes of them and the ticks left,
-        ensures tables { OnOk result
-            (TablesGoOn self.old (Datagram port from octets.now) self.new) }
-        // and the routes what the networks left that were granted to be learned.
-        ensures routes { OnOk result
-            (RoutesGoOn self.old (Datagram port from octets.now) self.new) }
         // Only an event that passes the end of a count; none that does is taken.
         ensures count_end { IsErrOf result StepFault.CountEnd
             → passes_end self.old (Datagram port from octets.now) ≡ true }
@@ -351,9 +314,6 @@ impl Gateway {
     #[inline(always)]
     pub fn tick(&mut self) -> Result<(), StepFault>
         ensures step { OnOk result (IsStep self.old Tick nothing self.new) }
-        ensures writes { OnOk result (WritesGoOn self.old Tick self.new) }
-        ensures tables { OnOk result (TablesGoOn self.old Tick self.new) }
-        ensures routes { OnOk result (RoutesGoOn self.old Tick self.new) }
         ensures count_end { IsErrOf result StepFault.CountEnd ↔ (passes_end self.old Tick ≡ true) }
         ensures refused { OnErr result (IsErrOf result StepFault.CountEnd) }
         ensures err { OnErr result (self.new ≡ self.old) }

@@ -33,7 +33,7 @@ returns-then-not-goes_on-clause-walked g c = λ rules stands.
     let m = message_view c.args.message.now in
     let off = sym c.in_ok-goes_on.ensures.goes_on ∙ c.if-not-goes_on.true in
     walked_like g.A.Asker.kept g.A.Asker.kept_of rules (cast_response rules m) (passed_response rules relay m) _ _ (asks_off relay m off)
-    (sends_off rules relay m off) (change_off rules m off) (c.in_ok-goes_on.ensures.walked rules stands)
+    (sends_off rules relay m off) (change_off rules m off) (c.in_ok-goes_on.ensures.turn rules stands)
 
 pub returns-clause-walked : goal.returns-clause-walked
 returns-clause-walked g c = λ rules stands.
@@ -42,9 +42,9 @@ returns-clause-walked g c = λ rules stands.
     let relay = c.args.relay.now in
     let m = message_view c.args.message.now in
     let on = sym c.in_ok-goes_on.ensures.goes_on ∙ c.if-not-goes_on.false in
-    let cast = c.in_ok-goes_on.ensures.walked rules stands in
+    let cast = c.in_ok-goes_on.ensures.turn rules stands in
     let then = c.in_ok-goes_on.ensures.stays rules stands in
-    let routed = c.in_ok-add_route.ensures.walked rules then in
+    let routed = c.in_ok-add_route.ensures.turn rules then in
     let managed = c.in_ok-add_managed.ensures.walked rules (c.in_ok-add_route.ensures.stays rules then) in
     let later = walked_both kept kept_of g.met.A.Asker.kept_both rules (route_response rules relay m) (manage_response rules relay m) _ _ _
     routed managed in

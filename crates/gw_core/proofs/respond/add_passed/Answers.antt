@@ -19,4 +19,4 @@ returns-then-is_plain-clause-walked g c = λ rules stands.
     let m = message_view c.args.message.now in
     let by = passes_by rules relay m (sym c.is_plain.ensures ∙ c.if-is_plain.true) in
     walked_like g.A.Asker.kept g.A.Asker.kept_of rules (route_response rules relay m) (passed_response rules relay m) _ _ by.asks by.sends
-    by.change (c.in_ok-add_route.ensures.walked rules stands)
+    by.change (c.in_ok-add_route.ensures.turn rules stands)

@@ -20,12 +20,3 @@ invariant_of-self-2 c =
       ticks = c.self.invariant.ticks;
       denials = omega (arith, c.requires.room, room);
     }
-
-pub returns-clause-writes : goal.returns-clause-writes
-returns-clause-writes c = rw (← c.self.view_is)
-    (λ configuration writes stand. c.commit_write.ensures.writes (defaults_of configuration) writes stand)
-
-pub returns-clause-routes : goal.returns-clause-routes
-returns-clause-routes c =
-    rw (← c.self.view_is) (λ configuration learned stand. c.in_ok-commit_change.ensures.routes (direct_of configuration)
-    (map routed_of configuration.routes) learned stand)

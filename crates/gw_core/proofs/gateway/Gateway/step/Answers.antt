@@ -8,7 +8,7 @@ use Rattle.gw_core.specs.State.{State, device_network}
 use Rattle.gw_core.specs.View.{received_view}
 use Rattle.gw_core.proofs.DenialLemmas.{asks_received, denials_received}
 use Rattle.gw_core.proofs.EffectLemmas.{change_received, effects_are, effects_received, move_received, passes_end-within, passes_end-denials, received_as, sends_received}
-use Rattle.gw_core.proofs.HistoryLemmas.{fault_of_call, moves_on, routes_go_on, tables_go_on, writes_go_on}
+use Rattle.gw_core.proofs.HistoryLemmas.{fault_of_call, moves_on}
 use Rattle.gw_core.proofs.SilenceLemmas.{unchanged}
 use Rattle.gw_core.proofs.gateway.Gateway.step.Goals as goal
 
@@ -17,9 +17,8 @@ returns-in_err-denials-clause-count_end c =
     let w = c.args.self.now in
     let event = Datagram c.args.port c.args.from c.args.octets.now in
     let received : received_view c.receive-received.result ≡ receive w event =
-    received_as w c.links.result.now c.network_of-network.result c.args.port c.args.from c.args.octets.now _ c.receive-received.ensures
-    (c.links.ensures ∙ ap (λ (s : State). s.relay.links) c.now.view_is)
-    (c.network_of-network.ensures ∙ ap (λ (s : State). device_network s.device) c.now.view_is) in
+    received_as w c.own_networks-own.result.ports.now c.own_networks-own.result.device c.args.port c.args.from c.args.octets.now _
+    c.receive-received.ensures c.own_networks-own.ensures.ports c.own_networks-own.ensures.device in
     let counted = denials_received w event (received_view c.receive-received.result) received in
     λ h.
     let same = fault_of_call c.from_residual.result c.in_err-denials.field-0.0 CountEnd c.from_residual.ensures.1 h in
@@ -30,9 +29,8 @@ returns-in_err-denials-clause-silent c = λ none.
     let w = c.args.self.now in
     let event = Datagram c.args.port c.args.from c.args.octets.now in
     let received : received_view c.receive-received.result ≡ receive w event =
-    received_as w c.links.result.now c.network_of-network.result c.args.port c.args.from c.args.octets.now _ c.receive-received.ensures
-    (c.links.ensures ∙ ap (λ (s : State). s.relay.links) c.now.view_is)
-    (c.network_of-network.ensures ∙ ap (λ (s : State). device_network s.device) c.now.view_is) in
+    received_as w c.own_networks-own.result.ports.now c.own_networks-own.result.device c.args.port c.args.from c.args.octets.now _
+    c.receive-received.ensures c.own_networks-own.ensures.ports c.own_networks-own.ensures.device in
     let ok = c.in_err-denials.ensures.silent (sym (asks_received w event _ received) ∙ none.0)
     (sym (sends_received w event _ received) ∙ none.1) in
     absurd cc
@@ -42,64 +40,27 @@ returns-clause-step c =
     let w = c.args.self.now in
     let event = Datagram c.args.port c.args.from c.args.octets.now in
     let received : received_view c.receive-received.result ≡ receive w event =
-    received_as w c.links.result.now c.network_of-network.result c.args.port c.args.from c.args.octets.now _ c.receive-received.ensures
-    (c.links.ensures ∙ ap (λ (s : State). s.relay.links) c.now.view_is)
-    (c.network_of-network.ensures ∙ ap (λ (s : State). device_network s.device) c.now.view_is) in
+    received_as w c.own_networks-own.result.ports.now c.own_networks-own.result.device c.args.port c.args.from c.args.octets.now _
+    c.receive-received.ensures c.own_networks-own.ensures.ports c.own_networks-own.ensures.device in
     let counted = denials_received w event (received_view c.receive-received.result) received in
     let ticks : w.ticks + 0 ≤ 2 ^ 63 = subst (λ (s : State). s.ticks + 0 ≤ 2 ^ 63) c.now.view_is (omega (arith, c.now.invariant.ticks)) in
     let sized = c.len.ensures ∙ ap length c.in_ok-denials.ensures.denials ∙ counted in
     record {
       effects = effects_are _ _ _ _ c.in_ok-denials.ensures.sends c.in_ok-denials.ensures.denials ∙ effects_received w event _ received;
       state = moves_on w _ c.args.port c.args.from c.args.octets.now
-          (option_map Commit c.outcome.new.given.change) c.in_ok-denials.field-0.write c.len.result c.in_ok-move_on.ensures.state
-          (move_received w c.args.port c.args.from c.args.octets.now _ c.outcome.new.given.change received c.in_ok-denials.ensures.change)
+          (option_map Commit c.outcome.new.turn.change) c.in_ok-denials.field-0.write c.len.result c.in_ok-move_on.ensures.state
+          (move_received w c.args.port c.args.from c.args.octets.now _ c.outcome.new.turn.change received c.in_ok-denials.ensures.change)
           (c.in_ok-denials.ensures.write ∙ change_received w event _ received) sized;
       counts = passes_end-within w event _ counted ticks (c.in_ok-denials.ensures.room refl);
     }
-
-pub returns-clause-writes : goal.returns-clause-writes
-returns-clause-writes c =
-    let w = c.args.self.now in
-    let event = Datagram c.args.port c.args.from c.args.octets.now in
-    let received : received_view c.receive-received.result ≡ receive w event =
-    received_as w c.links.result.now c.network_of-network.result c.args.port c.args.from c.args.octets.now _ c.receive-received.ensures
-    (c.links.ensures ∙ ap (λ (s : State). s.relay.links) c.now.view_is)
-    (c.network_of-network.ensures ∙ ap (λ (s : State). device_network s.device) c.now.view_is) in
-    writes_go_on w c.move_on.new.self event c.in_ok-denials.field-0.write
-    (c.in_ok-denials.ensures.write ∙ change_received w event _ received) c.in_ok-move_on.ensures.writes
-
-pub returns-clause-tables : goal.returns-clause-tables
-returns-clause-tables c =
-    let w = c.args.self.now in
-    let event = Datagram c.args.port c.args.from c.args.octets.now in
-    let received : received_view c.receive-received.result ≡ receive w event =
-    received_as w c.links.result.now c.network_of-network.result c.args.port c.args.from c.args.octets.now _ c.receive-received.ensures
-    (c.links.ensures ∙ ap (λ (s : State). s.relay.links) c.now.view_is)
-    (c.network_of-network.ensures ∙ ap (λ (s : State). device_network s.device) c.now.view_is) in
-    tables_go_on w c.move_on.new.self event (option_map Commit c.outcome.new.given.change)
-    (move_received w c.args.port c.args.from c.args.octets.now _ c.outcome.new.given.change received c.in_ok-denials.ensures.change)
-    c.in_ok-move_on.ensures.tables
-
-pub returns-clause-routes : goal.returns-clause-routes
-returns-clause-routes c =
-    let w = c.args.self.now in
-    let event = Datagram c.args.port c.args.from c.args.octets.now in
-    let received : received_view c.receive-received.result ≡ receive w event =
-    received_as w c.links.result.now c.network_of-network.result c.args.port c.args.from c.args.octets.now _ c.receive-received.ensures
-    (c.links.ensures ∙ ap (λ (s : State). s.relay.links) c.now.view_is)
-    (c.network_of-network.ensures ∙ ap (λ (s : State). device_network s.device) c.now.view_is) in
-    routes_go_on w c.move_on.new.self event (option_map Commit c.outcome.new.given.change)
-    (move_received w c.args.port c.args.from c.args.octets.now _ c.outcome.new.given.change received c.in_ok-denials.ensures.change)
-    c.in_ok-move_on.ensures.routes
 
 pub returns-in_err-move_on-clause-silent : goal.returns-in_err-move_on-clause-silent
 returns-in_err-move_on-clause-silent c = λ none.
     let w = c.args.self.now in
     let event = Datagram c.args.port c.args.from c.args.octets.now in
     let received : received_view c.receive-received.result ≡ receive w event =
-    received_as w c.links.result.now c.network_of-network.result c.args.port c.args.from c.args.octets.now _ c.receive-received.ensures
-    (c.links.ensures ∙ ap (λ (s : State). s.relay.links) c.now.view_is)
-    (c.network_of-network.ensures ∙ ap (λ (s : State). device_network s.device) c.now.view_is) in
+    received_as w c.own_networks-own.result.ports.now c.own_networks-own.result.device c.args.port c.args.from c.args.octets.now _
+    c.receive-received.ensures c.own_networks-own.ensures.ports c.own_networks-own.ensures.device in
     let ok = c.in_err-move_on.ensures.no_growth (c.in_ok-denials.ensures.change
     ∙ unchanged w.rules w.relay w.device _ (sym (asks_received w event _ received) ∙ none.0)) in
     absurd cc

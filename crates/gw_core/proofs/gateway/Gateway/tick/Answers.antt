@@ -1,11 +1,10 @@
 use Rattle.std.proofs.Common.{◌≡◌, ◌+◌, ◌^◌, ◌<◌, ◌≤◌, None, Some, true, false, refl, sym, ap, ◌∙◌, arith}
 use Rattle.gw_script.specs.Event.{Tick}
-use Rattle.gw_relay.specs.State as move
 use Rattle.gw_relay.specs.State.{Relay, later}
 use Rattle.gw_core.specs.Effects.{passes_end}
 use Rattle.gw_core.specs.State.{State}
 use Rattle.gw_core.proofs.EffectLemmas.{effects_at-tick, passes_end-within, passes_end-ticks, no_denials_at_tick}
-use Rattle.gw_core.proofs.HistoryLemmas.{moves_ticks, no_change_at_tick, move_at_tick, routes_go_on, tables_go_on, writes_go_on}
+use Rattle.gw_core.proofs.HistoryLemmas.{moves_ticks}
 use Rattle.gw_core.proofs.gateway.Gateway.tick.Goals as goal
 
 pub returns-then-self-clause-count_end : goal.returns-then-self-clause-count_end
@@ -38,41 +37,3 @@ returns-clause-count_end c =
     let goes : passes_end c.args.self.now Tick ≡ false = rw (← c.self.view_is)
     (passes_end-within _ Tick 0 (no_denials_at_tick _) ticks room) in
     (λ h. absurd cc, λ h. absurd cc)
-
-pub returns-clause-writes : goal.returns-clause-writes
-returns-clause-writes c =
-    let w : State = record {
-      relay = c.self.inside.relay;
-      device = c.self.inside.device;
-      rules = c.self.inside.policy;
-      ticks = c.self.inside.counts.ticks;
-      denials = c.self.inside.counts.denials;
-    } in
-    let v : State = record w { relay = c.tick.new.self; ticks = w.ticks + 1 } in
-    rw (← c.self.view_is) (writes_go_on w v Tick None (no_change_at_tick w) (λ configuration granted stood. stood))
-
-pub returns-clause-tables : goal.returns-clause-tables
-returns-clause-tables c =
-    let w : State = record {
-      relay = c.self.inside.relay;
-      device = c.self.inside.device;
-      rules = c.self.inside.policy;
-      ticks = c.self.inside.counts.ticks;
-      denials = c.self.inside.counts.denials;
-    } in
-    let v : State = record w { relay = c.tick.new.self; ticks = w.ticks + 1 } in
-    rw (← c.self.view_is) (tables_go_on w v Tick (Some move.Tick) (move_at_tick w)
-    (λ configuration acts stood. c.tick.ensures.stands _ acts stood))
-
-pub returns-clause-routes : goal.returns-clause-routes
-returns-clause-routes c =
-    let same = ap (λ (r : Relay). r.routes) c.tick.ensures.later in
-    let w : State = record {
-      relay = c.self.inside.relay;
-      device = c.self.inside.device;
-      rules = c.self.inside.policy;
-      ticks = c.self.inside.counts.ticks;
-      denials = c.self.inside.counts.denials;
-    } in
-    let v : State = record w { relay = c.tick.new.self; ticks = w.ticks + 1 } in
-    rw (← c.self.view_is) (routes_go_on w v Tick (Some move.Tick) (move_at_tick w) (λ configuration learned stood. same ∙ stood))
