@@ -22,7 +22,7 @@ use crate::respond::{network_of, pass_on};
 use gw_addr::{Source, put_decimal, put_octet, put_slice};
 use gw_audit::put_ask;
 use gw_device::{Asks, Device, NoRules, put_refused};
-use gw_relay::{Message, Relay, RelayResponse};
+use gw_relay::{Message, Relay, RelayResponse, TableMessage};
 use gw_rule_index::Policy;
 use gw_rules::{Ask, Judge, RuleList};
 use std::alloc::{AllocError, Global};
@@ -123,7 +123,12 @@ fn put_asks<J: Judge>(
         Received::Dropped => Ok(()),
         Received::Managed { on, from, frame } => {
             let mut linked = RelayResponse::nothing(alloc);
-            relay.link(alloc, &NoRules, on, *from, frame, &mut linked)?;
+            let message = TableMessage {
+                here: on,
+                from: *from,
+                frame,
+            };
+            relay.link(alloc, &NoRules, &message, &mut linked)?;
             put_response_asks(asks, linked)
         }
         Received::Message(message) => {

@@ -313,7 +313,7 @@ impl Gateway {
         let mut npdu = Err(NpduFault::Short);
         read_npdu(&frame, &mut npdu);
         let received = receive(
-            now.relay.links(),
+            now.relay.ports(),
             network,
             port,
             from,
@@ -350,7 +350,7 @@ impl Gateway {
         let mut npdu = Err(NpduFault::Short);
         read_npdu(&frame, &mut npdu);
         let received = receive(
-            self.relay.links(),
+            self.relay.ports(),
             network,
             port,
             from,

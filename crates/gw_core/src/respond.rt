@@ -25,7 +25,7 @@ use gw_addr::{BipAddr, NetNum};
 use gw_bvll::Bvll;
 use gw_device::{Change, Device, Reply};
 use gw_npdu::Payload;
-use gw_relay::{Message, PortState, Relay, RelayResponse, put_refusals};
+use gw_relay::{Message, PortState, Relay, RelayResponse, TableMessage, add_refusals};
 use gw_rules::Judge;
 use std::alloc::{AllocError, Global};
 
@@ -156,7 +156,7 @@ fn answer_apdu<J: Judge>(
         change,
     } = device.answer(alloc, judge, &context, apdu)?;
     put_answer(alloc, network, message, answer, &mut given.sends)?;
-    put_refusals(&mut given.refusals, refusals)?;
+    add_refusals(&mut given.refusals, refusals)?;
     Ok(change)
 }
 
@@ -204,7 +204,9 @@ fn respond_to_managed<J: Judge>(
         let due = managed on.now from (frame_view frame.now) in
         asks_for rules relay.now device due ≡ [] → IsOk result }
 {
-    relay.link(alloc, judge, on, from, frame, given)?;
+    let here = on;
+    let message = TableMessage { here, from, frame };
+    relay.link(alloc, judge, &message, given)?;
     Ok(None)
 }
 

@@ -20,8 +20,8 @@ returns-clause-ok c =
     } in
     let event = Datagram c.args.port c.args.from c.args.octets.now in
     let received : received_view c.receive-received.result ≡ receive w event =
-    received_as w c.links.result.now c.network_of-network.result c.args.port c.args.from c.args.octets.now _ c.receive-received.ensures
-    c.links.ensures c.network_of-network.ensures in
+    received_as w c.ports.result.now c.network_of-network.result c.args.port c.args.from c.args.octets.now _ c.receive-received.ensures
+    c.ports.ensures c.network_of-network.ensures in
     rw (← c.self.view_is) (on_ok_weaker c.append_asks.result (λ added.
     added ∙ ap (λ (t : List ℕ). c.args.out.now.items ++ t) (text_received w event _ received))
     c.append_asks.ensures.ok)
@@ -37,7 +37,7 @@ returns-clause-silent c =
     } in
     let event = Datagram c.args.port c.args.from c.args.octets.now in
     let received : received_view c.receive-received.result ≡ receive w event =
-    received_as w c.links.result.now c.network_of-network.result c.args.port c.args.from c.args.octets.now _ c.receive-received.ensures
-    c.links.ensures c.network_of-network.ensures in
+    received_as w c.ports.result.now c.network_of-network.result c.args.port c.args.from c.args.octets.now _ c.receive-received.ensures
+    c.ports.ensures c.network_of-network.ensures in
     rw (← c.self.view_is) (λ none. c.append_asks.ensures.silent (sym (asks_received w event _ received) ∙ none.0)
     (sym (sends_received w event _ received) ∙ none.1))

@@ -17,8 +17,8 @@ returns-in_err-denials-clause-count_end c =
     let w = c.args.self.now in
     let event = Datagram c.args.port c.args.from c.args.octets.now in
     let received : received_view c.receive-received.result ≡ receive w event =
-    received_as w c.links.result.now c.network_of-network.result c.args.port c.args.from c.args.octets.now _ c.receive-received.ensures
-    (c.links.ensures ∙ ap (λ (s : State). s.relay.links) c.now.view_is)
+    received_as w c.ports.result.now c.network_of-network.result c.args.port c.args.from c.args.octets.now _ c.receive-received.ensures
+    (c.ports.ensures ∙ ap (λ (s : State). s.relay.links) c.now.view_is)
     (c.network_of-network.ensures ∙ ap (λ (s : State). device_network s.device) c.now.view_is) in
     let counted = denials_received w event (received_view c.receive-received.result) received in
     λ h.
@@ -30,8 +30,8 @@ returns-in_err-denials-clause-silent c = λ none.
     let w = c.args.self.now in
     let event = Datagram c.args.port c.args.from c.args.octets.now in
     let received : received_view c.receive-received.result ≡ receive w event =
-    received_as w c.links.result.now c.network_of-network.result c.args.port c.args.from c.args.octets.now _ c.receive-received.ensures
-    (c.links.ensures ∙ ap (λ (s : State). s.relay.links) c.now.view_is)
+    received_as w c.ports.result.now c.network_of-network.result c.args.port c.args.from c.args.octets.now _ c.receive-received.ensures
+    (c.ports.ensures ∙ ap (λ (s : State). s.relay.links) c.now.view_is)
     (c.network_of-network.ensures ∙ ap (λ (s : State). device_network s.device) c.now.view_is) in
     let ok = c.in_err-denials.ensures.silent (sym (asks_received w event _ received) ∙ none.0)
     (sym (sends_received w event _ received) ∙ none.1) in
@@ -42,8 +42,8 @@ returns-clause-step c =
     let w = c.args.self.now in
     let event = Datagram c.args.port c.args.from c.args.octets.now in
     let received : received_view c.receive-received.result ≡ receive w event =
-    received_as w c.links.result.now c.network_of-network.result c.args.port c.args.from c.args.octets.now _ c.receive-received.ensures
-    (c.links.ensures ∙ ap (λ (s : State). s.relay.links) c.now.view_is)
+    received_as w c.ports.result.now c.network_of-network.result c.args.port c.args.from c.args.octets.now _ c.receive-received.ensures
+    (c.ports.ensures ∙ ap (λ (s : State). s.relay.links) c.now.view_is)
     (c.network_of-network.ensures ∙ ap (λ (s : State). device_network s.device) c.now.view_is) in
     let counted = denials_received w event (received_view c.receive-received.result) received in
     let ticks : w.ticks + 0 ≤ 2 ^ 63 = subst (λ (s : State). s.ticks + 0 ≤ 2 ^ 63) c.now.view_is (omega (arith, c.now.invariant.ticks)) in
@@ -62,8 +62,8 @@ returns-clause-writes c =
     let w = c.args.self.now in
     let event = Datagram c.args.port c.args.from c.args.octets.now in
     let received : received_view c.receive-received.result ≡ receive w event =
-    received_as w c.links.result.now c.network_of-network.result c.args.port c.args.from c.args.octets.now _ c.receive-received.ensures
-    (c.links.ensures ∙ ap (λ (s : State). s.relay.links) c.now.view_is)
+    received_as w c.ports.result.now c.network_of-network.result c.args.port c.args.from c.args.octets.now _ c.receive-received.ensures
+    (c.ports.ensures ∙ ap (λ (s : State). s.relay.links) c.now.view_is)
     (c.network_of-network.ensures ∙ ap (λ (s : State). device_network s.device) c.now.view_is) in
     writes_go_on w c.move_on.new.self event c.in_ok-denials.field-0.write
     (c.in_ok-denials.ensures.write ∙ change_received w event _ received) c.in_ok-move_on.ensures.writes
@@ -73,8 +73,8 @@ returns-clause-tables c =
     let w = c.args.self.now in
     let event = Datagram c.args.port c.args.from c.args.octets.now in
     let received : received_view c.receive-received.result ≡ receive w event =
-    received_as w c.links.result.now c.network_of-network.result c.args.port c.args.from c.args.octets.now _ c.receive-received.ensures
-    (c.links.ensures ∙ ap (λ (s : State). s.relay.links) c.now.view_is)
+    received_as w c.ports.result.now c.network_of-network.result c.args.port c.args.from c.args.octets.now _ c.receive-received.ensures
+    (c.ports.ensures ∙ ap (λ (s : State). s.relay.links) c.now.view_is)
     (c.network_of-network.ensures ∙ ap (λ (s : State). device_network s.device) c.now.view_is) in
     tables_go_on w c.move_on.new.self event (option_map Commit c.outcome.new.given.change)
     (move_received w c.args.port c.args.from c.args.octets.now _ c.outcome.new.given.change received c.in_ok-denials.ensures.change)
@@ -85,8 +85,8 @@ returns-clause-routes c =
     let w = c.args.self.now in
     let event = Datagram c.args.port c.args.from c.args.octets.now in
     let received : received_view c.receive-received.result ≡ receive w event =
-    received_as w c.links.result.now c.network_of-network.result c.args.port c.args.from c.args.octets.now _ c.receive-received.ensures
-    (c.links.ensures ∙ ap (λ (s : State). s.relay.links) c.now.view_is)
+    received_as w c.ports.result.now c.network_of-network.result c.args.port c.args.from c.args.octets.now _ c.receive-received.ensures
+    (c.ports.ensures ∙ ap (λ (s : State). s.relay.links) c.now.view_is)
     (c.network_of-network.ensures ∙ ap (λ (s : State). device_network s.device) c.now.view_is) in
     routes_go_on w c.move_on.new.self event (option_map Commit c.outcome.new.given.change)
     (move_received w c.args.port c.args.from c.args.octets.now _ c.outcome.new.given.change received c.in_ok-denials.ensures.change)
@@ -97,8 +97,8 @@ returns-in_err-move_on-clause-silent c = λ none.
     let w = c.args.self.now in
     let event = Datagram c.args.port c.args.from c.args.octets.now in
     let received : received_view c.receive-received.result ≡ receive w event =
-    received_as w c.links.result.now c.network_of-network.result c.args.port c.args.from c.args.octets.now _ c.receive-received.ensures
-    (c.links.ensures ∙ ap (λ (s : State). s.relay.links) c.now.view_is)
+    received_as w c.ports.result.now c.network_of-network.result c.args.port c.args.from c.args.octets.now _ c.receive-received.ensures
+    (c.ports.ensures ∙ ap (λ (s : State). s.relay.links) c.now.view_is)
     (c.network_of-network.ensures ∙ ap (λ (s : State). device_network s.device) c.now.view_is) in
     let ok = c.in_err-move_on.ensures.no_growth (c.in_ok-denials.ensures.change
     ∙ unchanged w.rules w.relay w.device _ (sym (asks_received w event _ received) ∙ none.0)) in
