@@ -90,8 +90,8 @@ pub(crate) fn report_of(start: Counts, gateway: &Gateway, served: &Served) -> Re
         sends: served.sends,
         send_failures: served.send_failures,
         receive_failures: served.recv_failures,
-        registrations: registrations(relay.links()),
-        peers: peer_count(relay.links()),
+        registrations: registrations(relay.ports()),
+        peers: peer_count(relay.ports()),
         learned_routes: relay.routes().learned_count() as u64,
     }
 }

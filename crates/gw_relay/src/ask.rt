@@ -1,11 +1,10 @@
 //! What is asked of the policy.
 
-ghost use Rattle.std.specs.Prelude.{◌≡◌, Some};
+ghost use Rattle.std.specs.Prelude.{◌≡◌};
 ghost use Rattle.std.specs.Option.{option_map};
-ghost use Rattle.gw_addr.specs.Station.{key_of};
 ghost use Rattle.gw_bvll.specs.Bvll.{view as frame_view};
 ghost use Rattle.gw_npdu.specs.Npdu.{view as npdu_view, payload_view};
-ghost use Rattle.gw_relay.specs.Asks.{bound_for, link_ask, management_of, service_of};
+ghost use Rattle.gw_relay.specs.Asks.{bound_for, link_ask, management_of, message_ask, service_of};
 ghost use Rattle.gw_relay.specs.Message.{message_view};
 
 use crate::message::Message;
@@ -61,20 +60,20 @@ pub(crate) fn bound_for(npdu: &Npdu<'_>) -> Option<u64>
     }
 }
 
-/// Sets in an ask whom a message comes from, what it is, and the network that it goes to, if it does.
-pub(crate) fn set_message_fields(ask: &mut Ask, message: &Message<'_>, destination: Option<u64>)
-    ensures { let m = message_view message.now in
-        ask.new ≡ record ask.old {
-          port = Some m.here.port.number;
-          source_network = Some m.claim.net;
-          source_key = key_of m.claim.mac;
-          destination_network = destination;
-          service = service_of m.npdu.payload;
-        } }
-{
-    ask.port = Some(u64::from(message.here.port.number));
-    ask.source_network = Some(u64::from(message.source_network()));
-    ask.source_key = message.source_key();
-    ask.destination_network = destination;
-    ask.service = service_of(&message.npdu.payload);
+impl Message<'_> {
+    /// The ask of a message that goes to that network, if it names one: it comes from the source that
+    /// the message claims.
+    #[inline(always)]
+    pub(crate) fn ask(&self, operation: Operation, destination: Option<u64>) -> Ask
+        ensures { result ≡ message_ask operation (message_view self.now) destination }
+    {
+        Ask {
+            port: Some(u64::from(self.here.port.number)),
+            source_network: Some(u64::from(self.source_network())),
+            source_key: self.source_key(),
+            destination_network: destination,
+            service: service_of(&self.npdu.payload),
+            ..Ask::new(operation)
+        }
+    }
 }

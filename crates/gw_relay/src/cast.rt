@@ -15,7 +15,7 @@ ghost use Rattle.gw_relay.specs.Sends.{sendings_of, sent};
 ghost use Rattle.gw_relay.specs.internal.Rooms.{broadcast_npdu};
 ghost use Rattle.gw_relay.specs.internal.Serving.{judged};
 
-use crate::ask::{bound_for, set_message_fields};
+use crate::ask::bound_for;
 use crate::message::Message;
 use crate::octets::message_octets;
 use crate::outgoing::Outgoing;
@@ -25,7 +25,7 @@ use crate::sends::{Batch, Sends};
 use crate::turn::Turn;
 use gw_addr::{BdtEntry, BipAddr};
 use gw_bvll::Bvll;
-use gw_rules::{Ask, Asker, Operation};
+use gw_rules::{Asker, Operation};
 use std::alloc::{AllocError, Global};
 
 /// How many octets of a Forwarded-NPDU stand before its NPDU (Annex J.2.5).
@@ -370,8 +370,7 @@ impl Message<'_> {
         if !is_broadcast(self.frame) {
             return Ok(());
         }
-        let mut ask = Ask::new(Operation::Cast);
-        set_message_fields(&mut ask, self, bound_for(self.npdu));
+        let ask = self.ask(Operation::Cast, bound_for(self.npdu));
         let is_allowed = turn.asker.authorize(&ask)?;
         let here = self.here;
         here.add_judged(self.from, self.frame, is_allowed, &mut turn.sends)?;

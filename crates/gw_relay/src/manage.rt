@@ -1,10 +1,9 @@
 //! Network layer messages that a router answers or learns from (clauses 6.4.1, 6.4.2, 6.4.19,
 //! 6.4.20).
 
-ghost use Rattle.std.specs.Prelude.{◌≡◌, ◌++◌, ◌∷◌, [], List, map, nat_le, true, false, None, IfOk, IsOk, OnErr, OnOk};
+ghost use Rattle.std.specs.Prelude.{◌≡◌, ◌++◌, ◌∷◌, [], List, map, nat_le, true, false, None, Some, IfOk, IsOk, OnErr, OnOk};
 ghost use Rattle.gw_npdu.specs.Npdu.{view as npdu_view};
 ghost use Rattle.gw_rules.specs.declared.rule.Rule.{Rule};
-ghost use Rattle.gw_relay.specs.Asks.{message_ask};
 ghost use Rattle.gw_relay.specs.Manage.{answer_steps, answer_who_is_router, are_networks, is_for_all, is_i_am_router, is_what_is_network_number, is_who_is_router, i_am_router, keep_allowed, learn_ask, manage_asks, manage_response, network_number_is, network_octets, networks_in, number_step, question_of, question_of_all, question_steps};
 ghost use Rattle.gw_relay.specs.Message.{message_view};
 ghost use Rattle.gw_relay.specs.Turn.{IsWalked};
@@ -14,7 +13,6 @@ ghost use Rattle.gw_relay.specs.internal.Serving.{learn_response};
 ghost use Rattle.gw_relay.specs.internal.Taken.{AreTaken};
 ghost use Rattle.gw_npdu.specs.Kind.{kind_number};
 
-use crate::ask::set_message_fields;
 use crate::change::Change;
 use crate::message::Message;
 use crate::npdu::{is_kind, message_of};
@@ -26,7 +24,7 @@ use crate::turn::Turn;
 use gw_addr::{NetNum, Sequence, put_number};
 use gw_npdu::{AddressRef, Destination, MessageKind, Npdu};
 use gw_routes::Way;
-use gw_rules::{Ask, Asker, Operation};
+use gw_rules::{Asker, Operation};
 use std::alloc::AllocError;
 
 /// The number of a network is configured, not learned (clause 6.4.20).
@@ -84,17 +82,11 @@ fn is_what_is_network_number(npdu: &Npdu<'_>) -> bool
         && npdu.payload.octets().is_empty()
 }
 
-/// The ask of a network layer message, of a network where it names one.
-fn ask_of(operation: Operation, message: &Message<'_>, network: Option<NetNum>) -> Ask
-    ensures { result ≡ message_ask operation (message_view message.now) network }
+/// The network of an ask that names one.
+fn asked_for(network: NetNum) -> Option<u64>
+    ensures { result ≡ Some network }
 {
-    let destination = match network {
-        Some(network) => Some(u64::from(network.get())),
-        None => None,
-    };
-    let mut ask = Ask::new(operation);
-    set_message_fields(&mut ask, message, destination);
-    ask
+    Some(u64::from(network.get()))
 }
 
 /// Appends networks, each two octets.
@@ -163,7 +155,7 @@ impl Message<'_> {
             OnOk result (AreTaken A.kept A.kept_of rules (step ∷ []) turn.old turn.new) }
         ensures stays { (rules : List Rule) → A.StandsFor turn.old.asker rules → A.StandsFor turn.new.asker rules }
     {
-        let ask = ask_of(Operation::Network, self, None);
+        let ask = self.ask(Operation::Network, None);
         if turn.asker.authorize(&ask)? {
             self.here.add_number_is(&mut turn.sends)
         } else {
@@ -191,7 +183,7 @@ impl Message<'_> {
             return Ok(());
         };
         let network = NetNum::new(u16::from_be_bytes([*high, *low])).unwrap();
-        let ask = ask_of(Operation::Learn, self, Some(network));
+        let ask = self.ask(Operation::Learn, asked_for(network));
         if asker.authorize(&ask)? {
             networks.push(network)?;
         }
@@ -272,7 +264,7 @@ impl Relay {
             OnOk result (AreTaken A.kept A.kept_of rules (step ∷ []) turn.old turn.new) }
         ensures stays { (rules : List Rule) → A.StandsFor turn.old.asker rules → A.StandsFor turn.new.asker rules }
     {
-        let ask = ask_of(Operation::Network, message, Some(network));
+        let ask = message.ask(Operation::Network, asked_for(network));
         if !turn.asker.authorize(&ask)? {
             return Ok(());
         }
@@ -291,7 +283,7 @@ impl Relay {
             OnOk result (AreTaken A.kept A.kept_of rules (step ∷ []) turn.old turn.new) }
         ensures stays { (rules : List Rule) → A.StandsFor turn.old.asker rules → A.StandsFor turn.new.asker rules }
     {
-        let ask = ask_of(Operation::Network, message, None);
+        let ask = message.ask(Operation::Network, None);
         if !turn.asker.authorize(&ask)? {
             return Ok(());
         }

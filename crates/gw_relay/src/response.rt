@@ -3,7 +3,7 @@
 ghost use Rattle.std.specs.Prelude.{◌≡◌, ◌++◌, [], None, IsOk, OnErr, OnOk, length, take};
 ghost use Rattle.std.specs.Option.{option_or};
 
-use crate::change::Change;
+use crate::change::{Change, set_change};
 use crate::sends::Sends;
 use crate::turn::Turn;
 use gw_rules::{Authorizer, Judge, Refusal, Refusals};
@@ -34,18 +34,6 @@ impl RelayResponse {
         }
     }
 
-    /// Keeps what is to be committed, where there is nothing yet.
-    #[inline(always)]
-    pub(crate) fn set_change(&mut self, change: Option<Change>)
-        ensures sends { self.new.sends ≡ self.old.sends }
-        ensures refusals { self.new.refusals ≡ self.old.refusals }
-        ensures change { self.new.change ≡ option_or self.old.change change }
-    {
-        if self.change.is_none() {
-            self.change = change;
-        }
-    }
-
     /// Adds what a turn sends, what was denied to it, and what it changes. An `Err` if there is no memory
     /// for it: all is as before.
     pub(crate) fn add_turn<J: Judge>(
@@ -59,7 +47,7 @@ impl RelayResponse {
         ensures silent { turn.entry.sends ≡ [] → turn.entry.asker.denied ≡ [] → IsOk result }
     {
         self.add(turn.sends, turn.asker.into_refusals())?;
-        self.set_change(turn.change);
+        set_change(&mut self.change, turn.change);
         Ok(())
     }
 
@@ -86,7 +74,7 @@ impl RelayResponse {
 /// Adds refusals behind others. An `Err` where there is no memory for the list: it is as before. Where
 /// there are none to add, or were none before, it takes no memory.
 #[inline(always)]
-fn add_refusals(refusals: &mut Refusals, later: Refusals) -> Result<(), AllocError>
+pub fn add_refusals(refusals: &mut Refusals, later: Refusals) -> Result<(), AllocError>
     ensures ok { OnOk result (refusals.new ≡ refusals.old ++ later) }
     ensures err { OnErr result (refusals.new ≡ refusals.old) }
     ensures silent { later ≡ [] → IsOk result }

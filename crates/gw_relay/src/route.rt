@@ -11,7 +11,7 @@ ghost use Rattle.gw_relay.specs.Route.{copy, copy_to_port, delivered, forward, h
 ghost use Rattle.gw_relay.specs.Steps.{asks_of, broadcast, npdu_octets, unicast};
 ghost use Rattle.gw_relay.specs.internal.Taken.{AreTaken};
 
-use crate::ask::{bound_for, set_message_fields};
+use crate::ask::bound_for;
 use crate::message::Message;
 use crate::named::authorize_forward;
 use crate::npdu::{add_unicast, is_kind, message_of};
@@ -22,7 +22,7 @@ use crate::sends::Sends;
 use crate::turn::Turn;
 use gw_npdu::{AddressRef, Destination, MessageKind, Npdu, Onward, Payload};
 use gw_routes::{Route, Way};
-use gw_rules::{Ask, Asker, Operation};
+use gw_rules::{Asker, Operation};
 use std::alloc::{AllocError, Global};
 
 /// The hop count that a message begins with (clause 6.2.3).
@@ -285,8 +285,7 @@ impl Relay {
         ensures stays { (rules : List Rule) → A.StandsFor turn.old.asker rules → A.StandsFor turn.new.asker rules }
     {
         let network = Some(u64::from(port.port.network.get()));
-        let mut ask = Ask::new(Operation::Route);
-        set_message_fields(&mut ask, message, network);
+        let ask = message.ask(Operation::Route, network);
         let format = self.format();
         if authorize_forward(&mut turn.asker, format, &ask, &message.npdu.payload)? {
             message.copy_to_port(destination, port, &mut turn.sends)
@@ -309,8 +308,7 @@ impl Relay {
             OnOk result (AreTaken A.kept A.kept_of rules (step ∷ []) turn.old turn.new) }
         ensures stays { (rules : List Rule) → A.StandsFor turn.old.asker rules → A.StandsFor turn.new.asker rules }
     {
-        let mut ask = Ask::new(Operation::Route);
-        set_message_fields(&mut ask, message, bound_for(message.npdu));
+        let ask = message.ask(Operation::Route, bound_for(message.npdu));
         let format = self.format();
         if authorize_forward(&mut turn.asker, format, &ask, &message.npdu.payload)? {
             self.forward(message, destination, way, &mut turn.sends)

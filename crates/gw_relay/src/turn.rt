@@ -3,7 +3,7 @@
 ghost use Rattle.std.specs.Prelude.{◌≡◌, [], None};
 ghost use Rattle.std.specs.Option.{option_or};
 
-use crate::change::Change;
+use crate::change::{Change, set_change};
 use crate::sends::Sends;
 use gw_rules::Asker;
 use std::alloc::Global;
@@ -41,15 +41,13 @@ impl<A: Asker> Turn<A> {
         self.sends.alloc()
     }
 
-    /// Keeps what is to be committed, where there is nothing yet.
+    /// Keeps what is to be committed, if there is nothing yet.
     #[inline(always)]
     pub(crate) fn set_change(&mut self, change: Option<Change>)
         ensures asker { self.new.asker ≡ self.old.asker }
         ensures sends { self.new.sends ≡ self.old.sends }
         ensures change { self.new.change ≡ option_or self.old.change change }
     {
-        if self.change.is_none() {
-            self.change = change;
-        }
+        set_change(&mut self.change, change);
     }
 }

@@ -24,7 +24,7 @@ returns-clause-turn g c = λ rules stands.
     let heard = goes_on_accepted m c.requires in
     let known = goes_on_registered m c.requires in
     let broadcast = sym c.is_broadcast.ensures ∙ c.if-not-is_broadcast.false in
-    let own : c.set_message_fields.new.ask ≡ cast_ask m = rw (c.set_message_fields.ensures, c.new-ask.ensures, c.bound_for.ensures) refl in
+    let own : c.ask-ask.result ≡ cast_ask m = rw (c.ask-ask.ensures, c.bound_for.ensures) refl in
     let judges = c.in_ok-is_allowed.ensures.answer rules stands ∙ ap (allows rules) own in
     let asked = c.in_ok-is_allowed.ensures.kept rules stands
     ∙ ap (λ (ask : Ask). g.A.Asker.kept turn.asker ++ g.A.Asker.kept_of rules (ask ∷ [])) own in record {
