@@ -14,10 +14,10 @@ use Rattle.gw_rules.specs.declared.rule.Rule.{Rule}
 use Rattle.gw_rules.specs.declared.verdict.Verdict.{Verdict}
 
 -- what is kept of no asks, and of asks that are put one after the other, as the laws of an asker say
-pub abbrev KeepsNone : (List Rule → List Ask → List Verdict) → Type 0
+abbrev pub KeepsNone : (List Rule → List Ask → List Verdict) → Type 0
 KeepsNone kept_of = (rules : List Rule) → kept_of rules [] ≡ []
 
-pub abbrev KeepsBoth : (List Rule → List Ask → List Verdict) → Type 0
+abbrev pub KeepsBoth : (List Rule → List Ask → List Verdict) → Type 0
 KeepsBoth kept_of = (rules : List Rule) (one two : List Ask) → kept_of rules (one ++ two) ≡ kept_of rules one ++ kept_of rules two
 
 either : (x y z : Option Change) → option_or (option_or x y) z ≡ option_or x (option_or y z)

@@ -24,7 +24,7 @@ use gw_audit::Denials;
 use gw_configuration::Config;
 use gw_device::{Change, Device};
 use gw_npdu::NpduFault;
-use gw_relay::{Change as RelayChange, Relay, Turn};
+use gw_relay::{Change as RelayChange, Relay, Sends, Turn};
 use gw_rule_index::Policy;
 use gw_rules::{Authorizer, Recorder};
 use std::alloc::{AllocError, Global};
@@ -33,11 +33,12 @@ use std::marker::Model;
 /// Where each count of a gateway ends.
 const LAST_COUNT: u64 = 1 << 63;
 
-/// What is done about a datagram beside what its turn has: the policy's denials, and the write to the
-/// device, if it is granted one.
+/// What is done about a datagram: what is sent, the policy's denials, and the changes that are granted.
 #[derive(Drop)]
 struct Outcome {
+    sends: Sends,
     denials: Denials,
+    change: Option<RelayChange>,
     write: Option<Change>,
 }
 
@@ -178,28 +179,18 @@ impl Gateway {
         }
     }
 
-    /// What is done about what is received, while the gateway stays as it is: what is sent and what the
-    /// relay is to commit is added to a turn that has nothing. The faults are those of
+    /// What is done about what is received, while the gateway stays as it is. The faults are those of
     /// [`Gateway::step`].
     #[inline(always)]
-    fn outcome(
-        &self,
-        alloc: Global,
-        received: &Received<'_>,
-        turn: &mut Turn<Authorizer<'_, Policy>>,
-    ) -> Result<Outcome, StepFault>
-        requires counted { self.now.denials ≤ 2 ^ 63 }
-        requires judge { turn.old.asker.judge ≡ self.now.rules }
-        requires denied { turn.old.asker.denied ≡ [] }
-        requires sends { turn.old.sends ≡ [] }
-        requires change { turn.old.change ≡ None }
+    fn outcome(&self, alloc: Global, received: &Received<'_>) -> Result<Outcome, StepFault>
+        requires { self.now.denials ≤ 2 ^ 63 }
         ensures sends { let received = received_view received.now in
             let due = sends_for self.now.rules self.now.relay self.now.device received in
-            OnOk result (turn.new.sends ≡ due) }
+            IfOk result (λ outcome. outcome.sends ≡ due) }
         ensures denials { let due = denials_for self.now (received_view received.now) in
             IfOk result (λ outcome. outcome.denials ≡ due) }
-        ensures change { let received = received_view received.now in
-            OnOk result (turn.new.change ≡ relay_change_for self.now.rules received) }
+        ensures change { let due = relay_change_for self.now.rules (received_view received.now) in
+            IfOk result (λ outcome. outcome.change ≡ due) }
         ensures write { let received = received_view received.now in
             let due = change_for self.now.rules self.now.device received in
             IfOk result (λ outcome. outcome.write ≡ due) }
@@ -212,14 +203,20 @@ impl Gateway {
             asks_for self.now.rules self.now.relay self.now.device received ≡ [] →
             sends_for self.now.rules self.now.relay self.now.device received ≡ [] → IsOk result }
     {
-        let write = respond(&self.relay, &self.device, received, turn)?;
-        let refusals = turn.asker.refusals();
+        let mut turn = Turn::new(Authorizer::new(alloc, &self.policy));
+        let write = respond(&self.relay, &self.device, received, &mut turn)?;
+        let refusals = turn.asker.into_refusals();
         if refusals.len() as u64 > self.left() {
             return Err(StepFault::CountEnd);
         }
         let rules = self.policy.rules();
-        let denials = denials_of(alloc, rules, self.counts, received, refusals)?;
-        Ok(Outcome { denials, write })
+        let denials = denials_of(alloc, rules, self.counts, received, refusals.as_slice())?;
+        Ok(Outcome {
+            sends: turn.sends,
+            denials,
+            change: turn.change,
+            write,
+        })
     }
 
     /// Moves on by a datagram: makes its change of the relay and its write to the device, where there
@@ -278,9 +275,12 @@ impl Gateway {
         read_npdu(&frame, &mut npdu);
         let own = now.own_networks();
         let received = receive(&own, &arrival, &frame, &npdu);
-        let mut turn = Turn::new(Authorizer::new(alloc, &now.policy));
-        let Outcome { denials, write } = now.outcome(alloc, &received, &mut turn)?;
-        let Turn { sends, change, .. } = turn;
+        let Outcome {
+            sends,
+            denials,
+            change,
+            write,
+        } = now.outcome(alloc, &received)?;
         self.move_on(change, write, denials.len() as u64)?;
         Ok(Effects { sends, denials })
     }

@@ -36,6 +36,7 @@ pub(crate) struct Arrival<'a> {
 }
 
 /// The networks that the gateway itself is on.
+#[derive(Clone, Copy)]
 pub(crate) struct OwnNetworks<'a> {
     /// The ports with their tables, in order.
     pub ports: &'a [PortState],

@@ -44,11 +44,13 @@ pub(crate) trait Telling {
 }
 
 /// By what it does.
+#[derive(Clone, Copy)]
 pub(crate) struct Plain {
     pub alloc: Global,
 }
 
 /// By what it asks, and then by what it does.
+#[derive(Clone, Copy)]
 pub(crate) struct Explaining {
     pub alloc: Global,
 }

@@ -48,8 +48,8 @@ returns-clause-step c =
     record {
       effects = effects_are _ _ _ _ c.in_ok-denials.ensures.sends c.in_ok-denials.ensures.denials ∙ effects_received w event _ received;
       state = moves_on w _ c.args.port c.args.from c.args.octets.now
-          (option_map Commit c.outcome.new.turn.change) c.in_ok-denials.field-0.write c.len.result c.in_ok-move_on.ensures.state
-          (move_received w c.args.port c.args.from c.args.octets.now _ c.outcome.new.turn.change received c.in_ok-denials.ensures.change)
+          (option_map Commit c.in_ok-denials.field-0.change) c.in_ok-denials.field-0.write c.len.result c.in_ok-move_on.ensures.state
+          (move_received w c.args.port c.args.from c.args.octets.now _ c.in_ok-denials.field-0.change received c.in_ok-denials.ensures.change)
           (c.in_ok-denials.ensures.write ∙ change_received w event _ received) sized;
       counts = passes_end-within w event _ counted ticks (c.in_ok-denials.ensures.room refl);
     }
