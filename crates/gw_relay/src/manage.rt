@@ -1,7 +1,7 @@
 //! Network layer messages that a router answers or learns from (clauses 6.4.1, 6.4.2, 6.4.19,
 //! 6.4.20).
 
-ghost use Rattle.std.specs.Prelude.{◌≡◌, ◌++◌, ◌∷◌, [], List, map, nat_le, true, false, None, Some, IfOk, IsOk, OnErr, OnOk};
+ghost use Rattle.std.specs.Prelude.{◌≡◌, ◌++◌, ◌∷◌, [], List, map, nat_le, true, false, None, IfOk, IsOk, OnErr, OnOk};
 ghost use Rattle.gw_npdu.specs.Npdu.{view as npdu_view};
 ghost use Rattle.gw_rules.specs.declared.rule.Rule.{Rule};
 ghost use Rattle.gw_relay.specs.Manage.{answer_steps, answer_who_is_router, are_networks, is_for_all, is_i_am_router, is_what_is_network_number, is_who_is_router, i_am_router, keep_allowed, learn_ask, manage_asks, manage_response, network_number_is, network_octets, networks_in, number_step, question_of, question_of_all, question_steps};
@@ -80,13 +80,6 @@ fn is_what_is_network_number(npdu: &Npdu<'_>) -> bool
         && npdu.destination.is_none()
         && npdu.source.is_none()
         && npdu.payload.octets().is_empty()
-}
-
-/// The network of an ask that names one.
-fn asked_for(network: NetNum) -> Option<u64>
-    ensures { result ≡ Some network }
-{
-    Some(u64::from(network.get()))
 }
 
 /// Appends networks, each two octets.
@@ -183,7 +176,7 @@ impl Message<'_> {
             return Ok(());
         };
         let network = NetNum::new(u16::from_be_bytes([*high, *low])).unwrap();
-        let ask = self.ask(Operation::Learn, asked_for(network));
+        let ask = self.ask(Operation::Learn, Some(network.get()));
         if asker.authorize(&ask)? {
             networks.push(network)?;
         }
@@ -264,7 +257,7 @@ impl Relay {
             OnOk result (AreTaken A.kept A.kept_of rules (step ∷ []) turn.old turn.new) }
         ensures stays { (rules : List Rule) → A.StandsFor turn.old.asker rules → A.StandsFor turn.new.asker rules }
     {
-        let ask = message.ask(Operation::Network, asked_for(network));
+        let ask = message.ask(Operation::Network, Some(network.get()));
         if !turn.asker.authorize(&ask)? {
             return Ok(());
         }

@@ -284,8 +284,7 @@ impl Relay {
             OnOk result (AreTaken A.kept A.kept_of rules (copy ∷ []) turn.old turn.new) }
         ensures stays { (rules : List Rule) → A.StandsFor turn.old.asker rules → A.StandsFor turn.new.asker rules }
     {
-        let network = Some(u64::from(port.port.network.get()));
-        let ask = message.ask(Operation::Route, network);
+        let ask = message.ask(Operation::Route, Some(port.port.network.get()));
         let format = self.format();
         if authorize_forward(&mut turn.asker, format, &ask, &message.npdu.payload)? {
             message.copy_to_port(destination, port, &mut turn.sends)
