@@ -14,7 +14,7 @@ use gw_bvll::Bvll;
 use gw_npdu::{Npdu, Payload};
 use gw_rules::{Ask, Operation, Service};
 
-/// What a frame is about to do with a table of its port, or `None` where it manages none.
+/// What a frame is about to do with a table of its port, or `None` if it manages none.
 pub(crate) fn management_of(frame: &Bvll<'_>) -> Option<Operation>
     ensures { result ≡ management_of (frame_view frame.now) }
 {

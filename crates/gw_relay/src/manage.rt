@@ -146,7 +146,8 @@ impl Message<'_> {
         ensures steps { (rules : List Rule) → A.StandsFor turn.old.asker rules →
             let step = number_step (message_view self.now) in
             OnOk result (AreTaken A.kept A.kept_of rules (step ∷ []) turn.old turn.new) }
-        ensures stays { (rules : List Rule) → A.StandsFor turn.old.asker rules → A.StandsFor turn.new.asker rules }
+        ensures stays { (rules : List Rule) → A.StandsFor turn.old.asker rules →
+            A.StandsFor turn.new.asker rules }
     {
         let ask = self.ask(Operation::Network, None);
         if turn.asker.authorize(&ask)? {
@@ -170,7 +171,8 @@ impl Message<'_> {
         ensures verdicts { (rules : List Rule) → A.StandsFor asker.old rules →
             let asks = map (learn_ask (message_view self.now)) (networks_in octets.now) in
             OnOk result (A.kept asker.new ≡ A.kept asker.old ++ A.kept_of rules asks) }
-        ensures stays { (rules : List Rule) → A.StandsFor asker.old rules → A.StandsFor asker.new rules }
+        ensures stays { (rules : List Rule) → A.StandsFor asker.old rules →
+            A.StandsFor asker.new rules }
     {
         let [high, low, rest @ ..] = octets else {
             return Ok(());
@@ -189,7 +191,8 @@ impl Message<'_> {
         ensures turn { (rules : List Rule) → A.StandsFor turn.old.asker rules →
             let due = learn_response rules (message_view self.now) in
             OnOk result (IsWalked A.kept A.kept_of rules due turn.old turn.new) }
-        ensures stays { (rules : List Rule) → A.StandsFor turn.old.asker rules → A.StandsFor turn.new.asker rules }
+        ensures stays { (rules : List Rule) → A.StandsFor turn.old.asker rules →
+            A.StandsFor turn.new.asker rules }
     {
         let mut networks = Sequence::new(turn.alloc());
         let octets = self.npdu.payload.octets();
@@ -255,7 +258,8 @@ impl Relay {
         ensures steps { (rules : List Rule) → A.StandsFor turn.old.asker rules →
             let step = question_of self.now (message_view message.now) network in
             OnOk result (AreTaken A.kept A.kept_of rules (step ∷ []) turn.old turn.new) }
-        ensures stays { (rules : List Rule) → A.StandsFor turn.old.asker rules → A.StandsFor turn.new.asker rules }
+        ensures stays { (rules : List Rule) → A.StandsFor turn.old.asker rules →
+            A.StandsFor turn.new.asker rules }
     {
         let ask = message.ask(Operation::Network, Some(network.get()));
         if !turn.asker.authorize(&ask)? {
@@ -274,14 +278,17 @@ impl Relay {
         ensures steps { (rules : List Rule) → A.StandsFor turn.old.asker rules →
             let step = question_of_all self.now (message_view message.now) in
             OnOk result (AreTaken A.kept A.kept_of rules (step ∷ []) turn.old turn.new) }
-        ensures stays { (rules : List Rule) → A.StandsFor turn.old.asker rules → A.StandsFor turn.new.asker rules }
+        ensures stays { (rules : List Rule) → A.StandsFor turn.old.asker rules →
+            A.StandsFor turn.new.asker rules }
     {
         let ask = message.ask(Operation::Network, None);
         if !turn.asker.authorize(&ask)? {
             return Ok(());
         }
         let here = message.here;
-        let networks = self.routes().reachable_from(turn.alloc(), here.port.number)?;
+        let networks = self
+            .routes()
+            .reachable_from(turn.alloc(), here.port.number)?;
         here.add_i_am_router(networks.as_slice(), &mut turn.sends)
     }
 
@@ -295,7 +302,8 @@ impl Relay {
         ensures steps { (rules : List Rule) → A.StandsFor turn.old.asker rules →
             let steps = question_steps self.now (message_view message.now) octets.now in
             OnOk result (AreTaken A.kept A.kept_of rules steps turn.old turn.new) }
-        ensures stays { (rules : List Rule) → A.StandsFor turn.old.asker rules → A.StandsFor turn.new.asker rules }
+        ensures stays { (rules : List Rule) → A.StandsFor turn.old.asker rules →
+            A.StandsFor turn.new.asker rules }
         ensures silent { let steps = question_steps self.now (message_view message.now) octets.now in
             asks_of steps ≡ [] → IsOk result }
         ensures unasked { let steps = question_steps self.now (message_view message.now) octets.now in
@@ -321,7 +329,8 @@ impl Relay {
         ensures steps { (rules : List Rule) → A.StandsFor turn.old.asker rules →
             let steps = answer_steps self.now (message_view message.now) in
             OnOk result (AreTaken A.kept A.kept_of rules steps turn.old turn.new) }
-        ensures stays { (rules : List Rule) → A.StandsFor turn.old.asker rules → A.StandsFor turn.new.asker rules }
+        ensures stays { (rules : List Rule) → A.StandsFor turn.old.asker rules →
+            A.StandsFor turn.new.asker rules }
         ensures silent { asks_of (answer_steps self.now (message_view message.now)) ≡ [] → IsOk result }
         ensures unasked { asks_of (answer_steps self.now (message_view message.now)) ≡ [] →
             turn.new ≡ turn.old }
@@ -348,7 +357,8 @@ impl Relay {
         ensures turn { (rules : List Rule) → A.StandsFor turn.old.asker rules →
             let due = manage_response rules self.now (message_view message.now) in
             OnOk result (IsWalked A.kept A.kept_of rules due turn.old turn.new) }
-        ensures stays { (rules : List Rule) → A.StandsFor turn.old.asker rules → A.StandsFor turn.new.asker rules }
+        ensures stays { (rules : List Rule) → A.StandsFor turn.old.asker rules →
+            A.StandsFor turn.new.asker rules }
         ensures silent { manage_asks self.now (message_view message.now) ≡ [] → IsOk result }
         ensures unasked { manage_asks self.now (message_view message.now) ≡ [] → turn.new ≡ turn.old }
     {
