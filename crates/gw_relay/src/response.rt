@@ -53,7 +53,7 @@ impl RelayResponse {
 
     /// Adds sends and refusals after those before. An `Err` if there is no memory for them: all
     /// is as before. The first sends and the first refusals take no memory.
-    pub(crate) fn add(&mut self, sends: Sends, refusals: Refusals) -> Result<(), AllocError>
+    fn add(&mut self, sends: Sends, refusals: Refusals) -> Result<(), AllocError>
         ensures sends { OnOk result (self.new.sends ≡ self.old.sends ++ sends) }
         ensures refusals { OnOk result (self.new.refusals ≡ self.old.refusals ++ refusals) }
         ensures change { self.new.change ≡ self.old.change }

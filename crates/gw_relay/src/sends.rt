@@ -202,7 +202,7 @@ impl Sends {
     }
 
     /// The allocator of the list.
-    pub(crate) fn alloc(&self) -> Global {
+    pub fn alloc(&self) -> Global {
         self.alloc
     }
 
