@@ -15,7 +15,7 @@ use Rattle.gw_relay.specs.declared.change.Change.{Change}
 use Rattle.gw_relay.specs.declared.response.RelayResponse.{RelayResponse}
 use Rattle.gw_relay.specs.declared.turn.Turn.{Turn}
 
--- where nothing is to be committed, it is what was before
+-- if nothing is to be committed, it is what was before
 pub or_none : (change : Option Change) → change ≡ option_or change None
 or_none (Some change) = refl
 or_none None = refl
@@ -27,7 +27,7 @@ pub none_kept : {A : Type 0} (kept : A → List Verdict) (kept_of : List Rule �
 none_kept kept kept_of nothing rules asker asks none =
     sym (append-nil (kept asker)) ∙ ap (λ (l : List Verdict). kept asker ++ l) (sym (ap (kept_of rules) none ∙ nothing rules))
 
--- where nothing is due, the turn is as it was
+-- if nothing is due, the turn is as it was
 pub none_walked : {A : Type 0} (kept : A → List Verdict) (kept_of : List Rule → List Ask → List Verdict)
     → ((rules : List Rule) → kept_of rules [] ≡ []) → (rules : List Rule) (due : Response) (turn : Turn A)
     → due.sends ≡ [] → due.asks ≡ [] → due.change ≡ None → IsWalked kept kept_of rules due turn turn

@@ -12,7 +12,7 @@ use Rattle.gw_rules.specs.declared.operation.Operation.{Operation}
 use Rattle.gw_rules.specs.declared.rule.Rule.{Rule}
 use Rattle.gw_relay.specs.Asks.{link_ask, link_asks, management_of}
 use Rattle.gw_relay.specs.Cast.{cast_ask, cast_asks, cast_sends, goes_on, is_broadcast, accepts, is_unregistered, passed_on, targets}
-use Rattle.gw_relay.specs.Link.{answer_to, change_of, is_granted, link_answer, link_change, link_grants, refused, told}
+use Rattle.gw_relay.specs.Link.{answer_to, change_of, granted, is_granted, link_answer, link_change, link_grants, refused}
 use Rattle.gw_relay.specs.Message.{Message}
 use Rattle.gw_bvll.specs.declared.writing.TheConstants.{MAX_LEN}
 use Rattle.gw_relay.specs.Sends.{sendings, sent}
@@ -46,7 +46,7 @@ pub link_served : (rules : List Rule) (link : PortState) (from : BipAddr) (frame
     → b ≡ allows rules (link_ask link.port from frame op) → link_answer rules link from frame ≡ served link from frame b
 unfolding link_answer
 link_served rules link from frame op b managed judges =
-    ap (λ (g : Bool). map (answer_to link.port from) (if g then told link frame else refused frame))
+    ap (λ (g : Bool). map (answer_to link.port from) (if g then granted link frame else refused frame))
     (grants_so rules link from frame op b managed judges)
 
 pub link_changed : (rules : List Rule) (link : PortState) (from : BipAddr) (frame : Frame) (op : Operation) (b : Bool)

@@ -134,7 +134,7 @@ unfolding cast_asks
 broadcasts_carry_their_claim m =
     asks_if m.claim (goes_on m.here m.from m.frame && is_broadcast m.frame) _ [] (said m.claim _ refl refl, tt) tt
 
--- what is asked behind a `route` ask is of its source
+-- what is asked after a `route` ask is of its source
 from_unnamed : (source : Source) (route : Ask) (operation : Operation) → IsFrom source.net (key_of source.mac) route
     → AreFrom source (unnamed_ask route operation ∷ [])
 from_unnamed source route operation is = (said source _ is.source_network is.source_key, tt)

@@ -65,7 +65,7 @@ pub asked_one : {A : Type 0} (kept : A → List Verdict) (kept_of : List Rule �
     → AreAsked kept kept_of rules (ask ∷ []) old new b
 asked_one kept kept_of rules ask old new b is asked = record { answer = is ∙ and-true (allows rules ask); verdicts = asked }
 
--- and others behind it
+-- and others after it
 pub asked_behind : {A : Type 0} (kept : A → List Verdict) (kept_of : List Rule → List Ask → List Verdict)
     → ((rules : List Rule) (one two : List Ask) → kept_of rules (one ++ two) ≡ kept_of rules one ++ kept_of rules two)
     → (rules : List Rule) (ask : Ask) (asks : List Ask) (old mid new : A) (b c : Bool)

@@ -23,7 +23,7 @@ sent_short : (port : ℕ) (to : BipAddr) (npdu : List ℕ) → length npdu ≤ 1
     → sendings port (to ∷ []) (encoding (original_broadcast npdu)) ≡ sent port (to ∷ []) (original_broadcast npdu)
 sent_short port to npdu short = rw (le-leb (length (encoding (original_broadcast npdu))) 1507 (omega (arith, short))) refl
 
--- the message on the subnet, and behind it the one to peers and foreign devices, whose octets are lent by the first
+-- the message on the subnet, and after it the one to peers and foreign devices, whose octets are lent by the first
 pub spread_both : (link : PortState) (npdu octets lent : List ℕ) (first : Batch) (second : Option Batch) → length npdu ≤ 1497
     → first.port ≡ link.port.number → first.targets ≡ link.port.broadcast ∷ [] → first.octets ≡ octets
     → octets ≡ encoding (original_broadcast npdu) → lent ≡ npdu

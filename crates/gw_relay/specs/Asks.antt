@@ -19,7 +19,7 @@ use Rattle.gw_relay.specs.declared.port.Port.{Port}
 
 -- ---- tables of a port (Annex J.2.2, J.2.3, J.2.6, J.2.7, J.2.9)
 
--- what a frame is about to do with a table of its port, or none where it manages none
+-- what a frame is about to do with a table of its port, or none if it manages none
 abbrev pub management_of : Frame → Option Operation
 management_of (write_bdt entries) = Some operations.WriteTable
 management_of read_bdt = Some operations.ReadTable
@@ -59,6 +59,6 @@ message_ask operation m destination = record (ask_of operation) {
   service = service_of m.npdu.payload;
 }
 
--- the network that a message is bound for, where it names one
+-- the network that a message is bound for, if it names one
 abbrev pub bound_for : Fields → Option ℕ
 bound_for npdu = option_map (λ d. d.address.network) npdu.destination

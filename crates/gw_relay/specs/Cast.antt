@@ -76,7 +76,7 @@ passed_on from other = other
 
 -- ---- whether it is distributed
 
--- A Forwarded-NPDU is heard from a peer alone, and not where the port itself is its originator
+-- A Forwarded-NPDU is heard from a peer alone, and not if the port itself is its originator
 -- (ours). Any other frame is heard.
 abbrev pub accepts : PortState → BipAddr → Frame → Bool
 accepts link from (forwarded originator npdu) =
@@ -108,7 +108,7 @@ unfoldable pub cast_asks : Message → List Ask
 cast_asks m =
     if goes_on m.here m.from m.frame && is_broadcast m.frame then cast_ask m ∷ [] else []
 
--- The sends of a broadcast: one message to all its targets where the policy allows it. A
+-- The sends of a broadcast: one message to all its targets if the policy allows it. A
 -- Distribute-Broadcast-To-Network of an unregistered sender, or that is denied, is refused by its code.
 unfoldable pub cast_sends : List Rule → Message → List Sending
 cast_sends rules m =

@@ -24,7 +24,7 @@ abbrev pub claimed_by : Source → Option Address → Source
 claimed_by link None = link
 claimed_by link (Some s) = remote_source s
 
--- the claim: the source that the NPDU names, and where it names none, the link source on the port's
+-- the claim: the source that the NPDU names, and if it names none, the link source on the port's
 -- network (clause 6.2.2)
 abbrev pub claimed : ℕ → BipAddr → Fields → Source
 claimed network link npdu = claimed_by (local_source network link) npdu.source

@@ -46,7 +46,7 @@ ports_from number (p ∷ ports) = port_of number p ∷ ports_from (number + 1) p
 abbrev pub initial_acts : ConfiguredPort → Acts
 initial_acts p = record { entries = p.peers; history = [] }
 
--- one act more, where it is granted
+-- one act more, if it is granted
 abbrev pub with_act : Bool → Act → Acts → Acts
 with_act granted act acts =
     if granted then record acts { history = act ∷ acts.history } else acts

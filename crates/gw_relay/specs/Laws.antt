@@ -58,7 +58,7 @@ OwnEntryIsLeftOut = (own : BipAddr) (entries : List BdtEntry) → list_any (is_o
 
 -- ---- what may change
 
--- No table of a port changes where no ask of the frame that would change one is allowed.
+-- No table of a port changes if no ask of the frame that would change one is allowed.
 abbrev pub TablesAreKept : Type 0
 TablesAreKept =
     (rules : List Rule) (on : PortState) (from : BipAddr) (frame : Frame) →
@@ -70,7 +70,7 @@ TableAsksReadNothing =
     (port : Port) (from : BipAddr) (frame : Frame) →
     AllByRecursion (λ ask. IsFor Read ask → ⊥) (link_asks port from frame)
 
--- Nothing is learned where no ask of the message to learn is allowed.
+-- Nothing is learned if no ask of the message to learn is allowed.
 abbrev pub RoutesAreKept : Type 0
 RoutesAreKept =
     (rules : List Rule) (relay : Relay) (m : Message) →

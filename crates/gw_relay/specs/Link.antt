@@ -27,27 +27,27 @@ is_granted link from (register time_to_live) = has_room link.fdt from
 is_granted link from (delete address) = contains link.fdt address
 is_granted link from other = true
 
--- the answer where it is had: the table that is read, in its order, or success
-abbrev pub told : PortState → Frame → List Frame
-told link (write_bdt entries) = result_code success ∷ []
-told link read_bdt = read_bdt_ack link.bdt ∷ []
-told link (register time_to_live) = result_code success ∷ []
-told link read_fdt = read_fdt_ack (map shown link.fdt.rows) ∷ []
-told link (delete address) = result_code success ∷ []
-told link other = []
+-- the answer if it is had: the table that is read, in its order, or success
+abbrev pub granted : PortState → Frame → List Frame
+granted link (write_bdt entries) = result_code success ∷ []
+granted link read_bdt = read_bdt_ack link.bdt ∷ []
+granted link (register time_to_live) = result_code success ∷ []
+granted link read_fdt = read_fdt_ack (map shown link.fdt.rows) ∷ []
+granted link (delete address) = result_code success ∷ []
+granted link other = []
 
--- the answer where it isn't: the negative code of the function (Annex J.2.1), if it has one
+-- the answer if it isn't: the negative code of the function (Annex J.2.1), if it has one
 abbrev pub refused : Frame → List Frame
 refused frame = option_map_or (λ code. result_code code ∷ []) (refusal (function_of frame)) []
 
--- what changes where it is had
+-- what changes if it is had
 abbrev pub change_of : Port → BipAddr → Frame → Option Change
 change_of port from (write_bdt entries) = Some (Entries port.number entries)
 change_of port from (register time_to_live) = Some (Registration port.number from time_to_live)
 change_of port from (delete address) = Some (Deletion port.number address)
 change_of port from other = None
 
--- it is had where the policy allows it and it can be had
+-- it is had if the policy allows it and it can be had
 abbrev pub link_grants : List Rule → PortState → BipAddr → Frame → Bool
 link_grants rules link from frame =
     list_all (allows rules) (link_asks link.port from frame) && is_granted link from frame
@@ -60,7 +60,7 @@ answer_to port from answer = sending port.number (encoding answer) from
 unfoldable pub link_answer : List Rule → PortState → BipAddr → Frame → List Sending
 link_answer rules link from frame =
     map (answer_to link.port from)
-    (if link_grants rules link from frame then told link frame else refused frame)
+    (if link_grants rules link from frame then granted link frame else refused frame)
 
 -- what it changes
 unfoldable pub link_change : List Rule → PortState → BipAddr → Frame → Option Change

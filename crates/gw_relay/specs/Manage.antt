@@ -83,7 +83,7 @@ is_what_is_network_number npdu =
 
 -- ---- what is asked, and what is sent
 
--- the ask of a network layer message, of a network where it names one
+-- the ask of a network layer message, of a network if it names one
 abbrev pub network_ask : Message → Option ℕ → Ask
 network_ask m network = message_ask operations.Network m network
 
@@ -91,8 +91,8 @@ network_ask m network = message_ask operations.Network m network
 abbrev pub asker : Message → Address
 asker m = unwrap_or m.npdu.source (node m.here.port m.link)
 
--- the answer for a network, by its way: none where it is reached by the port of the question, and
--- where no way is known the other ports' routers are asked for one
+-- the answer for a network, by its way: none if it is reached by the port of the question, and
+-- if no way is known the other ports' routers are asked for one
 abbrev pub answer_who_is_router : Relay → Message → ℕ → Way → List Sending
 answer_who_is_router relay m network (Port other) =
     if other == m.here.port.number then [] else broadcast (i_am_router (network ∷ [])) m.here

@@ -1,4 +1,4 @@
--- What a request reads or writes that is passed on: the asks behind its `route` ask, under the second
+-- What a request reads or writes that is passed on: the asks after its `route` ask, under the second
 -- format of a policy (ours; the bodies are those of clauses 15.5, 15.7 and 15.9).
 use Rattle.std.specs.Prelude.{ℕ, ◌==◌, ◌||◌, if◌then◌else◌, is_some, List, [], ◌∷◌, map, Option, Some, None, Result, Ok}
 use Rattle.std.specs.Prelude.{Err}
@@ -24,7 +24,7 @@ use Rattle.gw_services.specs.Write.{Write, write_at}
 use Rattle.gw_services.specs.declared.fault.BodyFault.{BodyFault}
 use Rattle.gw_tags.specs.Object.{Object}
 
--- a read or a write of what can't be told: its way and its service are those of the `route` ask
+-- a read or a write of what the octets don't show: its way and its service are those of the `route` ask
 abbrev pub unnamed_ask : Ask → Operation → Ask
 unnamed_ask route operation = record route { operation = Some (operation_number operation) }
 
@@ -63,7 +63,7 @@ body_asks route service body =
     else if service == write_property then write_asks route (write_at body)
     else []
 
--- of a segment it can't be told what it names
+-- a segment doesn't show what it names
 abbrev pub segment_asks : Ask → ℕ → List Ask
 segment_asks route service =
     if service == read_property || service == read_property_multiple
@@ -84,12 +84,12 @@ abbrev pub apdu_asks : Ask → Result Apdu ApduFault → List Ask
 apdu_asks route (Ok a) = header_asks route a.header a.rest
 apdu_asks route (Err fault) = []
 
--- what is asked behind a `route` ask
+-- what is asked after a `route` ask
 abbrev pub named_asks : Format → Ask → Payload → List Ask
 named_asks One route payload = []
 named_asks Two route (message m) = []
 named_asks Two route (apdu octets) = apdu_asks route (apdu_at octets)
 
--- a `route` ask, and what is asked behind it
+-- a `route` ask, and what is asked after it
 abbrev pub forward_asks : Format → Ask → Payload → List Ask
 forward_asks format route payload = route ∷ named_asks format route payload

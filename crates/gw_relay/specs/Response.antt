@@ -14,8 +14,8 @@ pub record Response : Type 0 where
   pub sends : List Sending
   pub change : Option Change
 
--- Behind what was given before stand these sends, and the asks that the rules deny, in order; and this change is to be
--- committed where there was none.
+-- These sends, and the asks that the rules deny, are added in order to what was given before; and this change is to be
+-- committed if there was none.
 pub record IsAdded (rules : List Rule) (due : Response) (old new : RelayResponse) : Type 0 where
   pub sends : new.sends ≡ old.sends ++ due.sends
   pub refusals : new.refusals ≡ old.refusals ++ denied_of rules due.asks

@@ -38,7 +38,7 @@ abbrev pub node : RelayPort → BipAddr → Address
 node port address = record { network = port.network; mac = octets_of address }
 
 -- for the next hop: DNET, DADR and hop count removed, or kept with one hop less; the source added
--- where absent
+-- if absent
 abbrev pub hop : Bool → Message → Fields
 hop keeps m =
     onward (record { keeps_destination = keeps; source = node m.here.port m.link }) m.npdu
@@ -100,14 +100,14 @@ who_is_router source network = made None source WhoIsRouterToNetwork (to_be_byte
 abbrev pub others : ℕ → List PortState → List PortState
 others number links = filter (λ link. not (nat_eq link.port.number number)) links
 
--- on a port's own network: to all where there is no DADR, to a BACnet/IP address, or to nobody
+-- on a port's own network: to all if there is no DADR, to a BACnet/IP address, or to nobody
 abbrev pub delivered : List ℕ → Fields → PortState → List Sending
 delivered mac npdu link =
     if length mac == 0 then broadcast npdu link
     else if length mac == 6 then unicast link.port.number (address_in mac) npdu
     else []
 
--- No way is known: the sender is told, and each other port's routers are asked for one. There is
+-- No way is known: the sender gets a reject, and each other port's routers are asked for one. There is
 -- none of it for a Reject-Message-To-Network. The message itself isn't kept (ours).
 abbrev pub reject_and_search : Relay → Message → ℕ → List Sending
 reject_and_search relay m network =

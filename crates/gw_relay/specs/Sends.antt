@@ -1,4 +1,4 @@
--- Datagrams to send. One message, whose octets stand once, may go to many addresses.
+-- Datagrams to send. One message, whose octets are kept once, may go to many addresses.
 use Rattle.std.specs.Prelude.{ℕ, List, [], length, map, nat_le, if◌then◌else◌}
 use Rattle.gw_addr.specs.declared.bip.BipAddr.{BipAddr}
 use Rattle.gw_bvll.specs.Bvll.{encoding}

@@ -21,18 +21,18 @@ pub record Relay : Type 0 where
 abbrev pub link_at : List PortState → ℕ → Option PortState
 link_at links number = if number == 0 then None else slice_get links (number - 1)
 
--- what the link of a port gives, and what there is where there is no such port
+-- what the link of a port gives, and what there is if there is no such port
 abbrev pub at_port : {A : Type 0} → A → (PortState → A) → List PortState → ℕ → A
 at_port none given links number = option_map_or given (link_at links number) none
 
 -- ---- as it changes
 
--- an address registers: where there is no room for it nothing changes
+-- an address registers: if there is no room for it nothing changes
 abbrev pub registered : BipAddr → ℕ → Registrations → Registrations
 registered address time_to_live t =
     if has_room t address then with_registration t address time_to_live else t
 
--- an address is deleted: where it isn't registered nothing changes
+-- an address is deleted: if it isn't registered nothing changes
 abbrev pub deleted : BipAddr → Registrations → Registrations
 deleted address t = if contains t address then without t address else t
 

@@ -14,7 +14,7 @@ use Rattle.gw_relay.specs.Response.{Response}
 use Rattle.gw_relay.specs.Sends.{Sending, sent}
 use Rattle.gw_relay.specs.declared.port.PortState.{PortState}
 
--- asks, and what is sent where the policy allows all of them
+-- asks, and what is sent if the policy allows all of them
 pub record Step : Type 0 where
   pub asks : List Ask
   pub sends : List Sending
@@ -27,7 +27,7 @@ step ask sends = record { asks = ask ∷ []; sends = sends }
 abbrev pub asks_of : List Step → List Ask
 asks_of steps = flat_map (λ s. s.asks) steps
 
--- what is sent of a step: nothing where one of its asks is denied
+-- what is sent of a step: nothing if one of its asks is denied
 abbrev pub allowed_sends : List Rule → Step → List Sending
 allowed_sends rules s = if list_all (allows rules) s.asks then s.sends else []
 
@@ -42,7 +42,7 @@ taken rules steps =
 
 -- ---- one NPDU
 
--- the octets of an NPDU; none where they are over 1497
+-- the octets of an NPDU; none if they are over 1497
 abbrev pub npdu_octets : Fields → Option (List ℕ)
 npdu_octets npdu =
     if nat_le (length (encoding npdu)) max_len then Some (encoding npdu) else None

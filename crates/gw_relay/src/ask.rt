@@ -14,7 +14,7 @@ use gw_bvll::Bvll;
 use gw_npdu::{Npdu, Payload};
 use gw_rules::{Ask, Operation, Service};
 
-/// What a frame is about to do with a table of its port, or `None` where it manages none.
+/// What a frame is about to do with a table of its port, or `None` if it manages none.
 pub(crate) fn management_of(frame: &Bvll<'_>) -> Option<Operation>
     ensures { result ≡ management_of (frame_view frame.now) }
 {
@@ -50,12 +50,12 @@ fn service_of(payload: &Payload<'_>) -> Option<u64>
     }
 }
 
-/// The network that a message is bound for, where it names one.
-pub(crate) fn bound_for(npdu: &Npdu<'_>) -> Option<u64>
+/// The network that a message is bound for, if it names one.
+pub(crate) fn bound_for(npdu: &Npdu<'_>) -> Option<u16>
     ensures { result ≡ bound_for (npdu_view npdu.now) }
 {
     match &npdu.destination {
-        Some(destination) => Some(u64::from(destination.network)),
+        Some(destination) => Some(destination.network),
         None => None,
     }
 }
@@ -64,14 +64,14 @@ impl Message<'_> {
     /// The ask of a message that goes to that network, if it names one: it comes from the source that
     /// the message claims.
     #[inline(always)]
-    pub(crate) fn ask(&self, operation: Operation, destination: Option<u64>) -> Ask
+    pub(crate) fn ask(&self, operation: Operation, destination: Option<u16>) -> Ask
         ensures { result ≡ message_ask operation (message_view self.now) destination }
     {
         Ask {
             port: Some(u64::from(self.here.port.number)),
             source_network: Some(u64::from(self.source_network())),
             source_key: self.source_key(),
-            destination_network: destination,
+            destination_network: destination.map(u64::from),
             service: service_of(&self.npdu.payload),
             ..Ask::new(operation)
         }

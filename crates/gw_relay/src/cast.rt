@@ -28,7 +28,7 @@ use gw_bvll::Bvll;
 use gw_rules::{Asker, Operation};
 use std::alloc::{AllocError, Global};
 
-/// How many octets of a Forwarded-NPDU stand before its NPDU (Annex J.2.5).
+/// How many octets of a Forwarded-NPDU come before its NPDU (Annex J.2.5).
 const FORWARDED_HEADER_LEN: usize = 10;
 /// The mask by which a broadcast goes to a broadcast manager itself (Annex J.4).
 const ALL_ONES: [u8; 4] = [255, 255, 255, 255];
@@ -89,7 +89,7 @@ fn forwarded_len(frame: &Bvll<'_>) -> usize
 }
 
 impl PortState {
-    /// Whether a frame is heard: a Forwarded-NPDU is from a peer alone, and not where the port
+    /// Whether a frame is heard: a Forwarded-NPDU is from a peer alone, and not if the port
     /// itself is its originator (Annex J.4).
     pub fn accepts(&self, from: BipAddr, frame: &Bvll<'_>) -> bool
         ensures { result ≡ accepts self.now from (frame_view frame.now) }
@@ -260,7 +260,7 @@ impl PortState {
         Ok(())
     }
 
-    /// Adds the subnet's broadcast address, where a peer's message reached the port alone.
+    /// Adds the subnet's broadcast address, if a peer's message reached the port alone.
     fn add_subnet(&self, out: &mut Vec<BipAddr>) -> Result<(), AllocError>
         ensures { OnOk result (out.new.items ≡ out.old.items ++ subnet self.now) }
     {
@@ -298,7 +298,7 @@ impl PortState {
         }
     }
 
-    /// The port's own Forwarded-NPDU to all peers and foreign devices, where there are any.
+    /// The port's own Forwarded-NPDU to all peers and foreign devices, if there are any.
     fn elsewhere(&self, alloc: Global, npdu: &[u8]) -> Result<Option<Batch>, AllocError>
         ensures { let all = managers self.now ++ devices self.now in
             let message = forwarded self.now.port.address npdu.now in
@@ -333,7 +333,8 @@ impl Relay {
         ensures turn { (rules : List Rule) → A.StandsFor turn.old.asker rules →
             let due = cast_response rules (message_view message.now) in
             OnOk result (IsWalked A.kept A.kept_of rules due turn.old turn.new) }
-        ensures stays { (rules : List Rule) → A.StandsFor turn.old.asker rules → A.StandsFor turn.new.asker rules }
+        ensures stays { (rules : List Rule) → A.StandsFor turn.old.asker rules →
+            A.StandsFor turn.new.asker rules }
         ensures goes_on { let m = message_view message.now in
             IfOk result (λ goes. goes ≡ goes_on m.here m.from m.frame) }
         // What asks nothing and refuses no unregistered sender wants no memory.
@@ -363,7 +364,8 @@ impl Message<'_> {
         ensures turn { (rules : List Rule) → A.StandsFor turn.old.asker rules →
             let due = cast_response rules (message_view self.now) in
             OnOk result (IsWalked A.kept A.kept_of rules due turn.old turn.new) }
-        ensures stays { (rules : List Rule) → A.StandsFor turn.old.asker rules → A.StandsFor turn.new.asker rules }
+        ensures stays { (rules : List Rule) → A.StandsFor turn.old.asker rules →
+            A.StandsFor turn.new.asker rules }
         ensures silent { cast_asks (message_view self.now) ≡ [] → IsOk result }
         ensures unasked { cast_asks (message_view self.now) ≡ [] → turn.new ≡ turn.old }
     {
@@ -378,8 +380,8 @@ impl Message<'_> {
     }
 }
 
-/// A message, of about so many octets, to each of the addresses. None where it is too long, or
-/// where there is no address, which takes no memory.
+/// A message, of about so many octets, to each of the addresses. None if it is too long, or if
+/// there is no address, which takes no memory.
 fn batch_of(
     alloc: Global,
     port: u8,

@@ -1,8 +1,8 @@
 //! What the gateway passes on: broadcast management on each of its ports, and the distribution of
 //! broadcasts (Annex J.4, J.5).
 //!
-//! A [`Relay`] answers what a frame gives: the sends in order, the asks that the policy denies, and
-//! at most one [`Change`]. It changes nothing then; [`Relay::commit`] makes the change whole.
+//! A [`Relay`] adds to a [`Turn`] what a frame gives: the sends in order, what its asker keeps of the
+//! asks, and at most one [`Change`]. It changes nothing then; [`Relay::commit`] makes the change whole.
 #![tactic(auto)]
 
 mod ask;

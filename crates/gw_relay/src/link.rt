@@ -8,7 +8,7 @@ ghost use Rattle.gw_bvll.specs.Bvll.{view};
 ghost use Rattle.gw_bvll.specs.Entries.{lent};
 ghost use Rattle.gw_rules.specs.declared.rule.Rule.{Rule};
 ghost use Rattle.gw_relay.specs.Asks.{link_asks};
-ghost use Rattle.gw_relay.specs.Link.{answer_to, change_of, is_granted, link_response, refused, told};
+ghost use Rattle.gw_relay.specs.Link.{answer_to, change_of, granted, is_granted, link_response, refused};
 ghost use Rattle.gw_relay.specs.Turn.{IsWalked};
 ghost use Rattle.gw_relay.specs.Sends.{sending};
 ghost use Rattle.gw_relay.specs.internal.Grants.{granted_change};
@@ -50,7 +50,8 @@ impl Relay {
             let m = message.now in
             let due = link_response rules m.here.now m.from (view m.frame.now) in
             OnOk result (IsWalked A.kept A.kept_of rules due turn.old turn.new) }
-        ensures stays { (rules : List Rule) → A.StandsFor turn.old.asker rules → A.StandsFor turn.new.asker rules }
+        ensures stays { (rules : List Rule) → A.StandsFor turn.old.asker rules →
+            A.StandsFor turn.new.asker rules }
         ensures silent { let m = message.now in
             link_asks m.here.now.port m.from (view m.frame.now) ≡ [] → IsOk result }
         ensures unasked { let m = message.now in
@@ -89,7 +90,7 @@ impl PortState {
         }
         match self.grant(sends.alloc(), from, frame)? {
             Grant::Granted(change) => {
-                self.add_told(from, frame, sends)?;
+                self.add_granted(from, frame, sends)?;
                 Ok(change)
             }
             Grant::Refused => {
@@ -168,13 +169,13 @@ impl PortState {
     }
 
     /// Adds the answer to a frame that has what it asked for.
-    fn add_told(
+    fn add_granted(
         &self,
         from: BipAddr,
         frame: &Bvll<'_>,
         sends: &mut Sends,
     ) -> Result<(), AllocError>
-        ensures { let sent = map (answer_to self.now.port from) (told self.now (view frame.now)) in
+        ensures { let sent = map (answer_to self.now.port from) (granted self.now (view frame.now)) in
             OnOk result (sends.new ≡ sends.old ++ sent) }
     {
         let alloc = sends.alloc();

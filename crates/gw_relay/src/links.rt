@@ -64,7 +64,7 @@ fn replace(links: &mut [PortState], port: u8, bdt: Bdt)
     link.bdt = bdt;
 }
 
-/// A foreign device registers, where there is room for it.
+/// A foreign device registers, if there is room for it.
 fn register(
     links: &mut [PortState],
     port: u8,
@@ -83,7 +83,7 @@ fn register(
     Ok(())
 }
 
-/// A foreign device registers with a table, where there is room for it.
+/// A foreign device registers with a table, if there is room for it.
 fn registered(fdt: &mut Fdt, address: BipAddr, time_to_live: u16) -> Result<(), AllocError>
     ensures ok { OnOk result (fdt.new ≡ registered address time_to_live fdt.old) }
     ensures err { OnErr result (fdt.new ≡ fdt.old) }
@@ -94,7 +94,7 @@ fn registered(fdt: &mut Fdt, address: BipAddr, time_to_live: u16) -> Result<(), 
     }
 }
 
-/// A registration is deleted, where it is there.
+/// A registration is deleted, if it is there.
 fn delete(links: &mut [PortState], port: u8, address: BipAddr)
     ensures { links.new ≡ links_after (Change.Deletion port address) links.old }
 {
@@ -105,7 +105,7 @@ fn delete(links: &mut [PortState], port: u8, address: BipAddr)
     deleted(&mut link.fdt, address);
 }
 
-/// A registration of a table is deleted, where it is there.
+/// A registration of a table is deleted, if it is there.
 fn deleted(fdt: &mut Fdt, address: BipAddr)
     ensures { fdt.new ≡ deleted address fdt.old }
 {

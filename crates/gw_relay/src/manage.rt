@@ -1,7 +1,7 @@
 //! Network layer messages that a router answers or learns from (clauses 6.4.1, 6.4.2, 6.4.19,
 //! 6.4.20).
 
-ghost use Rattle.std.specs.Prelude.{◌≡◌, ◌++◌, ◌∷◌, [], List, map, nat_le, true, false, None, Some, IfOk, IsOk, OnErr, OnOk};
+ghost use Rattle.std.specs.Prelude.{◌≡◌, ◌++◌, ◌∷◌, [], List, map, nat_le, true, false, None, IfOk, IsOk, OnErr, OnOk};
 ghost use Rattle.gw_npdu.specs.Npdu.{view as npdu_view};
 ghost use Rattle.gw_rules.specs.declared.rule.Rule.{Rule};
 ghost use Rattle.gw_relay.specs.Manage.{answer_steps, answer_who_is_router, are_networks, is_for_all, is_i_am_router, is_what_is_network_number, is_who_is_router, i_am_router, keep_allowed, learn_ask, manage_asks, manage_response, network_number_is, network_octets, networks_in, number_step, question_of, question_of_all, question_steps};
@@ -82,13 +82,6 @@ fn is_what_is_network_number(npdu: &Npdu<'_>) -> bool
         && npdu.payload.octets().is_empty()
 }
 
-/// The network of an ask that names one.
-fn asked_for(network: NetNum) -> Option<u64>
-    ensures { result ≡ Some network }
-{
-    Some(u64::from(network.get()))
-}
-
 /// Appends networks, each two octets.
 fn put_networks(networks: &[NetNum], out: &mut Vec<u8>) -> Result<(), AllocError>
     ensures { OnOk result (out.new.items ≡ out.old.items ++ network_octets networks.now) }
@@ -153,7 +146,8 @@ impl Message<'_> {
         ensures steps { (rules : List Rule) → A.StandsFor turn.old.asker rules →
             let step = number_step (message_view self.now) in
             OnOk result (AreTaken A.kept A.kept_of rules (step ∷ []) turn.old turn.new) }
-        ensures stays { (rules : List Rule) → A.StandsFor turn.old.asker rules → A.StandsFor turn.new.asker rules }
+        ensures stays { (rules : List Rule) → A.StandsFor turn.old.asker rules →
+            A.StandsFor turn.new.asker rules }
     {
         let ask = self.ask(Operation::Network, None);
         if turn.asker.authorize(&ask)? {
@@ -177,13 +171,14 @@ impl Message<'_> {
         ensures verdicts { (rules : List Rule) → A.StandsFor asker.old rules →
             let asks = map (learn_ask (message_view self.now)) (networks_in octets.now) in
             OnOk result (A.kept asker.new ≡ A.kept asker.old ++ A.kept_of rules asks) }
-        ensures stays { (rules : List Rule) → A.StandsFor asker.old rules → A.StandsFor asker.new rules }
+        ensures stays { (rules : List Rule) → A.StandsFor asker.old rules →
+            A.StandsFor asker.new rules }
     {
         let [high, low, rest @ ..] = octets else {
             return Ok(());
         };
         let network = NetNum::new(u16::from_be_bytes([*high, *low])).unwrap();
-        let ask = self.ask(Operation::Learn, asked_for(network));
+        let ask = self.ask(Operation::Learn, Some(network.get()));
         if asker.authorize(&ask)? {
             networks.push(network)?;
         }
@@ -196,7 +191,8 @@ impl Message<'_> {
         ensures turn { (rules : List Rule) → A.StandsFor turn.old.asker rules →
             let due = learn_response rules (message_view self.now) in
             OnOk result (IsWalked A.kept A.kept_of rules due turn.old turn.new) }
-        ensures stays { (rules : List Rule) → A.StandsFor turn.old.asker rules → A.StandsFor turn.new.asker rules }
+        ensures stays { (rules : List Rule) → A.StandsFor turn.old.asker rules →
+            A.StandsFor turn.new.asker rules }
     {
         let mut networks = Sequence::new(turn.alloc());
         let octets = self.npdu.payload.octets();
@@ -262,9 +258,10 @@ impl Relay {
         ensures steps { (rules : List Rule) → A.StandsFor turn.old.asker rules →
             let step = question_of self.now (message_view message.now) network in
             OnOk result (AreTaken A.kept A.kept_of rules (step ∷ []) turn.old turn.new) }
-        ensures stays { (rules : List Rule) → A.StandsFor turn.old.asker rules → A.StandsFor turn.new.asker rules }
+        ensures stays { (rules : List Rule) → A.StandsFor turn.old.asker rules →
+            A.StandsFor turn.new.asker rules }
     {
-        let ask = message.ask(Operation::Network, asked_for(network));
+        let ask = message.ask(Operation::Network, Some(network.get()));
         if !turn.asker.authorize(&ask)? {
             return Ok(());
         }
@@ -281,14 +278,17 @@ impl Relay {
         ensures steps { (rules : List Rule) → A.StandsFor turn.old.asker rules →
             let step = question_of_all self.now (message_view message.now) in
             OnOk result (AreTaken A.kept A.kept_of rules (step ∷ []) turn.old turn.new) }
-        ensures stays { (rules : List Rule) → A.StandsFor turn.old.asker rules → A.StandsFor turn.new.asker rules }
+        ensures stays { (rules : List Rule) → A.StandsFor turn.old.asker rules →
+            A.StandsFor turn.new.asker rules }
     {
         let ask = message.ask(Operation::Network, None);
         if !turn.asker.authorize(&ask)? {
             return Ok(());
         }
         let here = message.here;
-        let networks = self.routes().reachable_from(turn.alloc(), here.port.number)?;
+        let networks = self
+            .routes()
+            .reachable_from(turn.alloc(), here.port.number)?;
         here.add_i_am_router(networks.as_slice(), &mut turn.sends)
     }
 
@@ -302,7 +302,8 @@ impl Relay {
         ensures steps { (rules : List Rule) → A.StandsFor turn.old.asker rules →
             let steps = question_steps self.now (message_view message.now) octets.now in
             OnOk result (AreTaken A.kept A.kept_of rules steps turn.old turn.new) }
-        ensures stays { (rules : List Rule) → A.StandsFor turn.old.asker rules → A.StandsFor turn.new.asker rules }
+        ensures stays { (rules : List Rule) → A.StandsFor turn.old.asker rules →
+            A.StandsFor turn.new.asker rules }
         ensures silent { let steps = question_steps self.now (message_view message.now) octets.now in
             asks_of steps ≡ [] → IsOk result }
         ensures unasked { let steps = question_steps self.now (message_view message.now) octets.now in
@@ -328,7 +329,8 @@ impl Relay {
         ensures steps { (rules : List Rule) → A.StandsFor turn.old.asker rules →
             let steps = answer_steps self.now (message_view message.now) in
             OnOk result (AreTaken A.kept A.kept_of rules steps turn.old turn.new) }
-        ensures stays { (rules : List Rule) → A.StandsFor turn.old.asker rules → A.StandsFor turn.new.asker rules }
+        ensures stays { (rules : List Rule) → A.StandsFor turn.old.asker rules →
+            A.StandsFor turn.new.asker rules }
         ensures silent { asks_of (answer_steps self.now (message_view message.now)) ≡ [] → IsOk result }
         ensures unasked { asks_of (answer_steps self.now (message_view message.now)) ≡ [] →
             turn.new ≡ turn.old }
@@ -355,7 +357,8 @@ impl Relay {
         ensures turn { (rules : List Rule) → A.StandsFor turn.old.asker rules →
             let due = manage_response rules self.now (message_view message.now) in
             OnOk result (IsWalked A.kept A.kept_of rules due turn.old turn.new) }
-        ensures stays { (rules : List Rule) → A.StandsFor turn.old.asker rules → A.StandsFor turn.new.asker rules }
+        ensures stays { (rules : List Rule) → A.StandsFor turn.old.asker rules →
+            A.StandsFor turn.new.asker rules }
         ensures silent { manage_asks self.now (message_view message.now) ≡ [] → IsOk result }
         ensures unasked { manage_asks self.now (message_view message.now) ≡ [] → turn.new ≡ turn.old }
     {

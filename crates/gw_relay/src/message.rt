@@ -69,7 +69,7 @@ impl Message<'_> {
         }
     }
 
-    /// The key of the address that it claims to come from, where that has six octets.
+    /// The key of the address that it claims to come from, if that has six octets.
     pub fn source_key(&self) -> Option<u64>
         ensures { result ≡ key_of (message_view self.now).claim.mac }
     {

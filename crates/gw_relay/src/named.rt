@@ -1,5 +1,5 @@
 //! What a request reads or writes that is passed on, as the second format of a policy judges it: the
-//! asks behind its `route` ask.
+//! asks after its `route` ask.
 
 ghost use Rattle.std.specs.Prelude.{◌≡◌, ◌∷◌, [], true, is_ok, List, IfOk};
 ghost use Rattle.std.specs.Option.{option_map};
@@ -24,7 +24,7 @@ use gw_services::{
 use gw_tags::ObjectId;
 use std::alloc::AllocError;
 
-/// A read or a write of what can't be told.
+/// A read or a write of what the octets don't show.
 fn unnamed_ask(route: &Ask, operation: Operation) -> Ask
     ensures { result ≡ unnamed_ask route.now operation }
 {
@@ -112,13 +112,11 @@ fn are_references(left: u8, current: Option<ObjectId>, octets: &[u8]) -> bool
 }
 
 /// Puts one ask, and answers whether it is allowed.
-fn authorize_one<A: Asker>(
-    asker: &mut A,
-    ask: &Ask,
-) -> Result<bool, AllocError>
+fn authorize_one<A: Asker>(asker: &mut A, ask: &Ask) -> Result<bool, AllocError>
     ensures asked { (rules : List Rule) → A.StandsFor asker.old rules →
         IfOk result (AreAsked A.kept A.kept_of rules (ask.now ∷ []) asker.old asker.new) }
-    ensures stays { (rules : List Rule) → A.StandsFor asker.old rules → A.StandsFor asker.new rules }
+    ensures stays { (rules : List Rule) → A.StandsFor asker.old rules →
+        A.StandsFor asker.new rules }
 {
     let is_allowed = asker.authorize(ask)?;
     Ok(is_allowed)
@@ -136,7 +134,8 @@ fn authorize_references<A: Asker>(
     ensures asked { let read = references_at left (option_map object_view current) octets.now in
         is_ok read ≡ true → (rules : List Rule) → A.StandsFor asker.old rules →
         IfOk result (AreAsked A.kept A.kept_of rules (multi_asks route.now read) asker.old asker.new) }
-    ensures stays { (rules : List Rule) → A.StandsFor asker.old rules → A.StandsFor asker.new rules }
+    ensures stays { (rules : List Rule) → A.StandsFor asker.old rules →
+        A.StandsFor asker.new rules }
 {
     let Ok((reference, next)) = read_reference(left, current, octets) else {
         return Ok(true);
@@ -153,15 +152,12 @@ fn authorize_references<A: Asker>(
 }
 
 /// Puts the asks of a ReadPropertyMultiple, and answers whether all are allowed.
-fn authorize_multi<A: Asker>(
-    asker: &mut A,
-    route: &Ask,
-    body: &[u8],
-) -> Result<bool, AllocError>
+fn authorize_multi<A: Asker>(asker: &mut A, route: &Ask, body: &[u8]) -> Result<bool, AllocError>
     ensures asked { (rules : List Rule) → A.StandsFor asker.old rules →
         let asks = multi_asks route.now (multi_at body.now) in
         IfOk result (AreAsked A.kept A.kept_of rules asks asker.old asker.new) }
-    ensures stays { (rules : List Rule) → A.StandsFor asker.old rules → A.StandsFor asker.new rules }
+    ensures stays { (rules : List Rule) → A.StandsFor asker.old rules →
+        A.StandsFor asker.new rules }
 {
     if are_references(MAX_REFERENCES, None, body) {
         authorize_references(asker, route, MAX_REFERENCES, None, body)
@@ -171,15 +167,12 @@ fn authorize_multi<A: Asker>(
 }
 
 /// Puts the ask of a segment, which doesn't show what it names.
-fn authorize_segment<A: Asker>(
-    asker: &mut A,
-    route: &Ask,
-    service: u8,
-) -> Result<bool, AllocError>
+fn authorize_segment<A: Asker>(asker: &mut A, route: &Ask, service: u8) -> Result<bool, AllocError>
     ensures asked { (rules : List Rule) → A.StandsFor asker.old rules →
         let asks = segment_asks route.now service in
         IfOk result (AreAsked A.kept A.kept_of rules asks asker.old asker.new) }
-    ensures stays { (rules : List Rule) → A.StandsFor asker.old rules → A.StandsFor asker.new rules }
+    ensures stays { (rules : List Rule) → A.StandsFor asker.old rules →
+        A.StandsFor asker.new rules }
 {
     match service {
         READ_PROPERTY | READ_PROPERTY_MULTIPLE => {
@@ -200,7 +193,8 @@ fn authorize_request<A: Asker>(
     ensures asked { (rules : List Rule) → A.StandsFor asker.old rules →
         let asks = request_asks route.now request.now body.now in
         IfOk result (AreAsked A.kept A.kept_of rules asks asker.old asker.new) }
-    ensures stays { (rules : List Rule) → A.StandsFor asker.old rules → A.StandsFor asker.new rules }
+    ensures stays { (rules : List Rule) → A.StandsFor asker.old rules →
+        A.StandsFor asker.new rules }
 {
     if request.segment.is_some() {
         return authorize_segment(asker, route, request.service);
@@ -223,7 +217,8 @@ fn authorize_named<A: Asker>(
     ensures asked { (rules : List Rule) → A.StandsFor asker.old rules →
         let asks = named_asks format route.now (payload_view payload.now) in
         IfOk result (AreAsked A.kept A.kept_of rules asks asker.old asker.new) }
-    ensures stays { (rules : List Rule) → A.StandsFor asker.old rules → A.StandsFor asker.new rules }
+    ensures stays { (rules : List Rule) → A.StandsFor asker.old rules →
+        A.StandsFor asker.new rules }
 {
     let (Format::Two, Payload::Apdu(octets)) = (format, payload) else {
         return Ok(true);
@@ -239,7 +234,7 @@ fn authorize_named<A: Asker>(
     }
 }
 
-/// Puts a `route` ask, and behind it those of what the message names, whether or not it is allowed;
+/// Puts a `route` ask, and after it those of what the message names, whether or not it is allowed;
 /// and answers whether all are.
 pub(crate) fn authorize_forward<A: Asker>(
     asker: &mut A,
@@ -250,7 +245,8 @@ pub(crate) fn authorize_forward<A: Asker>(
     ensures asked { (rules : List Rule) → A.StandsFor asker.old rules →
         let asks = forward_asks format route.now (payload_view payload.now) in
         IfOk result (AreAsked A.kept A.kept_of rules asks asker.old asker.new) }
-    ensures stays { (rules : List Rule) → A.StandsFor asker.old rules → A.StandsFor asker.new rules }
+    ensures stays { (rules : List Rule) → A.StandsFor asker.old rules →
+        A.StandsFor asker.new rules }
 {
     let goes = asker.authorize(route)?;
     let are_allowed = authorize_named(asker, format, route, payload)?;

@@ -15,14 +15,14 @@ use std::alloc::{AllocError, Global};
 
 /// The first octet of every message: BACnet/IP (Annex J.2).
 const BACNET_IP: u8 = 0x81;
-/// How many octets of a message stand before its body (Annex J.2).
+/// How many octets of a message come before its body (Annex J.2).
 pub(crate) const HEADER_LEN: usize = 4;
 /// How many octets the entry of a table has (Annex J.2.2, J.2.8).
 const ENTRY_LEN: usize = 10;
 /// How many octets a BVLC-Result has (Annex J.2.1).
 const RESULT_LEN: usize = 6;
 
-/// The octets of a message, of which there are about so many. None where they would be over 1507.
+/// The octets of a message, of which there are about so many. None if they would be over 1507.
 pub(crate) fn message_octets(
     alloc: Global,
     message: &Bvll<'_>,

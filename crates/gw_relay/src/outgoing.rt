@@ -14,12 +14,12 @@ use gw_npdu::{EncodeFault, Npdu, Onward};
 use std::alloc::{AllocError, Global};
 use std::marker::Model;
 
-/// The most octets that stand before a payload: the four of the BVLL header (Annex J.2), and of the
+/// The most octets that come before a payload: the four of the BVLL header (Annex J.2), and of the
 /// NPDU version and control, two addresses of 255 octets, the hop count, the message type and the
 /// vendor (clause 6.2.2).
 const MOST_HEADERS: usize = HEADER_LEN + 2 + (3 + 255) + (3 + 255) + 1 + 3;
 
-/// An NPDU of at most 1497 octets, in the buffer of the message that brings it: behind four octets
+/// An NPDU of at most 1497 octets, in the buffer of the message that brings it: after four octets
 /// that are kept for the BVLL header, which is written once the length is known. Contracts see the
 /// octets of the NPDU.
 #[derive(Drop)]
@@ -38,7 +38,7 @@ impl Model for Outgoing {
 }
 
 impl Outgoing {
-    /// A message for its next hop; none where it would be over 1497 octets.
+    /// A message for its next hop; none if it would be over 1497 octets.
     pub(crate) fn onward(
         alloc: Global,
         npdu: &Npdu<'_>,
@@ -59,7 +59,7 @@ impl Outgoing {
         }
     }
 
-    /// A message that the gateway makes; none where it would be over 1497 octets.
+    /// A message that the gateway makes; none if it would be over 1497 octets.
     #[inline(always)]
     pub(crate) fn made(alloc: Global, npdu: &Npdu<'_>) -> Result<Option<Self>, AllocError>
         ensures { IfOk result (λ made. made ≡ npdu_octets (npdu_view npdu.now)) }
@@ -117,7 +117,7 @@ impl Outgoing {
     }
 }
 
-/// How many octets a buffer has for a payload behind any headers.
+/// How many octets a buffer has for a payload after any headers.
 fn buffer_len(payload: &[u8]) -> usize
     ensures { result ≡ 526 + length payload.now }
 {

@@ -225,13 +225,13 @@ impl Relay {
         Ok(())
     }
 
-    /// Makes a change whole. Where a registration finds no room, a deletion no registration, or
+    /// Makes a change whole. If a registration finds no room, a deletion no registration, or
     /// either no port, nothing changes; a network that is fixed or finds the routes full is passed
     /// over. The only fault is want of memory for a registration or for routes; then nothing
     /// changed either.
     pub fn commit(&mut self, change: Change) -> Result<(), AllocError>
         ensures ok { OnOk result (self.new ≡ after change self.old) }
-        // What stood after some acts stands after the acts with this one.
+        // What is the state after some acts is then the state after the acts with this one.
         ensures stands { OnOk result ((ports : List Port) (acts : List Acts) →
             AreStatesAfter self.old.links ports acts →
             AreStatesAfter self.new.links ports (acts_after change acts)) }

@@ -51,9 +51,9 @@ impl RelayResponse {
         Ok(())
     }
 
-    /// Adds sends and refusals behind those before. An `Err` where there is no memory for them: all
+    /// Adds sends and refusals after those before. An `Err` if there is no memory for them: all
     /// is as before. The first sends and the first refusals take no memory.
-    pub(crate) fn add(&mut self, sends: Sends, refusals: Refusals) -> Result<(), AllocError>
+    fn add(&mut self, sends: Sends, refusals: Refusals) -> Result<(), AllocError>
         ensures sends { OnOk result (self.new.sends ≡ self.old.sends ++ sends) }
         ensures refusals { OnOk result (self.new.refusals ≡ self.old.refusals ++ refusals) }
         ensures change { self.new.change ≡ self.old.change }
@@ -71,7 +71,7 @@ impl RelayResponse {
     }
 }
 
-/// Adds refusals behind others. An `Err` where there is no memory for the list: it is as before. Where
+/// Adds refusals after others. An `Err` if there is no memory for the list: it is as before. If
 /// there are none to add, or were none before, it takes no memory.
 #[inline(always)]
 pub fn add_refusals(refusals: &mut Refusals, later: Refusals) -> Result<(), AllocError>
@@ -87,7 +87,7 @@ pub fn add_refusals(refusals: &mut Refusals, later: Refusals) -> Result<(), Allo
     append_whole(refusals, later.as_slice())
 }
 
-/// Adds refusals behind others, which is seldom. After an `Err` they are as before.
+/// Adds refusals after others, which is seldom. After an `Err` they are as before.
 #[inline(never)]
 fn append_whole(refusals: &mut Refusals, later: &[Refusal]) -> Result<(), AllocError>
     ensures ok { OnOk result (refusals.new ≡ refusals.old ++ later.now) }
@@ -102,7 +102,7 @@ fn append_whole(refusals: &mut Refusals, later: &[Refusal]) -> Result<(), AllocE
     Ok(())
 }
 
-/// Adds refusals behind others. An `Err` where there is no memory for the list; a part may then be added.
+/// Adds refusals after others. An `Err` if there is no memory for the list; a part may then be added.
 fn append_refusals(refusals: &mut Refusals, later: &[Refusal]) -> Result<(), AllocError>
     ensures ok { OnOk result (refusals.new ≡ refusals.old ++ later.now) }
     ensures front { take (length refusals.old) refusals.new ≡ refusals.old }

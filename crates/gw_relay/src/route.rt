@@ -60,11 +60,7 @@ fn is_local(payload: &Payload<'_>) -> bool
 impl Message<'_> {
     /// The message for its next hop, whose destination stays or goes; the node that it came from is
     /// added if it names no source. None if it would be over 1497 octets.
-    fn hop(
-        &self,
-        alloc: Global,
-        keeps_destination: bool,
-    ) -> Result<Option<Outgoing>, AllocError>
+    fn hop(&self, alloc: Global, keeps_destination: bool) -> Result<Option<Outgoing>, AllocError>
         ensures { let next = hop keeps_destination (message_view self.now) in
             IfOk result (λ made. made ≡ npdu_octets next) }
     {
@@ -256,7 +252,8 @@ impl Relay {
             let copy = copy self.now.format (message_view message.now) (destination_view destination.now) in
             let steps = map copy (others message.now.here.now.port.number ports.now) in
             OnOk result (AreTaken A.kept A.kept_of rules steps turn.old turn.new) }
-        ensures stays { (rules : List Rule) → A.StandsFor turn.old.asker rules → A.StandsFor turn.new.asker rules }
+        ensures stays { (rules : List Rule) → A.StandsFor turn.old.asker rules →
+            A.StandsFor turn.new.asker rules }
         ensures silent { others message.now.here.now.port.number ports.now ≡ [] → IsOk result }
         ensures unasked { others message.now.here.now.port.number ports.now ≡ [] → turn.new ≡ turn.old }
     {
@@ -282,10 +279,10 @@ impl Relay {
             let d = destination_view destination.now in
             let copy = copy self.now.format (message_view message.now) d port.now in
             OnOk result (AreTaken A.kept A.kept_of rules (copy ∷ []) turn.old turn.new) }
-        ensures stays { (rules : List Rule) → A.StandsFor turn.old.asker rules → A.StandsFor turn.new.asker rules }
+        ensures stays { (rules : List Rule) → A.StandsFor turn.old.asker rules →
+            A.StandsFor turn.new.asker rules }
     {
-        let network = Some(u64::from(port.port.network.get()));
-        let ask = message.ask(Operation::Route, network);
+        let ask = message.ask(Operation::Route, Some(port.port.network.get()));
         let format = self.format();
         if authorize_forward(&mut turn.asker, format, &ask, &message.npdu.payload)? {
             message.copy_to_port(destination, port, &mut turn.sends)
@@ -306,7 +303,8 @@ impl Relay {
             let d = destination_view destination.now in
             let step = on_way self.now (message_view message.now) d way.now in
             OnOk result (AreTaken A.kept A.kept_of rules (step ∷ []) turn.old turn.new) }
-        ensures stays { (rules : List Rule) → A.StandsFor turn.old.asker rules → A.StandsFor turn.new.asker rules }
+        ensures stays { (rules : List Rule) → A.StandsFor turn.old.asker rules →
+            A.StandsFor turn.new.asker rules }
     {
         let ask = message.ask(Operation::Route, bound_for(message.npdu));
         let format = self.format();
@@ -331,7 +329,8 @@ impl Relay {
             let d = destination_view destination.now in
             let steps = steps_by self.now (message_view message.now) d way.now in
             OnOk result (AreTaken A.kept A.kept_of rules steps turn.old turn.new) }
-        ensures stays { (rules : List Rule) → A.StandsFor turn.old.asker rules → A.StandsFor turn.new.asker rules }
+        ensures stays { (rules : List Rule) → A.StandsFor turn.old.asker rules →
+            A.StandsFor turn.new.asker rules }
         ensures silent { let d = destination_view destination.now in
             let steps = steps_by self.now (message_view message.now) d way.now in
             asks_of steps ≡ [] → IsOk result }
@@ -350,8 +349,8 @@ impl Relay {
 
     /// Routes a message (clause 6.5). By the way of its destination the policy is asked, and what is
     /// allowed is sent: to a station of another port's network or to all there, to the next router,
-    /// or to all other ports. If no way is known the link source is told so, and the other ports'
-    /// routers are asked for one. What that gives is added to the turn. It changes nothing. The only
+    /// or to all other ports. If no way is known the link source gets a reject, and the other
+    /// ports' routers are asked for one. What that gives is added to the turn. It changes nothing. The only
     /// fault is want of memory, and then a part may be added; what asks nothing wants none.
     #[inline(always)]
     pub fn add_route<A: Asker>(
@@ -362,7 +361,8 @@ impl Relay {
         ensures turn { (rules : List Rule) → A.StandsFor turn.old.asker rules →
             let due = route_response rules self.now (message_view message.now) in
             OnOk result (IsWalked A.kept A.kept_of rules due turn.old turn.new) }
-        ensures stays { (rules : List Rule) → A.StandsFor turn.old.asker rules → A.StandsFor turn.new.asker rules }
+        ensures stays { (rules : List Rule) → A.StandsFor turn.old.asker rules →
+            A.StandsFor turn.new.asker rules }
         ensures silent { route_asks self.now (message_view message.now) ≡ [] → IsOk result }
         ensures unasked { route_asks self.now (message_view message.now) ≡ [] → turn.new ≡ turn.old }
     {

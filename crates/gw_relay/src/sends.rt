@@ -1,4 +1,4 @@
-//! Datagrams to send. A message stands once, whomever it goes to: a broadcast to many addresses
+//! Datagrams to send. A message is kept once, whomever it goes to: a broadcast to many addresses
 //! takes the octets of one.
 
 ghost use Rattle.std.specs.Prelude.{◌≡◌, ◌==◌, ◌+◌, ◌^◌, ◌<◌, ◌≤◌, ◌++◌, ◌∷◌, [], length, vec_len, IfOk, IsOk, OnOk, OnErr};
@@ -113,7 +113,7 @@ impl Batches {
         }
     }
 
-    /// Adds a message behind others. An `Err` where there is no memory for the list: they are as before.
+    /// Adds a message after others. An `Err` if there is no memory for the list: they are as before.
     #[inline(never)]
     fn push(&mut self, alloc: Global, batch: Batch) -> Result<(), AllocError>
         ensures ok { OnOk result (batches_of self.new ≡ batches_of self.old ++ batch ∷ []) }
@@ -130,7 +130,7 @@ impl Batches {
         Ok(())
     }
 
-    /// Adds others behind them. An `Err` where there is no memory for the list: they are as before.
+    /// Adds others after them. An `Err` if there is no memory for the list: they are as before.
     #[inline(never)]
     fn append(&mut self, alloc: Global, others: Batches) -> Result<(), AllocError>
         ensures ok { OnOk result (batches_of self.new ≡ batches_of self.old ++ batches_of others) }
@@ -146,7 +146,7 @@ impl Batches {
         Ok(())
     }
 
-    /// Moves the messages behind those of a list. An `Err` where it has no room and gets no memory:
+    /// Moves the messages to the end of a list. An `Err` if it has no room and gets no memory:
     /// it is as before.
     #[inline(always)]
     fn move_to(self, all: &mut Vec<Batch>) -> Result<(), AllocError>
@@ -213,8 +213,8 @@ impl Sends {
         self.count
     }
 
-    /// Adds the datagrams of a message behind the others; one that goes to nobody is let go. An
-    /// `Err` where there is no memory for the list, or where there would be more than 2^64 - 1
+    /// Adds the datagrams of a message after the others; one that goes to nobody is let go. An
+    /// `Err` if there is no memory for the list, or if there would be more than 2^64 - 1
     /// datagrams, which no memory holds: they are as before. A message to nobody takes no memory, nor
     /// does the first.
     #[inline(always)]
@@ -239,8 +239,8 @@ impl Sends {
         Ok(())
     }
 
-    /// Adds others behind them. An `Err` where there is no memory for the list, or where there would
-    /// be more than 2^64 - 1 datagrams, which no memory holds: they are as before. Where there are no
+    /// Adds others after them. An `Err` if there is no memory for the list, or if there would
+    /// be more than 2^64 - 1 datagrams, which no memory holds: they are as before. If there are no
     /// others, or were none before, it takes no memory.
     #[inline(always)]
     pub fn append(&mut self, others: Sends) -> Result<(), AllocError>
@@ -271,7 +271,7 @@ impl Sends {
     }
 }
 
-/// How many datagrams two lists have together. An `Err` where that passes 2^64 - 1.
+/// How many datagrams two lists have together. An `Err` if that passes 2^64 - 1.
 fn sum(count: u64, more: u64) -> Result<u64, AllocError>
     ensures ok { IfOk result (λ all. all ≡ count + more) }
     ensures fits { count + more < 2 ^ 64 → IsOk result }

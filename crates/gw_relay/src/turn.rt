@@ -37,7 +37,7 @@ impl<A: Asker> Turn<A> {
     }
 
     /// The allocator of what is sent and changed.
-    pub(crate) fn alloc(&self) -> Global {
+    pub fn alloc(&self) -> Global {
         self.sends.alloc()
     }
 

@@ -4,7 +4,7 @@ use Rattle.gw_relay.specs.declared.change.Change.{Change}
 use Rattle.gw_relay.specs.declared.link.Grant.{Grant}
 use Rattle.gw_relay.specs.declared.link.Grant.TheVariants.{Granted, Refused}
 
--- what changes where it is granted
+-- what changes if it is granted
 abbrev pub granted_change : Grant → Option (Option Change)
 granted_change (Granted change) = Some change
 granted_change Refused = None

@@ -1,4 +1,4 @@
--- The octets of a message, where it isn't too long.
+-- The octets of a message, if it isn't too long.
 use Rattle.std.specs.Prelude.{ℕ, List, length, Option, Some, None, nat_le, if◌then◌else◌}
 use Rattle.gw_bvll.specs.Bvll.{encoding}
 use Rattle.gw_bvll.specs.Bvll.{Message as Frame}

@@ -4,7 +4,7 @@ use Rattle.gw_addr.specs.declared.bip.BipAddr.{BipAddr}
 use Rattle.gw_bvll.specs.Bvll.{Message as Frame}
 use Rattle.gw_rules.specs.declared.rule.Rule.{Rule}
 use Rattle.gw_relay.specs.Cast.{passed_on, targets}
-use Rattle.gw_relay.specs.Link.{answer_to, change_of, is_granted, refused, told}
+use Rattle.gw_relay.specs.Link.{answer_to, change_of, granted, is_granted, refused}
 use Rattle.gw_relay.specs.Manage.{keep_allowed, learn_ask, named_networks}
 use Rattle.gw_relay.specs.Message.{Message}
 use Rattle.gw_relay.specs.Response.{Response}
@@ -17,7 +17,7 @@ use Rattle.gw_relay.specs.declared.port.PortState.{PortState}
 abbrev pub served : PortState → BipAddr → Frame → Bool → List Sending
 served link from frame allowed =
     map (answer_to link.port from)
-    (if allowed && is_granted link from frame then told link frame else refused frame)
+    (if allowed && is_granted link from frame then granted link frame else refused frame)
 
 -- what it changes
 abbrev pub served_change : PortState → BipAddr → Frame → Bool → Option Change

@@ -1,6 +1,8 @@
 use Rattle.std.proofs.Common.{◌≡◌, ◌∙◌, sym, ap, refl, List, [], ◌∷◌, ◌++◌}
 use Rattle.gw_rules.specs.Ask.{Ask}
 use Rattle.gw_rules.specs.RuleList.{allows}
+use Rattle.gw_rules.specs.declared.operation.Operation.TheVariants.{Cast}
+use Rattle.gw_relay.specs.Asks.{message_ask}
 use Rattle.gw_relay.specs.Cast.{cast_ask, cast_response}
 use Rattle.gw_relay.specs.Message.{message_view}
 use Rattle.gw_relay.specs.Sends.{Sending}
@@ -24,7 +26,7 @@ returns-clause-turn g c = λ rules stands.
     let heard = goes_on_accepted m c.requires in
     let known = goes_on_registered m c.requires in
     let broadcast = sym c.is_broadcast.ensures ∙ c.if-not-is_broadcast.false in
-    let own : c.ask-ask.result ≡ cast_ask m = rw (c.ask-ask.ensures, c.bound_for.ensures) refl in
+    let own : c.ask-ask.result ≡ cast_ask m = c.ask-ask.ensures ∙ ap (message_ask Cast m) c.bound_for.ensures in
     let judges = c.in_ok-is_allowed.ensures.answer rules stands ∙ ap (allows rules) own in
     let asked = c.in_ok-is_allowed.ensures.kept rules stands
     ∙ ap (λ (ask : Ask). g.A.Asker.kept turn.asker ++ g.A.Asker.kept_of rules (ask ∷ [])) own in record {

@@ -3,7 +3,6 @@ use Rattle.std.specs.Option.{option_or}
 use Rattle.gw_bvll.specs.Bvll.{view}
 use Rattle.gw_rules.specs.Ask.{Ask}
 use Rattle.gw_rules.specs.RuleList.{allows}
-use Rattle.gw_rules.specs.declared.verdict.Verdict.{Verdict}
 use Rattle.gw_relay.specs.Link.{link_response}
 use Rattle.gw_relay.specs.Sends.{Sending}
 use Rattle.gw_relay.specs.declared.change.Change.{Change}
