@@ -1,6 +1,6 @@
 #!/usr/bin/env bash
 # Makes the section CONFIGURATION KEYS of man/bacgw.1 from the tables by which the program reads a configuration
-# (crates/gw_config_tables/src/tables.rt), and compares it with what stands there; with --print it prints it. It wants python3 and no
+# (crates/gw_config_tables/src/tables.rt) and the bounds of a rule's fields (crates/gw_rules/src/field.rt), and compares it with what stands there; with --print it prints it. It wants python3 and no
 # built program. The last line says whether they agree.
 set -euo pipefail
 exec python3 - "$(cd "$(dirname "$0")/.." && pwd)" "${1:-}" <<'END'
@@ -16,6 +16,12 @@ for file in [file for crate in LIMITED for file in glob.glob(f"crates/{crate}/sr
     for name, value in re.findall(r"const (MAX_\w+): \w+ = ([\d_]+);", open(file).read()):
         LIMITS[name] = value
 SHAPES = dict(re.findall(r"const (\w+): (?:Shape|Scalar) = (.*?);", TABLES, re.S))
+# What a rule may name for a field.
+NAMED = {"Operation": "Scalar::Operation", "SourceKey": "Scalar::Address"}
+BOUNDS = re.search(r"fn bounds\(.*?\n    \}\n", open("crates/gw_rules/src/field.rt").read(), re.S)[0]
+for names, low, high in re.findall(r"(FieldName::[\w |:]+) => \((\w+), ([\w ]+)\),", BOUNDS):
+    for name in re.findall(r"FieldName::(\w+)", names):
+        NAMED.setdefault(name, f"Scalar::Number {{ low: {low}, high: {high} }}")
 # What a text that may be missing is then.
 DEFAULTS = {key: default for default, key in re.findall(r'optional_text (?:\[\]|\(codes "(\w+)"\)) \(codes "(\w+)"\)', READING)}
 TYPES = re.findall(r"(\d+) ([A-Z][\w -]+?)(?:,|\")", re.search(r"const TYPES: &str =(.*?);", open("crates/gw_explanation/src/reason.rt").read(), re.S)[1])
@@ -47,7 +53,7 @@ def scalar(of, counted):
     return {
         "Scalar::Signed": r"\-2147483648 to 2147483647",
         "Scalar::ObjectType": ", ".join(f"{number} ({name})" for number, name in TYPES),
-        "Scalar::RuleName": rf"a text of 1 to {LIMITS['MAX_RULE_NAME']} of a to z, 0 to 9 and \-, and not default".replace("_", ""),
+        "Scalar::RuleName": rf"a text of 1 to {LIMITS['MAX_NAME']} of a to z, 0 to 9 and \-, and not default".replace("_", ""),
         "Scalar::Boolean": "true or false",
         "Scalar::Address": "an address and its UDP port, as 10.0.1.255:47808",
         "Scalar::Mask": "a mask, as 255.255.255.0",
@@ -79,6 +85,7 @@ def default(key, shape):
 def fields(table):
     """The keys of a table in their order, each with its words."""
     body = re.search(rf"fn {table}_fields\(.*?\n\}}\n", TABLES, re.S)[0]
+    body = re.sub(r'ranges\("(\w+)", FieldName::(\w+)\)', lambda found: f'Field::may("{found[1]}", Shape::Ranges({NAMED[found[2]]}))', body)
     counted = {"route": "ports", "multi_state": "states"}.get(table, "")
     found = re.findall(r'Field::(needs|may)\(\s*"(\w+)",\s*(.*?),?\s*\),?\n(?=\s+Field|\s+\])', body, re.S)
     assert len(found) == body.count("Field::") and found, table

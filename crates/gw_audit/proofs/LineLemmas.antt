@@ -1,9 +1,10 @@
 -- What is read back from a line.
 use Rattle.std.proofs.Common.{◌≡◌, ◌≢◌, ℕ, ◌^◌, ◌<◌, List, [], ◌∷◌, ◌++◌, refl, sym, subst, ap, ap₂, ◌∙◌, arith, append_assoc, Option}
-use Rattle.std.specs.Prelude.{codes, Bool, true, false, ◌&&◌, IsTrue, length, nat_le}
+use Rattle.std.specs.Prelude.{codes, true, false, ◌&&◌, IsTrue, length, nat_le}
 use Rattle.std.specs.Char.{IsAsciiDigit}
 use Rattle.std.specs.Fmt.{decimal}
 use Rattle.std.specs.List.{flat_map, list_all}
+use Rattle.std.proofs.lemmas.Bool.{and_parts}
 use Rattle.std.proofs.lemmas.Fmt.{decimal_injective}
 use Rattle.std.proofs.lemmas.List.{append_cancel_left, append_cancel_right}
 use Rattle.gw_addr.specs.declared.station.Source.{Source}
@@ -194,28 +195,17 @@ other_space e = absurd (omega arith)
 no_feed : (c : ℕ) → is_name_character c ≡ true → c ≢ 10
 no_feed c is e = let wrong : false ≡ true = subst (λ x. is_name_character x ≡ true) e is in absurd cc
 
-left : (a b : Bool) → (a && b) ≡ true → a ≡ true
-left true b e = refl
-left false b e = absurd cc
-
-right : (a b : Bool) → (a && b) ≡ true → b ≡ true
-right true b e = e
-right false b e = absurd cc
-
 all_lack : (text : List ℕ) → list_all is_name_character text ≡ true → Lacks 10 text
 all_lack [] e = lacks_in_none 10
 all_lack (c ∷ cs) e =
-    lacks_cons 10 c cs (no_feed c (left (is_name_character c) (list_all is_name_character cs) e))
-    (all_lack cs (right (is_name_character c) (list_all is_name_character cs) e))
-
-is_so : (b : Bool) → IsTrue b → b ≡ true
-is_so true h = refl
-is_so false h = absurd cc
+    let parts = and_parts (is_name_character c) (list_all is_name_character cs) e in
+    lacks_cons 10 c cs (no_feed c parts.0) (all_lack cs parts.1)
 
 name_lacks : (text : List ℕ) → IsTrue (is_name text) → Lacks 10 text
-name_lacks text h =
+name_lacks text is =
     let all = list_all is_name_character text in
-    all_lack text (right (nat_le (length text) 32) all (right (nat_le 1 (length text)) (nat_le (length text) 32 && all) (is_so (is_name text) h)))
+    let parts = and_parts (nat_le 1 (length text)) (nat_le (length text) 32 && all) is in
+    all_lack text (and_parts (nat_le (length text) 32) all parts.1).1
 
 ends_rule : (d : Denial) → Lacks 10 d.rule → IsOneLine (rule_on d)
 unfolding rule_on has_none

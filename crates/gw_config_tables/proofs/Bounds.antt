@@ -1,5 +1,5 @@
 -- The numbers by which rules know operations and addresses.
-use Rattle.std.proofs.Common.{◌≡◌, ◌≤◌, true, refl, arith, nat_le}
+use Rattle.std.proofs.Common.{◌≡◌, true, refl, arith, nat_le}
 use Rattle.std.proofs.lemmas.Bool.{and_from, le-leb}
 use Rattle.gw_addr.specs.declared.bip.BipAddr.{BipAddr}
 use Rattle.gw_addr.specs.Address.{IsAddress, big_endian, octets_of}

@@ -187,7 +187,9 @@ fn are_named(device: &Device, objects: &[Object]) -> bool
 fn have_names(objects: &[Object]) -> bool
     ensures { result ≡ list_all (λ object. is_named object.name) objects.now }
 {
-    objects.iter().all(|object| !object.name.as_str().is_empty())
+    objects
+        .iter()
+        .all(|object| !object.name.as_str().is_empty())
 }
 
 /// Whether a configuration can have each of these rules.

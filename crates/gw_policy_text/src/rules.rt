@@ -74,8 +74,12 @@ fn put_ranges(alloc: Global, ranges: &mut Fields<Ranges>, table: &Table) -> Resu
     ranges.port = ranges_at(alloc, FieldName::Port, "port", table)?;
     ranges.source_network = ranges_at(alloc, FieldName::SourceNetwork, "source_network", table)?;
     ranges.source_key = ranges_at(alloc, FieldName::SourceKey, "source", table)?;
-    ranges.destination_network =
-        ranges_at(alloc, FieldName::DestinationNetwork, "destination", table)?;
+    ranges.destination_network = ranges_at(
+        alloc,
+        FieldName::DestinationNetwork,
+        "destination",
+        table,
+    )?;
     ranges.service = ranges_at(alloc, FieldName::Service, "service", table)?;
     ranges.object_type = ranges_at(alloc, FieldName::ObjectType, "object_type", table)?;
     ranges.instance = ranges_at(alloc, FieldName::Instance, "instance", table)?;

@@ -1,5 +1,5 @@
 -- What holds of each ask of two lists, and of both joined.
-use Rattle.std.proofs.Common.{◌≡◌, ℕ, Bool, true, false, List, [], ◌∷◌, ◌++◌, if◌then◌else◌}
+use Rattle.std.proofs.Common.{◌≡◌, false, List, [], ◌∷◌, ◌++◌}
 use Rattle.std.specs.List.{AllByRecursion}
 use Rattle.gw_rules.specs.Allowed.{NoneAllowed}
 use Rattle.gw_rules.specs.Ask.{Ask}

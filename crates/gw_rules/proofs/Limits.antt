@@ -8,7 +8,6 @@ use Rattle.gw_rules.specs.declared.range.Range.{Range}
 use Rattle.gw_rules.specs.declared.rule.Rule.{Rule}
 use Rattle.gw_rules.specs.declared.rule.TheConstants.{MAX_RANGES}
 use Rattle.gw_rules.specs.declared.rule_list.TheConstants.{MAX_RULES}
-use Rattle.gw_rules.specs.declared.field.FieldName.{FieldName}
 use Rattle.gw_rules.specs.Bounds.{HasBoundedRanges, are_bounded, bounds, is_within}
 use Rattle.gw_rules.specs.Range.{is_ordered}
 use Rattle.gw_rules.specs.Rule.{ranges_of, HasFewRanges, has_few_ranges, HasOrderedRanges, has_ordered_ranges}
@@ -42,20 +41,25 @@ order_passes : (rule : Rule) → HasOrderedRanges rule → has_ordered_ranges ru
 order_passes rule ordered =
     each_field_from (λ f. list_all is_ordered (ranges_of f rule)) (λ f. (ordered_iff (ranges_of f rule)).1 (ordered f))
 
+lies_within : (outer range : Range) → is_within outer range ≡ true → (outer.low ≤ range.low) × (range.high ≤ outer.high)
+lies_within outer range t =
+    let parts = and_parts (nat_le outer.low range.low) (nat_le range.high outer.high) t in
+    (leb-true outer.low range.low parts.0, leb-true range.high outer.high parts.1)
+
+within_passes : (outer range : Range) → (outer.low ≤ range.low) × (range.high ≤ outer.high) → is_within outer range ≡ true
+within_passes outer range lies =
+    and_from (nat_le outer.low range.low) (nat_le range.high outer.high) (le-leb outer.low range.low lies.0) (le-leb range.high outer.high lies.1)
+
+within_iff : (outer : Range) (ranges : List Range) → (list_all (is_within outer) ranges ≡ true) ↔ All (λ range. (outer.low ≤ range.low) × (range.high ≤ outer.high)) ranges
+within_iff outer ranges =
+    all_iff (is_within outer) (λ range. (outer.low ≤ range.low) × (range.high ≤ outer.high)) (lies_within outer) (within_passes outer) ranges
+
 -- each range is within its field's bounds exactly where the test holds
 pub bounded_iff : (rule : Rule) → (are_bounded rule.ranges ≡ true) ↔ HasBoundedRanges rule
-bounded_iff rule =
-    let within = λ (field : FieldName) (ranges : List Range).
-        all_iff (is_within (bounds field)) (λ range. ((bounds field).low ≤ range.low) × (range.high ≤ (bounds field).high))
-        (λ range t.
-            let parts = and_parts (nat_le (bounds field).low range.low) (nat_le range.high (bounds field).high) t in
-            (leb-true (bounds field).low range.low parts.0, leb-true range.high (bounds field).high parts.1))
-        (λ range in_words. and_from (nat_le (bounds field).low range.low) (nat_le range.high (bounds field).high) (le-leb (bounds field).low range.low in_words.0) (le-leb range.high (bounds field).high in_words.1))
-        ranges in
-    (
-      λ t field. (within field (ranges_of field rule)).0 (each_field_at (λ f. list_all (is_within (bounds f)) (ranges_of f rule)) t field),
-      λ words. each_field_from (λ f. list_all (is_within (bounds f)) (ranges_of f rule)) (λ f. (within f (ranges_of f rule)).1 (words f)),
-    )
+bounded_iff rule = (
+  λ t field. (within_iff (bounds field) (ranges_of field rule)).0 (each_field_at (λ f. list_all (is_within (bounds f)) (ranges_of f rule)) t field),
+  λ bounded. each_field_from (λ f. list_all (is_within (bounds f)) (ranges_of f rule)) (λ f. (within_iff (bounds f) (ranges_of f rule)).1 (bounded f)),
+)
 
 -- the counts are kept exactly where there are few rules, each with few ranges
 pub counts_iff : (rules : List Rule) → (keeps_counts rules ≡ true) ↔ KeepsCounts rules

@@ -73,9 +73,10 @@ impl Rule {
     pub fn is_bounded(&self) -> bool
         ensures { result ≡ are_bounded self.now.ranges }
     {
-        FieldName::ALL
-            .iter()
-            .all(|field| are_within(self.ranges(*field).as_slice(), field.bounds()))
+        FieldName::ALL.iter().all(|field| are_within(
+            self.ranges(*field).as_slice(),
+            field.bounds(),
+        ))
     }
 
     /// Whether the rule matches the ask.
