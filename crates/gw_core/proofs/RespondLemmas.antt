@@ -163,11 +163,11 @@ no_change true change e = absurd cc
 no_change false change e = refl
 
 -- nothing behind a list
-pub four_none : {A : Type 0} (xs : List A) → xs ++ [] ++ [] ++ [] ++ [] ≡ xs
-four_none xs = append-nil (xs ++ [] ++ [] ++ []) ∙ three_none xs
-
 three_none : {A : Type 0} (xs : List A) → xs ++ [] ++ [] ++ [] ≡ xs
 three_none xs = append-nil (xs ++ [] ++ []) ∙ append-nil (xs ++ []) ∙ append-nil xs
+
+pub four_none : {A : Type 0} (xs : List A) → xs ++ [] ++ [] ++ [] ++ [] ≡ xs
+four_none xs = append-nil (xs ++ [] ++ [] ++ []) ∙ three_none xs
 
 stranger_sends : (rules : List Rule) (relay : Relay) (d : Database) (m : Message)
     → sends_for rules relay d (unregistered m) ≡ cast_sends rules m

@@ -65,7 +65,7 @@ walked_none kept kept_of none rules due turn asks sends change = record {
 
 -- ---- the refusals that an authorizer keeps
 
-refusal_of : Verdict → Refusal
+abbrev refusal_of : Verdict → Refusal
 refusal_of v = record { ask = v.ask; by = v.by }
 
 refusals_again : (refusals : List Refusal) → map refusal_of (map verdict_of_refusal refusals) ≡ refusals

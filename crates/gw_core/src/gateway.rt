@@ -8,7 +8,6 @@ ghost use Rattle.gw_device.specs.Response.{HasPlace};
 ghost use Rattle.gw_relay.specs.History.{initial_acts};
 ghost use Rattle.gw_relay.specs.State.{Commit, moved};
 ghost use Rattle.gw_core.specs.Effects.{changed};
-ghost use Rattle.gw_core.specs.State.{device_network};
 ghost use Rattle.gw_core.specs.Explained.{asks_text};
 ghost use Rattle.gw_script.specs.Event.{Datagram, Tick};
 
@@ -17,7 +16,7 @@ use crate::effects::Effects;
 use crate::event::Counts;
 use crate::explaining::put_verdicts;
 use crate::fault::StepFault;
-use crate::receive::{Arrival, OwnNetworks, Received, read_npdu, receive};
+use crate::receive::{Arrival, Received, read_npdu, receive};
 use crate::respond::{network_of, respond};
 use gw_addr::BipAddr;
 use gw_audit::Denials;
@@ -167,18 +166,6 @@ impl Gateway {
         LAST_COUNT - self.counts.denials
     }
 
-    /// The networks that it is on itself.
-    #[inline(always)]
-    fn own_networks(&self) -> OwnNetworks<'_>
-        ensures ports { result.ports.now ≡ self.now.relay.links }
-        ensures device { result.device ≡ device_network self.now.device }
-    {
-        OwnNetworks {
-            ports: self.relay.ports(),
-            device: network_of(&self.device).get(),
-        }
-    }
-
     /// What is done about what is received, while the gateway stays as it is. The faults are those of
     /// [`Gateway::step`].
     #[inline(always)]
@@ -205,16 +192,17 @@ impl Gateway {
     {
         let mut turn = Turn::new(Authorizer::new(alloc, &self.policy));
         let write = respond(&self.relay, &self.device, received, &mut turn)?;
-        let refusals = turn.asker.into_refusals();
+        let refusals = turn.asker.refusals();
         if refusals.len() as u64 > self.left() {
             return Err(StepFault::CountEnd);
         }
         let rules = self.policy.rules();
-        let denials = denials_of(alloc, rules, self.counts, received, refusals.as_slice())?;
+        let denials = denials_of(alloc, rules, self.counts, received, refusals)?;
+        let (sends, change) = turn.into_effects();
         Ok(Outcome {
-            sends: turn.sends,
+            sends,
             denials,
-            change: turn.change,
+            change,
             write,
         })
     }
@@ -273,8 +261,8 @@ impl Gateway {
         let frame = gw_bvll::decode(octets);
         let mut npdu = Err(NpduFault::Short);
         read_npdu(&frame, &mut npdu);
-        let own = now.own_networks();
-        let received = receive(&own, &arrival, &frame, &npdu);
+        let device = network_of(&now.device);
+        let received = receive(now.relay.ports(), device, &arrival, &frame, &npdu);
         let Outcome {
             sends,
             denials,
@@ -303,8 +291,8 @@ impl Gateway {
         let frame = gw_bvll::decode(arrival.octets);
         let mut npdu = Err(NpduFault::Short);
         read_npdu(&frame, &mut npdu);
-        let own = self.own_networks();
-        let received = receive(&own, arrival, &frame, &npdu);
+        let device = network_of(&self.device);
+        let received = receive(self.relay.ports(), device, arrival, &frame, &npdu);
         let mut turn = Turn::new(Recorder::new(alloc, &self.policy));
         respond(&self.relay, &self.device, &received, &mut turn)?;
         put_verdicts(out, self.policy.rules(), &received, turn.asker.verdicts())

@@ -13,8 +13,8 @@ ghost use Rattle.gw_core.specs.Receive.{claims_direct, comes_in, is_direct, mana
 ghost use Rattle.gw_core.specs.internal.Frame.{octets_in};
 ghost use Rattle.gw_core.specs.View.{received_view};
 
-use gw_addr::BipAddr;
 use gw_addr::laws::one_to_one;
+use gw_addr::{BipAddr, NetNum};
 use gw_bvll::{Bvll, BvllFault};
 use gw_npdu::{AddressRef, Npdu, NpduFault};
 use gw_relay::{Message, PortState, TableMessage, link_at};
@@ -37,11 +37,11 @@ pub(crate) struct Arrival<'a> {
 
 /// The networks that the gateway itself is on.
 #[derive(Clone, Copy)]
-pub(crate) struct OwnNetworks<'a> {
+struct OwnNetworks<'a> {
     /// The ports with their tables, in order.
-    pub ports: &'a [PortState],
+    ports: &'a [PortState],
     /// The number of the device's network.
-    pub device: u16,
+    device: u16,
 }
 
 /// What a datagram is received as.
@@ -176,7 +176,8 @@ fn receive_payload<'a>(
 /// they were read.
 #[inline(always)]
 pub(crate) fn receive<'a>(
-    own: &OwnNetworks<'a>,
+    ports: &'a [PortState],
+    device: NetNum,
     arrival: &Arrival<'_>,
     frame: &'a Result<Bvll<'a>, BvllFault>,
     npdu: &'a Result<Npdu<'a>, NpduFault>,
@@ -184,9 +185,9 @@ pub(crate) fn receive<'a>(
     requires frame { Gives frame_view frame.now (bvll_at arrival.now.octets.now) }
     requires npdu { Gives npdu_view npdu.now (npdu_at (octets_in frame.now)) }
     ensures { let a = arrival.now in
-        received_view result ≡ receive_on own.now.ports.now own.now.device a.port a.from a.octets.now }
+        received_view result ≡ receive_on ports.now device a.port a.from a.octets.now }
 {
-    let Some(here) = link_at(own.ports, usize::from(arrival.port)) else {
+    let Some(here) = link_at(ports, usize::from(arrival.port)) else {
         return Received::Dropped;
     };
     if !comes_in(here.port.address, arrival.from, arrival.octets) {
@@ -199,5 +200,9 @@ pub(crate) fn receive<'a>(
     if manages(frame) {
         return Received::Managed(TableMessage { here, from, frame });
     }
-    receive_payload(own, here, from, frame, npdu)
+    let own = OwnNetworks {
+        ports,
+        device: device.get(),
+    };
+    receive_payload(&own, here, from, frame, npdu)
 }

@@ -51,3 +51,18 @@ impl<A: Asker> Turn<A> {
         set_change(&mut self.change, change);
     }
 }
+
+impl<A: Drop> Turn<A> {
+    /// What is sent, and what is to be committed.
+    pub fn into_effects(self) -> (Sends, Option<Change>)
+        ensures sends { result.0 ≡ self.sends }
+        ensures change { result.1 ≡ self.change }
+    {
+        let Turn {
+            asker: _,
+            sends,
+            change,
+        } = self;
+        (sends, change)
+    }
+}

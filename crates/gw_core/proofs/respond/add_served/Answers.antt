@@ -2,19 +2,28 @@ use Rattle.std.proofs.Common.{◌∙◌, ◌++◌, List, ap, sym}
 use Rattle.gw_relay.specs.Message.{message_view}
 use Rattle.gw_relay.specs.Sends.{Sending}
 use Rattle.gw_rules.specs.Ask.{Ask}
-use Rattle.gw_core.specs.Respond.{message_response}
 use Rattle.gw_core.proofs.DenialLemmas.{asks_put}
-use Rattle.gw_core.proofs.RespondLemmas.{sends_put, unserved}
+use Rattle.gw_core.proofs.RespondLemmas.{sends_put}
 use Rattle.gw_core.proofs.SilenceLemmas.{none_mapped, silent_message}
-use Rattle.gw_core.proofs.TurnLemmas.{or_none, walked_none}
+use Rattle.gw_core.proofs.TurnLemmas.{or_none}
 use Rattle.gw_core.proofs.respond.add_served.Goals as goal
 
 pub returns-clause-walked : goal.returns-clause-walked
 returns-clause-walked g c = λ rules stands.
     let d = c.args.device.now in
     let m = message_view c.args.message.now in
-    let none = unserved rules d m c.network_of-network.result c.network_of-network.ensures c.in-None.ensures in
-    walked_none g.A.Asker.kept g.A.Asker.kept_of g.met.A.Asker.kept_none rules (message_response rules d m) _ none.0 none.1 refl
+    let network = c.network_of-network.result in
+    let context = c.context_of-context.result in
+    let octets = c.in-Some.apdu.now in
+    let its = c.network_of-network.ensures in
+    let answered = (c.in_ok-answer.ensures.served rules stands).answer in record {
+      sends = c.in_ok-add_answer.ensures.sends ∙ ap (λ (l : List Sending). c.args.turn.now.sends ++ l)
+          (sends_put rules d m network context octets _ its c.in-Some.ensures c.context_of-context.ensures.context answered);
+      verdicts = c.in_ok-answer.ensures.asks rules stands
+          ∙ ap (λ (l : List Ask). g.A.Asker.kept c.args.turn.now.asker ++ g.A.Asker.kept_of rules l)
+          (sym (asks_put rules d m network context octets its c.in-Some.ensures c.context_of-context.ensures.context));
+      change = sym (or_none c.args.turn.now.change);
+    }
 
 pub returns-in_err-answer-clause-silent : goal.returns-in_err-answer-clause-silent
 returns-in_err-answer-clause-silent g c = λ rules stands asks sends.

@@ -17,8 +17,9 @@ returns-in_err-denials-clause-count_end c =
     let w = c.args.self.now in
     let event = Datagram c.args.port c.args.from c.args.octets.now in
     let received : received_view c.receive-received.result ≡ receive w event =
-    received_as w c.own_networks-own.result.ports.now c.own_networks-own.result.device c.args.port c.args.from c.args.octets.now _
-    c.receive-received.ensures c.own_networks-own.ensures.ports c.own_networks-own.ensures.device in
+    received_as w c.ports.result.now c.network_of-device.result c.args.port c.args.from c.args.octets.now _ c.receive-received.ensures
+    (c.ports.ensures ∙ ap (λ (s : State). s.relay.links) c.now.view_is)
+    (c.network_of-device.ensures ∙ ap (λ (s : State). device_network s.device) c.now.view_is) in
     let counted = denials_received w event (received_view c.receive-received.result) received in
     λ h.
     let same = fault_of_call c.from_residual.result c.in_err-denials.field-0.0 CountEnd c.from_residual.ensures.1 h in
@@ -29,8 +30,9 @@ returns-in_err-denials-clause-silent c = λ none.
     let w = c.args.self.now in
     let event = Datagram c.args.port c.args.from c.args.octets.now in
     let received : received_view c.receive-received.result ≡ receive w event =
-    received_as w c.own_networks-own.result.ports.now c.own_networks-own.result.device c.args.port c.args.from c.args.octets.now _
-    c.receive-received.ensures c.own_networks-own.ensures.ports c.own_networks-own.ensures.device in
+    received_as w c.ports.result.now c.network_of-device.result c.args.port c.args.from c.args.octets.now _ c.receive-received.ensures
+    (c.ports.ensures ∙ ap (λ (s : State). s.relay.links) c.now.view_is)
+    (c.network_of-device.ensures ∙ ap (λ (s : State). device_network s.device) c.now.view_is) in
     let ok = c.in_err-denials.ensures.silent (sym (asks_received w event _ received) ∙ none.0)
     (sym (sends_received w event _ received) ∙ none.1) in
     absurd cc
@@ -40,8 +42,9 @@ returns-clause-step c =
     let w = c.args.self.now in
     let event = Datagram c.args.port c.args.from c.args.octets.now in
     let received : received_view c.receive-received.result ≡ receive w event =
-    received_as w c.own_networks-own.result.ports.now c.own_networks-own.result.device c.args.port c.args.from c.args.octets.now _
-    c.receive-received.ensures c.own_networks-own.ensures.ports c.own_networks-own.ensures.device in
+    received_as w c.ports.result.now c.network_of-device.result c.args.port c.args.from c.args.octets.now _ c.receive-received.ensures
+    (c.ports.ensures ∙ ap (λ (s : State). s.relay.links) c.now.view_is)
+    (c.network_of-device.ensures ∙ ap (λ (s : State). device_network s.device) c.now.view_is) in
     let counted = denials_received w event (received_view c.receive-received.result) received in
     let ticks : w.ticks + 0 ≤ 2 ^ 63 = subst (λ (s : State). s.ticks + 0 ≤ 2 ^ 63) c.now.view_is (omega (arith, c.now.invariant.ticks)) in
     let sized = c.len.ensures ∙ ap length c.in_ok-denials.ensures.denials ∙ counted in
@@ -59,8 +62,9 @@ returns-in_err-move_on-clause-silent c = λ none.
     let w = c.args.self.now in
     let event = Datagram c.args.port c.args.from c.args.octets.now in
     let received : received_view c.receive-received.result ≡ receive w event =
-    received_as w c.own_networks-own.result.ports.now c.own_networks-own.result.device c.args.port c.args.from c.args.octets.now _
-    c.receive-received.ensures c.own_networks-own.ensures.ports c.own_networks-own.ensures.device in
+    received_as w c.ports.result.now c.network_of-device.result c.args.port c.args.from c.args.octets.now _ c.receive-received.ensures
+    (c.ports.ensures ∙ ap (λ (s : State). s.relay.links) c.now.view_is)
+    (c.network_of-device.ensures ∙ ap (λ (s : State). device_network s.device) c.now.view_is) in
     let ok = c.in_err-move_on.ensures.no_growth (c.in_ok-denials.ensures.change
     ∙ unchanged w.rules w.relay w.device _ (sym (asks_received w event _ received) ∙ none.0)) in
     absurd cc
