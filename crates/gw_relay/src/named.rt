@@ -13,6 +13,7 @@ ghost use Rattle.gw_tags.specs.Object.{object_view};
 ghost use Rattle.gw_relay.specs.Named.{forward_asks, multi_asks, named_ask, named_asks, read_asks, reference_ask, request_asks, segment_asks, unnamed_ask, write_asks};
 ghost use Rattle.gw_relay.specs.internal.Taken.{AreAsked};
 
+use crate::relay::Relay;
 use gw_apdu::{Apdu, ConfirmedRequest, Header};
 use gw_configuration::Format;
 use gw_npdu::Payload;
@@ -207,48 +208,50 @@ fn authorize_request<A: Asker>(
     }
 }
 
-/// Puts the asks of what a message names, and answers whether all are allowed.
-fn authorize_named<A: Asker>(
-    asker: &mut A,
-    format: Format,
-    route: &Ask,
-    payload: &Payload<'_>,
-) -> Result<bool, AllocError>
-    ensures asked { (rules : List Rule) → A.StandsFor asker.old rules →
-        let asks = named_asks format route.now (payload_view payload.now) in
-        IfOk result (AreAsked A.kept A.kept_of rules asks asker.old asker.new) }
-    ensures stays { (rules : List Rule) → A.StandsFor asker.old rules →
-        A.StandsFor asker.new rules }
-{
-    let (Format::Two, Payload::Apdu(octets)) = (format, payload) else {
-        return Ok(true);
-    };
-    match gw_apdu::decode(octets) {
-        Ok(
-            Apdu {
-                header: Header::ConfirmedRequest(request),
-                rest,
-            },
-        ) => authorize_request(asker, route, &request, rest),
-        _ => Ok(true),
+impl Relay {
+    /// Puts the asks of what a message names, and answers whether all are allowed.
+    fn authorize_named<A: Asker>(
+        &self,
+        asker: &mut A,
+        route: &Ask,
+        payload: &Payload<'_>,
+    ) -> Result<bool, AllocError>
+        ensures asked { (rules : List Rule) → A.StandsFor asker.old rules →
+            let asks = named_asks self.now.format route.now (payload_view payload.now) in
+            IfOk result (AreAsked A.kept A.kept_of rules asks asker.old asker.new) }
+        ensures stays { (rules : List Rule) → A.StandsFor asker.old rules →
+            A.StandsFor asker.new rules }
+    {
+        let (Format::Two, Payload::Apdu(octets)) = (self.format(), payload) else {
+            return Ok(true);
+        };
+        match gw_apdu::decode(octets) {
+            Ok(
+                Apdu {
+                    header: Header::ConfirmedRequest(request),
+                    rest,
+                },
+            ) => authorize_request(asker, route, &request, rest),
+            _ => Ok(true),
+        }
     }
-}
 
-/// Puts a `route` ask, and after it those of what the message names, whether or not it is allowed;
-/// and answers whether all are.
-pub(crate) fn authorize_forward<A: Asker>(
-    asker: &mut A,
-    format: Format,
-    route: &Ask,
-    payload: &Payload<'_>,
-) -> Result<bool, AllocError>
-    ensures asked { (rules : List Rule) → A.StandsFor asker.old rules →
-        let asks = forward_asks format route.now (payload_view payload.now) in
-        IfOk result (AreAsked A.kept A.kept_of rules asks asker.old asker.new) }
-    ensures stays { (rules : List Rule) → A.StandsFor asker.old rules →
-        A.StandsFor asker.new rules }
-{
-    let goes = asker.authorize(route)?;
-    let are_allowed = authorize_named(asker, format, route, payload)?;
-    Ok(goes && are_allowed)
+    /// Puts a `route` ask, and after it those of what the message names, whether or not it is
+    /// allowed; and answers whether all are.
+    pub(crate) fn authorize_forward<A: Asker>(
+        &self,
+        asker: &mut A,
+        route: &Ask,
+        payload: &Payload<'_>,
+    ) -> Result<bool, AllocError>
+        ensures asked { (rules : List Rule) → A.StandsFor asker.old rules →
+            let asks = forward_asks self.now.format route.now (payload_view payload.now) in
+            IfOk result (AreAsked A.kept A.kept_of rules asks asker.old asker.new) }
+        ensures stays { (rules : List Rule) → A.StandsFor asker.old rules →
+            A.StandsFor asker.new rules }
+    {
+        let goes = asker.authorize(route)?;
+        let are_allowed = self.authorize_named(asker, route, payload)?;
+        Ok(goes && are_allowed)
+    }
 }

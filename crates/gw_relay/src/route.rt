@@ -13,7 +13,6 @@ ghost use Rattle.gw_relay.specs.internal.Taken.{AreTaken};
 
 use crate::ask::bound_for;
 use crate::message::Message;
-use crate::named::authorize_forward;
 use crate::npdu::{add_unicast, is_kind, message_of};
 use crate::outgoing::Outgoing;
 use crate::port::{PortState, link_at};
@@ -283,8 +282,7 @@ impl Relay {
             A.StandsFor turn.new.asker rules }
     {
         let ask = message.ask(Operation::Route, Some(port.port.network.get()));
-        let format = self.format();
-        if authorize_forward(&mut turn.asker, format, &ask, &message.npdu.payload)? {
+        if self.authorize_forward(&mut turn.asker, &ask, &message.npdu.payload)? {
             message.copy_to_port(destination, port, &mut turn.sends)
         } else {
             Ok(())
@@ -307,8 +305,7 @@ impl Relay {
             A.StandsFor turn.new.asker rules }
     {
         let ask = message.ask(Operation::Route, bound_for(message.npdu));
-        let format = self.format();
-        if authorize_forward(&mut turn.asker, format, &ask, &message.npdu.payload)? {
+        if self.authorize_forward(&mut turn.asker, &ask, &message.npdu.payload)? {
             self.forward(message, destination, way, &mut turn.sends)
         } else {
             Ok(())
