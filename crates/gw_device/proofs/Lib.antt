@@ -4,3 +4,4 @@ pub mod Unread
 pub mod RequestLemmas
 pub mod Writes
 pub mod AskerLemmas
+pub mod LimitLemmas

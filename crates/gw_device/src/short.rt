@@ -1,6 +1,6 @@
 //! Short answers: errors, rejects and aborts, and the abort in the place of what is too long.
 
-ghost use Rattle.std.specs.Prelude.{◌≡◌, ◌+◌, ◌≤◌, ℕ, List, length, vec_len, IfOk, OnOk};
+ghost use Rattle.std.specs.Prelude.{◌≡◌, ◌+◌, ◌≤◌, ℕ, List, length, nat_le, vec_len, IfOk, OnOk};
 ghost use Rattle.gw_apdu.specs.Answers.{abort, error, reject, simple_ack};
 ghost use Rattle.gw_device.specs.Response.{fits, fitted, header_room, with_room};
 
@@ -77,18 +77,19 @@ pub(crate) fn simple_ack(alloc: Global, invoke: u8, service: u8) -> Result<Vec<u
     Ok(octets)
 }
 
+/// How many octets a ComplexACK may have.
+pub(crate) fn most_octets(request: &ConfirmedRequest, context: &Context) -> usize
+    ensures { (ack : List ℕ) →
+        nat_le (length ack) result ≡ fits request.now context.now ack }
+{
+    request.max_apdu_len().min(context.room)
+}
+
 /// How many octets a ComplexACK has room for at first: as many as most answers have.
 pub(crate) fn first_room(request: &ConfirmedRequest, context: &Context) -> usize
     ensures { result ≤ 480 }
 {
-    request.max_apdu_len().min(context.room).min(FIRST_ROOM)
-}
-
-/// Whether a ComplexACK of that length can be sent.
-fn fits(request: &ConfirmedRequest, context: &Context, len: usize) -> bool
-    ensures { (ack : List ℕ) → length ack ≡ len → result ≡ fits request.now context.now ack }
-{
-    len <= request.max_apdu_len() && len <= context.room
+    most_octets(request, context).min(FIRST_ROOM)
 }
 
 /// Puts an Abort in the place of a ComplexACK that is too long; the room for headers stays. `AllocError` where memory
@@ -103,7 +104,7 @@ pub(crate) fn fit(
         OnOk result (octets.new.items ≡ with_room (fitted request.now context.now ack)) }
     ensures room { OnOk result (10 ≤ vec_len octets.new) }
 {
-    if fits(request, context, octets.len() - HEADER_ROOM) {
+    if octets.len() - HEADER_ROOM <= most_octets(request, context) {
         return Ok(());
     }
     octets.truncate(HEADER_ROOM);

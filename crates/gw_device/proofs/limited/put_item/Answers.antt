@@ -3,11 +3,11 @@ use Rattle.std.proofs.lemmas.Result.{on_ok_weaker}
 use Rattle.gw_objects.specs.Table.{read_of}
 use Rattle.gw_tags.specs.Object.{object_view}
 use Rattle.gw_device.proofs.PropertyLemmas.{item_fault, item_value, longer_by}
-use Rattle.gw_device.proofs.access.Access.put_item.Goals as goal
+use Rattle.gw_device.proofs.limited.put_item.Goals as goal
 
 pub returns-in-Ok-clause-octets : goal.returns-in-Ok-clause-octets
 returns-in-Ok-clause-octets c =
-    let due = read_of c.args.self.now.objects.now (object_view c.args.of.object) c.args.of.property c.args.of.index in
+    let due = read_of c.args.objects.now (object_view c.args.of.object) c.args.of.property c.args.of.index in
     on_ok_weaker c.write_value_item_tail.result (λ written.
     item_value c.in-Ok.field-0 c.args.of.property c.args.of.index due c.args.out.now.items c.write_value_item_head.new.out.items
     c.read.new.out.items c.write_value_item_tail.new.out.items c.in_ok-write_value_item_head.ensures.ok c.in-Ok.ensures.answer written)
@@ -15,7 +15,7 @@ returns-in-Ok-clause-octets c =
 
 pub returns-in_ok-why-in-Err-clause-octets : goal.returns-in_ok-why-in-Err-clause-octets
 returns-in_ok-why-in-Err-clause-octets c =
-    let due = read_of c.args.self.now.objects.now (object_view c.args.of.object) c.args.of.property c.args.of.index in
+    let due = read_of c.args.objects.now (object_view c.args.of.object) c.args.of.property c.args.of.index in
     let count : c.len-len.result ≡ length c.args.out.now.items = omega (arith, c.args.out.now.ok.0, c.len-len.ensures) in
     let cut : c.truncate.new.self.items ≡ take (length c.args.out.now.items) c.read.new.out.items =
     c.truncate.ensures.items ∙ ap (λ n. take n c.read.new.out.items) count in
