@@ -4,16 +4,19 @@ use Rattle.std.specs.Prelude.{nat_le, if◌then◌else◌, OnOk}
 use Rattle.std.proofs.lemmas.Bool.{leb-true, leb-false, le-leb, lt-leb}
 use Rattle.std.proofs.lemmas.List.{append-nil, length-append}
 use Rattle.std.proofs.lemmas.Result.{on_ok_weaker}
-use Rattle.gw_device.specs.internal.Limit.{LimitedState, extended, followed}
+use Rattle.gw_apdu.specs.declared.header.ConfirmedRequest.{ConfirmedRequest}
+use Rattle.gw_device.specs.declared.context.Context.{Context}
+use Rattle.gw_device.specs.Response.{fits, fitted, header_room, with_room}
+use Rattle.gw_device.specs.internal.Limit.{LimitedState, extended, followed, or_abort}
 
 -- as many are left for both as are left for the second behind the first
 both_fit : (first second left : ℕ) (x y : Bool) → nat_le first left ≡ true → nat_le second (left - first) ≡ x → nat_le (first + second) left ≡ y → x ≡ y
-both_fit first second left true true fits second_fits both_fit = refl
-both_fit first second left false false fits second_fits both_fit = refl
-both_fit first second left true false fits second_fits both_fit =
-    absurd (omega (arith, leb-true first left fits, leb-true second (left - first) second_fits, leb-false (first + second) left both_fit))
-both_fit first second left false true fits second_fits both_fit =
-    absurd (omega (arith, leb-true first left fits, leb-false second (left - first) second_fits, leb-true (first + second) left both_fit))
+both_fit first second left true true one two both = refl
+both_fit first second left false false one two both = refl
+both_fit first second left true false one two both =
+    absurd (omega (arith, leb-true first left one, leb-true second (left - first) two, leb-false (first + second) left both))
+both_fit first second left false true one two both =
+    absurd (omega (arith, leb-true first left one, leb-false second (left - first) two, leb-true (first + second) left both))
 
 none_fit : (first second left : ℕ) → nat_le first left ≡ false → nat_le (first + second) left ≡ false
 none_fit first second left over = lt-leb (first + second) left (omega (arith, leb-false first left over))
@@ -32,23 +35,41 @@ followed_both left (Some octets) one two = by (nat_le (length one) left) refl
 
     second : (y : Bool) → nat_le (length one) left ≡ true → nat_le (length two) (left - length one) ≡ y → nat_le (length one + length two) left ≡ y
         → followed (left - length one) (Some (octets ++ one)) two ≡ followed left (Some octets) (one ++ two)
-    second true fits second_fits both =
-        rw (second_fits, whole, both)
+    second true one_fits second_fits both_fit =
+        rw (second_fits, whole, both_fit)
         (same_state (left - length one - length two) (left - length (one ++ two)) ((octets ++ one) ++ two) (octets ++ (one ++ two))
         (omega (arith, length-append one two)) (append_assoc octets one two))
-    second false fits second_fits both = rw (second_fits, whole, both) refl
+    second false one_fits second_fits both_fit = rw (second_fits, whole, both_fit) refl
 
     by : (x : Bool) → nat_le (length one) left ≡ x → extended (followed left (Some octets) one) two ≡ followed left (Some octets) (one ++ two)
-    by true fits = rw fits (second (nat_le (length two) (left - length one)) fits refl (sym (both_fit (length one) (length two) left _ _ fits refl refl)))
+    by true one_fits =
+        rw one_fits
+        (second (nat_le (length two) (left - length one)) one_fits refl (sym (both_fit (length one) (length two) left _ _ one_fits refl refl)))
     by false over = rw (over, whole, none_fit (length one) (length two) left over) refl
 
--- of no octets nothing
-pub followed_none : (left : ℕ) (octets : Option (List ℕ)) → record { left = left; octets = octets } ≡ followed left octets []
-followed_none left None = refl
-followed_none left (Some octets) = same_state left left octets (octets ++ []) refl (sym (append-nil octets))
-
-pub extended_none : (limited : LimitedState) → limited ≡ extended limited []
-extended_none limited = followed_none limited.left limited.octets
-
+-- the same of a state
 pub extended_both : (limited : LimitedState) (one two : List ℕ) → extended (extended limited one) two ≡ extended limited (one ++ two)
 extended_both limited one two = followed_both limited.left limited.octets one two
+
+-- two parts one behind the other
+pub both_extended : {T F : Type 0} (result : Result T F) (before between after : LimitedState) (one two : List ℕ) → between ≡ extended before one
+    → OnOk result (after ≡ extended between two) → OnOk result (after ≡ extended before (one ++ two))
+both_extended result before between after one two first second =
+    on_ok_weaker result (λ is. is ∙ ap (λ (limited : LimitedState). extended limited two) first ∙ extended_both before one two) second
+
+-- an answer that was written under the limit of its client
+ack_or_abort : (most : ℕ) (request : ConfirmedRequest) (context : Context) (ack : List ℕ) (fit : Bool) → nat_le (length ack) most ≡ fit → fits request context ack ≡ fit
+    → or_abort request.invoke (followed most (Some header_room) ack).octets ≡ with_room (fitted request context ack)
+ack_or_abort most request context ack true within fit = rw (within, fit) refl
+ack_or_abort most request context ack false within fit = rw (within, fit) refl
+
+pub written_ack : (most : ℕ) (request : ConfirmedRequest) (context : Context) (begun headed whole : LimitedState) (head items : List ℕ)
+    → ((ack : List ℕ) → nat_le (length ack) most ≡ fits request context ack) → begun ≡ record { left = most; octets = Some header_room }
+    → headed ≡ extended begun head → whole ≡ extended headed items
+    → or_abort request.invoke whole.octets ≡ with_room (fitted request context (head ++ items))
+written_ack most request context begun headed whole head items limit begins one two =
+    let is : whole ≡ followed most (Some header_room) (head ++ items) =
+    two ∙ ap (λ (limited : LimitedState). extended limited items) one ∙ extended_both begun head items
+    ∙ ap (λ (limited : LimitedState). extended limited (head ++ items)) begins in
+    ap (λ (limited : LimitedState). or_abort request.invoke limited.octets) is
+    ∙ ack_or_abort most request context (head ++ items) (nat_le (length (head ++ items)) most) refl (sym (limit (head ++ items)))

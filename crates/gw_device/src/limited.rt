@@ -33,6 +33,7 @@ pub(crate) struct Limited {
     octets: Vec<u8>,
     left: usize,
     is_over: bool,
+    ghost room: { 10 ≤ vec_len octets },
 }
 
 impl Model for Limited {
@@ -51,7 +52,7 @@ impl Model for Limited {
 fn put_item(objects: &ObjectDb, of: PropertyReference, out: &mut Vec<u8>) -> Result<(), AllocError>
     ensures octets { let found = read_of objects.now (object_view of.object) of.property of.index in
         OnOk result (out.new.items ≡ out.old.items ++ item of.property of.index (or_error found)) }
-    ensures longer { OnOk result (vec_len out.old ≤ vec_len out.new) }
+    ensures longer { vec_len out.old ≤ vec_len out.new }
 {
     let len = out.len();
     write_value_item_head(out, of.property, of.index)?;
@@ -66,8 +67,9 @@ fn put_item(objects: &ObjectDb, of: PropertyReference, out: &mut Vec<u8>) -> Res
 }
 
 impl Limited {
-    /// Octets that so many may follow.
+    /// The room for headers, which so many octets may follow.
     pub fn new(octets: Vec<u8>, left: usize) -> Self
+        requires { 10 ≤ vec_len octets }
         ensures { result ≡ record { left = left; octets = Some octets.items } }
     {
         Limited {
@@ -89,7 +91,7 @@ impl Limited {
             None => {
                 self.left = 0;
                 self.is_over = true;
-                self.octets.clear();
+                self.octets.truncate(HEADER_ROOM);
             }
         }
     }
@@ -169,7 +171,8 @@ impl Limited {
 
     /// The octets, or an Abort in the place of too many. `AllocError` where memory was refused.
     pub fn finish(self, invoke: u8) -> Result<Vec<u8>, AllocError>
-        ensures { IfOk result (λ octets. octets.items ≡ or_abort invoke self.octets) }
+        ensures octets { IfOk result (λ octets. octets.items ≡ or_abort invoke self.octets) }
+        ensures room { IfOk result (λ octets. 10 ≤ vec_len octets) }
     {
         let mut octets = self.octets;
         if self.is_over {

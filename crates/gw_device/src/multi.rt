@@ -257,7 +257,8 @@ impl Access<'_> {
         let mut octets = Limited::new(room, most_octets(header, self.context));
         octets.put_head(header.invoke)?;
         self.put_references(references, asker, &mut octets)?;
-        octets.finish(header.invoke)
+        let octets = octets.finish(header.invoke)?;
+        Ok(octets)
     }
 
     /// What the device gives to a ReadPropertyMultiple (clause 15.7). `AllocError` where memory was
