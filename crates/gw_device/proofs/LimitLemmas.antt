@@ -63,13 +63,13 @@ ack_or_abort : (most : ℕ) (request : ConfirmedRequest) (context : Context) (ac
 ack_or_abort most request context ack true within fit = rw (within, fit) refl
 ack_or_abort most request context ack false within fit = rw (within, fit) refl
 
-pub written_ack : (most : ℕ) (request : ConfirmedRequest) (context : Context) (begun headed whole : LimitedState) (head items : List ℕ)
-    → ((ack : List ℕ) → nat_le (length ack) most ≡ fits request context ack) → begun ≡ record { left = most; octets = Some header_room }
-    → headed ≡ extended begun head → whole ≡ extended headed items
+pub written_ack : (most : ℕ) (request : ConfirmedRequest) (context : Context) (begun whole : LimitedState) (head items : List ℕ)
+    → ((ack : List ℕ) → nat_le (length ack) most ≡ fits request context ack)
+    → begun ≡ extended (record { left = most; octets = Some header_room }) head → whole ≡ extended begun items
     → or_abort request.invoke whole.octets ≡ with_room (fitted request context (head ++ items))
-written_ack most request context begun headed whole head items limit begins one two =
+written_ack most request context begun whole head items limit begins more =
     let is : whole ≡ followed most (Some header_room) (head ++ items) =
-    two ∙ ap (λ (limited : LimitedState). extended limited items) one ∙ extended_both begun head items
-    ∙ ap (λ (limited : LimitedState). extended limited (head ++ items)) begins in
+    more ∙ ap (λ (limited : LimitedState). extended limited items) begins
+    ∙ extended_both (record { left = most; octets = Some header_room }) head items in
     ap (λ (limited : LimitedState). or_abort request.invoke limited.octets) is
     ∙ ack_or_abort most request context (head ++ items) (nat_le (length (head ++ items)) most) refl (sym (limit (head ++ items)))

@@ -32,8 +32,19 @@ pub longer_after : {T F : Type 0} (result : Result T F) (begun text : List ℕ) 
     → vec_items cut ≡ take (length (vec_items old)) (vec_items value) → OnOk result (vec_items new ≡ vec_items cut ++ text)
     → OnErr result (vec_items new ≡ vec_items cut) → vec_len old ≤ vec_len new
 longer_after (Ok x) begun text old value cut new begin take_off added same =
-    omega (arith, old.ok.0, new.ok.0, ap length added, length-append (vec_items cut) text,
-    ap length (take_off ∙ ap (take (length (vec_items old))) begin ∙ take_at (vec_items old) begun (length (vec_items old)) refl))
+    omega (
+      arith,
+      old.ok.0,
+      new.ok.0,
+      ap length added,
+      length-append (vec_items cut) text,
+      ap length (take_off ∙ ap (take (length (vec_items old))) begin ∙ take_at (vec_items old) begun (length (vec_items old)) refl),
+    )
 longer_after (Err f) begun text old value cut new begin take_off added same =
-    omega (arith, old.ok.0, new.ok.0, ap length same,
-    ap length (take_off ∙ ap (take (length (vec_items old))) begin ∙ take_at (vec_items old) begun (length (vec_items old)) refl))
+    omega (
+      arith,
+      old.ok.0,
+      new.ok.0,
+      ap length same,
+      ap length (take_off ∙ ap (take (length (vec_items old))) begin ∙ take_at (vec_items old) begun (length (vec_items old)) refl),
+    )

@@ -12,7 +12,7 @@ mod error;
 pub mod laws;
 mod limited;
 mod multi;
-mod property_reference;
+mod piece;
 mod read;
 mod reply;
 mod served;

@@ -2,27 +2,15 @@
 
 ghost use Rattle.std.specs.Prelude.{◌≡◌, ◌≤◌, ◌++◌, ℕ, Some, List, length, vec_len, IfOk, OnOk};
 ghost use Rattle.std.specs.Option.{option_map_or};
-ghost use Rattle.gw_apdu.specs.Answers.{complex_ack};
-ghost use Rattle.gw_objects.specs.Table.{read_of};
-ghost use Rattle.gw_services.specs.Choices.{read_property_multiple};
-ghost use Rattle.gw_services.specs.Multi.{head_part, tail_part};
-ghost use Rattle.gw_services.specs.Reply.{error_item};
-ghost use Rattle.gw_tags.specs.Object.{object_view};
-ghost use Rattle.gw_device.specs.Multi.{item};
-ghost use Rattle.gw_device.specs.Read.{or_error};
+ghost use Rattle.gw_device.specs.Response.{header_room, with_room};
 ghost use Rattle.gw_device.specs.internal.Limit.{extended, or_abort};
+ghost use Rattle.gw_device.specs.internal.Piece.{piece_octets};
 
 use crate::HEADER_ROOM;
-use crate::error::read_error;
-use crate::property_reference::PropertyReference;
+use crate::piece::Piece;
 use gw_addr::put_slice;
-use gw_apdu::{AbortReason, ServiceError, write_abort, write_complex};
+use gw_apdu::{AbortReason, write_abort};
 use gw_objects::ObjectDb;
-use gw_services::{
-    READ_PROPERTY_MULTIPLE, write_error_item, write_list_head, write_list_tail,
-    write_value_item_head, write_value_item_tail,
-};
-use gw_tags::ObjectId;
 use std::alloc::AllocError;
 use std::marker::Model;
 
@@ -48,35 +36,20 @@ impl Model for Limited {
     } };
 }
 
-/// Appends the item of a property that is allowed: its value, or the error in its place.
-fn put_item(objects: &ObjectDb, of: PropertyReference, out: &mut Vec<u8>) -> Result<(), AllocError>
-    ensures octets { let found = read_of objects.now (object_view of.object) of.property of.index in
-        OnOk result (out.new.items ≡ out.old.items ++ item of.property of.index (or_error found)) }
-    ensures longer { vec_len out.old ≤ vec_len out.new }
-{
-    let len = out.len();
-    write_value_item_head(out, of.property, of.index)?;
-    match objects.read(of.object, of.property, of.index, out) {
-        Ok(()) => write_value_item_tail(out),
-        Err(fault) => {
-            let why = read_error(fault)?;
-            out.truncate(len);
-            write_error_item(out, of.property, of.index, why)
-        }
-    }
-}
-
 impl Limited {
-    /// The room for headers, which so many octets may follow.
-    pub fn new(octets: Vec<u8>, left: usize) -> Self
+    /// What is behind the room for headers, which may be so many octets.
+    pub fn new(octets: Vec<u8>, most: usize) -> Self
         requires { 10 ≤ vec_len octets }
-        ensures { result ≡ record { left = left; octets = Some octets.items } }
+        ensures { (apdu : List ℕ) → octets.items ≡ with_room apdu →
+            result ≡ extended (record { left = most; octets = Some header_room }) apdu }
     {
-        Limited {
+        let mut limited = Limited {
             octets,
-            left,
+            left: most,
             is_over: false,
-        }
+        };
+        limited.count(HEADER_ROOM);
+        limited
     }
 
     /// Counts what was written behind the first `len` octets.
@@ -96,75 +69,15 @@ impl Limited {
         }
     }
 
-    /// Appends the head of the answer (clause 20.1.5).
-    pub fn put_head(&mut self, invoke: u8) -> Result<(), AllocError>
-        ensures { OnOk result (self.new
-            ≡ extended self.old (complex_ack invoke read_property_multiple)) }
+    /// Appends a piece. `AllocError` where memory was refused.
+    pub fn put(&mut self, objects: &ObjectDb, piece: Piece) -> Result<(), AllocError>
+        ensures { OnOk result (self.new ≡ extended self.old (piece_octets objects.now piece)) }
     {
         if self.is_over {
             return Ok(());
         }
         let len = self.octets.len();
-        write_complex(&mut self.octets, invoke, READ_PROPERTY_MULTIPLE)?;
-        self.count(len);
-        Ok(())
-    }
-
-    /// Appends what a list begins with, where one begins (clause 15.7).
-    pub fn put_list_head(&mut self, begins: bool, object: ObjectId) -> Result<(), AllocError>
-        ensures { OnOk result (self.new
-            ≡ extended self.old (head_part begins (object_view object))) }
-    {
-        if self.is_over {
-            return Ok(());
-        }
-        let len = self.octets.len();
-        write_list_head(&mut self.octets, begins, object)?;
-        self.count(len);
-        Ok(())
-    }
-
-    /// Appends what a list ends with, where one ends.
-    pub fn put_list_tail(&mut self, ends: bool) -> Result<(), AllocError>
-        ensures { OnOk result (self.new ≡ extended self.old (tail_part ends)) }
-    {
-        if self.is_over {
-            return Ok(());
-        }
-        let len = self.octets.len();
-        write_list_tail(&mut self.octets, ends)?;
-        self.count(len);
-        Ok(())
-    }
-
-    /// Appends the item of a property that has an error in the place of its value.
-    pub fn put_error_item(
-        &mut self,
-        property: u32,
-        index: Option<u32>,
-        why: ServiceError,
-    ) -> Result<(), AllocError>
-        ensures { OnOk result (self.new ≡ extended self.old (error_item property index why)) }
-    {
-        if self.is_over {
-            return Ok(());
-        }
-        let len = self.octets.len();
-        write_error_item(&mut self.octets, property, index, why)?;
-        self.count(len);
-        Ok(())
-    }
-
-    /// Appends the item of a property that is allowed: its value, or the error in its place.
-    pub fn put_item(&mut self, objects: &ObjectDb, of: PropertyReference) -> Result<(), AllocError>
-        ensures { let found = read_of objects.now (object_view of.object) of.property of.index in
-            OnOk result (self.new ≡ extended self.old (item of.property of.index (or_error found))) }
-    {
-        if self.is_over {
-            return Ok(());
-        }
-        let len = self.octets.len();
-        put_item(objects, of, &mut self.octets)?;
+        piece.put(objects, &mut self.octets)?;
         self.count(len);
         Ok(())
     }

@@ -16,10 +16,10 @@ use crate::Served;
 use crate::access::Access;
 use crate::error::{READ_DENIED, UNKNOWN_OBJECT};
 use crate::limited::Limited;
-use crate::property_reference::PropertyReference;
+use crate::piece::{Piece, PropertyReference};
 use crate::services::set_of;
 use crate::short::{begin_apdu, first_room, most_octets};
-use gw_apdu::ConfirmedRequest;
+use gw_apdu::{ConfirmedRequest, write_complex};
 use gw_objects::{ObjectDb, Property, PropertySet};
 use gw_rules::{Ask, Asker, Operation, Service};
 use gw_services::{MultiReq, READ_PROPERTY_MULTIPLE, Reference, list_ends};
@@ -59,9 +59,16 @@ impl Access<'_> {
             A.StandsFor asker.new rules }
     {
         if asker.authorize(&self.multi_ask(of.object, of.property))? {
-            out.put_item(self.objects, of)
+            out.put(self.objects, Piece::Item { of })
         } else {
-            out.put_error_item(of.property, of.index, READ_DENIED)
+            out.put(
+                self.objects,
+                Piece::ErrorItem {
+                    property: of.property,
+                    index: of.index,
+                    why: READ_DENIED,
+                },
+            )
         }
     }
 
@@ -124,7 +131,14 @@ impl Access<'_> {
                 let properties = ObjectDb::properties(kind, set);
                 self.put_properties(of.object, properties, asker, out)
             }
-            None => out.put_error_item(of.property, None, UNKNOWN_OBJECT),
+            None => out.put(
+                self.objects,
+                Piece::ErrorItem {
+                    property: of.property,
+                    index: None,
+                    why: UNKNOWN_OBJECT,
+                },
+            ),
         }
     }
 
@@ -150,7 +164,14 @@ impl Access<'_> {
         if asker.authorize(&self.multi_ask(of.object, of.property))? {
             self.put_members(of, set, asker, out)
         } else {
-            out.put_error_item(of.property, None, READ_DENIED)
+            out.put(
+                self.objects,
+                Piece::ErrorItem {
+                    property: of.property,
+                    index: None,
+                    why: READ_DENIED,
+                },
+            )
         }
     }
 
@@ -202,9 +223,13 @@ impl Access<'_> {
             property: reference.property,
             index: reference.index,
         };
-        out.put_list_head(reference.begins, of.object)?;
+        let head = Piece::ListHead {
+            begins: reference.begins,
+            object: of.object,
+        };
+        out.put(self.objects, head)?;
         self.put_named(of, asker, out)?;
-        out.put_list_tail(ends)
+        out.put(self.objects, Piece::ListTail { ends })
     }
 
     /// Appends what references ask for, in their order.
@@ -253,9 +278,9 @@ impl Access<'_> {
             A.StandsFor asker.new rules }
         ensures room { IfOk result (λ octets. 10 ≤ vec_len octets) }
     {
-        let room = begin_apdu(asker.alloc(), first_room(header, self.context))?;
-        let mut octets = Limited::new(room, most_octets(header, self.context));
-        octets.put_head(header.invoke)?;
+        let mut octets = begin_apdu(asker.alloc(), first_room(header, self.context))?;
+        write_complex(&mut octets, header.invoke, READ_PROPERTY_MULTIPLE)?;
+        let mut octets = Limited::new(octets, most_octets(header, self.context));
         self.put_references(references, asker, &mut octets)?;
         let octets = octets.finish(header.invoke)?;
         Ok(octets)
