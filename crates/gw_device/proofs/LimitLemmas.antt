@@ -57,19 +57,26 @@ pub both_extended : {T F : Type 0} (result : Result T F) (before between after :
 both_extended result before between after one two first second =
     on_ok_weaker result (λ is. is ∙ ap (λ (limited : LimitedState). extended limited two) first ∙ extended_both before one two) second
 
--- an answer that was written under the limit of its client
+-- what was written under the limit of its client is an answer or an Abort in its place
 ack_or_abort : (most : ℕ) (request : ConfirmedRequest) (context : Context) (ack : List ℕ) (fit : Bool) → nat_le (length ack) most ≡ fit → fits request context ack ≡ fit
     → or_abort request.invoke (followed most (Some header_room) ack).octets ≡ with_room (fitted request context ack)
 ack_or_abort most request context ack true within fit = rw (within, fit) refl
 ack_or_abort most request context ack false within fit = rw (within, fit) refl
 
-pub written_ack : (most : ℕ) (request : ConfirmedRequest) (context : Context) (begun whole : LimitedState) (head items : List ℕ)
-    → ((ack : List ℕ) → nat_le (length ack) most ≡ fits request context ack)
+pub fitted_ack : (most : ℕ) (request : ConfirmedRequest) (context : Context) (limited : LimitedState) (ack : List ℕ)
+    → ((octets : List ℕ) → nat_le (length octets) most ≡ fits request context octets)
+    → limited ≡ extended (record { left = most; octets = Some header_room }) ack
+    → or_abort request.invoke limited.octets ≡ with_room (fitted request context ack)
+fitted_ack most request context limited ack limit is =
+    ap (λ (state : LimitedState). or_abort request.invoke state.octets) is
+    ∙ ack_or_abort most request context ack (nat_le (length ack) most) refl (sym (limit ack))
+
+-- also in two parts
+pub both_fitted : (most : ℕ) (request : ConfirmedRequest) (context : Context) (begun whole : LimitedState) (head items : List ℕ)
+    → ((octets : List ℕ) → nat_le (length octets) most ≡ fits request context octets)
     → begun ≡ extended (record { left = most; octets = Some header_room }) head → whole ≡ extended begun items
     → or_abort request.invoke whole.octets ≡ with_room (fitted request context (head ++ items))
-written_ack most request context begun whole head items limit begins more =
-    let is : whole ≡ followed most (Some header_room) (head ++ items) =
-    more ∙ ap (λ (limited : LimitedState). extended limited items) begins
-    ∙ extended_both (record { left = most; octets = Some header_room }) head items in
-    ap (λ (limited : LimitedState). or_abort request.invoke limited.octets) is
-    ∙ ack_or_abort most request context (head ++ items) (nat_le (length (head ++ items)) most) refl (sym (limit (head ++ items)))
+both_fitted most request context begun whole head items limit begins more =
+    fitted_ack most request context whole (head ++ items) limit
+    (more ∙ ap (λ (limited : LimitedState). extended limited items) begins
+    ∙ extended_both (record { left = most; octets = Some header_room }) head items)

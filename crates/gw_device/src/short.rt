@@ -4,6 +4,7 @@ ghost use Rattle.std.specs.Prelude.{◌≡◌, ◌+◌, ◌≤◌, ℕ, List, le
 ghost use Rattle.gw_apdu.specs.Answers.{abort, error, reject, simple_ack};
 ghost use Rattle.gw_device.specs.Response.{fits, fitted, header_room, with_room};
 
+use crate::limited::Limited;
 use crate::{Context, HEADER_ROOM};
 use gw_addr::put_slice;
 use gw_apdu::{
@@ -92,25 +93,18 @@ pub(crate) fn first_room(request: &ConfirmedRequest, context: &Context) -> usize
     most_octets(request, context).min(FIRST_ROOM)
 }
 
-/// Puts an Abort in the place of a ComplexACK that is too long; the room for headers stays. `AllocError` where memory
+/// A ComplexACK behind the room for headers, or an Abort in its place where it is too long. `AllocError` where memory
 /// was refused.
 pub(crate) fn fit(
-    octets: &mut Vec<u8>,
+    octets: Vec<u8>,
     request: &ConfirmedRequest,
     context: &Context,
-) -> Result<(), AllocError>
-    requires { 10 ≤ vec_len octets.old }
-    ensures fitted { (ack : List ℕ) → octets.old.items ≡ with_room ack →
-        OnOk result (octets.new.items ≡ with_room (fitted request.now context.now ack)) }
-    ensures room { OnOk result (10 ≤ vec_len octets.new) }
+) -> Result<Vec<u8>, AllocError>
+    requires { 10 ≤ vec_len octets }
+    ensures { (ack : List ℕ) → octets.items ≡ with_room ack → IfOk result (λ octets.
+        octets.items ≡ with_room (fitted request.now context.now ack)) }
 {
-    if octets.len() - HEADER_ROOM <= most_octets(request, context) {
-        return Ok(());
-    }
-    octets.truncate(HEADER_ROOM);
-    write_abort(
-        octets,
-        request.invoke,
-        AbortReason::SEGMENTATION_NOT_SUPPORTED,
-    )
+    let limited = Limited::new(octets, most_octets(request, context));
+    let octets = limited.finish(request.invoke)?;
+    Ok(octets)
 }
