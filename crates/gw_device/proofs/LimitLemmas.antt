@@ -1,8 +1,8 @@
 -- Octets that follow one another under a limit.
-use Rattle.std.proofs.Common.{◌≡◌, ◌∙◌, sym, ap, refl, ℕ, ◌+◌, ◌≤◌, ◌<◌, ◌-◌, Bool, true, false, List, [], ◌++◌, append_assoc, length, arith, Option, Some, None, Result}
-use Rattle.std.specs.Prelude.{nat_le, if◌then◌else◌, OnOk}
-use Rattle.std.proofs.lemmas.Bool.{leb-true, leb-false, le-leb, lt-leb}
-use Rattle.std.proofs.lemmas.List.{append-nil, length-append}
+use Rattle.std.proofs.Common.{◌≡◌, ◌∙◌, sym, ap, refl, ℕ, ◌+◌, ◌-◌, Bool, true, false, List, ◌++◌, append_assoc, length, arith, Option, Some, None, Result}
+use Rattle.std.specs.Prelude.{nat_le, OnOk}
+use Rattle.std.proofs.lemmas.Bool.{leb-true, leb-false, lt-leb}
+use Rattle.std.proofs.lemmas.List.{length-append}
 use Rattle.std.proofs.lemmas.Result.{on_ok_weaker}
 use Rattle.gw_apdu.specs.declared.header.ConfirmedRequest.{ConfirmedRequest}
 use Rattle.gw_device.specs.declared.context.Context.{Context}
