@@ -1,7 +1,7 @@
 -- What is appended for a property.
 use Rattle.std.proofs.Common.{◌≡◌, ◌≢◌, ◌≤◌, ℕ, List, ◌++◌, Option, Result, Ok, Err, ap, refl, ◌∙◌, append_assoc, arith, length, take, rules}
 use Rattle.std.proofs.lemmas.List.{length-append, take_at}
-use Rattle.std.specs.Prelude.{OnOk, vec_items, vec_len}
+use Rattle.std.specs.Prelude.{OnErr, OnOk, vec_items, vec_len}
 use Rattle.std.specs.Global.{Vec}
 use Rattle.gw_apdu.specs.declared.writing.ServiceError.{ServiceError}
 use Rattle.gw_objects.specs.declared.fault.ReadFault.{ReadFault}
@@ -27,7 +27,24 @@ item_fault fault why p index (Err found) old begun head value cut new a b other 
     e ∙ ap (λ text. text ++ error_item p index why) (front ∙ ap (take (length old)) a ∙ take_at old begun (length old) refl)
     ∙ ap (λ told. old ++ error_item p index told) (is ∙ ap read_error b)
 
--- what has more behind it is no shorter
-pub longer_by : {T F : Type 0} (r : Result T F) (text : List ℕ) (old new : Vec ℕ) → OnOk r (vec_items new ≡ vec_items old ++ text) → OnOk r (vec_len old ≤ vec_len new)
-longer_by (Ok x) text old new e = omega (arith, old.ok.0, new.ok.0, ap length e, length-append (vec_items old) text)
-longer_by (Err f) text old new e = e
+-- what was begun is taken off again; what is behind it then, if anything, makes it no shorter
+pub longer_after : {T F : Type 0} (result : Result T F) (begun text : List ℕ) (old value cut new : Vec ℕ) → vec_items value ≡ vec_items old ++ begun
+    → vec_items cut ≡ take (length (vec_items old)) (vec_items value) → OnOk result (vec_items new ≡ vec_items cut ++ text)
+    → OnErr result (vec_items new ≡ vec_items cut) → vec_len old ≤ vec_len new
+longer_after (Ok x) begun text old value cut new begin take_off added same =
+    omega (
+      arith,
+      old.ok.0,
+      new.ok.0,
+      ap length added,
+      length-append (vec_items cut) text,
+      ap length (take_off ∙ ap (take (length (vec_items old))) begin ∙ take_at (vec_items old) begun (length (vec_items old)) refl),
+    )
+longer_after (Err f) begun text old value cut new begin take_off added same =
+    omega (
+      arith,
+      old.ok.0,
+      new.ok.0,
+      ap length same,
+      ap length (take_off ∙ ap (take (length (vec_items old))) begin ∙ take_at (vec_items old) begun (length (vec_items old)) refl),
+    )

@@ -9,3 +9,4 @@ pub mod WhoIs
 pub mod WhoHas
 pub mod Device
 pub mod Laws
+pub mod internal

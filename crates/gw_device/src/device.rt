@@ -151,8 +151,9 @@ impl Device {
             (read_response rules self.now client.now.context.now client.now.header.now read)) }
     {
         let mut authorizer = Authorizer::new(alloc, judge);
-        let access = self.access(client.context);
-        let served = access.read(client.header, request, &mut authorizer)?;
+        let served = self
+            .access(client.context)
+            .read(client.header, request, &mut authorizer)?;
         Ok(Reply::new(served, authorizer))
     }
 
@@ -174,8 +175,9 @@ impl Device {
         ensures place { IfOk result (λ reply. HasPlace self.now reply.change) }
     {
         let mut authorizer = Authorizer::new(alloc, judge);
-        let access = self.access(client.context);
-        let served = access.write(client.header.invoke, request, &mut authorizer)?;
+        let served = self
+            .access(client.context)
+            .write(client.header.invoke, request, &mut authorizer)?;
         Ok(Reply::new(served, authorizer))
     }
 

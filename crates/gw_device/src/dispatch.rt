@@ -9,7 +9,7 @@ ghost use Rattle.gw_services.specs.Read.{read_at};
 ghost use Rattle.gw_services.specs.WhoHas.{who_has_at};
 ghost use Rattle.gw_services.specs.WhoIs.{who_is_at};
 ghost use Rattle.gw_services.specs.Write.{write_at};
-ghost use Rattle.gw_device.specs.Device.{confirmed_response, device_response, header_response, or_reject, or_silence, service_response, unconfirmed_response};
+ghost use Rattle.gw_device.specs.Device.{confirmed_response, device_response, or_reject, or_silence, unconfirmed_response};
 ghost use Rattle.gw_device.specs.Multi.{multi_response};
 ghost use Rattle.gw_device.specs.Read.{read_response};
 ghost use Rattle.gw_device.specs.Response.{HasPlace, IsServed, turned_down};
@@ -21,7 +21,7 @@ use crate::Served;
 use crate::access::Access;
 use crate::error::reject_reason;
 use crate::short::{abort, reject};
-use gw_apdu::{AbortReason, Apdu, ConfirmedRequest, Header, RejectReason, decode};
+use gw_apdu::{AbortReason, ConfirmedRequest, Header, RejectReason, decode};
 use gw_rules::Asker;
 use gw_services::{
     READ_PROPERTY, READ_PROPERTY_MULTIPLE, WHO_HAS, WHO_IS, WRITE_PROPERTY, decode_multi,
@@ -123,37 +123,7 @@ impl Access<'_> {
         }
     }
 
-    /// A whole confirmed request, by its service.
-    fn service<A: Asker>(
-        &self,
-        header: &ConfirmedRequest,
-        body: &[u8],
-        asker: &mut A,
-    ) -> Result<Served, AllocError>
-        ensures served { (rules : List Rule) → A.StandsFor asker.old rules →
-            IfOk result (IsServed
-            (service_response rules self.now.objects.now self.now.context.now header.now body.now)) }
-        ensures asks { (rules : List Rule) → A.StandsFor asker.old rules →
-            let due = service_response rules self.now.objects.now self.now.context.now header.now body.now
-            in
-            OnOk result (A.kept asker.new ≡ A.kept asker.old ++ A.kept_of rules due.asks) }
-        ensures stays { (rules : List Rule) → A.StandsFor asker.old rules →
-            A.StandsFor asker.new rules }
-        ensures place { IfOk result (λ served. HasPlace self.now.objects.now served.change) }
-    {
-        match header.service {
-            READ_PROPERTY => self.read_property(header, body, asker),
-            READ_PROPERTY_MULTIPLE => self.read_property_multiple(header, body, asker),
-            WRITE_PROPERTY => self.write_property(header, body, asker),
-            _ => rejected(
-                asker.alloc(),
-                header.invoke,
-                RejectReason::UNRECOGNIZED_SERVICE,
-            ),
-        }
-    }
-
-    /// A confirmed request. One to a broadcast is dropped, and a segment is aborted.
+    /// A confirmed request, by its service. One to a broadcast is dropped, and a segment is aborted.
     fn confirmed<A: Asker>(
         &self,
         header: &ConfirmedRequest,
@@ -182,7 +152,15 @@ impl Access<'_> {
         if header.segment.is_some() {
             return aborted(asker.alloc(), header.invoke);
         }
-        self.service(header, body, asker)
+        match header.service {
+            READ_PROPERTY => self.read_property(header, body, asker),
+            READ_PROPERTY_MULTIPLE => self.read_property_multiple(header, body, asker),
+            WRITE_PROPERTY => self.write_property(header, body, asker),
+            _ => {
+                let reason = RejectReason::UNRECOGNIZED_SERVICE;
+                rejected(asker.alloc(), header.invoke, reason)
+            }
+        }
     }
 
     /// An unconfirmed request, by its service. What can't be read is dropped.
@@ -221,32 +199,8 @@ impl Access<'_> {
         }
     }
 
-    /// An APDU by its type. What is no request is dropped.
-    fn by_type<A: Asker>(&self, apdu: &Apdu<'_>, asker: &mut A) -> Result<Served, AllocError>
-        ensures served { (rules : List Rule) → A.StandsFor asker.old rules →
-            IfOk result (IsServed (header_response rules self.now.objects.now self.now.context.now
-            apdu.now.header apdu.now.rest.now)) }
-        ensures asks { (rules : List Rule) → A.StandsFor asker.old rules →
-            let due = header_response rules self.now.objects.now self.now.context.now apdu.now.header
-            apdu.now.rest.now in
-            OnOk result (A.kept asker.new ≡ A.kept asker.old ++ A.kept_of rules due.asks) }
-        ensures stays { (rules : List Rule) → A.StandsFor asker.old rules →
-            A.StandsFor asker.new rules }
-        ensures place { IfOk result (λ served. HasPlace self.now.objects.now served.change) }
-        ensures silent { (rules : List Rule) →
-            let due = header_response rules self.now.objects.now self.now.context.now apdu.now.header
-            apdu.now.rest.now in
-            due.asks ≡ [] → due.answer ≡ None → IsOk result }
-    {
-        match apdu.header {
-            Header::ConfirmedRequest(header) => self.confirmed(&header, apdu.rest, asker),
-            Header::UnconfirmedRequest { service } => self.unconfirmed(service, apdu.rest, asker),
-            _ => Ok(Served::silence()),
-        }
-    }
-
-    /// What the device gives to the octets of an APDU. What is no APDU is dropped. `AllocError`
-    /// where memory was refused.
+    /// What the device gives to the octets of an APDU, by its type. What is no APDU, or no request,
+    /// is dropped. `AllocError` where memory was refused.
     pub fn serve<A: Asker>(&self, octets: &[u8], asker: &mut A) -> Result<Served, AllocError>
         ensures served { (rules : List Rule) → A.StandsFor asker.old rules →
             IfOk result (IsServed
@@ -261,9 +215,13 @@ impl Access<'_> {
             let due = device_response rules self.now.objects.now self.now.context.now octets.now in
             due.asks ≡ [] → due.answer ≡ None → IsOk result }
     {
-        match decode(octets) {
-            Ok(apdu) => self.by_type(&apdu, asker),
-            Err(_) => Ok(Served::silence()),
+        let Ok(apdu) = decode(octets) else {
+            return Ok(Served::silence());
+        };
+        match apdu.header {
+            Header::ConfirmedRequest(header) => self.confirmed(&header, apdu.rest, asker),
+            Header::UnconfirmedRequest { service } => self.unconfirmed(service, apdu.rest, asker),
+            _ => Ok(Served::silence()),
         }
     }
 }

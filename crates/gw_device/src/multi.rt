@@ -1,41 +1,30 @@
 //! ReadPropertyMultiple (clause 15.7): the answer is written while it is judged, each error in its
-//! place.
+//! place. Once it is more than the client takes, it is only judged.
 
 ghost use Rattle.std.specs.Prelude.{◌≡◌, ◌≤◌, ◌++◌, List, map, vec_len, None, IfOk, OnOk};
 ghost use Rattle.gw_rules.specs.declared.rule.Rule.{Rule};
 ghost use Rattle.gw_objects.specs.Objects.{type_at};
-ghost use Rattle.gw_objects.specs.Table.{read_of};
 ghost use Rattle.gw_services.specs.Multi.{reference_view};
 ghost use Rattle.gw_services.specs.MultiView.{multi_view};
 ghost use Rattle.gw_tags.specs.Object.{object_view};
-ghost use Rattle.gw_device.specs.Multi.{item, members_part, multi_ack, multi_ask, multi_part, multi_response, named_part, properties_part, property_part, reference_part, set_part};
-ghost use Rattle.gw_device.specs.Read.{or_error};
+ghost use Rattle.gw_device.specs.Multi.{members_part, multi_ack, multi_ask, multi_part, multi_response, named_part, properties_part, property_part, reference_part, set_part};
 ghost use Rattle.gw_device.specs.Response.{IsServed, fitted, with_room};
 ghost use Rattle.gw_device.specs.Services.{set_of};
+ghost use Rattle.gw_device.specs.internal.Limit.{extended};
 
 use crate::Served;
 use crate::access::Access;
-use crate::error::{READ_DENIED, UNKNOWN_OBJECT, read_error};
+use crate::error::{READ_DENIED, UNKNOWN_OBJECT};
+use crate::limited::Limited;
+use crate::piece::{Piece, PropertyReference};
 use crate::services::set_of;
-use crate::short::{begin_apdu, first_room, fit};
+use crate::short::{begin_apdu, first_room, most_octets};
 use gw_apdu::{ConfirmedRequest, write_complex};
 use gw_objects::{ObjectDb, Property, PropertySet};
 use gw_rules::{Ask, Asker, Operation, Service};
-use gw_services::{
-    MultiReq, READ_PROPERTY_MULTIPLE, Reference, list_ends, write_error_item, write_list_head,
-    write_list_tail, write_value_item_head, write_value_item_tail,
-};
+use gw_services::{MultiReq, READ_PROPERTY_MULTIPLE, Reference, list_ends};
 use gw_tags::ObjectId;
 use std::alloc::AllocError;
-
-/// A property of an object, or a set of its properties, or one element of a property (clause 21,
-/// BACnetObjectPropertyReference).
-#[derive(Clone, Copy)]
-struct PropertyReference {
-    object: ObjectId,
-    property: u32,
-    index: Option<u32>,
-}
 
 impl Access<'_> {
     /// The ask for a property.
@@ -51,49 +40,35 @@ impl Access<'_> {
         )
     }
 
-    /// Appends the item of a property that is allowed: its value, or the error in its place.
-    fn put_item(&self, of: PropertyReference, out: &mut Vec<u8>) -> Result<(), AllocError>
-        ensures octets { let found = read_of self.now.objects.now (object_view of.object) of.property
-            of.index in
-            OnOk result (out.new.items
-            ≡ out.old.items ++ item of.property of.index (or_error found)) }
-        ensures longer { OnOk result (vec_len out.old ≤ vec_len out.new) }
-    {
-        let len = out.len();
-        write_value_item_head(out, of.property, of.index)?;
-        match self.objects.read(of.object, of.property, of.index, out) {
-            Ok(()) => write_value_item_tail(out),
-            Err(fault) => {
-                let why = read_error(fault)?;
-                out.truncate(len);
-                write_error_item(out, of.property, of.index, why)
-            }
-        }
-    }
-
     /// Asks for a property, and appends its item.
     fn put_property<A: Asker>(
         &self,
         of: PropertyReference,
         asker: &mut A,
-        out: &mut Vec<u8>,
+        out: &mut Limited,
     ) -> Result<(), AllocError>
         ensures octets { (rules : List Rule) → A.StandsFor asker.old rules →
             let part = property_part rules self.now.objects.now self.now.context.now (object_view of.object)
             of.property of.index in
-            OnOk result (out.new.items ≡ out.old.items ++ part.octets) }
+            OnOk result (out.new ≡ extended out.old part.octets) }
         ensures asks { (rules : List Rule) → A.StandsFor asker.old rules →
             let part = property_part rules self.now.objects.now self.now.context.now (object_view of.object)
             of.property of.index in
             OnOk result (A.kept asker.new ≡ A.kept asker.old ++ A.kept_of rules part.asks) }
         ensures stays { (rules : List Rule) → A.StandsFor asker.old rules →
             A.StandsFor asker.new rules }
-        ensures longer { OnOk result (vec_len out.old ≤ vec_len out.new) }
     {
         if asker.authorize(&self.multi_ask(of.object, of.property))? {
-            self.put_item(of, out)
+            out.put(self.objects, Piece::Item { of })
         } else {
-            write_error_item(out, of.property, of.index, READ_DENIED)
+            out.put(
+                self.objects,
+                Piece::ErrorItem {
+                    property: of.property,
+                    index: of.index,
+                    why: READ_DENIED,
+                },
+            )
         }
     }
 
@@ -103,19 +78,18 @@ impl Access<'_> {
         object: ObjectId,
         properties: &[Property],
         asker: &mut A,
-        out: &mut Vec<u8>,
+        out: &mut Limited,
     ) -> Result<(), AllocError>
         ensures octets { (rules : List Rule) → A.StandsFor asker.old rules →
             let part = properties_part rules self.now.objects.now self.now.context.now (object_view object)
             properties.now in
-            OnOk result (out.new.items ≡ out.old.items ++ part.octets) }
+            OnOk result (out.new ≡ extended out.old part.octets) }
         ensures asks { (rules : List Rule) → A.StandsFor asker.old rules →
             let part = properties_part rules self.now.objects.now self.now.context.now (object_view object)
             properties.now in
             OnOk result (A.kept asker.new ≡ A.kept asker.old ++ A.kept_of rules part.asks) }
         ensures stays { (rules : List Rule) → A.StandsFor asker.old rules →
             A.StandsFor asker.new rules }
-        ensures longer { OnOk result (vec_len out.old ≤ vec_len out.new) }
     {
         let Some((first, others)) = properties.split_first() else {
             return Ok(());
@@ -135,14 +109,14 @@ impl Access<'_> {
         of: PropertyReference,
         set: PropertySet,
         asker: &mut A,
-        out: &mut Vec<u8>,
+        out: &mut Limited,
     ) -> Result<(), AllocError>
         ensures octets { (rules : List Rule) → A.StandsFor asker.old rules →
             let object = object_view of.object in
             let kind = type_at self.now.objects.now.configured object in
             let part = members_part rules self.now.objects.now self.now.context.now object of.property
             set kind in
-            OnOk result (out.new.items ≡ out.old.items ++ part.octets) }
+            OnOk result (out.new ≡ extended out.old part.octets) }
         ensures asks { (rules : List Rule) → A.StandsFor asker.old rules →
             let object = object_view of.object in
             let kind = type_at self.now.objects.now.configured object in
@@ -151,14 +125,20 @@ impl Access<'_> {
             OnOk result (A.kept asker.new ≡ A.kept asker.old ++ A.kept_of rules part.asks) }
         ensures stays { (rules : List Rule) → A.StandsFor asker.old rules →
             A.StandsFor asker.new rules }
-        ensures longer { OnOk result (vec_len out.old ≤ vec_len out.new) }
     {
         match self.objects.find(of.object) {
             Some(kind) => {
                 let properties = ObjectDb::properties(kind, set);
                 self.put_properties(of.object, properties, asker, out)
             }
-            None => write_error_item(out, of.property, None, UNKNOWN_OBJECT),
+            None => out.put(
+                self.objects,
+                Piece::ErrorItem {
+                    property: of.property,
+                    index: None,
+                    why: UNKNOWN_OBJECT,
+                },
+            ),
         }
     }
 
@@ -168,24 +148,30 @@ impl Access<'_> {
         of: PropertyReference,
         set: PropertySet,
         asker: &mut A,
-        out: &mut Vec<u8>,
+        out: &mut Limited,
     ) -> Result<(), AllocError>
         ensures octets { (rules : List Rule) → A.StandsFor asker.old rules →
             let part = set_part rules self.now.objects.now self.now.context.now (object_view of.object)
             of.property set in
-            OnOk result (out.new.items ≡ out.old.items ++ part.octets) }
+            OnOk result (out.new ≡ extended out.old part.octets) }
         ensures asks { (rules : List Rule) → A.StandsFor asker.old rules →
             let part = set_part rules self.now.objects.now self.now.context.now (object_view of.object)
             of.property set in
             OnOk result (A.kept asker.new ≡ A.kept asker.old ++ A.kept_of rules part.asks) }
         ensures stays { (rules : List Rule) → A.StandsFor asker.old rules →
             A.StandsFor asker.new rules }
-        ensures longer { OnOk result (vec_len out.old ≤ vec_len out.new) }
     {
         if asker.authorize(&self.multi_ask(of.object, of.property))? {
             self.put_members(of, set, asker, out)
         } else {
-            write_error_item(out, of.property, None, READ_DENIED)
+            out.put(
+                self.objects,
+                Piece::ErrorItem {
+                    property: of.property,
+                    index: None,
+                    why: READ_DENIED,
+                },
+            )
         }
     }
 
@@ -194,19 +180,18 @@ impl Access<'_> {
         &self,
         of: PropertyReference,
         asker: &mut A,
-        out: &mut Vec<u8>,
+        out: &mut Limited,
     ) -> Result<(), AllocError>
         ensures octets { (rules : List Rule) → A.StandsFor asker.old rules →
             let part = named_part rules self.now.objects.now self.now.context.now (object_view of.object)
             of.property of.index (set_of of.property) in
-            OnOk result (out.new.items ≡ out.old.items ++ part.octets) }
+            OnOk result (out.new ≡ extended out.old part.octets) }
         ensures asks { (rules : List Rule) → A.StandsFor asker.old rules →
             let part = named_part rules self.now.objects.now self.now.context.now (object_view of.object)
             of.property of.index (set_of of.property) in
             OnOk result (A.kept asker.new ≡ A.kept asker.old ++ A.kept_of rules part.asks) }
         ensures stays { (rules : List Rule) → A.StandsFor asker.old rules →
             A.StandsFor asker.new rules }
-        ensures longer { OnOk result (vec_len out.old ≤ vec_len out.new) }
     {
         match set_of(of.property) {
             Some(set) => self.put_set(of, set, asker, out),
@@ -220,28 +205,31 @@ impl Access<'_> {
         reference: &Reference,
         ends: bool,
         asker: &mut A,
-        out: &mut Vec<u8>,
+        out: &mut Limited,
     ) -> Result<(), AllocError>
         ensures octets { (rules : List Rule) → A.StandsFor asker.old rules →
             let reference = reference_view reference.now in
             let part = reference_part rules self.now.objects.now self.now.context.now reference ends in
-            OnOk result (out.new.items ≡ out.old.items ++ part.octets) }
+            OnOk result (out.new ≡ extended out.old part.octets) }
         ensures asks { (rules : List Rule) → A.StandsFor asker.old rules →
             let reference = reference_view reference.now in
             let part = reference_part rules self.now.objects.now self.now.context.now reference ends in
             OnOk result (A.kept asker.new ≡ A.kept asker.old ++ A.kept_of rules part.asks) }
         ensures stays { (rules : List Rule) → A.StandsFor asker.old rules →
             A.StandsFor asker.new rules }
-        ensures longer { OnOk result (vec_len out.old ≤ vec_len out.new) }
     {
         let of = PropertyReference {
             object: self.named_object(reference.object),
             property: reference.property,
             index: reference.index,
         };
-        write_list_head(out, reference.begins, of.object)?;
+        let head = Piece::ListHead {
+            begins: reference.begins,
+            object: of.object,
+        };
+        out.put(self.objects, head)?;
         self.put_named(of, asker, out)?;
-        write_list_tail(out, ends)
+        out.put(self.objects, Piece::ListTail { ends })
     }
 
     /// Appends what references ask for, in their order.
@@ -249,19 +237,18 @@ impl Access<'_> {
         &self,
         references: &[Reference],
         asker: &mut A,
-        out: &mut Vec<u8>,
+        out: &mut Limited,
     ) -> Result<(), AllocError>
         ensures octets { (rules : List Rule) → A.StandsFor asker.old rules →
             let references = map reference_view references.now in
             let part = multi_part rules self.now.objects.now self.now.context.now references in
-            OnOk result (out.new.items ≡ out.old.items ++ part.octets) }
+            OnOk result (out.new ≡ extended out.old part.octets) }
         ensures asks { (rules : List Rule) → A.StandsFor asker.old rules →
             let references = map reference_view references.now in
             let part = multi_part rules self.now.objects.now self.now.context.now references in
             OnOk result (A.kept asker.new ≡ A.kept asker.old ++ A.kept_of rules part.asks) }
         ensures stays { (rules : List Rule) → A.StandsFor asker.old rules →
             A.StandsFor asker.new rules }
-        ensures longer { OnOk result (vec_len out.old ≤ vec_len out.new) }
     {
         let Some((first, others)) = references.split_first() else {
             return Ok(());
@@ -293,8 +280,9 @@ impl Access<'_> {
     {
         let mut octets = begin_apdu(asker.alloc(), first_room(header, self.context))?;
         write_complex(&mut octets, header.invoke, READ_PROPERTY_MULTIPLE)?;
+        let mut octets = Limited::new(octets, most_octets(header, self.context));
         self.put_references(references, asker, &mut octets)?;
-        fit(&mut octets, header, self.context)?;
+        let octets = octets.finish(header.invoke)?;
         Ok(octets)
     }
 

@@ -58,15 +58,15 @@ impl Access<'_> {
         match self.objects.read(request.object, request.property, request.index, &mut octets) {
             Ok(()) => {
                 write_read_answer_tail(&mut octets)?;
-                fit(&mut octets, header, self.context)?;
+                fit(octets, header, self.context)
             }
             Err(fault) => {
                 let why = read_error(fault)?;
                 octets.truncate(HEADER_ROOM);
                 write_error(&mut octets, header.invoke, READ_PROPERTY, why)?;
+                Ok(octets)
             }
         }
-        Ok(octets)
     }
 
     /// The answer to a read: the policy is asked before any look-up.

@@ -1,9 +1,10 @@
 //! Short answers: errors, rejects and aborts, and the abort in the place of what is too long.
 
-ghost use Rattle.std.specs.Prelude.{◌≡◌, ◌+◌, ◌≤◌, ℕ, List, length, vec_len, IfOk, OnOk};
+ghost use Rattle.std.specs.Prelude.{◌≡◌, ◌+◌, ◌≤◌, ℕ, List, length, nat_le, vec_len, IfOk, OnOk};
 ghost use Rattle.gw_apdu.specs.Answers.{abort, error, reject, simple_ack};
 ghost use Rattle.gw_device.specs.Response.{fits, fitted, header_room, with_room};
 
+use crate::limited::Limited;
 use crate::{Context, HEADER_ROOM};
 use gw_addr::put_slice;
 use gw_apdu::{
@@ -77,39 +78,33 @@ pub(crate) fn simple_ack(alloc: Global, invoke: u8, service: u8) -> Result<Vec<u
     Ok(octets)
 }
 
+/// How many octets a ComplexACK may have.
+pub(crate) fn most_octets(request: &ConfirmedRequest, context: &Context) -> usize
+    ensures { (ack : List ℕ) →
+        nat_le (length ack) result ≡ fits request.now context.now ack }
+{
+    request.max_apdu_len().min(context.room)
+}
+
 /// How many octets a ComplexACK has room for at first: as many as most answers have.
 pub(crate) fn first_room(request: &ConfirmedRequest, context: &Context) -> usize
     ensures { result ≤ 480 }
 {
-    request.max_apdu_len().min(context.room).min(FIRST_ROOM)
+    most_octets(request, context).min(FIRST_ROOM)
 }
 
-/// Whether a ComplexACK of that length can be sent.
-fn fits(request: &ConfirmedRequest, context: &Context, len: usize) -> bool
-    ensures { (ack : List ℕ) → length ack ≡ len → result ≡ fits request.now context.now ack }
-{
-    len <= request.max_apdu_len() && len <= context.room
-}
-
-/// Puts an Abort in the place of a ComplexACK that is too long; the room for headers stays. `AllocError` where memory
+/// A ComplexACK behind the room for headers, or an Abort in its place where it is too long. `AllocError` where memory
 /// was refused.
 pub(crate) fn fit(
-    octets: &mut Vec<u8>,
+    octets: Vec<u8>,
     request: &ConfirmedRequest,
     context: &Context,
-) -> Result<(), AllocError>
-    requires { 10 ≤ vec_len octets.old }
-    ensures fitted { (ack : List ℕ) → octets.old.items ≡ with_room ack →
-        OnOk result (octets.new.items ≡ with_room (fitted request.now context.now ack)) }
-    ensures room { OnOk result (10 ≤ vec_len octets.new) }
+) -> Result<Vec<u8>, AllocError>
+    requires { 10 ≤ vec_len octets }
+    ensures { (ack : List ℕ) → octets.items ≡ with_room ack → IfOk result (λ octets.
+        octets.items ≡ with_room (fitted request.now context.now ack)) }
 {
-    if fits(request, context, octets.len() - HEADER_ROOM) {
-        return Ok(());
-    }
-    octets.truncate(HEADER_ROOM);
-    write_abort(
-        octets,
-        request.invoke,
-        AbortReason::SEGMENTATION_NOT_SUPPORTED,
-    )
+    let limited = Limited::new(octets, most_octets(request, context));
+    let octets = limited.finish(request.invoke)?;
+    Ok(octets)
 }

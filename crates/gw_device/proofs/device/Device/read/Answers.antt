@@ -1,26 +1,15 @@
-use Rattle.std.proofs.Common.{◌++◌, ◌∙◌, List, sym, ap, subst}
-use Rattle.gw_objects.specs.Objects.{Database}
-use Rattle.gw_rules.specs.Authorizer.{denied_of}
-use Rattle.gw_rules.specs.Keeping.{kept_refusals}
-use Rattle.gw_rules.specs.declared.refusal.Refusal.{Refusal}
+use Rattle.std.proofs.Common.{rules, sym, subst}
 use Rattle.gw_services.specs.Read.{read_view}
 use Rattle.gw_device.specs.Read.{read_response}
-use Rattle.gw_device.specs.Response.{IsReply}
-use Rattle.gw_device.specs.declared.context.Context.{Context}
 use Rattle.gw_device.proofs.device.Device.read.Goals as goal
 
 pub returns : goal.returns
 returns g c = record {
-  reply = λ rules stands.
-      let header = c.args.client.now.header.now in
-      let read = read_view c.args.request.now in
-      let objects = c.access-access.result.objects.now in
-      let context = c.access-access.result.context.now in
-      let asks_it = subst (λ j. g.J.Judge.StandsFor j rules) (sym c.new-authorizer.ensures.judge) stands in
-      let due = read_response rules objects context header read in
-      let reply = c.new.ensures.reply rules due (c.in_ok-served.ensures.served rules asks_it)
-      (c.in_ok-served.ensures.asks rules asks_it
-      ∙ ap (λ (l : List Refusal). kept_refusals l ++ kept_refusals (denied_of rules due.asks)) c.new-authorizer.ensures.denied) in
-      subst (λ (x : Context). IsReply rules (read_response rules c.args.self.now x header read) c.new.result) c.access-access.ensures.context
-      (subst (λ (d : Database). IsReply rules (read_response rules d context header read) c.new.result) c.access-access.ensures.objects reply);
+  reply = λ policy stands.
+      let due = read_response policy c.args.self.now c.args.client.now.context.now c.args.client.now.header.now (read_view c.args.request.now) in
+      let asked = subst (λ judge. g.J.Judge.StandsFor judge policy) (sym c.new-authorizer.ensures.judge) stands in
+      let served = c.in_ok-served.ensures.served policy asked in
+      let kept = c.in_ok-served.ensures.asks policy asked in
+      let reply = c.new.ensures.reply policy due in
+      search rules;
 }
