@@ -1,5 +1,5 @@
 -- What findings say of the rules.
-use Rattle.std.proofs.Common.{◌≡◌, ◌∙◌, inl, inr, ℕ, ◌+◌, ◌-◌, ◌<◌, true, List, [], ◌∷◌, ◌++◌, Some, None, get_or, length, sym, ap, subst, arith, slice_get}
+use Rattle.std.proofs.Common.{◌≡◌, ◌∙◌, inl, inr, ℕ, ◌+◌, ◌-◌, ◌<◌, List, [], ◌∷◌, ◌++◌, Some, None, get_or, length, sym, ap, subst, arith, slice_get}
 use Rattle.std.proofs.lemmas.Bool.{cases_order}
 use Rattle.std.proofs.lemmas.List.{get_or_append_left, get_or_at, length-append}
 use Rattle.std.proofs.lemmas.Option.{slice_get-get_or, slice_get_past}
