@@ -1,22 +1,13 @@
--- What findings say of the rules, and of the gateway.
-use Rattle.std.proofs.Common.{◌≡◌, ◌∙◌, inl, inr, ℕ, ◌+◌, ◌-◌, ◌<◌, true, List, [], ◌∷◌, ◌++◌, Some, None, get_or, length, sym, ap, subst, arith, slice_get}
+-- What findings say of the rules.
+use Rattle.std.proofs.Common.{◌≡◌, ◌∙◌, inl, inr, ℕ, ◌+◌, ◌-◌, ◌<◌, List, [], ◌∷◌, ◌++◌, Some, None, get_or, length, sym, ap, subst, arith, slice_get}
 use Rattle.std.proofs.lemmas.Bool.{cases_order}
 use Rattle.std.proofs.lemmas.List.{get_or_append_left, get_or_at, length-append}
 use Rattle.std.proofs.lemmas.Option.{slice_get-get_or, slice_get_past}
 use Rattle.gw_rules.specs.RuleList.{HasNumber}
 use Rattle.gw_rules.specs.declared.rule.Rule.{Rule}
-use Rattle.gw_rules.proofs.First.{first_iff}
 use Rattle.gw_lint.specs.Finding.{Tells}
-use Rattle.gw_lint.specs.Lint.{FoundNeverDecides, says_never}
-use Rattle.gw_lint.specs.Search.{IsNeverFirst}
-use Rattle.gw_lint.specs.Shape.{Shape}
-use Rattle.gw_lint.specs.Shapes.{shapes}
+use Rattle.gw_shapes.specs.Shape.{Shape}
 use Rattle.gw_lint.specs.declared.finding.Finding.{Finding}
-use Rattle.gw_lint.specs.declared.finding.Finding.TheVariants as finding
-use Rattle.gw_lint.proofs.Narrowing.{deciding_rule}
-use Rattle.gw_lint.proofs.ShapeLaw.{never_first_never_decides}
-
--- ---- a list of findings
 
 -- each of the findings that are there says what is true
 abbrev pub Each : List Shape → List Rule → List Finding → Type 0
@@ -85,20 +76,3 @@ numbered rules all place rule same within there =
       counted = omega arith;
       there = ap (slice_get rules) back ∙ ap (λ (xs : List Rule). slice_get xs place) (sym same) ∙ slice_get-get_or all place rule within ∙ ap Some (sym there);
     }
-
--- ---- of the gateway
-
-never_first : (boxes : List Shape) (rules : List Rule) (number : ℕ) (rule : Rule) (found : Finding) → HasNumber rules number rule
-    → says_never found ≡ true → Tells boxes rules number rule found → IsNeverFirst boxes rules number
-never_first boxes rules number rule finding.MatchesNothing has never nothing ask lies is =
-    nothing ask lies (deciding_rule rules number rule ask has.there is)
-never_first boxes rules number rule (finding.TakenBy by) has never (met, taken) ask lies is =
-    let deciding = (first_iff rules ask number).0 is in
-    deciding.least by taken.earlier taken.before taken.numbered (taken.takes ask lies (deciding_rule rules number rule ask has.there is))
-never_first boxes rules number rule finding.TakenTogether has never (met, none, unasked) ask lies is = unasked ask lies is
-never_first boxes rules number rule (finding.Decides other) has never tells ask lies is = absurd cc
-never_first boxes rules number rule finding.Unknown has never tells ask lies is = absurd cc
-
-pub found_never_decides : FoundNeverDecides
-found_never_decides c number rule found has never tells =
-    never_first_never_decides c number (never_first (shapes c) c.rules number rule found has never tells)

@@ -1,15 +1,3 @@
 pub mod Appending
-pub mod Covering
-pub mod DeviceAsks
 pub mod Found
-pub mod Lines
-pub mod Listing
-pub mod Lying
-pub mod Narrowing
-pub mod Parting
-pub mod Raised
-pub mod RelayAsks
-pub mod ShapeLaw
 pub mod Taking
-pub mod Whence
-pub mod WhyLaw

@@ -1,22 +1,12 @@
 -- What is found of a rule, and when it is true of it.
-use Rattle.std.specs.Prelude.{◌≡◌, ℕ, ◌-◌, ◌<◌, Bool, true, List, length, Option, Some, None, position, slice_get, take}
-use Rattle.std.specs.List.{list_all, list_any}
+use Rattle.std.specs.Prelude.{◌≡◌, ℕ, ◌-◌, ◌<◌, true, List, length, Option, Some, None, position, slice_get, take}
 use Rattle.gw_rules.specs.RuleList.{HasNumber, first}
 use Rattle.gw_rules.specs.declared.rule.Rule.{Rule}
-use Rattle.gw_lint.specs.Cover.{MatchesNothing, TakesAll, takes_shape}
-use Rattle.gw_lint.specs.Meeting.{meets}
-use Rattle.gw_lint.specs.Search.{IsNeverFirst}
-use Rattle.gw_lint.specs.Shape.{Shape}
+use Rattle.gw_shapes.specs.Cover.{MatchesNothing, TakesAll, is_met, takes_all}
+use Rattle.gw_shapes.specs.Search.{IsNeverFirst}
+use Rattle.gw_shapes.specs.Shape.{Shape}
 use Rattle.gw_lint.specs.declared.finding.Finding.{Finding}
 use Rattle.gw_lint.specs.declared.finding.Finding.TheVariants as finding
-
--- one of the shapes meets the rule
-abbrev pub is_met : List Shape → Rule → Bool
-is_met shapes rule = list_any (λ shape. meets shape rule) shapes
-
--- in each shape one rule is seen to match whatever another one matches
-abbrev pub takes_all : List Shape → Rule → Rule → Bool
-takes_all shapes earlier later = list_all (takes_shape earlier later) shapes
 
 -- the place of the first of these rules that is seen to match whatever another one matches
 abbrev pub taker : List Shape → List Rule → Rule → Option ℕ

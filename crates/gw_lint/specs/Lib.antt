@@ -1,15 +1,5 @@
-pub mod Cover
 pub mod Finding
-pub mod Laws
 pub mod Lint
-pub mod Meeting
 pub mod Notes
 pub mod Passage
-pub mod Pieces
-pub mod Search
-pub mod Shape
-pub mod Shapes
-pub mod Subnet
 pub mod Text
-pub mod Warnings
-pub mod Why

@@ -1,16 +1,12 @@
--- What `check --lint` says of a configuration, and what its lines say of the gateway.
-use Rattle.std.specs.Prelude.{◌≡◌, ℕ, Bool, true, false, List, ◌++◌}
+-- What `check --lint` says of a configuration.
+use Rattle.std.specs.Prelude.{◌≡◌, ℕ, Bool, List, ◌++◌}
 use Rattle.gw_configuration.specs.Configuration.{Configuration}
-use Rattle.gw_rules.specs.RuleList.{HasNumber}
-use Rattle.gw_rules.specs.declared.rule.Rule.{Rule}
-use Rattle.gw_lint.specs.Finding.{AreTrue, Tells}
-use Rattle.gw_lint.specs.Laws.{NeverDecides}
+use Rattle.gw_lint.specs.Finding.{AreTrue}
 use Rattle.gw_lint.specs.Notes.{notes_text}
 use Rattle.gw_script.specs.Order.{in_order}
-use Rattle.gw_lint.specs.Shapes.{shapes}
+use Rattle.gw_shapes.specs.Shapes.{shapes}
 use Rattle.gw_lint.specs.Text.{line_text}
 use Rattle.gw_lint.specs.declared.finding.Finding.{Finding}
-use Rattle.gw_lint.specs.declared.finding.Finding.TheVariants as finding
 
 -- the lines of what is found of the rules, in their order, and the notes behind them
 abbrev pub lint_text : Configuration → Bool → List Finding → List ℕ
@@ -26,16 +22,3 @@ pub record IsLint (c : Configuration) (explains : Bool) (text : List ℕ) : Type
 -- a lint stands behind what a buffer held
 abbrev pub AppendsLint : Configuration → Bool → List ℕ → List ℕ → Type 0
 AppendsLint c explains old new = (text : List ℕ) × IsLint c explains text × (new ≡ old ++ text)
-
--- the findings that a rule decides nothing
-abbrev pub says_never : Finding → Bool
-says_never finding.MatchesNothing = true
-says_never (finding.TakenBy by) = true
-says_never finding.TakenTogether = true
-says_never (finding.Decides ask) = false
-says_never finding.Unknown = false
-
--- A rule of which that is true over the shapes of a configuration decides no ask of any event, whatever came before.
-abbrev pub FoundNeverDecides : Type 0
-FoundNeverDecides = (c : Configuration) (number : ℕ) (rule : Rule) (found : Finding) → HasNumber c.rules number rule →
-    says_never found ≡ true → Tells (shapes c) c.rules number rule found → NeverDecides c number

@@ -10,10 +10,10 @@ use Rattle.gw_rules.specs.declared.field.FieldName.{FieldName}
 use Rattle.gw_rules.specs.declared.field.TheConstants.FieldName.{ALL}
 use Rattle.gw_rules.specs.declared.range.Range.{Range}
 use Rattle.gw_rules.specs.declared.rule.Rule.{Rule}
-use Rattle.gw_lint.specs.Meeting.{overlaps}
+use Rattle.gw_shapes.specs.Meeting.{overlaps}
 use Rattle.gw_script.specs.Order.{in_order}
 use Rattle.gw_lint.specs.Passage.{answers, is_routed, is_unnamed, opener, opens_beyond, requests}
-use Rattle.gw_lint.specs.Shape.{Shape}
+use Rattle.gw_shapes.specs.Shape.{Shape}
 use Rattle.gw_lint.specs.Text.{key_of, rule_text}
 
 -- `note: rule <number> <name>: look at <words>` and a line feed

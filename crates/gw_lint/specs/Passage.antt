@@ -9,12 +9,12 @@ use Rattle.gw_rules.specs.Rule.{each_field, ranges_of}
 use Rattle.gw_rules.specs.RuleList.{allows_at}
 use Rattle.gw_rules.specs.declared.operation.Operation.TheVariants as operations
 use Rattle.gw_rules.specs.declared.rule.Rule.{Rule}
-use Rattle.gw_lint.specs.Cover.{takes_side}
-use Rattle.gw_lint.specs.Meeting.{has_number, meets}
-use Rattle.gw_lint.specs.Pieces.{most, numbers}
-use Rattle.gw_lint.specs.Shape.{Shape}
-use Rattle.gw_lint.specs.Shapes.{bound, only, own}
-use Rattle.gw_lint.specs.declared.side.Side.{Side}
+use Rattle.gw_shapes.specs.Cover.{takes_side}
+use Rattle.gw_shapes.specs.Meeting.{has_number, meets}
+use Rattle.gw_shapes.specs.Pieces.{most, numbers}
+use Rattle.gw_shapes.specs.Shape.{Shape}
+use Rattle.gw_shapes.specs.Shapes.{bound, only, own}
+use Rattle.gw_shapes.specs.declared.side.Side.{Side}
 
 -- in each field that the rule names, one of its ranges holds all that the shape has there
 abbrev pub holds_shape : Shape → Rule → Bool

@@ -3,10 +3,8 @@ ghost use Rattle.std.specs.Prelude.{◌≡◌, ◌<◌, ◌-◌, IfOk, IfSome, l
 ghost use Rattle.gw_rules.specs.RuleList.{HasNumber};
 ghost use Rattle.gw_lint.specs.Finding.{AreTrue, Tells, taker};
 
-use crate::Shape;
-use crate::cover::{matches_nothing, takes_all};
-use crate::search::{Outcome, search_for};
 use gw_rules::{Ask, Rule, RuleList};
+use gw_shapes::{Outcome, Shape, matches_nothing, search_for, takes_all};
 use std::alloc::{AllocError, Global};
 
 /// How many steps a search for an ask that one rule decides has at most.

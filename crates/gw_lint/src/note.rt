@@ -1,18 +1,17 @@
 //! Notes on rules that may not mean what they say.
 ghost use Rattle.std.specs.Prelude.{◌≡◌, ◌&&◌, ◌==◌, ◌++◌, find, is_some, length, OnOk};
 ghost use Rattle.std.specs.List.{filter, flat_map, list_any};
-ghost use Rattle.gw_lint.specs.Meeting.{overlaps};
+ghost use Rattle.gw_shapes.specs.Meeting.{overlaps};
 ghost use Rattle.gw_lint.specs.Notes.{answer_note, answer_notes, answer_words, has_overlap, head_text, is_known, is_unknown, lets_unnamed, network_note, network_words, note_text, notes_text, object_note, overlap_note, overlap_words, rule_notes};
 ghost use Rattle.gw_script.specs.Order.{in_order};
 ghost use Rattle.gw_lint.specs.Passage.{is_routed, is_unnamed, opener, opens_beyond};
 
-use crate::Shape;
 use crate::passage::{answers, is_routed, is_unnamed, opener, opens_beyond, requests};
-use crate::side::overlaps;
 use crate::text::{key_of, put_rule};
 use gw_addr::{put_decimal, put_slice};
 use gw_configuration::{Config, Port, Route};
 use gw_rules::{FieldName, Range, Rule, RuleList};
+use gw_shapes::{Shape, overlaps};
 use std::alloc::AllocError;
 
 /// Appends all notes: rule by rule, and then port by port.

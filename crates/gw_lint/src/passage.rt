@@ -2,15 +2,11 @@
 ghost use Rattle.std.specs.Prelude.{◌≡◌, position};
 ghost use Rattle.gw_lint.specs.Passage.{answers, holds_shape, is_routed, is_unnamed, opener, opens, opens_beyond, requests, routed, settler, settles, towards};
 
-use crate::cover::takes_side;
-use crate::piece::numbers;
-use crate::shapes::{Origin, bound, only};
-use crate::side::{has_number, meets};
 use crate::text::allows_at;
-use crate::{Shape, Side};
 use gw_addr::NetNum;
 use gw_configuration::Port;
 use gw_rules::{FieldName, Operation, Rule, RuleList};
+use gw_shapes::{Origin, Shape, Side, bound, has_number, meets, numbers, only, takes_side};
 
 /// Whether in each field that the rule names one of its ranges holds all that the shape has there.
 fn holds_shape(shape: &Shape, rule: &Rule) -> bool

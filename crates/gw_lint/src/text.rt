@@ -7,9 +7,9 @@ ghost use Rattle.gw_script.specs.Order.{in_order};
 ghost use Rattle.gw_lint.specs.Text.{found_text, is_told, item_text, key_of, likeness_text, line_text, rule_text, says_same, source_text, value_text};
 
 use crate::Finding;
-use crate::search::rule_at;
 use gw_addr::{BipAddr, put_decimal};
 use gw_rules::{Ask, FieldName, Operation, RuleList};
+use gw_shapes::rule_at;
 use std::alloc::AllocError;
 
 /// What stands in the place of a field that the ask doesn't have.

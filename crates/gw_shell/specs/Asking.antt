@@ -1,6 +1,6 @@
--- What `why` leaves written, at each outcome: over the definitions of `gw_lint`.
+-- What `why` leaves written, at each outcome: over the definitions of `gw_verdicts`.
 use Rattle.std.specs.Prelude.{ℕ, List, Result}
-use Rattle.gw_lint.specs.Why.{IsAnswered, TellsNoAsk}
+use Rattle.gw_verdicts.specs.Why.{IsAnswered, TellsNoAsk}
 use Rattle.gw_rules.specs.declared.rule.Rule.{Rule}
 use Rattle.gw_shell.specs.Lines.{Leaves}
 use Rattle.gw_shell.specs.declared.fault.Fault.{Fault}

@@ -4,7 +4,7 @@
 use Rattle.std.specs.Prelude.{◌≡◌, ℕ, Bool, true, false, List, [], ◌∷◌, ◌++◌, map, if◌then◌else◌, codes, decimal}
 use Rattle.std.specs.List.{flat_map}
 use Rattle.gw_lint.specs.Lint.{AppendsLint}
-use Rattle.gw_lint.specs.Warnings.{warnings_text}
+use Rattle.gw_warnings.specs.Warnings.{warnings_text}
 use Rattle.gw_configuration.specs.Configuration.{Configuration}
 use Rattle.gw_configuration.specs.Duplicates.{type_number}
 use Rattle.gw_configuration.specs.declared.object.Object.{Object}

@@ -24,7 +24,7 @@ pub fn why<R: OctetSource, W: Write + Drop>(
         (writer_contents W.contents writer.new) (λ text before. Answers rules.now text before result) }
     ensures flushed { OnOk result (writer_buffer writer.new ≡ []) }
 {
-    let answers = gw_lint::why(alloc, rules, reader, writer);
+    let answers = gw_verdicts::why(alloc, rules, reader, writer);
     let is_flushed = writer.flush().is_ok();
     first_lines_fault(answers, is_flushed)
 }

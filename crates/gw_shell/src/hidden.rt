@@ -10,8 +10,9 @@ ghost use Rattle.gw_script.specs.Order.{in_order};
 use crate::announcement::{put_number, put_shown};
 use crate::configured::summary;
 use gw_configuration::{Config, Object, ObjectValue, Port};
-use gw_lint::{put_lint, put_warnings};
+use gw_lint::put_lint;
 use gw_rules::RuleList;
+use gw_warnings::put_warnings;
 use std::alloc::{AllocError, Global};
 
 /// What `check` prints of a configuration: its summary, and behind it what else is asked for.

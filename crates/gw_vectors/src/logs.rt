@@ -5,7 +5,7 @@ use crate::configurations::read;
 use crate::replays::event_lines;
 use gw_addr::Source;
 use gw_audit::{ShownAsk, read_ask, read_line};
-use gw_lint::why;
+use gw_verdicts::why;
 use std::alloc::Global;
 use std::io;
 use std::io::Write;

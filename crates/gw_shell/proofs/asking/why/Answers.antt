@@ -1,7 +1,7 @@
 use Rattle.std.proofs.Common.{sym, subst, Result, IsSomeAnd}
 use Rattle.std.specs.Io.Buffered.{writer_contents}
 use Rattle.gw_shell.specs.declared.fault.Fault.{Fault}
-use Rattle.gw_lint.specs.Why.{IsAnswered, LeavesAnswers, TellsNoAsk}
+use Rattle.gw_verdicts.specs.Why.{IsAnswered, LeavesAnswers, TellsNoAsk}
 use Rattle.gw_shell.specs.Asking.{Answers}
 use Rattle.gw_shell.specs.Lines.{first_lines_fault}
 use Rattle.gw_shell.proofs.LinesLemmas.{flushed_lines}

@@ -1,5 +1,0 @@
-use Rattle.gw_lint.specs.Search.{Keeps}
-use Rattle.gw_lint.proofs.search.search_for.Given as goal
-
-abbrev pub invariant-loop : goal.invariant-loop
-invariant-loop l = Keeps l.rules l.number l.shapes l.left.items

@@ -1,0 +1,5 @@
+pub mod Covering
+pub mod Listing
+pub mod Lying
+pub mod Narrowing
+pub mod Parting

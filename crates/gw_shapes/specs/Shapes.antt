@@ -1,0 +1,145 @@
+-- The shapes of a configuration's asks: every ask that the gateway raises lies in one of them (`Laws.antt` of gw_verdicts).
+use Rattle.std.specs.Prelude.{ℕ, ◌+◌, true, List, [], ◌∷◌, ◌++◌, length, if◌then◌else◌}
+use Rattle.std.specs.List.{flat_map}
+use Rattle.std.specs.Option.{option_to_list}
+use Rattle.gw_configuration.specs.Configuration.{Configuration}
+use Rattle.gw_configuration.specs.declared.format.Format.{Format}
+use Rattle.gw_configuration.specs.declared.format.Format.TheVariants.{One, Two}
+use Rattle.gw_configuration.specs.declared.port.Port.{Port}
+use Rattle.gw_rules.specs.Operation.{operation_number}
+use Rattle.gw_rules.specs.Range.{holds}
+use Rattle.gw_rules.specs.declared.operation.Operation.{Operation}
+use Rattle.gw_rules.specs.declared.operation.Operation.TheVariants as operations
+use Rattle.gw_shapes.specs.Pieces.{above, below, most, no_range, numbers}
+use Rattle.gw_shapes.specs.Shape.{Shape}
+use Rattle.gw_shapes.specs.declared.side.Side.{Side}
+use Rattle.gw_shapes.specs.declared.shapes.Origin.{Origin}
+
+-- ---- sides
+
+abbrev pub only : ℕ → Side
+only number = numbers number number
+
+-- any number, an absent field, and either
+abbrev pub some : Side
+some = numbers 0 most
+
+abbrev pub nothing : Side
+nothing = record { absent = true; range = no_range }
+
+abbrev pub perhaps : Side
+perhaps = record { absent = true; range = record { low = 0; high = most } }
+
+-- ---- shapes, whose first fields say whence the asks come
+
+-- of no network and no object
+abbrev pub plain : Origin → Operation → Side → Shape
+plain from operation service = record {
+  operation = only (operation_number operation);
+  port = from.port;
+  source_network = from.network;
+  source_key = perhaps;
+  destination_network = nothing;
+  service = service;
+  object_type = nothing;
+  instance = nothing;
+  property = nothing;
+  priority = nothing;
+}
+
+-- to a network
+abbrev pub bound : Origin → Operation → Side → Side → Shape
+bound from operation service destination =
+    record (plain from operation service) { destination_network = destination }
+
+-- for a property of an object there
+abbrev pub named : Origin → Operation → Side → Side → Side → Shape
+named from operation service destination priority = record (bound from operation service destination) {
+  object_type = some;
+  instance = some;
+  property = some;
+  priority = priority;
+}
+
+-- frames that read or change a table of their port, by their function
+abbrev pub table_shapes : Origin → List Shape
+table_shapes from =
+    plain from operations.WriteTable (only 769)
+    ∷ plain from operations.ReadTable (only 770)
+    ∷ plain from operations.Register (only 773)
+    ∷ plain from operations.ReadTable (only 774)
+    ∷ plain from operations.Delete (only 776)
+    ∷ []
+
+-- what a message raises: broadcasts, routing, network messages, and requests to the device on this network
+abbrev pub message_shapes : ℕ → Origin → List Shape
+message_shapes device from =
+    bound from operations.Cast perhaps perhaps
+    ∷ bound from operations.Route perhaps some
+    ∷ bound from operations.Learn (only 513) some
+    ∷ bound from operations.Network (only 512) perhaps
+    ∷ bound from operations.Network (only 530) nothing
+    ∷ named from operations.Read (only 12) (only device) nothing
+    ∷ named from operations.Read (only 14) (only device) nothing
+    ∷ named from operations.Write (only 15) (only device) some
+    ∷ named from operations.List (only 263) (only device) nothing
+    ∷ named from operations.List (only 264) (only device) nothing
+    ∷ []
+
+-- requests that are passed on, by what they name, under the second format
+abbrev pub request_shapes : Format → Origin → List Shape
+request_shapes One from = []
+request_shapes Two from =
+    bound from operations.Read (numbers 12 14) some
+    ∷ named from operations.Read (numbers 12 14) some nothing
+    ∷ bound from operations.Write (only 15) some
+    ∷ named from operations.Write (only 15) some some
+    ∷ []
+
+abbrev pub shapes_from : Format → ℕ → Origin → List Shape
+shapes_from format device from = message_shapes device from ++ request_shapes format from
+
+-- ---- whence
+
+-- a station of a port's own network
+abbrev pub own : ℕ → ℕ → Origin
+own number network = record { port = only number; network = only network }
+
+-- from each port's own network, with the ports counted on from a number
+abbrev pub own_shapes : Format → ℕ → ℕ → List Port → List Shape
+own_shapes format device number [] = []
+own_shapes format device number (p ∷ ports) =
+    (table_shapes (own number p.network) ++ shapes_from format device (own number p.network))
+    ++ own_shapes format device (number + 1) ports
+
+-- a side without a number
+abbrev pub split : ℕ → Side → List Side
+split number side =
+    if holds number side.range
+    then option_to_list (below side (only number)) ++ option_to_list (above side (only number))
+    else side ∷ []
+
+-- sides without the numbers of the ports' networks
+abbrev pub gaps_between : List Side → List Port → List Side
+gaps_between sides [] = sides
+gaps_between sides (p ∷ ports) = gaps_between (flat_map (split p.network) sides) ports
+
+-- all networks but the ports' and the device's
+abbrev pub gaps : ℕ → List Port → List Side
+gaps device ports = gaps_between (flat_map (split device) (some ∷ [])) ports
+
+-- a station of such a network, by any of so many ports
+abbrev pub foreign : ℕ → Side → Origin
+foreign ports network = record { port = numbers 1 ports; network = network }
+
+abbrev pub foreign_shapes : Format → ℕ → ℕ → Side → List Shape
+foreign_shapes format device ports network = shapes_from format device (foreign ports network)
+
+-- all of them
+abbrev pub shapes_of : Format → ℕ → List Port → List Shape
+shapes_of format device ports =
+    own_shapes format device 1 ports
+    ++ flat_map (foreign_shapes format device (length ports)) (gaps device ports)
+
+abbrev pub shapes : Configuration → List Shape
+shapes c = shapes_of c.format c.device.network c.ports

@@ -1,0 +1,7 @@
+pub mod DeviceAsks
+pub mod FoundLaw
+pub mod Raised
+pub mod RelayAsks
+pub mod ShapeLaw
+pub mod Whence
+pub mod WhyLaw

@@ -1,0 +1,250 @@
+-- Every ask comes from a port's own network, or from none of the direct ones.
+use Rattle.std.proofs.Common.{◌≡◌, ◌≢◌, ◌∙◌, ◌⊎◌, inl, inr, sym, ap, refl, subst, ℕ, ◌+◌, ◌-◌, ◌≤◌, ◌<◌, Bool, true, false, List, [], ◌∷◌, ◌++◌, length, Option, Some, None, Result, Ok, Err, arith, nat_lt, nat_le, get_or}
+use Rattle.std.specs.Prelude.{◌==◌, not, if◌then◌else◌, slice_get}
+use Rattle.std.specs.List.{AllByRecursion, flat_map, list_any}
+use Rattle.std.specs.Option.{option_to_list}
+use Rattle.std.proofs.lemmas.Bool.{eqb-false, lt-ltb, ltb-false, ltb-true, or_parts}
+use Rattle.std.proofs.lemmas.List.Elements.{All-from_recursion}
+use Rattle.std.proofs.lemmas.Option.{get_or_from_slice_get, slice_get_within}
+use Rattle.gw_addr.specs.declared.bip.BipAddr.{BipAddr}
+use Rattle.gw_bvll.specs.declared.fault.BvllFault.{BvllFault}
+use Rattle.gw_bvll.specs.Bvll.{Message as Frame}
+use Rattle.gw_bvll.specs.Reading.{bvll_at}
+use Rattle.gw_npdu.specs.declared.fault.NpduFault.{NpduFault}
+use Rattle.gw_npdu.specs.Npdu.{Address, Fields}
+use Rattle.gw_npdu.specs.Reading.{npdu_at}
+use Rattle.gw_configuration.specs.declared.port.Port.{Port as ConfiguredPort}
+use Rattle.gw_relay.specs.Cast.{accepts, is_unregistered}
+use Rattle.gw_relay.specs.Claim.{claimed, link_source}
+use Rattle.gw_relay.specs.History.{Acts as PortActs}
+use Rattle.gw_relay.specs.History.{all_after, ports_from}
+use Rattle.gw_relay.specs.Initial.{port_of}
+use Rattle.gw_relay.specs.Message.{Message, message_of}
+use Rattle.gw_relay.specs.State.{link_at}
+use Rattle.gw_relay.specs.declared.port.Port.{Port}
+use Rattle.gw_relay.specs.declared.port.PortState.{PortState}
+use Rattle.gw_rules.specs.Range.{holds}
+use Rattle.gw_rules.proofs.EachAsk.{each_weaker}
+use Rattle.gw_script.specs.Event.{Event, Datagram, Tick}
+use Rattle.gw_core.specs.Receive.{Received, claims_direct, comes_in, dropped, is_direct, managed, manages, message, npdu_of, payload_of, receive, receive_datagram, receive_frame, receive_npdu, receive_on, unregistered}
+use Rattle.gw_core.specs.State.{State, device_network}
+use Rattle.gw_shapes.specs.Pieces.{above, below, most}
+use Rattle.gw_shapes.specs.Shape.{IsWithin}
+use Rattle.gw_shapes.specs.Shapes.{gaps, gaps_between, only, some, split}
+use Rattle.gw_shapes.specs.declared.side.Side.{Side}
+
+-- ---- the ports
+
+-- one of the configured ports, with its number
+abbrev pub InPorts : ℕ → List ConfiguredPort → Port → Type 0
+InPorts number [] port = ⊥
+InPorts number (p ∷ ports) port = (port ≡ port_of number p) ⊎ InPorts (number + 1) ports port
+
+pub all_links : (number : ℕ) (ports : List ConfiguredPort) (acts : List PortActs)
+    → AllByRecursion (λ link. InPorts number ports link.port) (all_after (ports_from number ports) acts)
+all_links number [] acts = tt
+all_links number (p ∷ ports) [] = tt
+all_links number (p ∷ ports) (a ∷ acts) = (
+  inl refl,
+  each_weaker (λ (link : PortState). InPorts (number + 1) ports link.port) (λ (link : PortState). InPorts number (p ∷ ports) link.port)
+      (λ link there. inr there) (all_after (ports_from (number + 1) ports) acts) (all_links (number + 1) ports acts),
+)
+
+pub port_bounds : (number : ℕ) (ports : List ConfiguredPort) (port : Port) → InPorts number ports port
+    → (number ≤ port.number) × (port.number + 1 ≤ number + length ports)
+port_bounds number [] port there = absurd there
+port_bounds number (p ∷ ports) port (inl is) =
+    let at : port.number ≡ number = ap (λ (q : Port). q.number) is in
+    (omega (arith, at), omega (arith, at))
+port_bounds number (p ∷ ports) port (inr later) =
+    let next = port_bounds (number + 1) ports port later in
+    let low = next.0 in
+    let high = next.1 in
+    (omega arith, omega arith)
+
+-- a network that none of the links has is none of the ports'
+pub apart : (number : ℕ) (ports : List ConfiguredPort) (acts : List PortActs) (n : ℕ)
+    → length (all_after (ports_from number ports) acts) ≡ length ports
+    → list_any (λ link. link.port.network == n) (all_after (ports_from number ports) acts) ≡ false
+    → AllByRecursion (λ p. n ≢ p.network) ports
+apart number [] acts n len none = tt
+apart number (p ∷ ports) [] n len none = absurd (omega (arith, len))
+apart number (p ∷ ports) (a ∷ acts) n len none =
+    let parts = or_parts (p.network == n) (list_any (λ link. link.port.network == n) (all_after (ports_from (number + 1) ports) acts)) none in
+    let here = eqb-false p.network n parts.0 in
+    (λ e. here (sym e), apart (number + 1) ports acts n (omega (arith, len)) parts.1)
+
+-- ---- the gaps
+
+abbrev pub WithinOne : List Side → ℕ → Type 0
+WithinOne [] n = ⊥
+WithinOne (side ∷ sides) n = IsWithin side (Some n) ⊎ WithinOne sides n
+
+one_front : (xs ys : List Side) (n : ℕ) → WithinOne xs n → WithinOne (xs ++ ys) n
+one_front [] ys n is = absurd is
+one_front (x ∷ xs) ys n (inl here) = inl here
+one_front (x ∷ xs) ys n (inr later) = inr (one_front xs ys n later)
+
+one_rest : (xs ys : List Side) (n : ℕ) → WithinOne ys n → WithinOne (xs ++ ys) n
+one_rest [] ys n is = is
+one_rest (x ∷ xs) ys n is = inr (one_rest xs ys n is)
+
+-- a number that isn't taken out
+split_side : (hole : ℕ) (side : Side) (n : ℕ) (b lower : Bool) → holds hole side.range ≡ b → nat_lt n hole ≡ lower → n ≢ hole
+    → IsWithin side (Some n) → WithinOne (split hole side) n
+split_side hole side n false lower e f other is = rw e (inl is)
+split_side hole side n true true e f other is =
+    let under = ltb-true n hole f in
+    let from = is.0 in
+    let t : nat_lt side.range.low hole ≡ true = lt-ltb side.range.low hole (omega arith) in
+    rw e (one_front (option_to_list (below side (only hole))) (option_to_list (above side (only hole))) n
+    (rw t (inl (from, omega arith))))
+split_side hole side n true false e f other is =
+    let from : hole ≤ n = ltb-false n hole f in
+    let over : hole < n = above_it from in
+    let to = is.1 in
+    let t : nat_lt hole side.range.high ≡ true = lt-ltb hole side.range.high (omega arith) in
+    rw e (one_rest (option_to_list (below side (only hole))) (option_to_list (above side (only hole))) n
+    (rw t (inl (omega arith, to))))
+  where
+    above_it : hole ≤ n → hole < n
+    above_it from = omega (arith, other)
+
+split_each : (hole : ℕ) (sides : List Side) (n : ℕ) → n ≢ hole → WithinOne sides n → WithinOne (flat_map (split hole) sides) n
+split_each hole [] n other is = absurd is
+split_each hole (side ∷ sides) n other (inl here) =
+    one_front (split hole side) (flat_map (split hole) sides) n
+    (split_side hole side n (holds hole side.range) (nat_lt n hole) refl refl other here)
+split_each hole (side ∷ sides) n other (inr later) =
+    one_rest (split hole side) (flat_map (split hole) sides) n (split_each hole sides n other later)
+
+between : (ports : List ConfiguredPort) (sides : List Side) (n : ℕ) → AllByRecursion (λ p. n ≢ p.network) ports → WithinOne sides n
+    → WithinOne (gaps_between sides ports) n
+between [] sides n none is = is
+between (p ∷ ports) sides n none is =
+    between ports (flat_map (split p.network) sides) n none.1 (split_each p.network sides n none.0 is)
+
+-- a network that is none of the direct ones lies in a gap
+pub in_gap : (device : ℕ) (ports : List ConfiguredPort) (n : ℕ) → n ≤ most → n ≢ device → AllByRecursion (λ p. n ≢ p.network) ports
+    → WithinOne (gaps device ports) n
+in_gap device ports n small other none =
+    between ports (flat_map (split device) (some ∷ [])) n none (split_each device (some ∷ []) n other (inl (omega arith, small)))
+
+-- ---- what is received
+
+-- of one of the ports, and from its network or from none of the direct ones
+pub record IsHeard (links : List PortState) (device : ℕ) (Is : Port → Type 0) (m : Message) : Type 0 where
+  pub port : Is m.here.port
+  pub claim : (m.claim.net ≡ m.here.port.network) ⊎ (is_direct links device m.claim.net ≡ false)
+
+abbrev pub Heard : List PortState → ℕ → (Port → Type 0) → Received → Type 0
+Heard links device Is dropped = Unit {0}
+Heard links device Is (managed on from frame) = Is on.port
+Heard links device Is (unregistered m) = Unit {0}
+Heard links device Is (message m) = IsHeard links device Is m
+
+undirect : (links : List PortState) (device : ℕ) (octets : List ℕ) (npdu : Fields) → npdu_of links device octets ≡ Some npdu
+    → claims_direct links device npdu.source ≡ false
+unfolding npdu_of
+undirect links device octets npdu is = outer (nat_le (length octets) 1497) (npdu_at octets) is
+  where
+    inner : (b : Bool) (f : Fields) → claims_direct links device f.source ≡ b → (if b then None else Some f) ≡ Some npdu
+        → claims_direct links device npdu.source ≡ false
+    inner true f c e = absurd cc
+    inner false f c e =
+        let same : f ≡ npdu = cc in
+        subst (λ (g : Fields). claims_direct links device g.source ≡ false) same c
+
+    outer : (b : Bool) (r : Result Fields NpduFault) → (if b then (elim r [
+      | Ok npdu ↦ if claims_direct links device npdu.source then None else Some npdu
+      | Err fault ↦ None
+    ]) else None) ≡ Some npdu → claims_direct links device npdu.source ≡ false
+    outer true (Ok f) e = inner (claims_direct links device f.source) f refl e
+    outer true (Err fault) e = absurd cc
+    outer false r e = absurd cc
+
+claim_by : (links : List PortState) (device : ℕ) (on : PortState) (from : BipAddr) (frame : Frame) (npdu : Fields) (source : Option Address)
+    → npdu.source ≡ source → claims_direct links device source ≡ false
+    → ((claimed on.port.network (link_source from frame) npdu).net ≡ on.port.network)
+    ⊎ (is_direct links device (claimed on.port.network (link_source from frame) npdu).net ≡ false)
+claim_by links device on from frame npdu None is none = inl (rw is refl)
+claim_by links device on from frame npdu (Some s) is none = inr (rw is none)
+
+heard_if : (links : List PortState) (device : ℕ) (Is : Port → Type 0) (b : Bool) (m : Message) → IsHeard links device Is m
+    → Heard links device Is (if b then unregistered m else message m)
+heard_if links device Is true m is = tt
+heard_if links device Is false m is = is
+
+heard_npdu : (links : List PortState) (device : ℕ) (Is : Port → Type 0) (on : PortState) (from : BipAddr) (frame : Frame) (octets : List ℕ)
+    → Is on.port → Heard links device Is (receive_npdu links device on from frame octets)
+heard_npdu links device Is on from frame octets is = by (npdu_of links device octets) (undirect links device octets)
+  where
+    by : (npdu : Option Fields) → ((f : Fields) → npdu ≡ Some f → claims_direct links device f.source ≡ false) → Heard links device Is (elim npdu [
+      | Some npdu ↦
+          if is_unregistered on from frame then unregistered (message_of on from frame npdu)
+          else message (message_of on from frame npdu)
+      | None ↦ dropped
+    ])
+    by None none = tt
+    by (Some npdu) none =
+        heard_if links device Is (is_unregistered on from frame) (message_of on from frame npdu) (record {
+          port = is;
+          claim = claim_by links device on from frame npdu npdu.source refl (none npdu refl);
+        })
+
+heard_frame : (links : List PortState) (device : ℕ) (Is : Port → Type 0) (on : PortState) (from : BipAddr) (frame : Frame) → Is on.port
+    → Heard links device Is (receive_frame links device on from frame)
+heard_frame links device Is on from frame is = by (manages frame) (accepts on from frame) (payload_of frame)
+  where
+    by : (manages heard : Bool) (payload : Option (List ℕ)) → Heard links device Is (if manages then managed on from frame
+        else if not heard then dropped
+        else (elim payload [
+          | Some octets ↦ receive_npdu links device on from frame octets
+          | None ↦ dropped
+        ]))
+    by true heard payload = is
+    by false false payload = tt
+    by false true None = tt
+    by false true (Some octets) = heard_npdu links device Is on from frame octets is
+
+heard_datagram : (links : List PortState) (device : ℕ) (Is : Port → Type 0) (on : PortState) (from : BipAddr) (octets : List ℕ) → Is on.port
+    → Heard links device Is (receive_datagram links device on from octets)
+heard_datagram links device Is on from octets is = by (comes_in on.port.address from octets) (bvll_at octets)
+  where
+    by : (comes : Bool) (frame : Result Frame BvllFault) → Heard links device Is (if comes then (elim frame [
+      | Ok frame ↦ receive_frame links device on from frame
+      | Err fault ↦ dropped
+    ]) else dropped)
+    by false frame = tt
+    by true (Err fault) = tt
+    by true (Ok frame) = heard_frame links device Is on from frame is
+
+-- a link that is found is one of the links
+found_link : (links : List PortState) (Is : Port → Type 0) (number : ℕ) (on : PortState) (b : Bool) → (number == 0) ≡ b
+    → link_at links number ≡ Some on → AllByRecursion (λ link. Is link.port) links → Is on.port
+found_link links Is number on true e there each =
+    let gone : None ≡ Some on = sym (rw e refl) ∙ there in
+    absurd cc
+found_link links Is number on false e there each =
+    let at : slice_get links (number - 1) ≡ Some on = sym (rw e refl) ∙ there in
+    let same : get_or links (number - 1) on ≡ on = get_or_from_slice_get links (number - 1) on on at in
+    let all = All-from_recursion (λ (link : PortState). Is link.port) links each in
+    subst (λ (link : PortState). Is link.port) same (all (number - 1) on (slice_get_within links (number - 1) on at))
+
+heard_on : (links : List PortState) (device : ℕ) (Is : Port → Type 0) (number : ℕ) (from : BipAddr) (octets : List ℕ)
+    → AllByRecursion (λ link. Is link.port) links → Heard links device Is (receive_on links device number from octets)
+heard_on links device Is number from octets each =
+    by (link_at links number) (λ on there. found_link links Is number on (number == 0) refl there each)
+  where
+    by : (on : Option PortState) → ((link : PortState) → on ≡ Some link → Is link.port) → Heard links device Is (elim on [
+      | Some on ↦ receive_datagram links device on from octets
+      | None ↦ dropped
+    ])
+    by None is = tt
+    by (Some on) is = heard_datagram links device Is on from octets (is on refl)
+
+pub heard_at : (w : State) (Is : Port → Type 0) (e : Event) → AllByRecursion (λ link. Is link.port) w.relay.links
+    → Heard w.relay.links (device_network w.device) Is (receive w e)
+unfolding receive
+heard_at w Is (Datagram port from octets) each = heard_on w.relay.links (device_network w.device) Is port from octets each
+heard_at w Is Tick each = tt

@@ -1,0 +1,321 @@
+-- A line of the log tells which rule denied it.
+use Rattle.std.proofs.Common.{◌≡◌, ◌∙◌, ◌⊎◌, inl, inr, sym, ap, refl, ℕ, ◌+◌, ◌-◌, ◌≤◌, Bool, true, false, List, [], ◌∷◌, ◌++◌, length, Option, Some, None, Result, Ok, Err, arith, length-append}
+use Rattle.std.specs.Prelude.{◌==◌, not, ◌&&◌, if◌then◌else◌, slice_get, codes, filter, map}
+use Rattle.std.specs.Int.{w16, to_be_bytes}
+use Rattle.std.specs.List.{AllByRecursion}
+use Rattle.std.proofs.lemmas.Bool.{eq-eqb, eqb-true}
+use Rattle.gw_addr.specs.declared.bip.BipAddr.{BipAddr}
+use Rattle.gw_addr.specs.Address.{IsAddress, big_endian, octets_of}
+use Rattle.gw_addr.specs.Station.{key_of}
+use Rattle.gw_audit.specs.Entry.{IsLineOf, IsShowable, TellsAsk, ask_shown, shown_ask}
+use Rattle.gw_audit.specs.declared.denial.Denial.{Denial}
+use Rattle.gw_audit.specs.declared.entry.ShownAsk.{ShownAsk}
+use Rattle.gw_audit.specs.internal.Reading.{told_by}
+use Rattle.gw_audit.proofs.TellingLemmas.{line_again, told_again}
+use Rattle.gw_bvll.specs.declared.fault.BvllFault.{BvllFault}
+use Rattle.gw_bvll.specs.Bvll.{Message as Frame}
+use Rattle.gw_bvll.specs.Bvll as bvll
+use Rattle.gw_bvll.specs.Reading.{bvll_at}
+use Rattle.gw_npdu.specs.Npdu.{Fields}
+use Rattle.gw_objects.specs.Objects.{Database}
+use Rattle.gw_configuration.specs.declared.format.Format.{Format}
+use Rattle.gw_relay.specs.Cast.{accepts, cast_ask, cast_asks, goes_on, is_broadcast, is_unregistered}
+use Rattle.gw_relay.specs.Asks as table
+use Rattle.gw_relay.specs.Message.{Message, message_of}
+use Rattle.gw_relay.specs.Route.{route_ask}
+use Rattle.gw_relay.specs.State.{Relay, link_at}
+use Rattle.gw_relay.specs.declared.port.PortState.{PortState}
+use Rattle.gw_rules.specs.Ask.{Ask}
+use Rattle.gw_rules.specs.Authorizer.{denied_of, refusal}
+use Rattle.gw_rules.specs.RuleList.{allows, first}
+use Rattle.gw_rules.specs.declared.refusal.Refusal.{Refusal}
+use Rattle.gw_rules.specs.declared.rule.Rule.{Rule}
+use Rattle.gw_rules.proofs.EachAsk.{each_both, each_weaker}
+use Rattle.gw_rules.proofs.First.{first_iff}
+use Rattle.gw_script.specs.Event.{Event, Datagram, Tick}
+use Rattle.gw_core.specs.Asks.{apdu_asks, asks_for, manage_asks_for, message_asks, route_asks_for}
+use Rattle.gw_core.specs.Denials.{default_name, denials_at, denials_for, denials_from, name_at, rule_name}
+use Rattle.gw_core.specs.Effects.{effects_at}
+use Rattle.gw_core.specs.History.{state_after}
+use Rattle.gw_core.specs.Receive.{Origin, Received, comes_in, dropped, managed, manages, message, message_origin, node_origin, npdu_of, payload_of, receive, receive_datagram, receive_frame, receive_npdu, receive_on, unregistered}
+use Rattle.gw_core.specs.Reply.{apdu_for, context_of}
+use Rattle.gw_core.specs.State.{State, device_network}
+use Rattle.gw_verdicts.specs.Laws.{IsSent, NamesTheRule, WhyNamesTheRule, denied_by}
+use Rattle.gw_core.specs.Explained.{by_text}
+use Rattle.gw_verdicts.specs.Why.{answer, answer_to}
+use Rattle.gw_verdicts.proofs.DeviceAsks.{DeviceCases, each_device}
+use Rattle.gw_verdicts.proofs.RelayAsks.{NamedCases, NetworkCases, RouteCases, each_network, each_route}
+
+-- ---- the origin of an ask
+
+-- an ask has the port and the source of what it comes from
+record Carries (from : Origin) (ask : Ask) : Type 0 where
+  port : ask.port ≡ Some from.port
+  network : ask.source_network ≡ Some from.source.net
+  key : ask.source_key ≡ key_of from.source.mac
+
+six : (a : BipAddr) → IsAddress a → length (octets_of a) ≡ 6
+six a is = omega (arith, length-append a.ip (to_be_bytes w16 a.udp), is.four)
+
+key_is : (a : BipAddr) → IsAddress a → Some (big_endian (octets_of a)) ≡ key_of (octets_of a)
+key_is a is = rw (eq-eqb (length (octets_of a)) 6 (six a is)) refl
+
+by_link : (on : PortState) (sender : BipAddr) (frame : Frame) → IsAddress sender
+    → AllByRecursion (Carries (node_origin on sender)) (table.link_asks on.port sender frame)
+by_link on sender (bvll.write_bdt entries) is = (record { port = refl; network = refl; key = key_is sender is }, tt)
+by_link on sender bvll.read_bdt is = (record { port = refl; network = refl; key = key_is sender is }, tt)
+by_link on sender (bvll.register time_to_live) is = (record { port = refl; network = refl; key = key_is sender is }, tt)
+by_link on sender bvll.read_fdt is = (record { port = refl; network = refl; key = key_is sender is }, tt)
+by_link on sender (bvll.delete address) is = (record { port = refl; network = refl; key = key_is sender is }, tt)
+by_link on sender (bvll.result_code code) is = tt
+by_link on sender (bvll.read_bdt_ack entries) is = tt
+by_link on sender (bvll.forwarded originator npdu) is = tt
+by_link on sender (bvll.read_fdt_ack entries) is = tt
+by_link on sender (bvll.distribute npdu) is = tt
+by_link on sender (bvll.original_unicast npdu) is = tt
+by_link on sender (bvll.original_broadcast npdu) is = tt
+
+abbrev so : Message → Ask → Type 0
+so m = Carries (message_origin m)
+
+cast_so : (m : Message) → AllByRecursion (so m) (cast_asks m)
+unfolding cast_asks
+cast_so m = by (goes_on m.here m.from m.frame && is_broadcast m.frame)
+  where
+    by : (b : Bool) → AllByRecursion (so m) (if b then cast_ask m ∷ [] else [])
+    by false = tt
+    by true = (record { port = refl; network = refl; key = refl }, tt)
+
+network_so : (m : Message) → NetworkCases (so m) m
+network_so m = record {
+  learn = λ is network. record { port = refl; network = refl; key = refl };
+  question = λ is network. record { port = refl; network = refl; key = refl };
+  number = λ is. record { port = refl; network = refl; key = refl };
+}
+
+named_so : (m : Message) (network : ℕ) → NamedCases (so m) (route_ask m (Some network))
+named_so m network = record {
+  unnamed_read = λ service is low high. record { port = refl; network = refl; key = refl };
+  named_read = λ service is low high object p. record { port = refl; network = refl; key = refl };
+  unnamed_write = λ is. record { port = refl; network = refl; key = refl };
+  named_write = λ is object p priority. record { port = refl; network = refl; key = refl };
+}
+
+route_so : (format : Format) (m : Message) → RouteCases (so m) format m
+route_so format m = record {
+  route = λ network. record { port = refl; network = refl; key = refl };
+  behind = λ network two. named_so m network;
+}
+
+device_so : (d : Database) (m : Message) → DeviceCases (so m) d (context_of (device_network d) m)
+device_so d m = record {
+  read = λ object p. record { port = refl; network = refl; key = refl };
+  multi = λ object p. record { port = refl; network = refl; key = refl };
+  write = λ object p priority. record { port = refl; network = refl; key = refl };
+  who_is = λ object p. record { port = refl; network = refl; key = refl };
+  who_has = λ object p. record { port = refl; network = refl; key = refl };
+}
+
+apdu_so : (rules : List Rule) (d : Database) (m : Message) (apdu : Option (List ℕ))
+    → AllByRecursion (so m) (apdu_asks rules d (context_of (device_network d) m) apdu)
+apdu_so rules d m None = tt
+apdu_so rules d m (Some octets) = each_device (so m) rules d (context_of (device_network d) m) octets (device_so d m)
+
+message_so : (rules : List Rule) (relay : Relay) (d : Database) (m : Message) → AllByRecursion (so m) (asks_for rules relay d (message m))
+message_so rules relay d m =
+    let P = so m in
+    let cast = cast_asks m in
+    let routed = route_asks_for relay (message m) in
+    let answered = manage_asks_for relay (message m) in
+    each_both P (cast ++ routed ++ answered) (message_asks rules d m)
+    (each_both P (cast ++ routed) answered (each_both P cast routed (cast_so m) (each_route P relay m (route_so relay.format m)))
+    (each_network P relay m (network_so m)))
+    (apdu_so rules d m (apdu_for (device_network d) m.npdu))
+
+-- ---- what is received comes from an address
+
+abbrev SentBy : Received → Type 0
+SentBy dropped = Unit {0}
+SentBy (managed on from frame) = IsAddress from
+SentBy (unregistered m) = Unit {0}
+SentBy (message m) = Unit {0}
+
+sent_if : (b : Bool) (m : Message) → SentBy (if b then unregistered m else message m)
+sent_if true m = tt
+sent_if false m = tt
+
+sent_npdu : (links : List PortState) (device : ℕ) (on : PortState) (from : BipAddr) (frame : Frame) (octets : List ℕ)
+    → SentBy (receive_npdu links device on from frame octets)
+sent_npdu links device on from frame octets = by (npdu_of links device octets)
+  where
+    by : (npdu : Option Fields) → SentBy (elim npdu [
+      | Some npdu ↦
+          if is_unregistered on from frame then unregistered (message_of on from frame npdu)
+          else message (message_of on from frame npdu)
+      | None ↦ dropped
+    ])
+    by None = tt
+    by (Some npdu) = sent_if (is_unregistered on from frame) (message_of on from frame npdu)
+
+sent_frame : (links : List PortState) (device : ℕ) (on : PortState) (from : BipAddr) (frame : Frame) → IsAddress from
+    → SentBy (receive_frame links device on from frame)
+sent_frame links device on from frame is = by (manages frame) (accepts on from frame) (payload_of frame)
+  where
+    by : (manages heard : Bool) (payload : Option (List ℕ)) → SentBy (if manages then managed on from frame
+        else if not heard then dropped
+        else (elim payload [
+          | Some octets ↦ receive_npdu links device on from frame octets
+          | None ↦ dropped
+        ]))
+    by true heard payload = is
+    by false false payload = tt
+    by false true None = tt
+    by false true (Some octets) = sent_npdu links device on from frame octets
+
+sent_datagram : (links : List PortState) (device : ℕ) (on : PortState) (from : BipAddr) (octets : List ℕ) → IsAddress from
+    → SentBy (receive_datagram links device on from octets)
+sent_datagram links device on from octets is = by (comes_in on.port.address from octets) (bvll_at octets)
+  where
+    by : (comes : Bool) (frame : Result Frame BvllFault) → SentBy (if comes then (elim frame [
+      | Ok frame ↦ receive_frame links device on from frame
+      | Err fault ↦ dropped
+    ]) else dropped)
+    by false frame = tt
+    by true (Err fault) = tt
+    by true (Ok frame) = sent_frame links device on from frame is
+
+sent_on : (links : List PortState) (device number : ℕ) (from : BipAddr) (octets : List ℕ) → IsAddress from
+    → SentBy (receive_on links device number from octets)
+sent_on links device number from octets is = by (link_at links number)
+  where
+    by : (on : Option PortState) → SentBy (elim on [
+      | Some on ↦ receive_datagram links device on from octets
+      | None ↦ dropped
+    ])
+    by None = tt
+    by (Some on) = sent_datagram links device on from octets is
+
+sent_at : (w : State) (e : Event) → IsSent e → SentBy (receive w e)
+unfolding receive
+sent_at w (Datagram port from octets) is = sent_on w.relay.links (device_network w.device) port from octets is
+sent_at w Tick is = tt
+
+-- ---- denials
+
+-- what is known of a denial
+record IsDeniedSo (rules : List Rule) (d : Denial) : Type 0 where
+  ask : ask_shown (shown_ask d) ≡ d.ask
+  rule : d.rule ≡ rule_name rules (first rules d.ask)
+  denied : allows rules d.ask ≡ false
+
+-- and of a refusal
+record IsRefusedSo (rules : List Rule) (from : Origin) (r : Refusal) : Type 0 where
+  carries : Carries from r.ask
+  by : r.by ≡ first rules r.ask
+  denied : allows rules r.ask ≡ false
+
+refused_if : (rules : List Rule) (from : Origin) (ask : Ask) (rest : List Ask) (b : Bool) → allows rules ask ≡ b → Carries from ask
+    → AllByRecursion (IsRefusedSo rules from) (map (refusal rules) rest)
+    → AllByRecursion (IsRefusedSo rules from) (map (refusal rules) (if not b then ask ∷ rest else rest))
+refused_if rules from ask rest true e carries later = later
+refused_if rules from ask rest false e carries later = (record { carries = carries; by = refl; denied = e }, later)
+
+refused_so : (rules : List Rule) (from : Origin) (asks : List Ask) → AllByRecursion (Carries from) asks
+    → AllByRecursion (IsRefusedSo rules from) (denied_of rules asks)
+refused_so rules from [] each = tt
+refused_so rules from (ask ∷ asks) each =
+    refused_if rules from ask (filter (λ a. not (allows rules a)) asks) (allows rules ask) refl each.0 (refused_so rules from asks each.1)
+
+-- an ask that carries its origin is the one that is shown
+shown_so : (number tick : ℕ) (from : Origin) (ask : Ask) (rule : List ℕ) → Carries from ask
+    → ask_shown (shown_ask (record { number = number; tick = tick; port = from.port; source = from.source; ask = ask; rule = rule })) ≡ ask
+shown_so number tick from ask rule carries =
+    ap (λ (p : Option ℕ). record (ask) { port = p; source_network = Some from.source.net; source_key = key_of from.source.mac }) (sym carries.port)
+    ∙ ap (λ (n : Option ℕ). record (ask) { source_network = n; source_key = key_of from.source.mac }) (sym carries.network)
+    ∙ ap (λ (k : Option ℕ). record (ask) { source_key = k }) (sym carries.key)
+
+denials_so : (rules : List Rule) (number tick : ℕ) (from : Origin) (refusals : List Refusal) → AllByRecursion (IsRefusedSo rules from) refusals
+    → AllByRecursion (IsDeniedSo rules) (denials_from rules number tick from refusals)
+denials_so rules number tick from [] each = tt
+denials_so rules number tick from (r ∷ rs) each = (
+  record {
+    ask = shown_so number tick from r.ask (rule_name rules r.by) each.0.carries;
+    rule = ap (rule_name rules) each.0.by;
+    denied = each.0.denied;
+  },
+  denials_so rules (number + 1) tick from rs each.1,
+)
+
+received_so : (w : State) (received : Received) → SentBy received → AllByRecursion (IsDeniedSo w.rules) (denials_for w received)
+received_so w dropped sent = tt
+received_so w (managed on from frame) sent =
+    let P = Carries (node_origin on from) in
+    let raised = table.link_asks on.port from frame in
+    let both = each_both P in
+    denials_so w.rules (w.denials + 1) w.ticks (node_origin on from) (denied_of w.rules (asks_for w.rules w.relay w.device (managed on from frame)))
+    (refused_so w.rules (node_origin on from) (asks_for w.rules w.relay w.device (managed on from frame))
+    (both (raised ++ [] ++ [] ++ []) [] (both (raised ++ [] ++ []) [] (both (raised ++ []) [] (both raised []
+    (by_link on from frame sent) tt) tt) tt) tt))
+received_so w (unregistered m) sent = tt
+received_so w (message m) sent =
+    denials_so w.rules (w.denials + 1) w.ticks (message_origin m) (denied_of w.rules (asks_for w.rules w.relay w.device (message m)))
+    (refused_so w.rules (message_origin m) (asks_for w.rules w.relay w.device (message m)) (message_so w.rules w.relay w.device m))
+
+denied_so : (w : State) (e : Event) → IsSent e → AllByRecursion (IsDeniedSo w.rules) (effects_at w e).denials
+unfolding effects_at denials_at
+denied_so w e sent = received_so w (receive w e) (sent_at w e sent)
+
+-- ---- the answer
+
+-- a line tells one ask
+one_ask : (line : List ℕ) (d : Denial) (shown : ShownAsk) → IsShowable d → IsLineOf line d → TellsAsk line shown → shown ≡ shown_ask d
+one_ask line d shown is spelled tells =
+    let told : Some shown ≡ Some (shown_ask d) =
+    sym (told_again line shown tells) ∙ ap (λ (found : Option Denial). told_by found line) (line_again line d is spelled) in
+    cc
+
+not_zero : (number : ℕ) → 1 ≤ number → (number == 0) ≡ false
+not_zero number counted = by (number == 0) refl
+  where
+    by : (b : Bool) → (number == 0) ≡ b → (number == 0) ≡ false
+    by true e = absurd (omega (arith, counted, eqb-true number 0 e))
+    by false e = e
+
+rule_there : (rules : List Rule) (number : ℕ) (rule : Rule) → 1 ≤ number → slice_get rules (number - 1) ≡ Some rule
+    → (codes "deny" ++ by_text rules (Some number)) ++ 10 ∷ [] ≡ denied_by number (name_at rules number)
+rule_there rules number rule counted there =
+    let some_number : (number == 0) ≡ false = not_zero number counted in
+    rw (there, some_number) refl
+
+-- what the first rule says decides
+first_denies : (rules : List Rule) (ask : Ask) (number : ℕ) (rule : Rule) → first rules ask ≡ Some number → slice_get rules (number - 1) ≡ Some rule
+    → allows rules ask ≡ rule.allow
+unfolding allows
+first_denies rules ask number rule e there = rw (e, there) refl
+
+names_so : (rules : List Rule) (ask : Ask) (found : Option ℕ) → first rules ask ≡ found → allows rules ask ≡ false
+    → let answer = (codes "deny" ++ by_text rules found) ++ 10 ∷ [] in
+    ((found ≡ None) × (rule_name rules found ≡ default_name) × (answer ≡ codes "deny default" ++ 10 ∷ []))
+    ⊎ ((number : ℕ) × (found ≡ Some number) × (answer ≡ denied_by number (rule_name rules found)))
+names_so rules ask None e denied = inl (refl, refl, refl)
+names_so rules ask (Some number) e denied =
+    let is = (first_iff rules ask number).0 e in
+    inr (number, refl, rule_there rules number is.rule is.numbered.counted is.numbered.there)
+
+named_so_by : (rules : List Rule) (d : Denial) (shown : ShownAsk) → IsDeniedSo rules d → shown ≡ shown_ask d → NamesTheRule rules d shown
+named_so_by rules d shown denied is =
+    let says : answer rules d.ask ≡ (codes "deny" ++ by_text rules (first rules d.ask)) ++ 10 ∷ [] = rw denied.denied refl in
+    let same : answer_to rules shown ≡ (codes "deny" ++ by_text rules (first rules d.ask)) ++ 10 ∷ [] =
+    ap (answer_to rules) is ∙ ap (answer rules) denied.ask ∙ says in
+    elim (names_so rules d.ask (first rules d.ask) refl denied.denied) [
+      | inl none ↦ inl (none.0, denied.rule ∙ none.1, same ∙ none.2)
+      | inr rule ↦ inr (rule.0, rule.1, same ∙ rule.2 ∙ ap (denied_by rule.0) (sym denied.rule))
+    ]
+
+pub why_names_the_rule : WhyNamesTheRule
+why_names_the_rule c k h e sent =
+    let w = state_after c k h in
+    each_weaker (IsDeniedSo c.rules)
+    (λ d. (line : List ℕ) (shown : ShownAsk) → IsShowable d → IsLineOf line d → TellsAsk line shown → NamesTheRule c.rules d shown)
+    (λ d denied line shown is spelled tells. named_so_by c.rules d shown denied (one_ask line d shown is spelled tells))
+    (effects_at w e).denials (denied_so w e sent)

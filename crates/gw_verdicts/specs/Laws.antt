@@ -1,0 +1,87 @@
+-- Every ask that a gateway raises lies in a shape of its configuration, so a rule that no ask of
+-- the shapes comes to never decides, nor does one of which a lint finds so. And what the log shows of
+-- a denied ask is enough to tell which rule denied it.
+use Rattle.std.specs.Prelude.{◌≡◌, ◌⊎◌, ℕ, ◌≤◌, Bool, true, false, List, [], ◌∷◌, ◌++◌, None, Some, IfSome, codes, ⊤}
+use Rattle.std.specs.Fmt.{decimal}
+use Rattle.std.specs.List.{AllByRecursion}
+use Rattle.gw_addr.specs.Address.{IsAddress}
+use Rattle.gw_audit.specs.Entry.{IsLineOf, IsShowable, TellsAsk}
+use Rattle.gw_audit.specs.declared.denial.Denial.{Denial}
+use Rattle.gw_audit.specs.declared.entry.ShownAsk.{ShownAsk}
+use Rattle.gw_rules.specs.Ask.{Ask}
+use Rattle.gw_rules.specs.Fields.{value_of}
+use Rattle.gw_rules.specs.RuleList.{HasNumber, first}
+use Rattle.gw_rules.specs.declared.field.FieldName.{FieldName}
+use Rattle.gw_configuration.specs.Configuration.{Configuration}
+use Rattle.gw_script.specs.Event.{Event, Datagram, Tick}
+use Rattle.gw_rules.specs.declared.rule.Rule.{Rule}
+use Rattle.gw_core.specs.Asks.{asks}
+use Rattle.gw_core.specs.Denials.{default_name}
+use Rattle.gw_core.specs.History.{effects, state_after}
+use Rattle.gw_core.specs.declared.event.Counts.{Counts}
+use Rattle.gw_lint.specs.Finding.{Tells}
+use Rattle.gw_lint.specs.declared.finding.Finding.{Finding}
+use Rattle.gw_lint.specs.declared.finding.Finding.TheVariants as finding
+use Rattle.gw_shapes.specs.Pieces.{most}
+use Rattle.gw_shapes.specs.Search.{IsNeverFirst}
+use Rattle.gw_shapes.specs.Shape.{LiesInOne}
+use Rattle.gw_shapes.specs.Shapes.{shapes}
+use Rattle.gw_verdicts.specs.Why.{answer_to}
+
+-- Its numbers have 64 bits, as those of each ask of the code have by their type.
+abbrev pub IsOfNumbers : Ask → Type 0
+IsOfNumbers ask = (field : FieldName) → IfSome (value_of field ask) (λ number. number ≤ most)
+
+-- For every configuration, history and event each ask of that event lies in a shape.
+abbrev pub AsksLieInShapes : Type 0
+AsksLieInShapes = (c : Configuration) (k : Counts) (h : List Event) (e : Event) →
+    AllByRecursion (λ ask. IsOfNumbers ask → LiesInOne (shapes c) ask) (asks (state_after c k h) e)
+
+-- No ask of any event has the rule of this number as its first.
+abbrev pub NeverDecides : Configuration → ℕ → Type 0
+NeverDecides c number = (k : Counts) (h : List Event) (e : Event) →
+    AllByRecursion (λ ask. IsOfNumbers ask → first c.rules ask ≡ Some number → ⊥) (asks (state_after c k h) e)
+
+-- So a rule that is never the first of an ask of the shapes decides nothing that the gateway does.
+abbrev pub NeverFirstNeverDecides : Type 0
+NeverFirstNeverDecides =
+    (c : Configuration) (number : ℕ) → IsNeverFirst (shapes c) c.rules number → NeverDecides c number
+
+-- ---- what a lint says of a rule
+
+-- the findings that a rule decides nothing
+abbrev pub says_never : Finding → Bool
+says_never finding.MatchesNothing = true
+says_never (finding.TakenBy by) = true
+says_never finding.TakenTogether = true
+says_never (finding.Decides ask) = false
+says_never finding.Unknown = false
+
+-- A rule of which that is true over the shapes of a configuration decides no ask of any event, whatever came before.
+abbrev pub FoundNeverDecides : Type 0
+FoundNeverDecides = (c : Configuration) (number : ℕ) (rule : Rule) (found : Finding) → HasNumber c.rules number rule →
+    says_never found ≡ true → Tells (shapes c) c.rules number rule found → NeverDecides c number
+
+-- ---- the rule of a line
+
+-- an event whose sender is an address, as each value of the type is
+abbrev pub IsSent : Event → Type 0
+IsSent (Datagram port from octets) = IsAddress from
+IsSent Tick = ⊤
+
+-- the answer that the rule of this number and name denies
+abbrev pub denied_by : ℕ → List ℕ → List ℕ
+denied_by number name = codes "deny rule " ++ decimal number ++ codes " " ++ name ++ 10 ∷ []
+
+-- The answer names the rule of the denial: the first one that matches its ask, which has the name
+-- that the line shows. Where none matches it says so, and the line shows `default`.
+abbrev pub NamesTheRule : List Rule → Denial → ShownAsk → Type 0
+NamesTheRule rules d shown =
+    ((first rules d.ask ≡ None) × (d.rule ≡ default_name) × (answer_to rules shown ≡ codes "deny default" ++ 10 ∷ []))
+    ⊎ ((number : ℕ) × (first rules d.ask ≡ Some number) × (answer_to rules shown ≡ denied_by number d.rule))
+
+-- For each line that a run under a configuration wrote, the answer under the same configuration names that line's rule.
+abbrev pub WhyNamesTheRule : Type 0
+WhyNamesTheRule = (c : Configuration) (k : Counts) (h : List Event) (e : Event) → IsSent e →
+    AllByRecursion (λ d. (line : List ℕ) (shown : ShownAsk) → IsShowable d → IsLineOf line d → TellsAsk line shown
+    → NamesTheRule c.rules d shown) (effects c k h e).denials

@@ -1,0 +1,2 @@
+pub mod Subnet
+pub mod Warnings

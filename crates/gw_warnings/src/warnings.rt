@@ -1,0 +1,36 @@
+//! What a configuration has that is accepted and can't be meant.
+ghost use Rattle.gw_addr.specs.Appending.{IsAppended, IsAppendedWhole};
+ghost use Rattle.gw_warnings.specs.Warnings.{warnings_text};
+
+use crate::port_warnings::put_ports;
+use crate::route_warnings::put_routes;
+use crate::rule_warnings::put_rules;
+use gw_addr::keep_whole;
+use gw_configuration::Config;
+use std::alloc::AllocError;
+
+/// Appends a line for each thing in a configuration that is accepted and can't be meant: those of
+/// the ports with their peers, then of the routes, then of the rules, each in the order of the text.
+///
+/// ```text
+/// warning: port 1: broadcast: 192.168.2.255:47808 is the broadcast address of no subnet of 192.168.1.10:47808
+/// ```
+///
+/// An `Err` only where the buffer had no room for them: it then holds what it held.
+pub fn put_warnings(config: &Config, out: &mut Vec<u8>) -> Result<(), AllocError>
+    ensures { IsAppendedWhole (warnings_text config.now) out.old out.new result }
+{
+    let len = out.len();
+    let put = put_lines(out, config);
+    keep_whole(out, len, put)
+}
+
+/// Appends the lines. A front of them stands there where a growth was refused.
+fn put_lines(out: &mut Vec<u8>, config: &Config) -> Result<(), AllocError>
+    ensures { IsAppended (warnings_text config.now) out.old out.new result }
+{
+    let ports = config.ports();
+    put_ports(out, ports)?;
+    put_routes(out, ports, config.routes())?;
+    put_rules(out, ports.len() as u64, config.rules().rules())
+}
