@@ -70,19 +70,18 @@ fn read(
     }
 }
 
-/// Writes octets to a property at a priority.
+/// Writes to the property of an object, at a priority and of these octets.
 fn write(
     alloc: Global,
     db: &mut ObjectDb,
     target: (&str, &str),
-    priority: &str,
-    value: &str,
+    command: (&str, &str),
     out: &mut Vec<u8>,
 ) -> io::Result<()> {
     let object = object_of(target.0)?;
     let (property, index) = property_of(target.1)?;
-    let value = octets_of(alloc, value)?;
-    let Ok(priority @ 1..=16) = priority.parse::<u8>() else {
+    let value = octets_of(alloc, command.1)?;
+    let Ok(priority @ 1..=16) = command.0.parse::<u8>() else {
         return Err(ErrorKind::InvalidData.into());
     };
     match db.check(alloc, object, property, index, priority, &value) {
@@ -115,7 +114,7 @@ fn step(alloc: Global, db: &mut ObjectDb, asked: &str, out: &mut Vec<u8>) -> io:
     let first = wanted(words.next())?;
     let second = wanted(words.next())?;
     match (words.next(), words.next()) {
-        (Some(priority), Some(value)) => write(alloc, db, (first, second), priority, value, out),
+        (Some(priority), Some(value)) => write(alloc, db, (first, second), (priority, value), out),
         _ if first.contains('/') => read(alloc, db, first, second, out),
         _ => find(db, first, second, out),
     }

@@ -47,21 +47,18 @@ fn put_end(end: &Result<Served, ServeStop>, out: &mut Vec<u8>) -> io::Result<()>
     }
 }
 
-/// Serves a wire, and appends how that ends, a letter for each call of the wire, and the log.
-fn put_call(
+/// Serves so many turns.
+fn serve_turns(
     alloc: Global,
     gateway: &mut Gateway,
     wire: &mut MemWire<'_>,
     log: &mut MemWriter,
     turns: u64,
-    out: &mut Vec<u8>,
-) -> io::Result<()> {
+) -> io::Result<Result<Served, ServeStop>> {
     if turns >= 1 << 63 || wire.failures() > 0 {
         return Err(ErrorKind::InvalidData.into());
     }
-    put_end(&serve(alloc, gateway, wire, log, turns), out)?;
-    put_word(&wire.letters(alloc)?, out)?;
-    put_word(log.held(), out)
+    Ok(serve(alloc, gateway, wire, log, turns))
 }
 
 /// How a call ends; a letter for each call of the wire; and the log. A case has how many turns are asked for, the call of the wire and
@@ -78,23 +75,40 @@ pub fn call(alloc: Global, config: &str, line: &str, out: &mut Vec<u8>) -> io::R
     let mut wire = MemWire::new(alloc, &script, failing_call);
     let mut log = MemWriter::new(alloc, failing_write, octets)?;
     let mut gateway = make_gateway(alloc, config, Counts { ticks: 0, denials })?;
-    put_call(alloc, &mut gateway, &mut wire, &mut log, turns, out)
+    let end = serve_turns(alloc, &mut gateway, &mut wire, &mut log, turns)?;
+    put_end(&end, out)?;
+    put_word(&wire.letters(alloc)?, out)?;
+    put_word(log.held(), out)
 }
 
-/// Serves with reports, each so many seconds.
-fn report_to(
+/// A wire, and what the log and the reports are written to.
+#[derive(Drop)]
+struct Edges<'a> {
+    wire: MemWire<'a>,
+    log: MemWriter,
+    reports: MemWriter,
+}
+
+/// Serves so many turns, with reports, each so many seconds.
+fn serve_with(
     alloc: Global,
     gateway: &mut Gateway,
-    wire: &mut MemWire<'_>,
-    log: &mut MemWriter,
-    reports: &mut MemWriter,
+    edges: &mut Edges<'_>,
     seconds: u64,
     turns: u64,
 ) -> io::Result<Result<Served, ServeStop>> {
-    if seconds == 0 || turns >= 1 << 63 || wire.failures() > 0 {
+    if seconds == 0 || turns >= 1 << 63 || edges.wire.failures() > 0 {
         return Err(ErrorKind::InvalidData.into());
     }
-    Ok(serve_with_reports(alloc, gateway, wire, log, reports, seconds, turns))
+    Ok(serve_with_reports(
+        alloc,
+        gateway,
+        &mut edges.wire,
+        &mut edges.log,
+        &mut edges.reports,
+        seconds,
+        turns,
+    ))
 }
 
 /// How a call with reports ends, and the reports. A case has how many seconds lie between two, how many turns are asked for, the call
@@ -107,19 +121,13 @@ pub fn reports(alloc: Global, config: &str, line: &str, out: &mut Vec<u8>) -> io
     let failing_write = number_or_none(words.next())?;
     let failing_report = number_or_none(words.next())?;
     let script = unfolded(alloc, words.next().unwrap_or(""))?;
-    let mut wire = MemWire::new(alloc, &script, failing_call);
-    let mut log = MemWriter::new(alloc, failing_write, AMPLE)?;
-    let mut told = MemWriter::new(alloc, failing_report, AMPLE)?;
+    let mut edges = Edges {
+        wire: MemWire::new(alloc, &script, failing_call),
+        log: MemWriter::new(alloc, failing_write, AMPLE)?,
+        reports: MemWriter::new(alloc, failing_report, AMPLE)?,
+    };
     let mut gateway = make_gateway(alloc, config, BEFORE)?;
-    let end = report_to(
-        alloc,
-        &mut gateway,
-        &mut wire,
-        &mut log,
-        &mut told,
-        seconds,
-        turns,
-    )?;
+    let end = serve_with(alloc, &mut gateway, &mut edges, seconds, turns)?;
     put_end(&end, out)?;
-    put_word(told.held(), out)
+    put_word(edges.reports.held(), out)
 }
