@@ -10,7 +10,7 @@ mod notation;
 mod sections;
 
 pub use edits::edited;
-pub use memory::{MemReader, MemWriter};
+pub use memory::{MemReader, MemWriter, Streams};
 pub use notation::{
     event_lines, is_case, made, number, number_behind, number_or_none, octets_of, put_end,
     put_octets, put_other, put_word, unfolded, wanted,

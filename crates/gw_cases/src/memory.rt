@@ -2,6 +2,7 @@
 
 ghost use Rattle.std.specs.Prelude.{Some};
 
+use crate::notation::{number, number_or_none, unfolded};
 use std::alloc::{AllocError, Global};
 use std::io;
 use std::io::{ErrorKind, Read, Write};
@@ -9,12 +10,32 @@ use std::io::{ErrorKind, Read, Write};
 /// For how many octets a writer has room at the start.
 const ROOM: usize = 4096;
 
-/// Gives one octet a call where it is slow, and fails at the call of this number, from 0.
+/// Gives one octet a call if it is slow, and fails at the call of this number, from 0.
 #[derive(Drop)]
 pub struct MemReader<'a> {
-    pub octets: &'a [u8],
-    pub is_slow: bool,
-    pub fails: Option<u64>,
+    octets: &'a [u8],
+    is_slow: bool,
+    fails: Option<u64>,
+}
+
+impl<'a> MemReader<'a> {
+    /// One that gives as many octets a call as it is asked for.
+    pub fn new(octets: &'a [u8], fails: Option<u64>) -> Self {
+        MemReader {
+            octets,
+            is_slow: false,
+            fails,
+        }
+    }
+
+    /// One that gives one octet a call.
+    pub fn slow(octets: &'a [u8], fails: Option<u64>) -> Self {
+        MemReader {
+            octets,
+            is_slow: true,
+            fails,
+        }
+    }
 }
 
 impl Read for MemReader<'_> {
@@ -34,7 +55,7 @@ impl Read for MemReader<'_> {
 }
 
 /// Takes so many octets a call at most, and so many in all. It fails then, at the call of this number,
-/// from 0, and at a flush where it doesn't flush.
+/// from 0, and at a flush if it doesn't flush.
 #[derive(Drop)]
 pub struct MemWriter {
     held: Vec<u8>,
@@ -95,5 +116,34 @@ impl Write for MemWriter {
         } else {
             Err(ErrorKind::Other.into())
         }
+    }
+}
+
+/// The streams of a case: the text that is read, the read that fails, from 0, and the writer.
+#[derive(Drop)]
+pub struct Streams {
+    pub text: Vec<u8>,
+    pub fails: Option<u64>,
+    pub writer: MemWriter,
+}
+
+impl Streams {
+    /// Those of a line: the read that fails, from 0, or `-`, the write that fails, how many octets a write takes, and the text.
+    ///
+    /// # Errors
+    ///
+    /// If the line has another form, or memory is refused.
+    pub fn parse(alloc: Global, line: &str) -> io::Result<Self> {
+        let mut words = line.splitn(4, ' ');
+        let fails = number_or_none(words.next())?;
+        let write = number_or_none(words.next())?;
+        let octets = number(words.next())?;
+        let text = unfolded(alloc, words.next().unwrap_or(""))?;
+        let writer = MemWriter::new(alloc, write, octets)?;
+        Ok(Streams {
+            text,
+            fails,
+            writer,
+        })
     }
 }

@@ -2,9 +2,7 @@
 
 use gw_addr::Source;
 use gw_audit::{Moment, ShownAsk, read_ask, read_line, tell_log};
-use gw_cases::{
-    MemReader, MemWriter, number, number_or_none, put_end, put_octets, put_word, unfolded,
-};
+use gw_cases::{MemReader, Streams, put_end, put_octets, put_word};
 use std::alloc::Global;
 use std::io;
 use std::io::Write;
@@ -54,7 +52,8 @@ pub fn line(alloc: Global, case: &str, out: &mut Vec<u8>) -> io::Result<()> {
     put_fields(&ask, out)
 }
 
-/// What a log is told as in words, and how the telling ends. A case is as one of a replay, with the log in the script's place.
+/// What a log is told as in words, and how the telling ends. A case has the read that fails, from 0, or `-`,
+/// the write that fails, how many octets a write takes, and the log.
 pub fn told(alloc: Global, line: &str, out: &mut Vec<u8>) -> io::Result<()> {
     tell(alloc, None, line, out)
 }
@@ -68,30 +67,14 @@ pub fn since(alloc: Global, line: &str, out: &mut Vec<u8>) -> io::Result<()> {
     }
 }
 
-/// Tells the log of a case.
+/// Tells the log of a case in words, and appends how that ends and what was written.
 fn tell(alloc: Global, start: Option<Moment>, line: &str, out: &mut Vec<u8>) -> io::Result<()> {
-    let mut words = line.splitn(4, ' ');
-    let fails = number_or_none(words.next())?;
-    let write = number_or_none(words.next())?;
-    let octets = number(words.next())?;
-    let log = unfolded(alloc, words.next().unwrap_or(""))?;
-    let mut reader = MemReader {
-        octets: &log,
-        is_slow: true,
+    let Streams {
+        text,
         fails,
-    };
-    let mut writer = MemWriter::new(alloc, write, octets)?;
-    put_told(alloc, start, &mut reader, &mut writer, out)
-}
-
-/// Tells a log in words, and appends how that ends and what was written.
-fn put_told(
-    alloc: Global,
-    start: Option<Moment>,
-    reader: &mut MemReader<'_>,
-    writer: &mut MemWriter,
-    out: &mut Vec<u8>,
-) -> io::Result<()> {
-    put_end(tell_log(alloc, start, reader, writer), out)?;
+        mut writer,
+    } = Streams::parse(alloc, line)?;
+    let mut reader = MemReader::slow(&text, fails);
+    put_end(tell_log(alloc, start, &mut reader, &mut writer), out)?;
     put_word(writer.held(), out)
 }

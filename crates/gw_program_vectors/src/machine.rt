@@ -210,11 +210,7 @@ fn run_with(alloc: Global, config: &str, section: &str, room: usize) -> Result<L
         closed: None,
     };
     let fails = has_line(lines, "input fails");
-    let mut input = MemReader {
-        octets: input.as_bytes(),
-        is_slow: false,
-        fails: if fails { Some(0) } else { None },
-    };
+    let mut input = MemReader::new(input.as_bytes(), if fails { Some(0) } else { None });
     let mut output = output_of(alloc, lines, room)?;
     let mut errors = MemWriter::with_room(
         alloc,

@@ -43,6 +43,12 @@ impl Kinds for ProgramKinds {
 fn main(rt: HostRuntime) -> io::Result<()> {
     let text = io::read_to_string(rt.alloc(), rt.reader())?;
     let mut writer = BufWriter::new(rt.alloc(), io::writer(&rt))?;
-    write_groups(&ProgramKinds, rt.alloc(), SETTING, text.as_str(), &mut writer)?;
+    write_groups(
+        &ProgramKinds,
+        rt.alloc(),
+        SETTING,
+        text.as_str(),
+        &mut writer,
+    )?;
     writer.flush()
 }
