@@ -30,7 +30,7 @@ def worked():
     for path in sorted(top.glob("examples/*.script")):
         config = path.with_suffix(".toml")
         yield config.read_text() if config.exists() else None, path.read_text().splitlines()
-    yield None, (top / "crates/gw_vectors/stdin").read_text().splitlines()
+    yield None, [line for path in sorted(top.glob("crates/gw_*_vectors/stdin")) for line in path.read_text().splitlines()]
 
 
 def with_length(octets):

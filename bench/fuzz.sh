@@ -48,7 +48,7 @@ LINE = re.compile(r"^([12]) (\d+\.\d+\.\d+\.\d+:\d+) ([0-9A-Fa-f]+)$")
 # Those of the two ports of the configuration.
 worked = sorted({
     (match[1], match[2], match[3].upper())
-    for path in [*top.glob("examples/*.script"), top / "crates/gw_vectors/stdin"]
+    for path in [*top.glob("examples/*.script"), *top.glob("crates/gw_*_vectors/stdin")]
     for line in path.read_text().splitlines()
     if (match := LINE.match(line)) and len(match[3]) % 2 == 0
 })

@@ -140,7 +140,7 @@ lines() {
 }
 crates=$(grep -c '^[a-z]' crates.txt)
 edits=$(git ls-files 'crates/*/must-fail/*.edit' | wc -l)
-cases=$(grep -cE ' => |^== (script|again|list|check|texts|run|fronts|faults)( |$)' crates/gw_vectors/stdout || true)
+cases=$(cat crates/gw_*_vectors/stdout | grep -cE ' => |^== (script|again|list|check|texts|run|fronts|faults)( |$)' || true)
 row="| $(date +%F) | $crates | $(lines rt src) | $(lines antt specs) | $(lines antt proofs) | $edits | $cases | $minutes | $wall | $processors | $peak | $dearest |"
 
 # The newest row is the last of the page's first table.

@@ -6,7 +6,7 @@
 #
 # A library that is loaded before the program, bench/fail_alloc.c, makes the runs of a case, each a child from before `main`.
 #
-# It goes over the cases of gw_vectors, each in a run of its own, and over `bacgw replay` on each script of the folder; with --only
+# It goes over the cases of the three programs, crates/gw_*_vectors, each in a run of its own, and over `bacgw replay` on each script of the folder; with --only
 # over the cases of one kind alone, as `again` or `edits`. A script is played twice: by `replay`, and as a case of `again`, where each
 # datagram that found no memory is given once more. A case then comes to what it does with ample memory; or it tells that
 # there was none, in its line or behind whole blocks of a script; or the program ends with status 1. Of a case of `serve` the events
@@ -15,7 +15,7 @@
 # whole blocks, each up to its line `end`, from the front of the right output. NAME.out has the right output; NAME.toml, where it is
 # there, is the configuration. A script of another folder whose right output the program doesn't print yet is left out.
 #
-# It wants gcc and python3, and both built: (cd crates/gw_vectors && rt run < stdin) and ./bacgw prove. Where all agree with examples/
+# It wants gcc and python3, and all built: (cd crates/NAME && rt run < stdin) of each, and ./bacgw prove. Where all agree with examples/
 # it writes the date and the commit to docs/GATE.md. It prints how many growths of each kind were refused, and the last line says how
 # many were met well.
 set -euo pipefail
@@ -24,16 +24,18 @@ top=$(cd "$(dirname "$0")/.." && pwd)
 only=
 [ "${1:-}" = --only ] && { only=${2:?kind}; shift 2; }
 folder=${1:-$top/examples}
-vectors=$top/crates/gw_vectors/out/gw_vectors
 program=$top/crates/bacgw/out/bacgw
 work=$(mktemp -d)
 trap 'rm -rf "$work"' EXIT
 
-[ -x "$vectors" ] || { echo "build the cases first: (cd crates/gw_vectors && rt run < stdin)" >&2; exit 1; }
+for stdin in "$top"/crates/gw_*_vectors/stdin; do
+    name=$(basename "${stdin%/stdin}")
+    [ -x "$top/crates/$name/out/$name" ] || { echo "build the cases first: (cd crates/$name && rt run < stdin)" >&2; exit 1; }
+done
 [ -x "$program" ] || { echo "build bacgw first: ./bacgw prove" >&2; exit 1; }
 gcc -std=c11 -Wall -Wextra -Werror -O2 -fPIC -shared -o "$work/fail_alloc.so" "$top/bench/fail_alloc.c"
 
-python3 - "$work/fail_alloc.so" "$vectors" "$program" "$folder" "$top" "$only" <<'PYTHON'
+python3 - "$work/fail_alloc.so" "$program" "$folder" "$top" "$only" <<'PYTHON'
 import collections
 import datetime
 import os
@@ -46,8 +48,9 @@ import tempfile
 from concurrent.futures import ThreadPoolExecutor
 from pathlib import Path
 
-shim, vectors, program = sys.argv[1:4]
-folder, top, only = Path(sys.argv[4]).resolve(), Path(sys.argv[5]), sys.argv[6]
+shim, program = sys.argv[1:3]
+folder, top, only = Path(sys.argv[3]).resolve(), Path(sys.argv[4]), sys.argv[5]
+vectors = sorted((top / "crates").glob("gw_*_vectors"))
 is_examples = folder == top / "examples"
 
 # The kinds whose section is one case.
@@ -209,18 +212,22 @@ def prints_right(words, script):
     return ran.stdout + ran.stderr == right
 
 
+def built(crate):
+    return crate / "out" / crate.name
+
+
 def cases_of(text):
-    """The cases of a text, each with its name and the text of a run of its own."""
-    for group in text.split("== config ")[1:]:
-        config, *sections = group.split("== ")
-        for section in sections:
+    """The cases of a text, each with its name and the text of a run of its own, under its configuration if it has one."""
+    without, *groups = text.split("== config ")
+    for config, group in [("", without), *((f"== config {group.split('== ')[0]}", group) for group in groups)]:
+        for section in group.split("== ")[1:]:
             head, body = section.split("\n", 1)
             kind, _, name = head.partition(" ")
             if kind in PASSED_BY:
                 continue
-            front = f"== config {config}== {head}\n"
+            front = f"{config}== {head}\n"
             if kind == "script":
-                yield f"again {name}", f"== config {config}== again {name}\n{body}"
+                yield f"again {name}", f"{config}== again {name}\n{body}"
             if kind in WHOLE:
                 yield head, front + body
                 continue
@@ -230,9 +237,10 @@ def cases_of(text):
 
 
 cases, left_out = [], []
-for name, given in cases_of((top / "crates" / "gw_vectors" / "stdin").read_text()):
-    if only in ("", name.split(" ")[0]):
-        cases.append((name, [vectors], given.encode(), judge_of(given)))
+for crate in vectors:
+    for name, given in cases_of((crate / "stdin").read_text()):
+        if only in ("", name.split(" ")[0]):
+            cases.append((name, [built(crate)], given.encode(), judge_of(given)))
 count_of_cases = len(cases)
 for script in sorted(folder.glob("*.script") if not only else []):
     config = script.with_suffix(".toml")
@@ -242,7 +250,7 @@ for script in sorted(folder.glob("*.script") if not only else []):
         if not script.with_suffix(".err").exists():
             text = config.read_text() if config.exists() else ""
             given = f"== config {script.stem}\n{text}== again {script.stem}\n{script.read_text()}"
-            cases.append((f"again {script.stem}", [vectors], given.encode(), is_well_answered))
+            cases.append((f"again {script.stem}", [built(top / "crates" / "gw_gateway_vectors")], given.encode(), is_well_answered))
     else:
         left_out.append(script.name)
 

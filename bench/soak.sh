@@ -101,7 +101,7 @@ chance = random.Random(1)
 LINE = re.compile(r"^[12] \d+\.\d+\.\d+\.\d+:\d+ ([0-9A-Fa-f]+)$")
 worked = sorted({
     match[1].upper()
-    for path in [*top.glob("examples/*.script"), top / "crates/gw_vectors/stdin"]
+    for path in [*top.glob("examples/*.script"), *top.glob("crates/gw_*_vectors/stdin")]
     for line in path.read_text().splitlines()
     if (match := LINE.match(line)) and len(match[1]) % 2 == 0 and len(match[1]) < 2900
 })

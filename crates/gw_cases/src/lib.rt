@@ -1,0 +1,18 @@
+//! Cases: how they are written, how a program answers them section by section, and what cases read from and write to in memory.
+//!
+//! A section begins with a line `== KIND NAME`. Of most kinds each line is a case; a script, and a text to be checked, is one case. A
+//! configuration holds for the sections that follow it.
+#![tactic(auto)]
+
+mod edits;
+mod memory;
+mod notation;
+mod sections;
+
+pub use edits::edited;
+pub use memory::{MemReader, MemWriter, Streams};
+pub use notation::{
+    event_lines, is_case, made, number, number_behind, number_or_none, octets_of, put_end,
+    put_octets, put_other, put_word, unfolded, wanted,
+};
+pub use sections::{Case, Kinds, write_groups, write_sections};

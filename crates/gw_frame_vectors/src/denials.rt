@@ -1,0 +1,59 @@
+//! Denials and their lines in the log.
+
+use gw_addr::{Mac, NetNum, Source};
+use gw_audit::Denial;
+use gw_cases::{number, number_or_none, octets_of, wanted};
+use gw_rules::{Ask, Operation, RuleFault, RuleName};
+use std::alloc::Global;
+use std::io;
+use std::io::ErrorKind;
+
+/// The ask of an operation, a destination, a service, an object's type and instance, a property and a priority.
+fn ask(fields: &str) -> io::Result<Ask> {
+    let mut words = fields.split(' ');
+    Ok(Ask {
+        operation: number_or_none(words.next())?,
+        destination_network: number_or_none(words.next())?,
+        service: number_or_none(words.next())?,
+        object_type: number_or_none(words.next())?,
+        instance: number_or_none(words.next())?,
+        property: number_or_none(words.next())?,
+        priority: number_or_none(words.next())?,
+        ..Ask::new(Operation::Cast)
+    })
+}
+
+/// The station of a network.
+fn station(alloc: Global, network: Option<&str>, digits: Option<&str>) -> io::Result<Source> {
+    let octets = octets_of(alloc, wanted(digits)?)?;
+    Ok(Source {
+        net: wanted(NetNum::new(number(network)?))?,
+        mac: wanted(Mac::new(&octets))?,
+    })
+}
+
+/// The name of a rule.
+fn rule(alloc: Global, name: Option<&str>) -> io::Result<RuleName> {
+    match RuleName::new(alloc, wanted(name)?) {
+        Ok(name) => Ok(name),
+        Err(RuleFault::Memory) => Err(ErrorKind::OutOfMemory.into()),
+        Err(_) => Err(ErrorKind::InvalidData.into()),
+    }
+}
+
+/// The line of a denial, by its number, tick, port, network, station and rule, and then the fields of its ask that a line shows.
+pub fn denial(alloc: Global, case: &str, out: &mut Vec<u8>) -> io::Result<()> {
+    let (front, fields) = wanted(case.split_once("; "))?;
+    let mut words = front.split(' ');
+    let denial = Denial {
+        number: number(words.next())?,
+        tick: number(words.next())?,
+        port: number(words.next())?,
+        source: station(alloc, words.next(), words.next())?,
+        ask: ask(fields)?,
+        rule: rule(alloc, words.next())?,
+    };
+    gw_audit::line(&denial, out)?;
+    out.pop();
+    Ok(())
+}

@@ -1,0 +1,80 @@
+//! Lines of a log, read back and told in words.
+
+use gw_addr::Source;
+use gw_audit::{Moment, ShownAsk, read_ask, read_line, tell_log};
+use gw_cases::{MemReader, Streams, put_end, put_octets, put_word};
+use std::alloc::Global;
+use std::io;
+use std::io::Write;
+
+/// Appends a space and a field, or `-` where there is none.
+fn put_field(value: Option<u64>, out: &mut Vec<u8>) -> io::Result<()> {
+    match value {
+        Some(number) => write!(out, " {number}"),
+        None => write!(out, " -"),
+    }
+}
+
+/// Appends the fields of an ask that a line shows, behind a semicolon.
+fn put_fields(ask: &ShownAsk, out: &mut Vec<u8>) -> io::Result<()> {
+    write!(out, ";")?;
+    put_field(ask.operation, out)?;
+    put_field(ask.destination_network, out)?;
+    put_field(ask.service, out)?;
+    put_field(ask.object_type, out)?;
+    put_field(ask.instance, out)?;
+    put_field(ask.property, out)?;
+    put_field(ask.priority, out)
+}
+
+/// Appends a port, a network and a station.
+fn put_source(alloc: Global, port: u8, source: &Source, out: &mut Vec<u8>) -> io::Result<()> {
+    let network = source.net.get();
+    write!(out, "{port} {network} ")?;
+    put_octets(alloc, source.mac.as_slice(), out)
+}
+
+/// What a line tells, as a case of `audit` is written; of eight words alone without the number, the tick and the rule; or
+/// `no line`.
+pub fn line(alloc: Global, case: &str, out: &mut Vec<u8>) -> io::Result<()> {
+    let Some(ask) = read_ask(case.as_bytes()) else {
+        return write!(out, "no line");
+    };
+    match read_line(case.as_bytes()) {
+        Some(shown) => {
+            let (number, tick, rule) = (shown.number, shown.tick, shown.rule);
+            write!(out, "{number} {tick} ")?;
+            put_source(alloc, ask.port, &ask.source, out)?;
+            write!(out, " {rule}")?;
+        }
+        None => put_source(alloc, ask.port, &ask.source, out)?,
+    }
+    put_fields(&ask, out)
+}
+
+/// What a log is told as in words, and how the telling ends. A case has the read that fails, from 0, or `-`,
+/// the write that fails, how many octets a write takes, and the log.
+pub fn told(alloc: Global, line: &str, out: &mut Vec<u8>) -> io::Result<()> {
+    tell(alloc, None, line, out)
+}
+
+/// The same of a log that began at the moment that stands in front of the case.
+pub fn since(alloc: Global, line: &str, out: &mut Vec<u8>) -> io::Result<()> {
+    let (start, line) = line.split_once(' ').unwrap_or((line, ""));
+    match Moment::parse(start) {
+        Some(start) => tell(alloc, Some(start), line, out),
+        None => write!(out, "no moment"),
+    }
+}
+
+/// Tells the log of a case in words, and appends how that ends and what was written.
+fn tell(alloc: Global, start: Option<Moment>, line: &str, out: &mut Vec<u8>) -> io::Result<()> {
+    let Streams {
+        text,
+        fails,
+        mut writer,
+    } = Streams::parse(alloc, line)?;
+    let mut reader = MemReader::slow(&text, fails);
+    put_end(tell_log(alloc, start, &mut reader, &mut writer), out)?;
+    put_word(writer.held(), out)
+}

@@ -1,0 +1,133 @@
+//! Serving a wire over memory, with a log over memory: every count, and what stands where a receive, a send, a write or a growth
+//! fails.
+
+use crate::replays::make_gateway;
+use crate::wire::MemWire;
+use gw_cases::{MemWriter, number, number_or_none, put_word, unfolded};
+use gw_core::{Counts, Gateway, ServeStop, Served, Wire, serve, serve_with_reports};
+use std::alloc::Global;
+use std::io;
+use std::io::{ErrorKind, Write};
+
+/// How many octets a write takes where a case doesn't say it.
+const AMPLE: usize = 4096;
+
+/// What a gateway has counted before reports are told.
+const BEFORE: Counts = Counts {
+    ticks: 7,
+    denials: 40,
+};
+
+/// Appends the turns, the events taken, those dropped for want of memory, the receives that failed, the sends that succeeded and those
+/// that failed.
+fn put_served(served: &Served, out: &mut Vec<u8>) -> io::Result<()> {
+    write!(
+        out,
+        "{} {} {} {} {} {}",
+        served.turns,
+        served.taken,
+        served.memory_drops,
+        served.recv_failures,
+        served.sends,
+        served.send_failures
+    )
+}
+
+/// Appends how serving ended: `ok` or the fault, and the counts.
+fn put_end(end: &Result<Served, ServeStop>, out: &mut Vec<u8>) -> io::Result<()> {
+    match end {
+        Ok(served) => {
+            write!(out, "ok ")?;
+            put_served(served, out)
+        },
+        Err(stop) => {
+            write!(out, "{} ", stop.fault)?;
+            put_served(&stop.served, out)
+        },
+    }
+}
+
+/// Serves so many turns.
+fn serve_turns(
+    alloc: Global,
+    gateway: &mut Gateway,
+    wire: &mut MemWire<'_>,
+    log: &mut MemWriter,
+    turns: u64,
+) -> io::Result<Result<Served, ServeStop>> {
+    if turns >= 1 << 63 || wire.failures() > 0 {
+        return Err(ErrorKind::InvalidData.into());
+    }
+    Ok(serve(alloc, gateway, wire, log, turns))
+}
+
+/// How a call ends; a letter for each call of the wire; and the log. A case has how many turns are asked for, the call of the wire and
+/// the write to the log that fail, from 0, or `-`, how many octets a write takes, the number of the last denial before, and the
+/// script.
+pub fn call(alloc: Global, config: &str, line: &str, out: &mut Vec<u8>) -> io::Result<()> {
+    let mut words = line.splitn(6, ' ');
+    let turns = number(words.next())?;
+    let failing_call = number_or_none(words.next())?;
+    let failing_write = number_or_none(words.next())?;
+    let octets = number(words.next())?;
+    let denials = number(words.next())?;
+    let script = unfolded(alloc, words.next().unwrap_or(""))?;
+    let mut wire = MemWire::new(alloc, &script, failing_call);
+    let mut log = MemWriter::new(alloc, failing_write, octets)?;
+    let mut gateway = make_gateway(alloc, config, Counts { ticks: 0, denials })?;
+    let end = serve_turns(alloc, &mut gateway, &mut wire, &mut log, turns)?;
+    put_end(&end, out)?;
+    put_word(&wire.letters(alloc)?, out)?;
+    put_word(log.held(), out)
+}
+
+/// A wire, and what the log and the reports are written to.
+#[derive(Drop)]
+struct Edges<'a> {
+    wire: MemWire<'a>,
+    log: MemWriter,
+    reports: MemWriter,
+}
+
+/// Serves so many turns, with reports, each so many seconds.
+fn serve_with(
+    alloc: Global,
+    gateway: &mut Gateway,
+    edges: &mut Edges<'_>,
+    seconds: u64,
+    turns: u64,
+) -> io::Result<Result<Served, ServeStop>> {
+    if seconds == 0 || turns >= 1 << 63 || edges.wire.failures() > 0 {
+        return Err(ErrorKind::InvalidData.into());
+    }
+    Ok(serve_with_reports(
+        alloc,
+        gateway,
+        &mut edges.wire,
+        &mut edges.log,
+        &mut edges.reports,
+        seconds,
+        turns,
+    ))
+}
+
+/// How a call with reports ends, and the reports. A case has how many seconds lie between two, how many turns are asked for, the call
+/// of the wire, the write to the log and the write of a report that fail, from 0, or `-`, and the script.
+pub fn reports(alloc: Global, config: &str, line: &str, out: &mut Vec<u8>) -> io::Result<()> {
+    let mut words = line.splitn(6, ' ');
+    let seconds = number(words.next())?;
+    let turns = number(words.next())?;
+    let failing_call = number_or_none(words.next())?;
+    let failing_write = number_or_none(words.next())?;
+    let failing_report = number_or_none(words.next())?;
+    let script = unfolded(alloc, words.next().unwrap_or(""))?;
+    let mut edges = Edges {
+        wire: MemWire::new(alloc, &script, failing_call),
+        log: MemWriter::new(alloc, failing_write, AMPLE)?,
+        reports: MemWriter::new(alloc, failing_report, AMPLE)?,
+    };
+    let mut gateway = make_gateway(alloc, config, BEFORE)?;
+    let end = serve_with(alloc, &mut gateway, &mut edges, seconds, turns)?;
+    put_end(&end, out)?;
+    put_word(edges.reports.held(), out)
+}

@@ -1,0 +1,231 @@
+//! A wire over memory, whose calls fail at the choice of a case, and which tells each call with its answer.
+
+ghost use Rattle.std.specs.Prelude.{◌≡◌, ◌∷◌, [], None, IfOk, IfErr, if◌then◌else◌};
+ghost use Rattle.gw_core.specs.Wire.{Tells, arrival, departure, failed_send};
+ghost use Rattle.gw_relay.specs.Sends.{sending};
+ghost use Rattle.gw_script.specs.Event.{Datagram};
+ghost use Rattle.gw_gateway_vectors.specs.Calls.{call_of, calls_of};
+
+use crate::replays::event_of;
+use gw_addr::BipAddr;
+use gw_core::{Event, Got, RECEIVE_ROOM, Wire, WireFault};
+use gw_script::MAX_DATAGRAM;
+use std::alloc::{AllocError, Global};
+
+/// How many ports a wire over memory has.
+const PORTS: u8 = 2;
+
+/// A call of a wire, with its answer.
+#[derive(Drop)]
+enum Call {
+    /// A receive that found nothing.
+    EmptyReceive,
+    /// A receive that failed.
+    FailedReceive,
+    /// A receive of a tick.
+    Tick,
+    /// A receive of a datagram.
+    Arrival {
+        port: u8,
+        from: BipAddr,
+        octets: Vec<u8>,
+    },
+    /// A send.
+    Departure {
+        port: u8,
+        to: BipAddr,
+        octets: Vec<u8>,
+    },
+    /// A send that failed.
+    FailedSend {
+        port: u8,
+        to: BipAddr,
+        octets: Vec<u8>,
+    },
+}
+
+/// The letter of a call.
+fn letter(call: &Call) -> u8 {
+    match call {
+        Call::EmptyReceive => b'i',
+        Call::FailedReceive => b'x',
+        Call::Tick => b't',
+        Call::Arrival { .. } => b'd',
+        Call::Departure { .. } => b's',
+        Call::FailedSend { .. } => b'u',
+    }
+}
+
+/// The receive of a datagram.
+fn received(alloc: Global, port: u8, from: BipAddr, octets: &[u8]) -> Result<Call, AllocError>
+    ensures { IfOk result (λ call. call_of call ≡ arrival (Datagram port from octets.now)) }
+{
+    let octets = Vec::from_slice(alloc, octets)?;
+    Ok(Call::Arrival { port, from, octets })
+}
+
+/// A send, that failed or not.
+fn sent(
+    alloc: Global,
+    port: u8,
+    to: BipAddr,
+    octets: &[u8],
+    is_failed: bool,
+) -> Result<Call, AllocError>
+    ensures { IfOk result (λ call. call_of call ≡ if is_failed then failed_send (sending port octets.now to) else departure (sending port octets.now to)) }
+{
+    let octets = Vec::from_slice(alloc, octets)?;
+    if is_failed {
+        Ok(Call::FailedSend { port, to, octets })
+    } else {
+        Ok(Call::Departure { port, to, octets })
+    }
+}
+
+/// A wire whose events are the lines of a script, and whose call of one number, from 0, fails. What failed to be received comes at
+/// the next receive. It tells its calls, as long as there is memory for them.
+#[derive(Drop)]
+pub struct MemWire<'a> {
+    alloc: Global,
+    lines: &'a [u8],
+    datagram: [u8; MAX_DATAGRAM],
+    fails: Option<u64>,
+    failures: u128,
+    calls: Option<Vec<Call>>,
+}
+
+impl<'a> MemWire<'a> {
+    /// A wire to which nothing has come yet.
+    pub fn new(alloc: Global, lines: &'a [u8], fails: Option<u64>) -> Self {
+        MemWire {
+            alloc,
+            lines,
+            datagram: [0; MAX_DATAGRAM],
+            fails,
+            failures: 0,
+            calls: Some(Vec::new(alloc)),
+        }
+    }
+
+    /// A letter for each call: a receive of a datagram `d`, of a tick `t`, or of nothing `i`, or one that failed `x`; a send `s`, or one
+    /// that failed `u`.
+    ///
+    /// # Errors
+    ///
+    /// Where there was no memory for a call, or there is none for the letters.
+    pub fn letters(&self, alloc: Global) -> Result<Vec<u8>, AllocError> {
+        let mut letters = Vec::new(alloc);
+        match &self.calls {
+            Some(calls) => {
+                for call in calls {
+                    letters.push(letter(call))?;
+                }
+                Ok(letters)
+            }
+            None => Err(AllocError),
+        }
+    }
+
+    /// Whether the call that begins now is the one that fails.
+    fn is_failing(&mut self) -> bool
+        ensures failures { self.new.failures ≡ self.old.failures }
+        ensures calls { self.new.calls ≡ self.old.calls }
+    {
+        match self.fails {
+            Some(0) => {
+                self.fails = None;
+                true
+            }
+            Some(number) => {
+                self.fails = Some(number - 1);
+                false
+            }
+            None => false,
+        }
+    }
+
+    /// Tells a call; where there is no memory for it, it tells none from then on.
+    fn tell(&mut self, call: Result<Call, AllocError>)
+        ensures failures { self.new.failures ≡ self.old.failures }
+        ensures told { IfOk call (λ told. Tells (calls_of self.old.calls) (calls_of self.new.calls) (call_of told ∷ [])) }
+        ensures ends { IfErr call (λ fault. self.new.calls ≡ None) }
+    {
+        let calls = self.calls.take();
+        if let (Some(mut calls), Ok(call)) = (calls, call) {
+            if calls.push(call).is_ok() {
+                self.calls = Some(calls);
+            }
+        }
+    }
+
+    /// The next line, which is empty where none is left.
+    fn next_line(&mut self) -> &'a [u8]
+        ensures failures { self.new.failures ≡ self.old.failures }
+        ensures calls { self.new.calls ≡ self.old.calls }
+    {
+        let lines = self.lines;
+        match lines.iter().position(|octet| *octet == b'\n') {
+            Some(end) => {
+                self.lines = &lines[end + 1..];
+                &lines[..end]
+            }
+            None => {
+                self.lines = &[];
+                lines
+            }
+        }
+    }
+}
+
+impl Wire for MemWire<'_> {
+    ghost port_count = { λ wire. 2 };
+
+    ghost failure_count = { λ wire. wire.failures };
+
+    ghost calls = { λ wire. calls_of wire.calls };
+
+    fn ports(&self) -> u8 {
+        PORTS
+    }
+
+    fn failures(&self) -> u128 {
+        self.failures
+    }
+
+    fn recv(&mut self, buf: &mut [u8; RECEIVE_ROOM]) -> Result<Got, WireFault> {
+        if self.is_failing() {
+            self.failures += 1;
+            self.tell(Ok(Call::FailedReceive));
+            return Err(WireFault::Failed);
+        }
+        let line = self.next_line();
+        match event_of(PORTS, line, &mut self.datagram) {
+            Some(Event::Datagram { port, from, octets }) => {
+                let len = octets.len().min(RECEIVE_ROOM);
+                buf[..len].copy_from_slice(&octets[..len]);
+                let call = received(self.alloc, port, from, &buf[..len]);
+                self.tell(call);
+                Ok(Got::Datagram { port, from, len })
+            }
+            Some(Event::Tick) => {
+                self.tell(Ok(Call::Tick));
+                Ok(Got::Tick)
+            }
+            None => {
+                self.tell(Ok(Call::EmptyReceive));
+                Ok(Got::Idle)
+            }
+        }
+    }
+
+    fn send(&mut self, port: u8, to: BipAddr, octets: &[u8]) -> Result<(), WireFault> {
+        let is_failing = self.is_failing();
+        let call = sent(self.alloc, port, to, octets, is_failing);
+        self.tell(call);
+        if is_failing {
+            self.failures += 1;
+            return Err(WireFault::Failed);
+        }
+        Ok(())
+    }
+}

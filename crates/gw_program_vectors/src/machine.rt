@@ -1,0 +1,304 @@
+//! One run of the program on a machine in memory, and what it leaves.
+//!
+//! A section has the words on its first line, with a bar between two of them; then lines that say
+//! what the machine is like, as `log 9` for a log with room for 9 octets; and behind a line `input`
+//! standard input. Each file has the text of the last configuration, but for `unreadable`.
+
+ghost use Rattle.std.specs.Prelude.{◌≡◌, ⊤, None, Some};
+
+use crate::words::{call, put, status_text};
+use gw_addr::BipAddr;
+use gw_cases::{MemReader, MemWriter, number_behind};
+use gw_configuration::Port;
+use gw_core::{Got, RECEIVE_ROOM, Wire, WireFault};
+use gw_shell::{ConfigFiles, FailedStep, Fault, Host, Reason, SocketFailure, Step, run};
+use itoa::Buffer;
+use std::alloc::{AllocError, Global};
+use std::io;
+use std::io::{BufWriter, ErrorKind};
+use std::process::ExitCode;
+
+/// The name of the one file that can't be read.
+const UNREADABLE: &str = "unreadable";
+
+/// More octets than any run of a section writes.
+const AMPLE: usize = 1 << 20;
+
+/// How many octets of output are gathered where a section doesn't say it.
+const CAPACITY: usize = 4096;
+
+/// Files in memory, all of the same text.
+#[derive(Drop)]
+struct MemFiles<'a> {
+    text: &'a str,
+}
+
+impl ConfigFiles for MemFiles<'_> {
+    ghost Reads = { λ _ _ _. ⊤ };
+
+    fn read(&self, alloc: Global, name: &str) -> Result<Vec<u8>, Fault> {
+        if name == UNREADABLE {
+            return Err(Fault::Unreadable);
+        }
+        Ok(Vec::from_slice(alloc, self.text.as_bytes())?)
+    }
+}
+
+/// A read of Binary Value 2, which the built-in policy denies.
+const DENIED_READ: [u8; 22] = [
+    0x81, 0x0A, 0x00, 0x16, 0x01, 0x24, 0x00, 0x64, 0x01, 0x01, 0xFF, 0x00, 0x05, 0x08, 0x0C, 0x0C,
+    0x01, 0x40, 0x00, 0x02, 0x19, 0x55,
+];
+
+/// A wire in memory: a denied read first, and then a tick at each receive.
+#[derive(Drop)]
+pub struct MemSockets {
+    ports: u8,
+    receives: u64,
+    sends: u64,
+}
+
+impl Wire for MemSockets {
+    ghost port_count = { λ s. s.ports };
+
+    ghost failure_count = { λ _. 0 };
+
+    ghost calls = { λ _. None };
+
+    fn ports(&self) -> u8 {
+        self.ports
+    }
+
+    fn failures(&self) -> u128 {
+        0
+    }
+
+    fn recv(&mut self, buf: &mut [u8; RECEIVE_ROOM]) -> Result<Got, WireFault> {
+        self.receives = self.receives.wrapping_add(1);
+        if self.receives != 1 || self.ports == 0 {
+            return Ok(Got::Tick);
+        }
+        for (octet, sent) in buf.iter_mut().zip(DENIED_READ) {
+            *octet = sent;
+        }
+        let from = BipAddr {
+            ip: [192, 168, 1, 5],
+            udp: 47808,
+        };
+        Ok(Got::Datagram {
+            port: 1,
+            from,
+            len: DENIED_READ.len(),
+        })
+    }
+
+    fn send(&mut self, _port: u8, _to: BipAddr, _octets: &[u8]) -> Result<(), WireFault> {
+        self.sends = self.sends.wrapping_add(1);
+        Ok(())
+    }
+}
+
+/// The wire and the log that a machine closed.
+type Closed = (MemSockets, Option<MemWriter>);
+
+/// A machine in memory: its log takes so many octets, or can't be opened, and may end in a line that
+/// was cut; and the broadcast socket of one port may fail. It keeps what was closed.
+#[derive(Drop)]
+struct MemHost {
+    alloc: Global,
+    log: Option<usize>,
+    is_cut: bool,
+    failing: Option<usize>,
+    closed: Option<Closed>,
+}
+
+impl Host for MemHost {
+    type Log = MemWriter;
+
+    type Sockets = MemSockets;
+
+    ghost LogOpens = { λ _ _ _. ⊤ };
+
+    ghost LogIsCut = { λ _ _ _. ⊤ };
+
+    ghost SocketsOpen = { λ _ _ _. ⊤ };
+
+    ghost Closes = { λ host sockets log. host.closed ≡ Some (sockets, log) };
+
+    fn open_log(&self, _name: &str) -> Result<MemWriter, Fault> {
+        match self.log {
+            Some(room) => Ok(MemWriter::with_room(self.alloc, room, true)?),
+            None => Err(Fault::Log),
+        }
+    }
+
+    fn is_cut(&self, _name: &str) -> bool {
+        self.is_cut
+    }
+
+    fn open_sockets(&self, _alloc: Global, ports: &[Port]) -> Result<MemSockets, SocketFailure> {
+        match self.failing {
+            Some(port) if 1 <= port && port <= ports.len() => {
+                Err(SocketFailure::Failed(FailedStep {
+                    port: port as u8,
+                    step: Step::Broadcast,
+                    address: ports[port - 1].broadcast,
+                    reason: Reason::NoAddress,
+                }))
+            }
+            _ => Ok(MemSockets {
+                ports: ports.len() as u8,
+                receives: 0,
+                sends: 0,
+            }),
+        }
+    }
+
+    fn close(&mut self, sockets: MemSockets, log: Option<MemWriter>)
+        ensures { self.new.closed ≡ Some (sockets, log) }
+    {
+        self.closed = Some((sockets, log));
+    }
+}
+
+/// What one run leaves: its exit status, both streams, and what the machine closed.
+#[derive(Drop)]
+struct Left {
+    code: ExitCode,
+    output: MemWriter,
+    errors: MemWriter,
+    closed: Option<Closed>,
+}
+
+/// Whether a line is there.
+fn has_line(lines: &str, wanted: &str) -> bool {
+    lines.lines().any(|line| line == wanted)
+}
+
+/// The words of a section, or the fault where there are none to be had.
+fn words_of(
+    alloc: Global,
+    line: &str,
+    lines: &str,
+) -> Result<Result<Vec<String>, Fault>, AllocError> {
+    if has_line(lines, "no words") {
+        return Ok(Err(Fault::of_words(ErrorKind::InvalidData)));
+    }
+    Ok(Ok(call(alloc, line)?))
+}
+
+/// The output of a section, which has room for so many octets behind its buffer.
+fn output_of(alloc: Global, lines: &str, room: usize) -> Result<BufWriter<MemWriter>, AllocError> {
+    let narrow = MemWriter::with_room(alloc, room, !has_line(lines, "flushes fail"))?;
+    let capacity = number_behind(lines, '\n', "buffer ").unwrap_or(CAPACITY);
+    match BufWriter::with_capacity(alloc, capacity, narrow) {
+        Ok(output) => Ok(output),
+        Err(_) => Err(AllocError),
+    }
+}
+
+/// Runs the program of a section, whose output has room for so many octets.
+fn run_with(alloc: Global, config: &str, section: &str, room: usize) -> Result<Left, AllocError> {
+    let (head, input) = section.split_once("\ninput\n").unwrap_or((section, ""));
+    let (line, lines) = head.split_once('\n').unwrap_or((head, ""));
+    let words = words_of(alloc, line, lines)?;
+    let mut host = MemHost {
+        alloc,
+        log: number_behind(lines, '\n', "log "),
+        is_cut: has_line(lines, "cut log"),
+        failing: number_behind(lines, '\n', "failing port "),
+        closed: None,
+    };
+    let fails = has_line(lines, "input fails");
+    let mut input = MemReader::new(input.as_bytes(), if fails { Some(0) } else { None });
+    let mut output = output_of(alloc, lines, room)?;
+    let mut errors = MemWriter::with_room(
+        alloc,
+        number_behind(lines, '\n', "errors ").unwrap_or(AMPLE),
+        true,
+    )?;
+    let files = MemFiles { text: config };
+    let code = run(
+        alloc,
+        words,
+        &files,
+        &mut host,
+        &mut input,
+        &mut output,
+        &mut errors,
+    );
+    let (output, _unwritten) = output.into_parts();
+    Ok(Left {
+        code,
+        output,
+        errors,
+        closed: host.closed,
+    })
+}
+
+/// What the run of a section leaves: its exit status, each line of its streams and of its log, and what the
+/// machine closed.
+pub fn machine(alloc: Global, config: &str, section: &str, out: &mut Vec<u8>) -> io::Result<()> {
+    let (_, lines) = section.split_once('\n').unwrap_or((section, ""));
+    let room = number_behind(lines, '\n', "output ").unwrap_or(AMPLE);
+    let left = run_with(alloc, config, section, room)?;
+    put(out, &["status ", status_text(left.code), "\n"])?;
+    put_lines("out ", left.output.held(), out)?;
+    put_lines("err ", left.errors.held(), out)?;
+    match &left.closed {
+        Some(closed) => Ok(put_closed(closed, out)?),
+        None => Ok(()),
+    }
+}
+
+/// The log in a file, and how often the wire was called.
+fn put_closed(closed: &Closed, out: &mut Vec<u8>) -> Result<(), AllocError> {
+    let (sockets, log) = closed;
+    if let Some(log) = log {
+        put_lines("log ", log.held(), out)?;
+    }
+    put(out, &["receives ", Buffer::new().format(sockets.receives)])?;
+    put(out, &[" sends ", Buffer::new().format(sockets.sends), "\n"])
+}
+
+/// Each line of a text behind a word.
+fn put_lines(word: &str, text: &[u8], out: &mut Vec<u8>) -> Result<(), AllocError> {
+    if text.is_empty() {
+        return Ok(());
+    }
+    for line in text
+        .strip_suffix(b"\n")
+        .unwrap_or(text)
+        .split(|octet| *octet == b'\n')
+    {
+        put(out, &[word])?;
+        out.extend_from_slice(line)?;
+        out.push(b'\n')?;
+    }
+    Ok(())
+}
+
+/// Runs a section with ample room for its output, and then with less, octet by octet, and says of
+/// how many octets it is. Each run with less that doesn't leave a front of them and tell that a
+/// write failed has a line of its own.
+pub fn fronts(alloc: Global, config: &str, section: &str, out: &mut Vec<u8>) -> io::Result<()> {
+    let ample = run_with(alloc, config, section, AMPLE)?;
+    let whole = ample.output.held();
+    for room in 0..whole.len() {
+        let left = run_with(alloc, config, section, room)?;
+        if !is_front(&left, &whole[..room]) {
+            put(out, &["not a front at ", Buffer::new().format(room), "\n"])?;
+        }
+    }
+    Ok(put(
+        out,
+        &["fronts of ", Buffer::new().format(whole.len()), " octets\n"],
+    )?)
+}
+
+/// Whether a run left this front and told that a write failed.
+fn is_front(left: &Left, front: &[u8]) -> bool {
+    left.code == ExitCode::FAILURE
+        && left.output.held() == front
+        && left.errors.held() == b"bacgw: write failed\n".as_slice()
+}
