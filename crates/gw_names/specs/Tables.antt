@@ -1,20 +1,9 @@
--- Names of the standard by their numbers (ISO 16484-5, clauses 6.4, 20.1 and 21, and Annex J.2).
-use Rattle.std.specs.Prelude.{ℕ, ◌==◌, List, [], ◌∷◌, codes, Option, find}
-use Rattle.std.specs.Borrow.{Bor}
-use Rattle.std.specs.Option.{option_map}
-use Rattle.gw_audit.specs.declared.names.Table.{Table}
-use Rattle.gw_audit.specs.declared.names.Table.TheVariants.{ObjectTypes, Properties, Services}
-
--- a row of a table that a name is lent from
-abbrev pub plain : ℕ × Bor (List ℕ) → ℕ × List ℕ
-plain row = (row.0, row.1.now)
-
--- the name of a number, where the table has it
-abbrev pub name_in : List (ℕ × List ℕ) → ℕ → Option (List ℕ)
-name_in table number = option_map (λ row. row.1) (find (λ row. row.0 == number) table)
+-- The standard's names of object types, properties, services and messages, each with its number
+-- (ISO 16484-5, clauses 6.4, 20.1 and 21, and Annex J.2).
+use Rattle.std.specs.Prelude.{ℕ, List, [], ◌∷◌, codes}
 
 -- the types of objects (BACnetObjectType)
-abbrev pub object_types : List (ℕ × List ℕ)
+unfoldable pub object_types : List (ℕ × List ℕ)
 object_types =
     (0, codes "analog-input")
     ∷ (1, codes "analog-output")
@@ -84,7 +73,7 @@ object_types =
     ∷ []
 
 -- properties that are met often (BACnetPropertyIdentifier)
-abbrev pub properties : List (ℕ × List ℕ)
+unfoldable pub properties : List (ℕ × List ℕ)
 properties =
     (0, codes "acked-transitions")
     ∷ (4, codes "active-text")
@@ -155,7 +144,7 @@ properties =
     ∷ []
 
 -- services and messages, by the numbers that rules and the log have for them
-abbrev pub services : List (ℕ × List ℕ)
+unfoldable pub services : List (ℕ × List ℕ)
 services =
     (0, codes "AcknowledgeAlarm")
     ∷ (1, codes "ConfirmedCOVNotification")
@@ -238,19 +227,3 @@ services =
     ∷ (1030, codes "Reject")
     ∷ (1031, codes "Abort")
     ∷ []
-
--- the rows of a table
-unfoldable pub rows_of : Table → List (ℕ × List ℕ)
-rows_of ObjectTypes = object_types
-rows_of Properties = properties
-rows_of Services = services
-
--- the name of a type of objects, of a property, of a service or message
-abbrev pub object_type_name : ℕ → Option (List ℕ)
-object_type_name number = name_in (rows_of ObjectTypes) number
-
-abbrev pub property_name : ℕ → Option (List ℕ)
-property_name number = name_in (rows_of Properties) number
-
-abbrev pub service_name : ℕ → Option (List ℕ)
-service_name number = name_in (rows_of Services) number

@@ -1,13 +1,10 @@
-//! Names of the standard by their numbers (ISO 16484-5).
-ghost use Rattle.std.specs.Prelude.{◌≡◌, ◌==◌, find, map};
-ghost use Rattle.std.specs.Option.{option_map};
-ghost use Rattle.gw_audit.specs.Names.{name_in, object_type_name, plain, property_name, rows_of, service_name};
+//! The tables of names (ISO 16484-5, clauses 6.4, 20.1 and 21, and Annex J.2).
 
 /// A number, and its name.
-type Named = (u64, &'static str);
+pub type Row = (u64, &'static str);
 
 /// The types of objects (clause 21, BACnetObjectType).
-const OBJECT_TYPES: [Named; 65] = [
+pub const OBJECT_TYPES: [Row; 65] = [
     (0, "analog-input"),
     (1, "analog-output"),
     (2, "analog-value"),
@@ -76,7 +73,7 @@ const OBJECT_TYPES: [Named; 65] = [
 ];
 
 /// Properties that are met often (clause 21, BACnetPropertyIdentifier).
-const PROPERTIES: [Named; 66] = [
+pub const PROPERTIES: [Row; 66] = [
     (0, "acked-transitions"),
     (4, "active-text"),
     (8, "all"),
@@ -148,7 +145,7 @@ const PROPERTIES: [Named; 66] = [
 /// Services and messages, by the numbers that rules and the log have for them: confirmed services from 0,
 /// unconfirmed ones from 256 (clause 21), network messages from 512 (clause 6.4), functions of BACnet/IP from
 /// 768 (Annex J.2), and other APDUs from 1024 (clause 20.1).
-const SERVICES: [Named; 80] = [
+pub const SERVICES: [Row; 80] = [
     (0, "AcknowledgeAlarm"),
     (1, "ConfirmedCOVNotification"),
     (2, "ConfirmedEventNotification"),
@@ -230,65 +227,3 @@ const SERVICES: [Named; 80] = [
     (1030, "Reject"),
     (1031, "Abort"),
 ];
-
-/// A table of names.
-#[derive(Clone, Copy)]
-pub enum Table {
-    /// The types of objects.
-    ObjectTypes,
-    /// Properties that are met often.
-    Properties,
-    /// Services and messages.
-    Services,
-}
-
-impl Table {
-    #[tactic(auto, unfolding(crate::specs::Names::rows_of))]
-    fn rows(self) -> &'static [Named]
-        ensures { map plain result.now ≡ rows_of self }
-    {
-        match self {
-            Table::ObjectTypes => &OBJECT_TYPES,
-            Table::Properties => &PROPERTIES,
-            Table::Services => &SERVICES,
-        }
-    }
-}
-
-/// The name of a type of objects, or `None` where the table lacks its number.
-pub fn object_type_name(number: u64) -> Option<&'static str>
-    ensures { option_map (λ name. name.now) result ≡ object_type_name number }
-{
-    name_in(Table::ObjectTypes.rows(), number)
-}
-
-/// The name of a property, or `None` where the table lacks its number.
-pub fn property_name(number: u64) -> Option<&'static str>
-    ensures { option_map (λ name. name.now) result ≡ property_name number }
-{
-    name_in(Table::Properties.rows(), number)
-}
-
-/// The name of a service or message, or `None` where the table lacks its number.
-pub fn service_name(number: u64) -> Option<&'static str>
-    ensures { option_map (λ name. name.now) result ≡ service_name number }
-{
-    name_in(Table::Services.rows(), number)
-}
-
-/// The row of a number in a table.
-fn row_in(table: &[Named], number: u64) -> Option<&Named>
-    ensures { option_map (λ row. row.now) result ≡ find (λ row. row.0 == number) table.now }
-{
-    table.iter().find(|row| row.0 == number)
-}
-
-/// The name of a number in a table.
-fn name_in(table: &[Named], number: u64) -> Option<&'static str>
-    ensures { option_map (λ name. name.now) result ≡ name_in (map plain table.now) number }
-{
-    match row_in(table, number) {
-        Some(row) => Some(row.1),
-        None => None,
-    }
-}
