@@ -1,16 +1,10 @@
 -- What opening a log and sockets may come to.
 use Rattle.std.specs.Prelude.{◌≡◌, ◌⊎◌, ⊤, ℕ, ◌≤◌, Bool, true, false, List, [], ◌∷◌, Option, Result, Ok, Err}
 use Rattle.std.specs.Io.KnownBytes.{Appends}
-use Rattle.gw_shell.specs.declared.fault.Fault.{Fault}
-use Rattle.gw_shell.specs.declared.fault.Fault.TheVariants as fault
-use Rattle.gw_shell.specs.declared.opening.SocketFailure.{SocketFailure}
-use Rattle.gw_shell.specs.declared.opening.SocketFailure.TheVariants as sockets
-
--- a log can't be opened, or memory ran out
-abbrev pub IsLogFault : Fault → Type 0
-IsLogFault fault.Log = ⊤
-IsLogFault fault.Memory = ⊤
-IsLogFault _ = ⊥
+use Rattle.gw_system.specs.declared.opening.LogFailure.{LogFailure}
+use Rattle.gw_system.specs.declared.opening.LogFailure.TheVariants as log_failure
+use Rattle.gw_system.specs.declared.opening.SocketFailure.{SocketFailure}
+use Rattle.gw_system.specs.declared.opening.SocketFailure.TheVariants as sockets
 
 -- a socket of one of so many ports can't be opened, or memory ran out
 abbrev pub IsSocketFailure : ℕ → SocketFailure → Type 0
@@ -19,7 +13,7 @@ IsSocketFailure ports sockets.Memory = ⊤
 
 -- what opening the log of a name may give
 abbrev pub LogOpening : Type 0 → Type 1
-LogOpening Log = List ℕ → Result Log Fault → Type 0
+LogOpening Log = List ℕ → Result Log LogFailure → Type 0
 
 -- what a last line that was cut is given: its line feed
 abbrev pub line_end : Bool → List ℕ
@@ -34,4 +28,4 @@ OpensAtLine LogOpens IsCut held name (Ok log) =
     (opened : _) × (cut : Bool) × LogOpens name (Ok opened) × IsCut name cut
     × Appends (held opened) (held log) (line_end cut)
 OpensAtLine LogOpens IsCut held name (Err f) =
-    LogOpens name (Err f) ⊎ ((opened : _) × LogOpens name (Ok opened) × IsCut name true × (f ≡ fault.Log))
+    LogOpens name (Err f) ⊎ ((opened : _) × LogOpens name (Ok opened) × IsCut name true × (f ≡ log_failure.Failed))

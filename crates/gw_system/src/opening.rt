@@ -1,12 +1,10 @@
 //! Why a log or the sockets of `run` can't be opened, and how an operator is told of it.
 
 ghost use Rattle.std.specs.Prelude.{◌≡◌, ◌≤◌, ◌++◌, ℕ, IfOk, OnOk};
-ghost use Rattle.gw_shell.specs.Host.{IsSocketFailure};
-ghost use Rattle.gw_shell.specs.Opening.{IsNote, IsNoteOf, failure_text, fault_of_opening, fault_of_sockets, reason_text, step_text};
+ghost use Rattle.gw_system.specs.Host.{IsSocketFailure};
+ghost use Rattle.gw_system.specs.Opening.{IsNote, IsNoteOf, failure_text, reason_text, step_text};
 
-use crate::announcement::put_number;
-use crate::fault::Fault;
-use gw_addr::BipAddr;
+use gw_addr::{BipAddr, put_decimal};
 use std::alloc::{AllocError, Global};
 use std::io;
 use std::io::ErrorKind;
@@ -99,7 +97,8 @@ impl FailedStep {
     fn put_line(&self, out: &mut Vec<u8>) -> Result<(), AllocError>
         ensures { OnOk result (out.new.items ≡ out.old.items ++ failure_text self.now) }
     {
-        put_number(out, "port ", self.port)?;
+        out.extend_from_slice(b"port ")?;
+        put_decimal(out, self.port)?;
         out.extend_from_slice(b": ")?;
         out.extend_from_slice(self.step.text().as_bytes())?;
         out.push(b' ')?;
@@ -108,6 +107,26 @@ impl FailedStep {
         out.extend_from_slice(self.reason.text().as_bytes())?;
         out.push(b'\n')?;
         Ok(())
+    }
+}
+
+/// Why the log can't be opened.
+#[derive(Clone, Copy)]
+pub enum LogFailure {
+    /// A growth was refused.
+    Memory,
+    /// The system doesn't open it, or doesn't take the line feed that its last line lacks.
+    Failed,
+}
+
+impl From<AllocError> for LogFailure {
+    ghost use Rattle.std.specs.Prelude.{◌≡◌};
+    ghost use Rattle.gw_system.specs.declared.opening.LogFailure.TheVariants.{Memory};
+
+    ghost from_gives = { λ _ failure. failure ≡ Memory };
+
+    fn from(_refused: AllocError) -> LogFailure {
+        LogFailure::Memory
     }
 }
 
@@ -135,38 +154,18 @@ impl SocketFailure {
             }),
         }
     }
-
-    /// The fault of the program.
-    fn fault(self) -> Fault
-        ensures { result ≡ fault_of_sockets self }
-    {
-        match self {
-            SocketFailure::Memory => Fault::Memory,
-            SocketFailure::Failed(failed) => Fault::Socket(failed.port),
-        }
-    }
 }
 
 /// Why not all of what `run` serves is open.
 #[derive(Clone, Copy)]
 pub enum OpenFailure {
     /// The log isn't, or memory ran out before it.
-    Log(Fault),
+    Log(LogFailure),
     /// The sockets aren't.
     Sockets(SocketFailure),
 }
 
 impl OpenFailure {
-    /// The fault of the program.
-    pub fn fault(self) -> Fault
-        ensures { result ≡ fault_of_opening self }
-    {
-        match self {
-            OpenFailure::Log(fault) => fault,
-            OpenFailure::Sockets(failure) => failure.fault(),
-        }
-    }
-
     /// What is told of it: the line of a step that failed, which is left out where there is no memory
     /// for it.
     fn note(self, alloc: Global) -> Vec<u8>
@@ -194,12 +193,12 @@ pub fn note_of(alloc: Global, is_asked: bool, failure: OpenFailure) -> Vec<u8>
 
 impl From<AllocError> for OpenFailure {
     ghost use Rattle.std.specs.Prelude.{◌≡◌};
-    ghost use Rattle.gw_shell.specs.declared.fault.Fault.TheVariants.{Memory};
-    ghost use Rattle.gw_shell.specs.declared.opening.OpenFailure.TheVariants.{Log};
+    ghost use Rattle.gw_system.specs.declared.opening.LogFailure.TheVariants.{Memory};
+    ghost use Rattle.gw_system.specs.declared.opening.OpenFailure.TheVariants.{Log};
 
     ghost from_gives = { λ _ failure. failure ≡ Log Memory };
 
     fn from(_refused: AllocError) -> OpenFailure {
-        OpenFailure::Log(Fault::Memory)
+        OpenFailure::Log(LogFailure::Memory)
     }
 }

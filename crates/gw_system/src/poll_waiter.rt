@@ -1,7 +1,7 @@
 //! What waits for datagrams at the sockets of the system.
 
 ghost use Rattle.std.specs.Prelude.{◌≡◌, ◌≤◌, ◌<◌, false, length, ⊤};
-ghost use Rattle.gw_shell.specs.Waiting.{has_event_of};
+ghost use Rattle.gw_system.specs.Waiting.{has_event_of};
 
 use crate::udp::UdpSock;
 use gw_addr::MAX_PORTS;

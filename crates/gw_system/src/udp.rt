@@ -2,7 +2,7 @@
 
 ghost use Rattle.std.specs.Prelude.{◌≡◌, ◌≤◌, ℕ, ⊤, length, IfErr, IfOk};
 ghost use Rattle.gw_addr.specs.declared.TheConstants.{MAX_PORTS};
-ghost use Rattle.gw_shell.specs.Host.{IsSocketFailure};
+ghost use Rattle.gw_system.specs.Host.{IsSocketFailure};
 ghost use Rattle.gw_ports.specs.Socket.{FitsBuffer};
 
 use crate::opening::{SocketFailure, Step};

@@ -1,8 +1,8 @@
 use Rattle.std.proofs.Common.{arith, length}
 use Rattle.std.specs.Prelude.{IfErr}
 use Rattle.gw_script.proofs.Passing.{passes_on}
-use Rattle.gw_shell.specs.Host.{IsSocketFailure}
-use Rattle.gw_shell.proofs.udp.open_pairs.Goals as goal
+use Rattle.gw_system.specs.Host.{IsSocketFailure}
+use Rattle.gw_system.proofs.udp.open_pairs.Goals as goal
 
 pub returns-in_err-pair-clause-failure : goal.returns-in_err-pair-clause-failure
 returns-in_err-pair-clause-failure g c =

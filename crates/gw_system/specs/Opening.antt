@@ -1,27 +1,15 @@
--- Why not all of what `run` serves can be opened, which fault of the program that is, and what is told of it.
+-- Why not all of what `run` serves can be opened, and what is told of it.
 use Rattle.std.specs.Prelude.{◌≡◌, ◌⊎◌, ℕ, Bool, true, false, List, [], ◌∷◌, ◌++◌, codes, decimal}
 use Rattle.gw_addr.specs.Address.{text_of}
-use Rattle.gw_shell.specs.declared.fault.Fault.{Fault}
-use Rattle.gw_shell.specs.declared.fault.Fault.TheVariants as fault
-use Rattle.gw_shell.specs.declared.opening.FailedStep.{FailedStep}
-use Rattle.gw_shell.specs.declared.opening.OpenFailure.{OpenFailure}
-use Rattle.gw_shell.specs.declared.opening.OpenFailure.TheVariants as opening
-use Rattle.gw_shell.specs.declared.opening.Reason.{Reason}
-use Rattle.gw_shell.specs.declared.opening.Reason.TheVariants as reason
-use Rattle.gw_shell.specs.declared.opening.SocketFailure.{SocketFailure}
-use Rattle.gw_shell.specs.declared.opening.SocketFailure.TheVariants as sockets
-use Rattle.gw_shell.specs.declared.opening.Step.{Step}
-use Rattle.gw_shell.specs.declared.opening.Step.TheVariants as step
-
--- the fault where sockets can't be opened
-abbrev pub fault_of_sockets : SocketFailure → Fault
-fault_of_sockets sockets.Memory = fault.Memory
-fault_of_sockets (sockets.Failed failed) = fault.Socket failed.port
-
--- the fault where not all can be opened
-abbrev pub fault_of_opening : OpenFailure → Fault
-fault_of_opening (opening.Log f) = f
-fault_of_opening (opening.Sockets failure) = fault_of_sockets failure
+use Rattle.gw_system.specs.declared.opening.FailedStep.{FailedStep}
+use Rattle.gw_system.specs.declared.opening.OpenFailure.{OpenFailure}
+use Rattle.gw_system.specs.declared.opening.OpenFailure.TheVariants as opening
+use Rattle.gw_system.specs.declared.opening.Reason.{Reason}
+use Rattle.gw_system.specs.declared.opening.Reason.TheVariants as reason
+use Rattle.gw_system.specs.declared.opening.SocketFailure.{SocketFailure}
+use Rattle.gw_system.specs.declared.opening.SocketFailure.TheVariants as sockets
+use Rattle.gw_system.specs.declared.opening.Step.{Step}
+use Rattle.gw_system.specs.declared.opening.Step.TheVariants as step
 
 -- what of a port is opened
 abbrev pub step_text : Step → List ℕ

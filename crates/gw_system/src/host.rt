@@ -3,19 +3,18 @@
 ghost use Rattle.std.specs.Prelude.{◌≡◌, ◌≤◌, ℕ, Bool, List, length, ⊤, Result, Option, IfOk, IfErr};
 ghost use Rattle.gw_addr.specs.declared.TheConstants.{MAX_PORTS};
 ghost use Rattle.gw_configuration.specs.declared.port.Port.{Port};
-ghost use Rattle.gw_shell.specs.declared.fault.Fault.{Fault};
-ghost use Rattle.gw_shell.specs.Host.{IsLogFault, IsSocketFailure};
-ghost use Rattle.gw_shell.specs.declared.opening.SocketFailure.{SocketFailure};
+ghost use Rattle.gw_system.specs.Host.{IsSocketFailure, OpensAtLine};
+ghost use Rattle.gw_system.specs.declared.opening.LogFailure.{LogFailure};
+ghost use Rattle.gw_system.specs.declared.opening.SocketFailure.{SocketFailure};
 
-use crate::fault::Fault;
-use crate::opening::{SocketFailure, Step};
+use crate::opening::{LogFailure, SocketFailure, Step};
 use crate::poll_waiter::PollWaiter;
 use crate::system_clock::SystemClock;
 use crate::udp::{UdpSock, open_pairs};
 use gw_configuration::Port;
 use gw_core::Wire;
 use gw_ports::{Ports, SockPair, TimedPorts, Watch};
-use gw_script::OctetSink;
+use gw_script::{OctetSink, write_whole};
 use std::alloc::Global;
 use std::fs::File;
 use std::io::{ErrorKind, Read, Seek, SeekFrom};
@@ -33,7 +32,7 @@ pub trait Host {
     type Sockets: Wire + Drop;
 
     /// What opening the log of a name may give.
-    ghost LogOpens: { Self → List ℕ → Result Self.Log Fault → Type 0 };
+    ghost LogOpens: { Self → List ℕ → Result Self.Log LogFailure → Type 0 };
 
     /// Whether the last line of the log of a name may lack its line feed.
     ghost LogIsCut: { Self → List ℕ → Bool → Type 0 };
@@ -44,10 +43,10 @@ pub trait Host {
     /// How the sockets, and the log where one was opened, may have been when they were closed.
     ghost Closes: { Self → Self.Sockets → Option Self.Log → Type 0 };
 
-    /// Opens the log of this name, to append to it. Faults: `Log`, and `Memory`.
-    fn open_log(&self, name: &str) -> Result<Self::Log, Fault>
-        ensures opens { LogOpens self.now name.now result }
-        ensures fault { IfErr result IsLogFault };
+    /// Opens the log of this name, to append to it. Faults: `Failed` where the system doesn't, and
+    /// `Memory`.
+    fn open_log(&self, name: &str) -> Result<Self::Log, LogFailure>
+        ensures { LogOpens self.now name.now result };
 
     /// Whether the log of this name has octets and doesn't end in a line feed, as where a disk was
     /// full or the power failed. Not where it can't be read.
@@ -68,6 +67,21 @@ pub trait Host {
     /// Closes the sockets and the log.
     fn close(&mut self, sockets: Self::Sockets, log: Option<Self::Log>)
         ensures { Closes self.new sockets log };
+}
+
+/// Opens the log of this name. Where its last line was cut, that gets its line feed, so that the next
+/// one has a line of its own. Faults: `Failed`, and `Memory`.
+pub fn open_at_line<H: Host>(name: &str, host: &H) -> Result<H::Log, LogFailure>
+    ensures { OpensAtLine (H.LogOpens host.now) (H.LogIsCut host.now) H.Log.held name.now result }
+{
+    let mut log = host.open_log(name)?;
+    if !host.is_cut(name) {
+        return Ok(log);
+    }
+    match write_whole(&mut log, b"\n") {
+        Ok(()) => Ok(log),
+        Err(_) => Err(LogFailure::Failed),
+    }
 }
 
 /// The last octet of a regular file, an `Err` where it has none or can't be read. A pipe or a terminal is left alone.
@@ -123,7 +137,7 @@ impl<'a, R: Files + Net + Clock> Host for SystemHost<'a, R> {
 
     ghost Closes = { λ _ _ _. ⊤ };
 
-    fn open_log(&self, name: &str) -> Result<R::File, Fault> {
+    fn open_log(&self, name: &str) -> Result<R::File, LogFailure> {
         match File::options()
             .append(true)
             .create(true)
@@ -131,8 +145,8 @@ impl<'a, R: Files + Net + Clock> Host for SystemHost<'a, R> {
         {
             Ok(file) => Ok(file),
             Err(error) => match error.kind() {
-                ErrorKind::OutOfMemory => Err(Fault::Memory),
-                _ => Err(Fault::Log),
+                ErrorKind::OutOfMemory => Err(LogFailure::Memory),
+                _ => Err(LogFailure::Failed),
             },
         }
     }
