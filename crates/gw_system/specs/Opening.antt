@@ -6,7 +6,6 @@ use Rattle.gw_system.specs.declared.opening.OpenFailure.{OpenFailure}
 use Rattle.gw_system.specs.declared.opening.OpenFailure.TheVariants as opening
 use Rattle.gw_system.specs.declared.opening.Reason.{Reason}
 use Rattle.gw_system.specs.declared.opening.Reason.TheVariants as reason
-use Rattle.gw_system.specs.declared.opening.SocketFailure.{SocketFailure}
 use Rattle.gw_system.specs.declared.opening.SocketFailure.TheVariants as sockets
 use Rattle.gw_system.specs.declared.opening.Step.{Step}
 use Rattle.gw_system.specs.declared.opening.Step.TheVariants as step
