@@ -10,4 +10,3 @@ pub mod TellingLemmas
 pub mod MomentExamples
 pub mod MomentLemmas
 pub mod OnceLemmas
-pub mod Tables

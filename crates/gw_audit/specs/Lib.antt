@@ -2,7 +2,6 @@ pub mod Line
 pub mod Laws
 pub mod Entry
 pub mod internal
-pub mod Names
 pub mod Moment
 pub mod Told
 pub mod Words

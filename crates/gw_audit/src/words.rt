@@ -9,9 +9,9 @@ ghost use Rattle.gw_audit.specs.Words.{by_other_text, by_text, deed_of, deed_tex
 
 use crate::entry::{Shown, ShownAsk};
 use crate::moment::Moment;
-use crate::names::{object_type_name, property_name, service_name};
 use crate::reading::read_line;
 use gw_addr::{Mac, Source, bip_from_slice, put_decimal, put_octet, put_slice};
+use gw_names::{object_type_name, property_name, service_name};
 use gw_rules::Operation;
 use std::alloc::{AllocError, Global};
 

@@ -1,6 +1,6 @@
 //! The sockets of all ports and the clock, as one wire: whose turn it is, and what a second brings.
 //!
-//! It is over any sockets, clock and waiter, and opens none: those of the system are `gw_shell`'s.
+//! It is over any sockets, clock and waiter, and opens none: those of the system are `gw_system`'s.
 #![tactic(auto)]
 
 pub mod laws;

@@ -11,7 +11,9 @@ use gw_addr::BipAddr;
 use gw_cases::{MemReader, MemWriter, number_behind};
 use gw_configuration::Port;
 use gw_core::{Got, RECEIVE_ROOM, Wire, WireFault};
-use gw_shell::{ConfigFiles, FailedStep, Fault, Host, Reason, SocketFailure, Step, run};
+use gw_shell::{
+    ConfigFiles, FailedStep, Fault, Host, LogFailure, Reason, SocketFailure, Step, run,
+};
 use itoa::Buffer;
 use std::alloc::{AllocError, Global};
 use std::io;
@@ -125,10 +127,10 @@ impl Host for MemHost {
 
     ghost Closes = { λ host sockets log. host.closed ≡ Some (sockets, log) };
 
-    fn open_log(&self, _name: &str) -> Result<MemWriter, Fault> {
+    fn open_log(&self, _name: &str) -> Result<MemWriter, LogFailure> {
         match self.log {
             Some(room) => Ok(MemWriter::with_room(self.alloc, room, true)?),
-            None => Err(Fault::Log),
+            None => Err(LogFailure::Failed),
         }
     }
 

@@ -15,6 +15,12 @@ use Rattle.gw_core.specs.declared.serving.ServeFault.{ServeFault}
 use Rattle.gw_script.specs.declared.flaw.LineFlaw.{LineFlaw}
 use Rattle.gw_script.specs.declared.flaw.LineFlaw.TheVariants as flaw
 use Rattle.gw_core.specs.declared.serving.ServeFault.TheVariants as serving
+use Rattle.gw_system.specs.declared.opening.LogFailure.{LogFailure}
+use Rattle.gw_system.specs.declared.opening.LogFailure.TheVariants as log_failure
+use Rattle.gw_system.specs.declared.opening.OpenFailure.{OpenFailure}
+use Rattle.gw_system.specs.declared.opening.OpenFailure.TheVariants as opening
+use Rattle.gw_system.specs.declared.opening.SocketFailure.{SocketFailure}
+use Rattle.gw_system.specs.declared.opening.SocketFailure.TheVariants as socket_failure
 
 -- the name of a fault of a configuration
 abbrev pub name_of : ConfigFault → List ℕ
@@ -83,6 +89,21 @@ abbrev pub fault_of_serving : ServeFault → Fault
 fault_of_serving serving.Log = fault.Log
 fault_of_serving serving.Memory = fault.Memory
 fault_of_serving serving.CountEnd = fault.CountEnd
+
+-- the fault where the log can't be opened
+abbrev pub fault_of_log : LogFailure → Fault
+fault_of_log log_failure.Memory = fault.Memory
+fault_of_log log_failure.Failed = fault.Log
+
+-- the fault where sockets can't be opened
+abbrev pub fault_of_sockets : SocketFailure → Fault
+fault_of_sockets socket_failure.Memory = fault.Memory
+fault_of_sockets (socket_failure.Failed failed) = fault.Socket failed.port
+
+-- the fault where not all can be opened
+abbrev pub fault_of_opening : OpenFailure → Fault
+fault_of_opening (opening.Log failure) = fault_of_log failure
+fault_of_opening (opening.Sockets failure) = fault_of_sockets failure
 
 -- the outcome of a run, as the program tells it: also what is wrong with a line, where that is known
 abbrev pub outcome_of : Option LineFlaw → Result (Unit {0}) RunFault → Result (Unit {0}) Fault

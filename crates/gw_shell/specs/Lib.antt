@@ -5,11 +5,8 @@ pub mod Configured
 pub mod Ending
 pub mod Files
 pub mod Hidden
-pub mod Host
 pub mod Lines
-pub mod Opening
 pub mod Program
 pub mod Replay
 pub mod Serving
 pub mod Telling
-pub mod Waiting

@@ -16,12 +16,14 @@ use Rattle.gw_core.specs.declared.serving.ServeStop.{ServeStop}
 use Rattle.gw_configuration.specs.Configuration.{Configuration}
 use Rattle.gw_configuration.specs.declared.port.Port.{Port}
 use Rattle.gw_shell.specs.Announcement.{startup_line}
-use Rattle.gw_shell.specs.Ending.{FaultNote, fault_of_serving}
-use Rattle.gw_shell.specs.Host.{LogOpening}
-use Rattle.gw_shell.specs.Opening.{IsNote, fault_of_opening}
-use Rattle.gw_shell.specs.declared.opening.OpenFailure.{OpenFailure}
-use Rattle.gw_shell.specs.declared.opening.OpenFailure.TheVariants as opening
-use Rattle.gw_shell.specs.declared.opening.SocketFailure.{SocketFailure}
+use Rattle.gw_system.specs.Host.{LogOpening}
+use Rattle.gw_system.specs.Opening.{IsNote}
+use Rattle.gw_system.specs.declared.opening.LogFailure.{LogFailure}
+use Rattle.gw_system.specs.declared.opening.LogFailure.TheVariants as log_failure
+use Rattle.gw_system.specs.declared.opening.OpenFailure.{OpenFailure}
+use Rattle.gw_system.specs.declared.opening.OpenFailure.TheVariants as opening
+use Rattle.gw_system.specs.declared.opening.SocketFailure.{SocketFailure}
+use Rattle.gw_shell.specs.Ending.{FaultNote, fault_of_opening, fault_of_serving}
 use Rattle.gw_shell.specs.declared.options.RunOptions.{RunOptions}
 use Rattle.gw_shell.specs.declared.fault.Fault.{Fault}
 use Rattle.gw_shell.specs.declared.fault.Fault.TheVariants as fault
@@ -118,10 +120,10 @@ LogIsOpen LogOpens None held holds None = Keeps held holds
 LogIsOpen LogOpens _ held holds _ = ⊥
 
 -- The log can't be opened. On standard output that is where its buffer can't be flushed.
-abbrev pub LogIsShut : {Log : Type 0} → (LogOpens : LogOpening Log) → (name held holds : Option (List ℕ)) → Fault
+abbrev pub LogIsShut : {Log : Type 0} → (LogOpens : LogOpening Log) → (name held holds : Option (List ℕ)) → LogFailure
     → Type 0
 LogIsShut LogOpens (Some name) held holds f = LogOpens name (Err f) × (holds ≡ held)
-LogIsShut LogOpens None held holds f = (f ≡ fault.Log) × Keeps held holds
+LogIsShut LogOpens None held holds f = (f ≡ log_failure.Failed) × Keeps held holds
 
 -- what the log holds, which is a file or standard output
 abbrev pub log_held : {Log : Type 0} → (Log → Option (List ℕ)) → Option Log → Option (List ℕ) → Option (List ℕ)
@@ -152,7 +154,7 @@ pub record AreOpen {Log Sockets : Type 0} (LogOpens : LogOpening Log)
 abbrev pub ArentOpen : {Log Sockets : Type 0} → LogOpening Log → (Result Sockets SocketFailure → Type 0)
     → (name held holds : Option (List ℕ)) → OpenFailure → Type 0
 ArentOpen LogOpens SocketsOpen name held holds (opening.Log f) =
-    ((f ≡ fault.Memory) × (holds ≡ held)) ⊎ LogIsShut LogOpens name held holds f
+    ((f ≡ log_failure.Memory) × (holds ≡ held)) ⊎ LogIsShut LogOpens name held holds f
 ArentOpen LogOpens SocketsOpen name held holds (opening.Sockets failure) =
     (log : Option _) × LogIsOpen LogOpens name held holds log × SocketsOpen (Err failure)
 

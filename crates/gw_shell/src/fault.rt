@@ -1,13 +1,14 @@
 //! Why the program ends without success, and its exit status.
 
 ghost use Rattle.std.specs.Prelude.{◌≡◌, ◌≢◌};
-ghost use Rattle.gw_shell.specs.Ending.{fault_of, fault_of_configuration, fault_of_serving, name_of, status_of, words_of};
+ghost use Rattle.gw_shell.specs.Ending.{fault_of, fault_of_configuration, fault_of_opening, fault_of_serving, name_of, status_of, words_of};
 ghost use Rattle.gw_shell.specs.Lines.{fault_of_lines};
 ghost use Rattle.gw_shell.specs.declared.fault.Fault.TheVariants.{CommandLine, Memory};
 
 use gw_configuration::ConfigFault;
 use gw_core::{RunFault, ServeFault};
 use gw_script::{LineFlaw, LinesFault};
+use gw_system::{LogFailure, OpenFailure, SocketFailure};
 use std::alloc::AllocError;
 use std::io::ErrorKind;
 
@@ -135,6 +136,19 @@ impl From<ServeFault> for Fault {
             ServeFault::Log => Fault::Log,
             ServeFault::Memory => Fault::Memory,
             ServeFault::CountEnd => Fault::CountEnd,
+        }
+    }
+}
+
+impl From<OpenFailure> for Fault {
+    ghost from_gives = { λ failure fault. fault ≡ fault_of_opening failure };
+
+    fn from(failure: OpenFailure) -> Fault {
+        match failure {
+            OpenFailure::Log(LogFailure::Failed) => Fault::Log,
+            OpenFailure::Log(LogFailure::Memory) => Fault::Memory,
+            OpenFailure::Sockets(SocketFailure::Failed(failed)) => Fault::Socket(failed.port),
+            OpenFailure::Sockets(SocketFailure::Memory) => Fault::Memory,
         }
     }
 }

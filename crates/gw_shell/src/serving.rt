@@ -10,19 +10,18 @@ ghost use Rattle.gw_core.specs.History.{state_after};
 ghost use Rattle.gw_core.specs.Replay.{no_counts};
 ghost use Rattle.gw_core.specs.Serve.{scene};
 ghost use Rattle.gw_shell.specs.Announcement.{startup_line};
-ghost use Rattle.gw_shell.specs.Host.{OpensAtLine};
+ghost use Rattle.gw_system.specs.Host.{OpensAtLine};
 ghost use Rattle.gw_shell.specs.Serving.{AreOpen, ArentOpen, IsFlushedFor, LeavesServed, LogIsOpen, LogIsShut, LogStays, Serves, ServesFrom, ends, log_held, machine, outcome_of, service};
 ghost use Rattle.gw_shell.specs.declared.fault.Fault.TheVariants as fault;
 
 use crate::announcement::startup_line;
 use crate::ending::tell;
 use crate::fault::Fault;
-use crate::host::Host;
-use crate::opening::{OpenFailure, SocketFailure, note_of};
 use crate::options::RunOptions;
 use gw_configuration::Config;
 use gw_core::{Counts, Gateway, ServeStop, Served, Wire, serve, serve_with_reports};
-use gw_script::{OctetSink, write_whole};
+use gw_script::OctetSink;
+use gw_system::{Host, LogFailure, OpenFailure, SocketFailure, note_of, open_at_line};
 use std::alloc::Global;
 use std::io::{BufWriter, Write};
 
@@ -105,27 +104,12 @@ pub fn serve_fresh<S: Wire, L: OctetSink, E: OctetSink>(
     serve_by(alloc, &mut gateway, sockets, log, errors, turns, stats)
 }
 
-/// Opens the log of this name. Where its last line was cut, that gets its line feed, so that the next
-/// one has a line of its own. Faults: `Log`, and `Memory`.
-fn open_at_line<H: Host>(name: &str, host: &H) -> Result<H::Log, Fault>
-    ensures { OpensAtLine (H.LogOpens host.now) (H.LogIsCut host.now) H.Log.held name.now result }
-{
-    let mut log = host.open_log(name)?;
-    if !host.is_cut(name) {
-        return Ok(log);
-    }
-    match write_whole(&mut log, b"\n") {
-        Ok(()) => Ok(log),
-        Err(_) => Err(Fault::Log),
-    }
-}
-
 /// Opens the log: the file of this name, or standard output, whose buffer is flushed.
 fn open_log<H: Host, W: Write + Drop>(
     log: &Option<String>,
     host: &H,
     output: &mut BufWriter<W>,
-) -> Result<Option<H::Log>, Fault>
+) -> Result<Option<H::Log>, LogFailure>
     ensures log { let name = option_map string_bytes log.now in
         let held = writer_contents W.contents output.old in
         let holds = writer_contents W.contents output.new in
@@ -139,7 +123,7 @@ fn open_log<H: Host, W: Write + Drop>(
         Some(name) => Ok(Some(open_at_line(name, host)?)),
         None => match output.flush() {
             Ok(()) => Ok(None),
-            Err(_) => Err(Fault::Log),
+            Err(_) => Err(LogFailure::Failed),
         },
     }
 }
@@ -190,7 +174,7 @@ fn open<H: Host, W: Write + Drop>(
     let line = startup_line(alloc, config, &options.log, options.verbose)?;
     let log = match open_log(&options.log, host, output) {
         Ok(log) => log,
-        Err(fault) => return Err(OpenFailure::Log(fault)),
+        Err(failure) => return Err(OpenFailure::Log(failure)),
     };
     match open_sockets(alloc, config, host) {
         Ok(sockets) => Ok(Opening { line, log, sockets }),
@@ -279,7 +263,7 @@ pub fn serve_ports<H: Host, W: Write + Drop, E: OctetSink>(
         Err(failure) => {
             let note = note_of(alloc, options.verbose, failure);
             tell(&note, errors);
-            Err(failure.fault())
+            Err(Fault::from(failure))
         }
     }
 }

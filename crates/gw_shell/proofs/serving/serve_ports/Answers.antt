@@ -21,7 +21,7 @@ returns-in-Ok-clause-served g c =
 pub returns-in-Err-clause-served : goal.returns-in-Err-clause-served
 returns-in-Err-clause-served g c = (
   c.note_of-note.result.items,
-  shut c.in-Err.failure c.in-Err.ensures.open (ap Err c.fault.ensures) c.note_of-note.ensures,
+  shut c.in-Err.failure c.in-Err.ensures.open (ap Err c.from.ensures) c.note_of-note.ensures,
   λ never. subst (λ (text : List ℕ). Appends (g.E.OctetSink.held c.args.errors.now) (g.E.OctetSink.held c.tell-in-Err.new.errors) text) c.deref-in-Err.ensures.value
       (c.tell-in-Err.ensures.told never),
 )

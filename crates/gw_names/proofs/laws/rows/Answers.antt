@@ -1,0 +1,13 @@
+use Rattle.gw_names.specs.Tables.{object_types, properties, services}
+use Rattle.gw_names.proofs.Rows.{names_rows}
+use Rattle.gw_names.proofs.Whole.{object_types_named, object_types_numbered, properties_named, properties_numbered, services_named, services_numbered}
+use Rattle.gw_names.proofs.laws.rows.Goals as goal
+
+pub returns-clause-object_types : goal.returns-clause-object_types
+returns-clause-object_types c = names_rows object_types object_types_named object_types_numbered
+
+pub returns-clause-properties : goal.returns-clause-properties
+returns-clause-properties c = names_rows properties properties_named properties_numbered
+
+pub returns-clause-services : goal.returns-clause-services
+returns-clause-services c = names_rows services services_named services_numbered

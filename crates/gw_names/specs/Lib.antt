@@ -1,0 +1,4 @@
+pub mod Tables
+pub mod Names
+pub mod Laws
+pub mod internal

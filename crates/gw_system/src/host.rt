@@ -1,0 +1,180 @@
+//! What `run` takes of the machine: a log, and a wire over the sockets of the ports.
+
+ghost use Rattle.std.specs.Prelude.{◌≡◌, ◌≤◌, ℕ, Bool, List, length, ⊤, Result, Option, IfOk, IfErr};
+ghost use Rattle.gw_addr.specs.declared.TheConstants.{MAX_PORTS};
+ghost use Rattle.gw_configuration.specs.declared.port.Port.{Port};
+ghost use Rattle.gw_system.specs.Host.{IsSocketFailure, OpensAtLine};
+ghost use Rattle.gw_system.specs.declared.opening.LogFailure.{LogFailure};
+ghost use Rattle.gw_system.specs.declared.opening.SocketFailure.{SocketFailure};
+
+use crate::opening::{LogFailure, SocketFailure, Step};
+use crate::poll_waiter::PollWaiter;
+use crate::system_clock::SystemClock;
+use crate::udp::{UdpSock, open_pairs};
+use gw_configuration::Port;
+use gw_core::Wire;
+use gw_ports::{Ports, SockPair, TimedPorts, Watch};
+use gw_script::{OctetSink, write_whole};
+use std::alloc::Global;
+use std::fs::File;
+use std::io::{ErrorKind, Read, Seek, SeekFrom};
+use std::net::Net;
+use std::rt::Files;
+use std::time::Clock;
+use std::{fs, io};
+
+/// What `run` takes of a machine.
+pub trait Host {
+    /// A log that can be appended to.
+    type Log: OctetSink + Drop;
+
+    /// A wire over the sockets of some ports.
+    type Sockets: Wire + Drop;
+
+    /// What opening the log of a name may give.
+    ghost LogOpens: { Self → List ℕ → Result Self.Log LogFailure → Type 0 };
+
+    /// Whether the last line of the log of a name may lack its line feed.
+    ghost LogIsCut: { Self → List ℕ → Bool → Type 0 };
+
+    /// What opening the sockets of some ports may give.
+    ghost SocketsOpen: { Self → List Port → Result Self.Sockets SocketFailure → Type 0 };
+
+    /// How the sockets, and the log where one was opened, may have been when they were closed.
+    ghost Closes: { Self → Self.Sockets → Option Self.Log → Type 0 };
+
+    /// Opens the log of this name, to append to it. Faults: `Failed` where the system doesn't, and
+    /// `Memory`.
+    fn open_log(&self, name: &str) -> Result<Self::Log, LogFailure>
+        ensures { LogOpens self.now name.now result };
+
+    /// Whether the log of this name has octets and doesn't end in a line feed, as where a disk was
+    /// full or the power failed. Not where it can't be read.
+    fn is_cut(&self, name: &str) -> bool
+        ensures { LogIsCut self.now name.now result };
+
+    /// Opens the sockets of these ports, from 1 to 8, in their order, of each port that of its own
+    /// address first. Faults: `Failed`, with the port, the step, the address and the reason, where
+    /// the system doesn't open one or can't wait at it; and `Memory`.
+    fn open_sockets(&self, alloc: Global, ports: &[Port]) -> Result<Self::Sockets, SocketFailure>
+        requires least { 1 ≤ length ports.now }
+        requires most { length ports.now ≤ MAX_PORTS }
+        ensures opens { SocketsOpen self.now ports.now result }
+        ensures ports { IfOk result (λ wire. Self.Sockets.port_count wire ≡ length ports.now) }
+        ensures fresh { IfOk result (λ wire. Self.Sockets.failure_count wire ≡ 0) }
+        ensures failure { IfErr result (IsSocketFailure (length ports.now)) };
+
+    /// Closes the sockets and the log.
+    fn close(&mut self, sockets: Self::Sockets, log: Option<Self::Log>)
+        ensures { Closes self.new sockets log };
+}
+
+/// Opens the log of this name. Where its last line was cut, that gets its line feed, so that the next
+/// one has a line of its own. Faults: `Failed`, and `Memory`.
+pub fn open_at_line<H: Host>(name: &str, host: &H) -> Result<H::Log, LogFailure>
+    ensures { OpensAtLine (H.LogOpens host.now) (H.LogIsCut host.now) H.Log.held name.now result }
+{
+    let mut log = host.open_log(name)?;
+    if !host.is_cut(name) {
+        return Ok(log);
+    }
+    match write_whole(&mut log, b"\n") {
+        Ok(()) => Ok(log),
+        Err(_) => Err(LogFailure::Failed),
+    }
+}
+
+/// The last octet of a regular file, an `Err` where it has none or can't be read. A pipe or a terminal is left alone.
+fn last_octet<R: Files>(rt: &R, name: &str) -> io::Result<u8> {
+    if !rt.metadata(name)?.is_file() {
+        return Err(ErrorKind::NotSeekable.into());
+    }
+    read_last(&mut fs::open(rt, name)?)
+}
+
+/// The last octet of what can be read from any place on, an `Err` where there is none.
+fn read_last<F: Read + Seek>(file: &mut F) -> io::Result<u8> {
+    file.seek(SeekFrom::End(-1))?;
+    let mut last = [0];
+    file.read_exact(&mut last)?;
+    Ok(last[0])
+}
+
+/// The machine of the process.
+#[derive(Drop)]
+pub struct SystemHost<'a, R> {
+    /// By what files and sockets are opened, and the clock.
+    pub rt: &'a R,
+}
+
+impl<'a, R: Net + Clock> SystemHost<'a, R> {
+    /// The ports of these sockets, from now on.
+    fn start(
+        &self,
+        alloc: Global,
+        mut pairs: Vec<SockPair<Watch<UdpSock>>>,
+    ) -> io::Result<TimedPorts<UdpSock, SystemClock<'a, R>, PollWaiter>>
+        requires { length pairs.items ≤ MAX_PORTS }
+        ensures ports { IfOk result
+            (λ timed. length timed.ports.pairs ≡ length pairs.items) }
+        ensures fresh { IfOk result (λ timed. timed.ports.failures ≡ 0) }
+    {
+        let waiter = PollWaiter::open(alloc, self.rt, &mut pairs)?;
+        TimedPorts::start(Ports::new(pairs), SystemClock { rt: self.rt }, waiter)
+    }
+}
+
+impl<'a, R: Files + Net + Clock> Host for SystemHost<'a, R> {
+    type Log = R::File;
+
+    type Sockets = TimedPorts<UdpSock, SystemClock<'a, R>, PollWaiter>;
+
+    ghost LogOpens = { λ _ _ _. ⊤ };
+
+    ghost LogIsCut = { λ _ _ _. ⊤ };
+
+    ghost SocketsOpen = { λ _ _ _. ⊤ };
+
+    ghost Closes = { λ _ _ _. ⊤ };
+
+    fn open_log(&self, name: &str) -> Result<R::File, LogFailure> {
+        match File::options()
+            .append(true)
+            .create(true)
+            .open(self.rt, name)
+        {
+            Ok(file) => Ok(file),
+            Err(error) => match error.kind() {
+                ErrorKind::OutOfMemory => Err(LogFailure::Memory),
+                _ => Err(LogFailure::Failed),
+            },
+        }
+    }
+
+    fn is_cut(&self, name: &str) -> bool {
+        match last_octet(self.rt, name) {
+            Ok(octet) => octet != b'\n',
+            Err(_) => false,
+        }
+    }
+
+    fn open_sockets(
+        &self,
+        alloc: Global,
+        ports: &[Port],
+    ) -> Result<TimedPorts<UdpSock, SystemClock<'a, R>, PollWaiter>, SocketFailure> {
+        let pairs = open_pairs(alloc, self.rt, ports)?;
+        match self.start(alloc, pairs) {
+            Ok(timed) => Ok(timed),
+            Err(error) => Err(SocketFailure::at(1, Step::Waiting, ports[0].address, &error)),
+        }
+    }
+
+    fn close(
+        &mut self,
+        _sockets: TimedPorts<UdpSock, SystemClock<'a, R>, PollWaiter>,
+        _log: Option<R::File>,
+    )
+        ensures { self.new ≡ self.old }
+    {}
+}

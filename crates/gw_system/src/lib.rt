@@ -1,0 +1,17 @@
+//! The system that the program runs on: its log, its UDP sockets, its clock, and what waits at the sockets.
+//!
+//! [`Host`] is what `run` takes of a machine; [`SystemHost`] is the machine of the process, whose sockets
+//! and clock are a wire of `gw_ports`.
+#![tactic(auto)]
+
+mod host;
+mod opening;
+mod poll_waiter;
+mod system_clock;
+mod udp;
+
+pub use host::{Host, SystemHost, open_at_line};
+pub use opening::{FailedStep, LogFailure, OpenFailure, Reason, SocketFailure, Step, note_of};
+pub use poll_waiter::PollWaiter;
+pub use system_clock::SystemClock;
+pub use udp::UdpSock;
