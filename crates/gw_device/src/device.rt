@@ -75,8 +75,8 @@ impl Device {
     }
 
     /// What the device gives to an APDU beside what it asks: the answer if there is one, and the
-    /// change that is granted, if there is one. Nothing is changed. Each ask is put to `asker`, in
-    /// order and before any look-up.
+    /// change that is granted, if there is one. Each ask is put to `asker`, in order. Nothing is
+    /// changed.
     ///
     /// # Errors
     ///

@@ -4,6 +4,7 @@
 
 mod access;
 mod answer;
+mod change;
 mod client;
 mod context;
 mod device;
@@ -23,8 +24,9 @@ mod who_is;
 mod write;
 
 pub use answer::{Answer, HEADER_ROOM};
+pub use change::Change;
 pub use client::Client;
 pub use context::Context;
 pub use device::Device;
 pub use reply::Reply;
-pub use served::{Change, Served};
+pub use served::Served;

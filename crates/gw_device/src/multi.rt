@@ -48,12 +48,12 @@ impl Access<'_> {
         out: &mut Limited,
     ) -> Result<(), AllocError>
         ensures octets { (rules : List Rule) → A.StandsFor asker.old rules →
-            let part = property_part rules self.now.objects.now self.now.context.now (object_view of.object)
-            of.property of.index in
+            let part = property_part rules self.now.objects.now self.now.context.now
+            (object_view of.object) of.property of.index in
             OnOk result (out.new ≡ extended out.old part.octets) }
         ensures asks { (rules : List Rule) → A.StandsFor asker.old rules →
-            let part = property_part rules self.now.objects.now self.now.context.now (object_view of.object)
-            of.property of.index in
+            let part = property_part rules self.now.objects.now self.now.context.now
+            (object_view of.object) of.property of.index in
             OnOk result (A.kept asker.new ≡ A.kept asker.old ++ A.kept_of rules part.asks) }
         ensures stays { (rules : List Rule) → A.StandsFor asker.old rules →
             A.StandsFor asker.new rules }
@@ -81,12 +81,12 @@ impl Access<'_> {
         out: &mut Limited,
     ) -> Result<(), AllocError>
         ensures octets { (rules : List Rule) → A.StandsFor asker.old rules →
-            let part = properties_part rules self.now.objects.now self.now.context.now (object_view object)
-            properties.now in
+            let part = properties_part rules self.now.objects.now self.now.context.now
+            (object_view object) properties.now in
             OnOk result (out.new ≡ extended out.old part.octets) }
         ensures asks { (rules : List Rule) → A.StandsFor asker.old rules →
-            let part = properties_part rules self.now.objects.now self.now.context.now (object_view object)
-            properties.now in
+            let part = properties_part rules self.now.objects.now self.now.context.now
+            (object_view object) properties.now in
             OnOk result (A.kept asker.new ≡ A.kept asker.old ++ A.kept_of rules part.asks) }
         ensures stays { (rules : List Rule) → A.StandsFor asker.old rules →
             A.StandsFor asker.new rules }
@@ -114,14 +114,14 @@ impl Access<'_> {
         ensures octets { (rules : List Rule) → A.StandsFor asker.old rules →
             let object = object_view of.object in
             let kind = type_at self.now.objects.now.configured object in
-            let part = members_part rules self.now.objects.now self.now.context.now object of.property
-            set kind in
+            let part = members_part rules self.now.objects.now self.now.context.now
+            object of.property set kind in
             OnOk result (out.new ≡ extended out.old part.octets) }
         ensures asks { (rules : List Rule) → A.StandsFor asker.old rules →
             let object = object_view of.object in
             let kind = type_at self.now.objects.now.configured object in
-            let part = members_part rules self.now.objects.now self.now.context.now object of.property
-            set kind in
+            let part = members_part rules self.now.objects.now self.now.context.now
+            object of.property set kind in
             OnOk result (A.kept asker.new ≡ A.kept asker.old ++ A.kept_of rules part.asks) }
         ensures stays { (rules : List Rule) → A.StandsFor asker.old rules →
             A.StandsFor asker.new rules }
@@ -151,12 +151,12 @@ impl Access<'_> {
         out: &mut Limited,
     ) -> Result<(), AllocError>
         ensures octets { (rules : List Rule) → A.StandsFor asker.old rules →
-            let part = set_part rules self.now.objects.now self.now.context.now (object_view of.object)
-            of.property set in
+            let part = set_part rules self.now.objects.now self.now.context.now
+            (object_view of.object) of.property set in
             OnOk result (out.new ≡ extended out.old part.octets) }
         ensures asks { (rules : List Rule) → A.StandsFor asker.old rules →
-            let part = set_part rules self.now.objects.now self.now.context.now (object_view of.object)
-            of.property set in
+            let part = set_part rules self.now.objects.now self.now.context.now
+            (object_view of.object) of.property set in
             OnOk result (A.kept asker.new ≡ A.kept asker.old ++ A.kept_of rules part.asks) }
         ensures stays { (rules : List Rule) → A.StandsFor asker.old rules →
             A.StandsFor asker.new rules }
@@ -183,12 +183,12 @@ impl Access<'_> {
         out: &mut Limited,
     ) -> Result<(), AllocError>
         ensures octets { (rules : List Rule) → A.StandsFor asker.old rules →
-            let part = named_part rules self.now.objects.now self.now.context.now (object_view of.object)
-            of.property of.index (set_of of.property) in
+            let part = named_part rules self.now.objects.now self.now.context.now
+            (object_view of.object) of.property of.index (set_of of.property) in
             OnOk result (out.new ≡ extended out.old part.octets) }
         ensures asks { (rules : List Rule) → A.StandsFor asker.old rules →
-            let part = named_part rules self.now.objects.now self.now.context.now (object_view of.object)
-            of.property of.index (set_of of.property) in
+            let part = named_part rules self.now.objects.now self.now.context.now
+            (object_view of.object) of.property of.index (set_of of.property) in
             OnOk result (A.kept asker.new ≡ A.kept asker.old ++ A.kept_of rules part.asks) }
         ensures stays { (rules : List Rule) → A.StandsFor asker.old rules →
             A.StandsFor asker.new rules }
@@ -209,11 +209,13 @@ impl Access<'_> {
     ) -> Result<(), AllocError>
         ensures octets { (rules : List Rule) → A.StandsFor asker.old rules →
             let reference = reference_view reference.now in
-            let part = reference_part rules self.now.objects.now self.now.context.now reference ends in
+            let part = reference_part rules self.now.objects.now self.now.context.now
+            reference ends in
             OnOk result (out.new ≡ extended out.old part.octets) }
         ensures asks { (rules : List Rule) → A.StandsFor asker.old rules →
             let reference = reference_view reference.now in
-            let part = reference_part rules self.now.objects.now self.now.context.now reference ends in
+            let part = reference_part rules self.now.objects.now self.now.context.now
+            reference ends in
             OnOk result (A.kept asker.new ≡ A.kept asker.old ++ A.kept_of rules part.asks) }
         ensures stays { (rules : List Rule) → A.StandsFor asker.old rules →
             A.StandsFor asker.new rules }
@@ -241,11 +243,13 @@ impl Access<'_> {
     ) -> Result<(), AllocError>
         ensures octets { (rules : List Rule) → A.StandsFor asker.old rules →
             let references = map reference_view references.now in
-            let part = multi_part rules self.now.objects.now self.now.context.now references in
+            let part = multi_part rules self.now.objects.now self.now.context.now
+            references in
             OnOk result (out.new ≡ extended out.old part.octets) }
         ensures asks { (rules : List Rule) → A.StandsFor asker.old rules →
             let references = map reference_view references.now in
-            let part = multi_part rules self.now.objects.now self.now.context.now references in
+            let part = multi_part rules self.now.objects.now self.now.context.now
+            references in
             OnOk result (A.kept asker.new ≡ A.kept asker.old ++ A.kept_of rules part.asks) }
         ensures stays { (rules : List Rule) → A.StandsFor asker.old rules →
             A.StandsFor asker.new rules }
@@ -266,13 +270,15 @@ impl Access<'_> {
     ) -> Result<Vec<u8>, AllocError>
         ensures apdu { (rules : List Rule) → A.StandsFor asker.old rules →
             let references = map reference_view references.now in
-            let part = multi_part rules self.now.objects.now self.now.context.now references in
+            let part = multi_part rules self.now.objects.now self.now.context.now
+            references in
             let ack = multi_ack header.now.invoke part.octets in
             IfOk result (λ octets.
             octets.items ≡ with_room (fitted header.now self.now.context.now ack)) }
         ensures asks { (rules : List Rule) → A.StandsFor asker.old rules →
             let references = map reference_view references.now in
-            let part = multi_part rules self.now.objects.now self.now.context.now references in
+            let part = multi_part rules self.now.objects.now self.now.context.now
+            references in
             OnOk result (A.kept asker.new ≡ A.kept asker.old ++ A.kept_of rules part.asks) }
         ensures stays { (rules : List Rule) → A.StandsFor asker.old rules →
             A.StandsFor asker.new rules }

@@ -23,8 +23,8 @@ returns-in_err-write-clause-silent c =
     let begun = ap (λ a. a.denied) c.new-turn.ensures.asker ∙ c.new.ensures.denied in
     rw (← c.self.view_is) (λ asks sends. let ok = c.in_err-write.ensures.silent w.rules judge asks sends in absurd cc)
 
-pub returns-then-len-left-clause-count_end : goal.returns-then-len-left-clause-count_end
-returns-then-len-left-clause-count_end c =
+pub returns-then-refusals-left-clause-count_end : goal.returns-then-refusals-left-clause-count_end
+returns-then-refusals-left-clause-count_end c =
     let w : State = record {
       relay = c.self.inside.relay;
       device = c.self.inside.device;
@@ -38,11 +38,11 @@ returns-then-len-left-clause-count_end c =
     let response = c.in_ok-write.ensures.response w.rules judge in
     let r = stands_alone w.rules w.relay w.device received c.new-turn.result c.respond.new.turn c.in_ok-write.write c.new-turn.ensures.sends begun
     c.new-turn.ensures.change response in
-    rw (← c.self.view_is) (λ h. omega (arith, c.if-len-left.true, c.len.ensures, ap (λ (s : State). s.denials) c.self.view_is, c.left.ensures,
-    ap length c.refusals.ensures, ap length r.refusals, counted_for w received))
+    rw (← c.self.view_is) (λ h. omega (arith, c.if-refusals-left.true, ap (λ (s : State). s.denials) c.self.view_is, c.left.ensures,
+    ap length c.refusals-refusals.ensures, ap length r.refusals, counted_for w received))
 
-pub returns-then-len-left-clause-silent : goal.returns-then-len-left-clause-silent
-returns-then-len-left-clause-silent c =
+pub returns-then-refusals-left-clause-silent : goal.returns-then-refusals-left-clause-silent
+returns-then-refusals-left-clause-silent c =
     let w : State = record {
       relay = c.self.inside.relay;
       device = c.self.inside.device;
@@ -56,8 +56,8 @@ returns-then-len-left-clause-silent c =
     let response = c.in_ok-write.ensures.response w.rules judge in
     let r = stands_alone w.rules w.relay w.device received c.new-turn.result c.respond.new.turn c.in_ok-write.write c.new-turn.ensures.sends begun
     c.new-turn.ensures.change response in
-    rw (← c.self.view_is) (λ asks sends. absurd (omega (arith, c.if-len-left.true, c.len.ensures, c.left.ensures,
-    ap length c.refusals.ensures, ap length r.refusals, ap (λ l. length (denied_of w.rules l)) asks)))
+    rw (← c.self.view_is) (λ asks sends. absurd (omega (arith, c.if-refusals-left.true, c.left.ensures,
+    ap length c.refusals-refusals.ensures, ap length r.refusals, ap (λ l. length (denied_of w.rules l)) asks)))
 
 pub returns-in_err-denials-clause-silent : goal.returns-in_err-denials-clause-silent
 returns-in_err-denials-clause-silent c =
@@ -74,7 +74,7 @@ returns-in_err-denials-clause-silent c =
     let response = c.in_ok-write.ensures.response w.rules judge in
     let r = stands_alone w.rules w.relay w.device received c.new-turn.result c.respond.new.turn c.in_ok-write.write c.new-turn.ensures.sends begun
     c.new-turn.ensures.change response in
-    rw (← c.self.view_is) (λ asks sends. let ok = c.in_err-denials.ensures.silent (c.refusals.ensures ∙ r.refusals ∙ ap (denied_of w.rules) asks) in
+    rw (← c.self.view_is) (λ asks sends. let ok = c.in_err-denials.ensures.silent (c.refusals-refusals.ensures ∙ r.refusals ∙ ap (denied_of w.rules) asks) in
     absurd cc)
 
 pub returns-clause-denials : goal.returns-clause-denials
@@ -127,5 +127,5 @@ returns-clause-room c =
     let response = c.in_ok-write.ensures.response w.rules judge in
     let r = stands_alone w.rules w.relay w.device received c.new-turn.result c.respond.new.turn c.in_ok-write.write c.new-turn.ensures.sends begun
     c.new-turn.ensures.change response in
-    rw (← c.self.view_is) (λ is. omega (arith, c.if-len-left.false, c.len.ensures, c.left.ensures, ap (λ (s : State). s.denials) c.self.view_is,
+    rw (← c.self.view_is) (λ is. omega (arith, c.if-refusals-left.false, c.left.ensures, ap (λ (s : State). s.denials) c.self.view_is,
     ap length c.refusals-refusals.ensures, ap length r.refusals, counted_for w received))

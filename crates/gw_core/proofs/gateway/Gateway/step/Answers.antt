@@ -12,8 +12,8 @@ use Rattle.gw_core.proofs.HistoryLemmas.{fault_of_call, moves_on}
 use Rattle.gw_core.proofs.SilenceLemmas.{unchanged}
 use Rattle.gw_core.proofs.gateway.Gateway.step.Goals as goal
 
-pub returns-in_err-denials-clause-count_end : goal.returns-in_err-denials-clause-count_end
-returns-in_err-denials-clause-count_end c =
+pub returns-in_err-sends-clause-count_end : goal.returns-in_err-sends-clause-count_end
+returns-in_err-sends-clause-count_end c =
     let w = c.args.self.now in
     let event = Datagram c.args.port c.args.from c.args.octets.now in
     let received : received_view c.receive-received.result ≡ receive w event =
@@ -22,18 +22,18 @@ returns-in_err-denials-clause-count_end c =
     (c.network_of-device.ensures ∙ ap (λ (s : State). device_network s.device) c.now.view_is) in
     let counted = denials_received w event (received_view c.receive-received.result) received in
     λ h.
-    let same = fault_of_call c.from_residual.result c.in_err-denials.field-0.0 CountEnd c.from_residual.ensures.1 h in
-    passes_end-denials w event _ counted (c.in_err-denials.ensures.count_end (ap Err same))
+    let same = fault_of_call c.from_residual.result c.in_err-sends.field-0.0 CountEnd c.from_residual.ensures.1 h in
+    passes_end-denials w event _ counted (c.in_err-sends.ensures.count_end (ap Err same))
 
-pub returns-in_err-denials-clause-silent : goal.returns-in_err-denials-clause-silent
-returns-in_err-denials-clause-silent c = λ none.
+pub returns-in_err-sends-clause-silent : goal.returns-in_err-sends-clause-silent
+returns-in_err-sends-clause-silent c = λ none.
     let w = c.args.self.now in
     let event = Datagram c.args.port c.args.from c.args.octets.now in
     let received : received_view c.receive-received.result ≡ receive w event =
     received_as w c.ports.result.now c.network_of-device.result c.args.port c.args.from c.args.octets.now _ c.receive-received.ensures
     (c.ports.ensures ∙ ap (λ (s : State). s.relay.links) c.now.view_is)
     (c.network_of-device.ensures ∙ ap (λ (s : State). device_network s.device) c.now.view_is) in
-    let ok = c.in_err-denials.ensures.silent (sym (asks_received w event _ received) ∙ none.0)
+    let ok = c.in_err-sends.ensures.silent (sym (asks_received w event _ received) ∙ none.0)
     (sym (sends_received w event _ received) ∙ none.1) in
     absurd cc
 
@@ -47,14 +47,14 @@ returns-clause-step c =
     (c.network_of-device.ensures ∙ ap (λ (s : State). device_network s.device) c.now.view_is) in
     let counted = denials_received w event (received_view c.receive-received.result) received in
     let ticks : w.ticks + 0 ≤ 2 ^ 63 = subst (λ (s : State). s.ticks + 0 ≤ 2 ^ 63) c.now.view_is (omega (arith, c.now.invariant.ticks)) in
-    let sized = c.len.ensures ∙ ap length c.in_ok-denials.ensures.denials ∙ counted in
+    let sized = c.len.ensures ∙ ap length c.in_ok-sends.ensures.denials ∙ counted in
     record {
-      effects = effects_are _ _ _ _ c.in_ok-denials.ensures.sends c.in_ok-denials.ensures.denials ∙ effects_received w event _ received;
+      effects = effects_are _ _ _ _ c.in_ok-sends.ensures.sends c.in_ok-sends.ensures.denials ∙ effects_received w event _ received;
       state = moves_on w _ c.args.port c.args.from c.args.octets.now
-          (option_map Commit c.in_ok-denials.field-0.change) c.in_ok-denials.field-0.write c.len.result c.in_ok-move_on.ensures.state
-          (move_received w c.args.port c.args.from c.args.octets.now _ c.in_ok-denials.field-0.change received c.in_ok-denials.ensures.change)
-          (c.in_ok-denials.ensures.write ∙ change_received w event _ received) sized;
-      counts = passes_end-within w event _ counted ticks (c.in_ok-denials.ensures.room refl);
+          (option_map Commit c.in_ok-sends.field-0.change) c.in_ok-sends.field-0.write c.len.result c.in_ok-move_on.ensures.state
+          (move_received w c.args.port c.args.from c.args.octets.now _ c.in_ok-sends.field-0.change received c.in_ok-sends.ensures.change)
+          (c.in_ok-sends.ensures.write ∙ change_received w event _ received) sized;
+      counts = passes_end-within w event _ counted ticks (c.in_ok-sends.ensures.room refl);
     }
 
 pub returns-in_err-move_on-clause-silent : goal.returns-in_err-move_on-clause-silent
@@ -65,6 +65,6 @@ returns-in_err-move_on-clause-silent c = λ none.
     received_as w c.ports.result.now c.network_of-device.result c.args.port c.args.from c.args.octets.now _ c.receive-received.ensures
     (c.ports.ensures ∙ ap (λ (s : State). s.relay.links) c.now.view_is)
     (c.network_of-device.ensures ∙ ap (λ (s : State). device_network s.device) c.now.view_is) in
-    let ok = c.in_err-move_on.ensures.no_growth (c.in_ok-denials.ensures.change
+    let ok = c.in_err-move_on.ensures.no_growth (c.in_ok-sends.ensures.change
     ∙ unchanged w.rules w.relay w.device _ (sym (asks_received w event _ received) ∙ none.0)) in
     absurd cc
