@@ -29,6 +29,6 @@ pub use change::Change;
 pub use message::{Message, TableMessage, local_source};
 pub use port::{Port, PortState, link_at};
 pub use relay::Relay;
-pub use response::{RelayResponse, add_refusals};
+pub use response::RelayResponse;
 pub use sends::{Batch, Sends};
 pub use turn::Turn;

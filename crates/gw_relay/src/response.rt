@@ -74,7 +74,7 @@ impl RelayResponse {
 /// Adds refusals after others. An `Err` if there is no memory for the list: it is as before. If
 /// there are none to add, or were none before, it takes no memory.
 #[inline(always)]
-pub fn add_refusals(refusals: &mut Refusals, later: Refusals) -> Result<(), AllocError>
+fn add_refusals(refusals: &mut Refusals, later: Refusals) -> Result<(), AllocError>
     ensures ok { OnOk result (refusals.new ≡ refusals.old ++ later) }
     ensures err { OnErr result (refusals.new ≡ refusals.old) }
     ensures silent { later ≡ [] → IsOk result }
