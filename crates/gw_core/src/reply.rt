@@ -293,8 +293,7 @@ fn add_reply(
         return Ok(());
     };
     if goes_to_all {
-        let spread = message.here.spread(alloc, &octets[FRAME_HEADER..])?;
-        sends.append(spread)
+        message.here.add_spread_in(octets, sends)
     } else {
         let port = message.here.port.number;
         sends.push(Batch::to_one(port, message.link(), octets))

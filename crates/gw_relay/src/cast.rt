@@ -1,6 +1,6 @@
 //! Broadcasts, and whom they are distributed to (Annex J.4, J.5).
 
-ghost use Rattle.std.specs.Prelude.{◌≡◌, ◌++◌, [], false, true, List, map, IfOk, IsOk, OnErr, OnOk, None, ◌+◌, ◌≤◌, length};
+ghost use Rattle.std.specs.Prelude.{◌≡◌, ◌++◌, [], false, true, List, map, IfOk, IsOk, OnErr, OnOk, None, ◌+◌, ◌≤◌, drop, length, vec_len};
 ghost use Rattle.std.specs.List.{list_any};
 ghost use Rattle.std.specs.Option.{option_map_or};
 ghost use Rattle.gw_bdt_fdt.specs.Peers.{is_of, peers};
@@ -282,6 +282,16 @@ impl PortState {
         }
         self.add_spread(Outgoing::copied(alloc, npdu)?, &mut sends)?;
         Ok(sends)
+    }
+
+    /// Adds the sends of a broadcast by the gateway of the NPDU in a buffer, where it has four octets in front of
+    /// it for the header of the frame. The only fault is want of memory; a part may then be added.
+    pub fn add_spread_in(&self, buffer: Vec<u8>, sends: &mut Sends) -> Result<(), AllocError>
+        requires least { 4 ≤ vec_len buffer }
+        requires most { vec_len buffer ≤ 1501 }
+        ensures { OnOk result (sends.new ≡ sends.old ++ spread self.now (drop 4 buffer.items)) }
+    {
+        self.add_spread(Outgoing::in_buffer(buffer), sends)
     }
 
     /// Adds the broadcast of an NPDU by the gateway. The message to peers and foreign devices takes

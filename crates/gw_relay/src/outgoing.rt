@@ -1,6 +1,6 @@
 //! The messages that the gateway sends for an NPDU, each written once, into one buffer.
 
-ghost use Rattle.std.specs.Prelude.{◌≡◌, ◌+◌, ◌≤◌, ◌∷◌, [], length, IfOk};
+ghost use Rattle.std.specs.Prelude.{◌≡◌, ◌+◌, ◌≤◌, ◌∷◌, [], drop, length, vec_len, IfOk};
 ghost use Rattle.gw_bvll.specs.Bvll.{encoding, original_broadcast, original_unicast};
 ghost use Rattle.gw_npdu.specs.Npdu.{view as npdu_view};
 ghost use Rattle.gw_npdu.specs.Numbers.{max_len};
@@ -80,6 +80,15 @@ impl Outgoing {
         let mut octets = buffer(alloc, npdu)?;
         octets.extend_from_slice(npdu)?;
         Ok(Outgoing { octets })
+    }
+
+    /// The NPDU in a buffer, behind its first four octets.
+    pub(crate) fn in_buffer(octets: Vec<u8>) -> Self
+        requires least { 4 ≤ vec_len octets }
+        requires most { vec_len octets ≤ 1501 }
+        ensures { result ≡ drop 4 octets.items }
+    {
+        Outgoing { octets }
     }
 
     /// The octets of the NPDU.
