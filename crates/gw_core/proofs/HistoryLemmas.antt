@@ -1,5 +1,5 @@
 -- A history goes on by one event, and a list of events is history_after one after the other.
-use Rattle.std.proofs.Common.{◌≡◌, ℕ, suc, ◌+◌, ◌-◌, ◌<◌, ◌≤◌, List, [], ◌∷◌, ◌++◌, length, get_or, take, drop, Option, Some, None, true, refl, sym, ap, subst, ◌∙◌, arith, add_assoc, add-zero, append_assoc}
+use Rattle.std.proofs.Common.{◌≡◌, ℕ, suc, ◌+◌, ◌-◌, ◌<◌, ◌≤◌, List, [], ◌∷◌, ◌++◌, length, get_or, take, drop, Option, Some, None, true, refl, sym, ap, ◌∙◌, arith, add_assoc, add-zero, append_assoc}
 use Rattle.std.specs.Prelude.{map, slice_get, IsErrAnd, IsErrOf, Result, Ok, Err}
 use Rattle.gw_core.specs.declared.fault.StepFault.{StepFault}
 use Rattle.std.specs.Option.{option_map}
@@ -13,8 +13,6 @@ use Rattle.gw_script.specs.Event.{Event, Datagram, Tick, event_view}
 use Rattle.gw_configuration.specs.Configuration.{Configuration}
 use Rattle.gw_objects.specs.Objects.{Database, database_of}
 use Rattle.gw_objects.specs.Write.{Write}
-use Rattle.gw_relay.specs.History.{acts_moved, learned_moved}
-use Rattle.gw_relay.specs.History.{Acts as PortActs}
 use Rattle.gw_configuration.specs.declared.port.Port.{Port}
 use Rattle.gw_relay.specs.declared.change.Change.{Change}
 use Rattle.gw_relay.specs.Initial.{initial, links_from}
@@ -23,7 +21,6 @@ use Rattle.gw_relay.proofs.Places.{length_after}
 use Rattle.gw_relay.proofs.Ticks.{after_alike, initial_alike, later_alike}
 use Rattle.gw_relay.specs.State.{Move, Relay, later, link_later, moved, moved_by}
 use Rattle.gw_relay.specs.State as move
-use Rattle.gw_routes.specs.History.{History as Learned}
 use Rattle.gw_core.specs.Denials.{denials_at}
 use Rattle.gw_core.specs.Effects.{change_at, changed, effects_at, move_at, passes_end, relay_change_for, ticks_of}
 use Rattle.gw_core.specs.History.{acts_of, state_after, with_granted, with_move, written, next, IsStateAfter, run_after, run_from, state_from, history_after, StopsAtEnd}

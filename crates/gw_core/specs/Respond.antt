@@ -1,6 +1,5 @@
 -- What the code's steps do about a message, as far as they have come.
 use Rattle.std.specs.Prelude.{◌≡◌, Bool, true, false, ◌&&◌, List, [], ◌++◌, Option, None, if◌then◌else◌}
-use Rattle.std.specs.Option.{option_or}
 use Rattle.gw_bvll.specs.Bvll.{original_unicast}
 use Rattle.gw_bvll.specs.Bvll.{Message as Frame}
 use Rattle.gw_device.specs.Response.{HasPlace}

@@ -98,7 +98,9 @@ impl OwnNetworks<'_> {
     fn is_a_ports(&self, network: u16) -> bool
         ensures { result ≡ list_any (λ link. link.port.network == network) self.now.ports.now }
     {
-        self.ports.iter().any(|link| link.port.network.get() == network)
+        self.ports
+            .iter()
+            .any(|link| link.port.network.get() == network)
     }
 
     /// Whether a source is claimed on one of these networks.

@@ -1,4 +1,4 @@
-use Rattle.std.proofs.Common.{◌∙◌, ap, sym, refl}
+use Rattle.std.proofs.Common.{◌∙◌, ap, sym}
 use Rattle.gw_relay.specs.Manage.{manage_response}
 use Rattle.gw_relay.specs.Message.{message_view}
 use Rattle.gw_relay.specs.Steps.{asks_of, sends_of}

@@ -1,7 +1,5 @@
-use Rattle.std.proofs.Common.{◌≤◌, ℕ, length, map, sym, ap, subst, ◌∙◌, arith}
+use Rattle.std.proofs.Common.{◌≤◌, ℕ, length, sym, ap, subst, ◌∙◌, arith}
 use Rattle.std.specs.Option.{option_map}
-use Rattle.gw_objects.specs.Objects.{defaults_of}
-use Rattle.gw_relay.specs.Initial.{direct_of, routed_of}
 use Rattle.gw_relay.specs.State.{Commit, Relay}
 use Rattle.gw_core.specs.State.{State}
 use Rattle.gw_core.proofs.HistoryLemmas.{length_moved, same_ticks}

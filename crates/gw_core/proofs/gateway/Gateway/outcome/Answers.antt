@@ -1,8 +1,5 @@
-use Rattle.std.proofs.Common.{◌≡◌, ◌∙◌, [], length, sym, ap, subst, arith}
+use Rattle.std.proofs.Common.{◌∙◌, length, ap, arith}
 use Rattle.gw_rules.specs.Authorizer.{denied_of}
-use Rattle.gw_device.specs.Response.{HasPlace}
-use Rattle.gw_core.specs.Asks.{asks_for}
-use Rattle.gw_core.specs.Effects.{change_for, relay_change_for, sends_for}
 use Rattle.gw_core.specs.State.{State}
 use Rattle.gw_core.specs.View.{received_view}
 use Rattle.gw_core.proofs.DenialLemmas.{counted_for, recorded}
@@ -38,8 +35,15 @@ returns-then-refusals-left-clause-count_end c =
     let response = c.in_ok-write.ensures.response w.rules judge in
     let r = stands_alone w.rules w.relay w.device received c.new-turn.result c.respond.new.turn c.in_ok-write.write c.new-turn.ensures.sends begun
     c.new-turn.ensures.change response in
-    rw (← c.self.view_is) (λ h. omega (arith, c.if-refusals-left.true, ap (λ (s : State). s.denials) c.self.view_is, c.left.ensures,
-    ap length c.refusals-refusals.ensures, ap length r.refusals, counted_for w received))
+    rw (← c.self.view_is) (λ h. omega (
+      arith,
+      c.if-refusals-left.true,
+      ap (λ (s : State). s.denials) c.self.view_is,
+      c.left.ensures,
+      ap length c.refusals-refusals.ensures,
+      ap length r.refusals,
+      counted_for w received,
+    ))
 
 pub returns-then-refusals-left-clause-silent : goal.returns-then-refusals-left-clause-silent
 returns-then-refusals-left-clause-silent c =
@@ -56,8 +60,14 @@ returns-then-refusals-left-clause-silent c =
     let response = c.in_ok-write.ensures.response w.rules judge in
     let r = stands_alone w.rules w.relay w.device received c.new-turn.result c.respond.new.turn c.in_ok-write.write c.new-turn.ensures.sends begun
     c.new-turn.ensures.change response in
-    rw (← c.self.view_is) (λ asks sends. absurd (omega (arith, c.if-refusals-left.true, c.left.ensures,
-    ap length c.refusals-refusals.ensures, ap length r.refusals, ap (λ l. length (denied_of w.rules l)) asks)))
+    rw (← c.self.view_is) (λ asks sends. absurd (omega (
+      arith,
+      c.if-refusals-left.true,
+      c.left.ensures,
+      ap length c.refusals-refusals.ensures,
+      ap length r.refusals,
+      ap (λ l. length (denied_of w.rules l)) asks,
+    )))
 
 pub returns-in_err-denials-clause-silent : goal.returns-in_err-denials-clause-silent
 returns-in_err-denials-clause-silent c =
@@ -127,5 +137,12 @@ returns-clause-room c =
     let response = c.in_ok-write.ensures.response w.rules judge in
     let r = stands_alone w.rules w.relay w.device received c.new-turn.result c.respond.new.turn c.in_ok-write.write c.new-turn.ensures.sends begun
     c.new-turn.ensures.change response in
-    rw (← c.self.view_is) (λ is. omega (arith, c.if-refusals-left.false, c.left.ensures, ap (λ (s : State). s.denials) c.self.view_is,
-    ap length c.refusals-refusals.ensures, ap length r.refusals, counted_for w received))
+    rw (← c.self.view_is) (λ is. omega (
+      arith,
+      c.if-refusals-left.false,
+      c.left.ensures,
+      ap (λ (s : State). s.denials) c.self.view_is,
+      ap length c.refusals-refusals.ensures,
+      ap length r.refusals,
+      counted_for w received,
+    ))

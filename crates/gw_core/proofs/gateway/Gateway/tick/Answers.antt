@@ -1,6 +1,6 @@
-use Rattle.std.proofs.Common.{◌≡◌, ◌+◌, ◌^◌, ◌<◌, ◌≤◌, None, Some, true, false, refl, sym, ap, ◌∙◌, arith}
+use Rattle.std.proofs.Common.{◌≡◌, ◌+◌, ◌^◌, ◌<◌, ◌≤◌, true, false, refl, sym, ap, ◌∙◌, arith}
 use Rattle.gw_script.specs.Event.{Tick}
-use Rattle.gw_relay.specs.State.{Relay, later}
+use Rattle.gw_relay.specs.State.{Relay}
 use Rattle.gw_core.specs.Effects.{passes_end}
 use Rattle.gw_core.specs.State.{State}
 use Rattle.gw_core.proofs.EffectLemmas.{effects_at-tick, passes_end-within, passes_end-ticks, no_denials_at_tick}
