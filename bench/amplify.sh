@@ -173,7 +173,7 @@ def broadcasts():
         ("the longest such broadcast", broadcast(to_all("1004" + "00" * 1480))),
         ("Who-Is-Router, unknown network", broadcast("018000" + unknown)),
         ("the same to all networks", broadcast("01A0FFFF00FF00" + unknown)),
-        ("Who-Is-Router to all, naming none", broadcast("01A0FFFF00FF00")),
+        ("Who-Is-Router to all, 512 routes", broadcast("01A0FFFF00FF00")),
     ]
     rows = [Row(name, full, datagram, devices) for name, datagram in spread]
     rows.insert(1, Row("Distribute-Broadcast", full, frame(9, "01001008"), devices, "1 10.1.9.1:47808"))
