@@ -8,8 +8,7 @@ ghost use Rattle.gw_device.specs.internal.Piece.{piece_octets};
 
 use crate::HEADER_ROOM;
 use crate::piece::Piece;
-use gw_addr::put_slice;
-use gw_apdu::{AbortReason, write_abort};
+use crate::short::abort_too_long;
 use gw_objects::ObjectDb;
 use std::alloc::AllocError;
 use std::marker::Model;
@@ -70,6 +69,7 @@ impl Limited {
     }
 
     /// Appends a piece. `AllocError` where memory was refused.
+    #[inline(always)]
     pub fn put(&mut self, objects: &ObjectDb, piece: Piece) -> Result<(), AllocError>
         ensures { OnOk result (self.new ≡ extended self.old (piece_octets objects.now piece)) }
     {
@@ -87,12 +87,9 @@ impl Limited {
         ensures octets { IfOk result (λ octets. octets.items ≡ or_abort invoke self.octets) }
         ensures room { IfOk result (λ octets. 10 ≤ vec_len octets) }
     {
-        let mut octets = self.octets;
         if self.is_over {
-            octets.clear();
-            put_slice(&mut octets, &[0; HEADER_ROOM])?;
-            write_abort(&mut octets, invoke, AbortReason::SEGMENTATION_NOT_SUPPORTED)?;
+            return abort_too_long(self.octets, invoke);
         }
-        Ok(octets)
+        Ok(self.octets)
     }
 }

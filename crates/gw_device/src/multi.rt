@@ -26,6 +26,13 @@ use gw_services::{MultiReq, READ_PROPERTY_MULTIPLE, Reference, list_ends};
 use gw_tags::ObjectId;
 use std::alloc::AllocError;
 
+/// An object, and the ask for one of its properties, of which those for the others are made.
+#[derive(Clone, Copy)]
+struct AskedObject {
+    object: ObjectId,
+    ask: Ask,
+}
+
 impl Access<'_> {
     /// The ask for a property.
     fn multi_ask(&self, object: ObjectId, property: u32) -> Ask
@@ -40,13 +47,16 @@ impl Access<'_> {
         )
     }
 
-    /// Asks for a property, and appends its item.
+    /// Asks for a property by its ask, and appends its item.
     fn put_property<A: Asker>(
         &self,
         of: PropertyReference,
+        ask: &Ask,
         asker: &mut A,
         out: &mut Limited,
     ) -> Result<(), AllocError>
+        requires { ask.now ≡ multi_ask self.now.objects.now self.now.context.now
+            (object_view of.object) of.property }
         ensures octets { (rules : List Rule) → A.StandsFor asker.old rules →
             let part = property_part rules self.now.objects.now self.now.context.now
             (object_view of.object) of.property of.index in
@@ -58,7 +68,7 @@ impl Access<'_> {
         ensures stays { (rules : List Rule) → A.StandsFor asker.old rules →
             A.StandsFor asker.new rules }
     {
-        if asker.authorize(&self.multi_ask(of.object, of.property))? {
+        if asker.authorize(ask)? {
             out.put(self.objects, Piece::Item { of })
         } else {
             out.put(
@@ -75,18 +85,20 @@ impl Access<'_> {
     /// Asks for properties in their order, and appends their items.
     fn put_properties<A: Asker>(
         &self,
-        object: ObjectId,
+        of: &AskedObject,
         properties: &[Property],
         asker: &mut A,
         out: &mut Limited,
     ) -> Result<(), AllocError>
+        requires { of.now.ask ≡ multi_ask self.now.objects.now self.now.context.now
+            (object_view of.now.object) 0 }
         ensures octets { (rules : List Rule) → A.StandsFor asker.old rules →
             let part = properties_part rules self.now.objects.now self.now.context.now
-            (object_view object) properties.now in
+            (object_view of.now.object) properties.now in
             OnOk result (out.new ≡ extended out.old part.octets) }
         ensures asks { (rules : List Rule) → A.StandsFor asker.old rules →
             let part = properties_part rules self.now.objects.now self.now.context.now
-            (object_view object) properties.now in
+            (object_view of.now.object) properties.now in
             OnOk result (A.kept asker.new ≡ A.kept asker.old ++ A.kept_of rules part.asks) }
         ensures stays { (rules : List Rule) → A.StandsFor asker.old rules →
             A.StandsFor asker.new rules }
@@ -94,13 +106,17 @@ impl Access<'_> {
         let Some((first, others)) = properties.split_first() else {
             return Ok(());
         };
-        let of = PropertyReference {
-            object,
+        let member = PropertyReference {
+            object: of.object,
             property: first.number(),
             index: None,
         };
-        self.put_property(of, asker, out)?;
-        self.put_properties(object, others, asker, out)
+        let ask = Ask {
+            property: Some(u64::from(first.number())),
+            ..of.ask
+        };
+        self.put_property(member, &ask, asker, out)?;
+        self.put_properties(of, others, asker, out)
     }
 
     /// Appends the items of a set that is allowed.
@@ -129,7 +145,11 @@ impl Access<'_> {
         match self.objects.find(of.object) {
             Some(kind) => {
                 let properties = ObjectDb::properties(kind, set);
-                self.put_properties(of.object, properties, asker, out)
+                let asked = AskedObject {
+                    object: of.object,
+                    ask: self.multi_ask(of.object, 0),
+                };
+                self.put_properties(&asked, properties, asker, out)
             }
             None => out.put(
                 self.objects,
@@ -195,7 +215,10 @@ impl Access<'_> {
     {
         match set_of(of.property) {
             Some(set) => self.put_set(of, set, asker, out),
-            None => self.put_property(of, asker, out),
+            None => {
+                let ask = self.multi_ask(of.object, of.property);
+                self.put_property(of, &ask, asker, out)
+            }
         }
     }
 

@@ -73,6 +73,7 @@ fn put_item(objects: &ObjectDb, of: PropertyReference, out: &mut Vec<u8>) -> Res
 
 impl Piece {
     /// Appends the piece. `AllocError` where memory was refused; a front of it may then be there.
+    #[inline(always)]
     pub fn put(self, objects: &ObjectDb, out: &mut Vec<u8>) -> Result<(), AllocError>
         ensures octets { OnOk result
             (out.new.items ≡ out.old.items ++ piece_octets objects.now self) }

@@ -2,9 +2,9 @@
 
 ghost use Rattle.std.specs.Prelude.{◌≡◌, ◌+◌, ◌≤◌, ℕ, List, length, nat_le, vec_len, IfOk, OnOk};
 ghost use Rattle.gw_apdu.specs.Answers.{abort, error, reject, simple_ack};
+ghost use Rattle.gw_apdu.specs.Reasons.{segmentation_not_supported};
 ghost use Rattle.gw_device.specs.Response.{fits, fitted, header_room, with_room};
 
-use crate::limited::Limited;
 use crate::{Context, HEADER_ROOM};
 use gw_addr::put_slice;
 use gw_apdu::{
@@ -93,6 +93,19 @@ pub(crate) fn first_room(request: &ConfirmedRequest, context: &Context) -> usize
     most_octets(request, context).min(FIRST_ROOM)
 }
 
+/// An Abort of what is too long, in its buffer. `AllocError` where memory was refused.
+pub(crate) fn abort_too_long(octets: Vec<u8>, invoke: u8) -> Result<Vec<u8>, AllocError>
+    ensures octets { IfOk result (λ octets.
+        octets.items ≡ with_room (abort invoke segmentation_not_supported)) }
+    ensures room { IfOk result (λ octets. 10 ≤ vec_len octets) }
+{
+    let mut octets = octets;
+    octets.clear();
+    put_slice(&mut octets, &[0; HEADER_ROOM])?;
+    write_abort(&mut octets, invoke, AbortReason::SEGMENTATION_NOT_SUPPORTED)?;
+    Ok(octets)
+}
+
 /// A ComplexACK behind the room for headers, or an Abort in its place where it is too long. `AllocError` where memory
 /// was refused.
 pub(crate) fn fit(
@@ -104,7 +117,8 @@ pub(crate) fn fit(
     ensures { (ack : List ℕ) → octets.items ≡ with_room ack → IfOk result (λ octets.
         octets.items ≡ with_room (fitted request.now context.now ack)) }
 {
-    let limited = Limited::new(octets, most_octets(request, context));
-    let octets = limited.finish(request.invoke)?;
-    Ok(octets)
+    if octets.len() - HEADER_ROOM <= most_octets(request, context) {
+        return Ok(octets);
+    }
+    abort_too_long(octets, request.invoke)
 }

@@ -3,10 +3,10 @@
 use gw_cases::{event_lines, made, put_end};
 use gw_configuration::ConfigFault;
 use gw_core::{RunFault, replay_explaining};
-use gw_verdicts::why;
 use gw_policy_text::read_config;
 use gw_script::LineFlaw;
 use gw_shell::words_of;
+use gw_verdicts::why;
 use std::alloc::Global;
 use std::io;
 use std::io::Write;
