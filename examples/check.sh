@@ -424,6 +424,7 @@ explained 'format = 1\nport = []\n[device]\n' Range 'port: a list of 0 must have
 recipe() {
     format=$(grep '^format = ' "$work/rules" || echo 'format = 1')
     { sed "s/^format = .*/$format/" "$here/base.toml"; grep -v '^format = ' "$work/rules"; } > "$work/recipe.toml"
+    [ -e "$work/recipes/$wish" ] || cp "$work/recipe.toml" "$work/recipes/$wish"
     checked "$work/recipe.toml"
     agrees "recipe: $(head -1 "$work/lines")" 0 "$work/out" /dev/null
     note=
@@ -438,14 +439,33 @@ recipe() {
     status=$?
     agrees "recipe: $(head -1 "$work/lines")" 0 "$work/shown" /dev/null
 }
+mkdir "$work/recipes"
 while IFS= read -r line; do
     case $line in
+        '## '[0-9]*'. '*) wish=${line#\#\# } ;;
         '```toml') to=rules; : > "$work/rules" ;;
         '```text') to=lines; : > "$work/lines" ;;
         '```') [ "$to" = lines ] && recipe; to= ;;
         *) [ -n "${to:-}" ] && printf '%s\n' "$line" >> "$work/$to" ;;
     esac
 done < "$here/../docs/policy.md"
+
+# What the policies let through and what they refuse, each by a gateway of its own: a row of attempts.tsv has the policy (a file, or the
+# heading of a recipe), what is tried, the line of a script, and what is printed for it, with ` | ` between its lines.
+while IFS=$'\t' read -r policy what event shown; do
+    file=$here/../$policy
+    [ -e "$file" ] || file=$work/recipes/$policy
+    echo "$event" | "$program" replay --config "$file" > "$work/out" 2> "$work/err"
+    status=$?
+    printf '%s\n' "${shown// | /$'\n'}" > "$work/shown"
+    agrees "$policy: $what" 0 "$work/shown" /dev/null
+    echo "$policy" >> "$work/tried"
+done < "$here/attempts.tsv"
+# Each recipe and each policy that is shipped has three rows at least.
+for policy in dist/site.toml; do
+    [ "$(grep -cxF "${policy#"$work/recipes/"}" "$work/tried")" -ge 3 ]
+    same "attempts at $policy" "$?" 0
+done
 
 checked /dev/zero
 tells "a file without an end" 2 'bacgw: configuration: TooMany'
