@@ -203,10 +203,10 @@ accepts() {
     printf '%s\n' "$2" > "$work/line"
     agrees "$1" 0 "$work/line" /dev/null
 }
-accepts two_subnets.toml 'ok 2 ports 1 objects 3 rules'
-accepts workstation.toml 'ok 1 ports 1 objects 4 rules'
+accepts two_subnets.toml 'ok 2 ports 1 objects 6 rules'
+accepts workstation.toml 'ok 1 ports 1 objects 7 rules'
 accepts plant_room.toml 'ok 1 ports 4 objects 3 rules'
-accepts routed.toml 'ok 2 ports 0 objects 6 rules'
+accepts routed.toml 'ok 2 ports 0 objects 10 rules'
 
 # faulty TEXT NAME: `check` tells this fault of a text, and `replay` tells it before the script
 faulty() {
@@ -242,7 +242,7 @@ bacgw: configuration: NotToml' --config "$work/faulty.toml" --log "$work/log" --
 sed 's/10\.1\.0/127.1.0/; s/10\.2\.0/127.2.0/' "$here/two_subnets.toml" > "$work/loopback.toml"
 echo 'a line of before' > "$work/log"
 ran 0 "bacgw: serving port 1 at 127.1.0.2:47808, broadcast 127.1.0.255:47808; port 2 at 127.2.0.2:47808, broadcast \
-127.2.0.255:47808; device 1234 on network 100 with 1 objects; 3 rules; log to $work/log" --config "$work/loopback.toml" --log "$work/log" \
+127.2.0.255:47808; device 1234 on network 100 with 1 objects; 6 rules; log to $work/log" --config "$work/loopback.toml" --log "$work/log" \
     --turns 2 --verbose
 
 same 'what stood in the log before a run' "$(cat "$work/log"; echo .)" 'a line of before
@@ -349,7 +349,7 @@ same 'each socket of eight ports is heard' "$(cat "$work/out")" '48 of 48 reads 
 for octets in 4000 900000; do
     { cat "$here/two_subnets.toml"; head -c "$octets" /dev/zero | tr '\0' '#'; printf '\n[[rule]]\nname = "last"\nallow = true\n'; } > "$work/long.toml"
     checked "$work/long.toml"
-    echo 'ok 2 ports 1 objects 4 rules' > "$work/line"
+    echo 'ok 2 ports 1 objects 7 rules' > "$work/line"
     agrees "a configuration behind $octets octets" 0 "$work/line" /dev/null
 done
 # The most rules in the most octets, one rule more, and one octet more.
@@ -462,7 +462,7 @@ while IFS=$'\t' read -r policy what event shown; do
     echo "$policy" >> "$work/tried"
 done < "$here/attempts.tsv"
 # Each recipe and each policy that is shipped has three rows at least.
-for policy in dist/site.toml; do
+for policy in dist/site.toml examples/{two_subnets,workstation,plant_room,routed}.toml; do
     [ "$(grep -cxF "${policy#"$work/recipes/"}" "$work/tried")" -ge 3 ]
     same "attempts at $policy" "$?" 0
 done
