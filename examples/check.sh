@@ -462,7 +462,7 @@ while IFS=$'\t' read -r policy what event shown; do
     echo "$policy" >> "$work/tried"
 done < "$here/attempts.tsv"
 # Each recipe and each policy that is shipped has three rows at least.
-for policy in dist/site.toml examples/{two_subnets,workstation,plant_room,routed}.toml; do
+for policy in "$work"/recipes/* dist/site.toml examples/{two_subnets,workstation,plant_room,routed,refusals}.toml; do
     [ "$(grep -cxF "${policy#"$work/recipes/"}" "$work/tried")" -ge 3 ]
     same "attempts at $policy" "$?" 0
 done
