@@ -459,12 +459,14 @@ while IFS=$'\t' read -r policy what event shown; do
     status=$?
     printf '%s\n' "${shown// | /$'\n'}" > "$work/shown"
     agrees "$policy: $what" 0 "$work/shown" /dev/null
-    echo "$policy" >> "$work/tried"
+    case $shown in
+        'deny '* | end) echo "$policy" >> "$work/refused" ;;
+    esac
 done < "$here/attempts.tsv"
-# Each recipe and each policy that is shipped has three rows at least.
-for policy in "$work"/recipes/* dist/site.toml examples/{two_subnets,workstation,plant_room,routed,refusals}.toml; do
-    [ "$(grep -cxF "${policy#"$work/recipes/"}" "$work/tried")" -ge 3 ]
-    same "attempts at $policy" "$?" 0
+# Each recipe and each policy that is shipped refuses three attempts at least.
+for policy in "$work"/recipes/* dist/site.toml examples/{two_subnets,workstation,plant_room,routed,refusals,site/site}.toml; do
+    [ "$(grep -cxF "${policy#"$work/recipes/"}" "$work/refused")" -ge 3 ]
+    same "three attempts that $policy refuses" "$?" 0
 done
 
 checked /dev/zero
