@@ -389,13 +389,14 @@ agrees 'a lint' 0 "$here/lint.out" /dev/null
 status=$?
 agrees 'what cannot be meant' 0 "$here/warnings.out" /dev/null
 
-# unsuspected FILE [NOTE]: a lint finds nothing in a configuration, or this
+# unsuspected FILE [NOTE]: a lint finds nothing in a configuration, or this, and nothing in it can't be meant
 unsuspected() {
     { "$program" check --config "$1" && printf '%s' "${2:+$2
 }"; } < /dev/null > "$work/plain" 2> /dev/null
     "$program" check --config "$1" --lint < /dev/null > "$work/out" 2> "$work/err"
     status=$?
     agrees "the lint of $1" 0 "$work/plain" /dev/null
+    same "the warnings of $1" "$("$program" check --config "$1" --explain | grep -v '^ok \|^object .* is hidden from network ')" ''
 }
 for file in "$here"/*.toml "$here/site/site.toml" "$here/../dist/site.toml"; do
     case ${file##*/} in
