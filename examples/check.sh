@@ -206,7 +206,7 @@ accepts() {
 accepts two_subnets.toml 'ok 2 ports 1 objects 6 rules'
 accepts workstation.toml 'ok 1 ports 1 objects 7 rules'
 accepts plant_room.toml 'ok 1 ports 4 objects 3 rules'
-accepts routed.toml 'ok 2 ports 0 objects 10 rules'
+accepts routed.toml 'ok 2 ports 0 objects 11 rules'
 
 # faulty TEXT NAME: `check` tells this fault of a text, and `replay` tells it before the script
 faulty() {
