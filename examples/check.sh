@@ -203,10 +203,10 @@ accepts() {
     printf '%s\n' "$2" > "$work/line"
     agrees "$1" 0 "$work/line" /dev/null
 }
-accepts two_subnets.toml 'ok 2 ports 1 objects 3 rules'
-accepts workstation.toml 'ok 1 ports 1 objects 4 rules'
+accepts two_subnets.toml 'ok 2 ports 1 objects 6 rules'
+accepts workstation.toml 'ok 1 ports 1 objects 7 rules'
 accepts plant_room.toml 'ok 1 ports 4 objects 3 rules'
-accepts routed.toml 'ok 2 ports 0 objects 6 rules'
+accepts routed.toml 'ok 2 ports 0 objects 11 rules'
 
 # faulty TEXT NAME: `check` tells this fault of a text, and `replay` tells it before the script
 faulty() {
@@ -242,7 +242,7 @@ bacgw: configuration: NotToml' --config "$work/faulty.toml" --log "$work/log" --
 sed 's/10\.1\.0/127.1.0/; s/10\.2\.0/127.2.0/' "$here/two_subnets.toml" > "$work/loopback.toml"
 echo 'a line of before' > "$work/log"
 ran 0 "bacgw: serving port 1 at 127.1.0.2:47808, broadcast 127.1.0.255:47808; port 2 at 127.2.0.2:47808, broadcast \
-127.2.0.255:47808; device 1234 on network 100 with 1 objects; 3 rules; log to $work/log" --config "$work/loopback.toml" --log "$work/log" \
+127.2.0.255:47808; device 1234 on network 100 with 1 objects; 6 rules; log to $work/log" --config "$work/loopback.toml" --log "$work/log" \
     --turns 2 --verbose
 
 same 'what stood in the log before a run' "$(cat "$work/log"; echo .)" 'a line of before
@@ -349,7 +349,7 @@ same 'each socket of eight ports is heard' "$(cat "$work/out")" '48 of 48 reads 
 for octets in 4000 900000; do
     { cat "$here/two_subnets.toml"; head -c "$octets" /dev/zero | tr '\0' '#'; printf '\n[[rule]]\nname = "last"\nallow = true\n'; } > "$work/long.toml"
     checked "$work/long.toml"
-    echo 'ok 2 ports 1 objects 4 rules' > "$work/line"
+    echo 'ok 2 ports 1 objects 7 rules' > "$work/line"
     agrees "a configuration behind $octets octets" 0 "$work/line" /dev/null
 done
 # The most rules in the most octets, one rule more, and one octet more.
@@ -389,13 +389,14 @@ agrees 'a lint' 0 "$here/lint.out" /dev/null
 status=$?
 agrees 'what cannot be meant' 0 "$here/warnings.out" /dev/null
 
-# unsuspected FILE [NOTE]: a lint finds nothing in a configuration, or this
+# unsuspected FILE [NOTE]: a lint finds nothing in a configuration, or this, and nothing in it can't be meant
 unsuspected() {
     { "$program" check --config "$1" && printf '%s' "${2:+$2
 }"; } < /dev/null > "$work/plain" 2> /dev/null
     "$program" check --config "$1" --lint < /dev/null > "$work/out" 2> "$work/err"
     status=$?
     agrees "the lint of $1" 0 "$work/plain" /dev/null
+    same "the warnings of $1" "$("$program" check --config "$1" --explain | grep -v '^ok \|^object .* is hidden from network ')" ''
 }
 for file in "$here"/*.toml "$here/site/site.toml" "$here/../dist/site.toml"; do
     case ${file##*/} in
@@ -424,6 +425,7 @@ explained 'format = 1\nport = []\n[device]\n' Range 'port: a list of 0 must have
 recipe() {
     format=$(grep '^format = ' "$work/rules" || echo 'format = 1')
     { sed "s/^format = .*/$format/" "$here/base.toml"; grep -v '^format = ' "$work/rules"; } > "$work/recipe.toml"
+    [ -e "$work/recipes/$wish" ] || cp "$work/recipe.toml" "$work/recipes/$wish"
     checked "$work/recipe.toml"
     agrees "recipe: $(head -1 "$work/lines")" 0 "$work/out" /dev/null
     note=
@@ -438,14 +440,35 @@ recipe() {
     status=$?
     agrees "recipe: $(head -1 "$work/lines")" 0 "$work/shown" /dev/null
 }
+mkdir "$work/recipes"
 while IFS= read -r line; do
     case $line in
+        '## '[0-9]*'. '*) wish=${line#\#\# } ;;
         '```toml') to=rules; : > "$work/rules" ;;
         '```text') to=lines; : > "$work/lines" ;;
         '```') [ "$to" = lines ] && recipe; to= ;;
         *) [ -n "${to:-}" ] && printf '%s\n' "$line" >> "$work/$to" ;;
     esac
 done < "$here/../docs/policy.md"
+
+# What the policies let through and what they refuse, each by a gateway of its own: a row of attempts.tsv has the policy (a file, or the
+# heading of a recipe), what is tried, the line of a script, and what is printed for it, with ` | ` between its lines.
+while IFS=$'\t' read -r policy what event shown; do
+    file=$here/../$policy
+    [ -e "$file" ] || file=$work/recipes/$policy
+    echo "$event" | "$program" replay --config "$file" > "$work/out" 2> "$work/err"
+    status=$?
+    printf '%s\n' "${shown// | /$'\n'}" > "$work/shown"
+    agrees "$policy: $what" 0 "$work/shown" /dev/null
+    case $shown in
+        'deny '* | end) echo "$policy" >> "$work/refused" ;;
+    esac
+done < "$here/attempts.tsv"
+# Each recipe and each policy that is shipped refuses three attempts at least.
+for policy in "$work"/recipes/* dist/site.toml examples/{two_subnets,workstation,plant_room,routed,refusals,site/site}.toml; do
+    [ "$(grep -cxF "${policy#"$work/recipes/"}" "$work/refused")" -ge 3 ]
+    same "three attempts that $policy refuses" "$?" 0
+done
 
 checked /dev/zero
 tells "a file without an end" 2 'bacgw: configuration: TooMany'
