@@ -5,7 +5,7 @@ use Rattle.std.specs.Option.{option_map_or}
 use Rattle.std.proofs.lemmas.Bool.{and_parts, and_from, false≢true}
 use Rattle.gw_rules.specs.Ask.{Ask}
 use Rattle.gw_rules.specs.declared.field.FieldName.{FieldName}
-use Rattle.gw_rules.specs.declared.field.FieldName.TheVariants.{Operation, Port, SourceNetwork, SourceKey, DestinationNetwork, Service, ObjectType, Instance, Property, Priority}
+use Rattle.gw_rules.specs.declared.field.FieldName.TheVariants.{Operation, Port, SourceNetwork, SourceKey, DestinationNetwork, Service, ObjectType, Instance, Property, Priority, Sender, Station}
 use Rattle.gw_rules.specs.declared.range.Range.{Range}
 use Rattle.gw_rules.specs.declared.rule.Rule.{Rule}
 use Rattle.gw_rules.specs.Fields.{value_of}
@@ -197,7 +197,9 @@ matches_where rule net key any kind instance ask reads some admitted none =
     let m2 = and_parts _ _ some in
     let m1 = and_parts _ _ m2.0 in
     let m0 = and_parts _ _ m1.0 in
-    let n3 = and_parts _ _ none in
+    let n5 = and_parts _ _ none in
+    let n4 = and_parts _ _ n5.0 in
+    let n3 = and_parts _ _ n4.0 in
     let n2 = and_parts _ _ n3.0 in
     let n1 = and_parts _ _ n2.0 in
     let n0 = and_parts _ _ n1.0 in
@@ -213,6 +215,8 @@ matches_where rule net key any kind instance ask reads some admitted none =
       | Instance ↦ ap (admits rule.ranges.instance) reads.instance ∙ m2.1
       | Property ↦ unnamed_admits rule.ranges.property ask.property n2.1
       | Priority ↦ unnamed_admits rule.ranges.priority ask.priority n3.1
+      | Sender ↦ unnamed_admits rule.ranges.sender ask.sender n4.1
+      | Station ↦ unnamed_admits rule.ranges.station ask.station n5.1
     ])
 
 -- a rule that must match matches each ask of the source to read

@@ -4,7 +4,7 @@ use Rattle.std.specs.List.{find, slice_get}
 use Rattle.std.specs.Cmp.Lexicographic.{pointwise, same_text}
 use Rattle.std.proofs.lemmas.Bool.{eqb-true}
 use Rattle.gw_rules.specs.declared.operation.Operation.{Operation}
-use Rattle.gw_rules.specs.declared.operation.Operation.TheVariants.{Cast, Route, Register, Delete, ReadTable, WriteTable, Learn, Network, Read, Write, List as Listing}
+use Rattle.gw_rules.specs.declared.operation.Operation.TheVariants.{Cast, Route, Register, Delete, ReadTable, WriteTable, Learn, Network, Read, Write, List as Listing, Enter, Claim}
 use Rattle.gw_rules.specs.declared.operation.TheConstants.Operation.{ALL}
 use Rattle.gw_rules.specs.Operation.{operation_name, operation_number}
 
@@ -26,10 +26,10 @@ abbrev pub by_number : ℕ → Option Operation
 by_number number = find (λ o. operation_number o == number) ALL
 
 name_is_found : (o : Operation) → by_name (operation_name o) ≡ Some o
-name_is_found o = elim o as (λ o. by_name (operation_name o) ≡ Some o) [ Cast ↦ refl | Route ↦ refl | Register ↦ refl | Delete ↦ refl | ReadTable ↦ refl | WriteTable ↦ refl | Learn ↦ refl | Network ↦ refl | Read ↦ refl | Write ↦ refl | Listing ↦ refl ]
+name_is_found o = elim o as (λ o. by_name (operation_name o) ≡ Some o) [ Cast ↦ refl | Route ↦ refl | Register ↦ refl | Delete ↦ refl | ReadTable ↦ refl | WriteTable ↦ refl | Learn ↦ refl | Network ↦ refl | Read ↦ refl | Write ↦ refl | Listing ↦ refl | Enter ↦ refl | Claim ↦ refl ]
 
 number_is_found : (o : Operation) → by_number (operation_number o) ≡ Some o
-number_is_found o = elim o as (λ o. by_number (operation_number o) ≡ Some o) [ Cast ↦ refl | Route ↦ refl | Register ↦ refl | Delete ↦ refl | ReadTable ↦ refl | WriteTable ↦ refl | Learn ↦ refl | Network ↦ refl | Read ↦ refl | Write ↦ refl | Listing ↦ refl ]
+number_is_found o = elim o as (λ o. by_number (operation_number o) ≡ Some o) [ Cast ↦ refl | Route ↦ refl | Register ↦ refl | Delete ↦ refl | ReadTable ↦ refl | WriteTable ↦ refl | Learn ↦ refl | Network ↦ refl | Read ↦ refl | Write ↦ refl | Listing ↦ refl | Enter ↦ refl | Claim ↦ refl ]
 
 -- a name is found exactly where it is an operation's
 pub name_found : (found : Option Operation) (text : List ℕ) → found ≡ by_name text → (o : Operation) → (found ≡ Some o) ↔ (text ≡ operation_name o)
@@ -55,4 +55,4 @@ one_number a b e = let same : Some a ≡ Some b = sym (number_is_found a) ∙ ap
 
 -- each stands at its place in the list of all
 pub operation_places : (o : Operation) → slice_get ALL (operation_number o - 1) ≡ Some o
-operation_places o = elim o as (λ o. slice_get ALL (operation_number o - 1) ≡ Some o) [ Cast ↦ refl | Route ↦ refl | Register ↦ refl | Delete ↦ refl | ReadTable ↦ refl | WriteTable ↦ refl | Learn ↦ refl | Network ↦ refl | Read ↦ refl | Write ↦ refl | Listing ↦ refl ]
+operation_places o = elim o as (λ o. slice_get ALL (operation_number o - 1) ≡ Some o) [ Cast ↦ refl | Route ↦ refl | Register ↦ refl | Delete ↦ refl | ReadTable ↦ refl | WriteTable ↦ refl | Learn ↦ refl | Network ↦ refl | Read ↦ refl | Write ↦ refl | Listing ↦ refl | Enter ↦ refl | Claim ↦ refl ]

@@ -1,4 +1,4 @@
--- An ask: a number or none for each of the ten fields.
+-- An ask: a number or none for each of the twelve fields.
 use Rattle.std.specs.Prelude.{◌≡◌, ℕ, Option, Some, None}
 use Rattle.gw_rules.specs.declared.fields.Fields.{Fields}
 use Rattle.gw_rules.specs.declared.operation.Operation.{Operation}

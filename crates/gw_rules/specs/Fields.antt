@@ -1,8 +1,8 @@
--- A value for each of the ten fields: the value at a name, and another value there.
+-- A value for each of the twelve fields: the value at a name, and another value there.
 use Rattle.gw_rules.specs.declared.field.FieldName.{FieldName}
 use Rattle.gw_rules.specs.declared.field.FieldName.TheVariants.{Operation, Port, SourceNetwork, SourceKey}
 use Rattle.gw_rules.specs.declared.field.FieldName.TheVariants.{DestinationNetwork, Service, ObjectType, Instance}
-use Rattle.gw_rules.specs.declared.field.FieldName.TheVariants.{Property, Priority}
+use Rattle.gw_rules.specs.declared.field.FieldName.TheVariants.{Property, Priority, Sender, Station}
 use Rattle.gw_rules.specs.declared.fields.Fields.{Fields}
 
 -- the value for a field
@@ -17,6 +17,8 @@ value_of ObjectType fields = fields.object_type
 value_of Instance fields = fields.instance
 value_of Property fields = fields.property
 value_of Priority fields = fields.priority
+value_of Sender fields = fields.sender
+value_of Station fields = fields.station
 
 -- the fields with another value for one of them
 abbrev pub with_value : {A : Type 0} → FieldName → A → Fields A → Fields A
@@ -30,6 +32,8 @@ with_value ObjectType value fields = record fields { object_type = value }
 with_value Instance value fields = record fields { instance = value }
 with_value Property value fields = record fields { property = value }
 with_value Priority value fields = record fields { priority = value }
+with_value Sender value fields = record fields { sender = value }
+with_value Station value fields = record fields { station = value }
 
 -- one value for every field
 abbrev pub in_each : {A : Type 0} → A → Fields A
@@ -44,4 +48,6 @@ in_each value = record {
   instance = value;
   property = value;
   priority = value;
+  sender = value;
+  station = value;
 }

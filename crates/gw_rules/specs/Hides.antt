@@ -50,12 +50,13 @@ may_match_some ask rule =
 abbrev pub may_match : Ask → Rule → Bool
 may_match ask rule = may_match_some ask rule && admits rule.ranges.source_key ask.source_key
 
--- the rule names none of the other five fields
+-- the rule names none of the other seven fields
 abbrev pub names_no_other : Rule → Bool
 names_no_other rule =
     is_unnamed rule.ranges.port && is_unnamed rule.ranges.destination_network
     && is_unnamed rule.ranges.service && is_unnamed rule.ranges.property
-    && is_unnamed rule.ranges.priority
+    && is_unnamed rule.ranges.priority && is_unnamed rule.ranges.sender
+    && is_unnamed rule.ranges.station
 
 -- it must match where it may match and names no other field
 abbrev pub must_match : Ask → Rule → Bool

@@ -5,6 +5,7 @@ pub mod Authorizer
 pub mod Bounds
 pub mod Field
 pub mod Fields
+pub mod Format
 pub mod Hides
 pub mod Keeping
 pub mod Name

@@ -1,9 +1,9 @@
--- The eleven operations, each with its number and its name, which are this project's own.
+-- The thirteen operations, each with its number and its name, which are this project's own.
 use Rattle.std.specs.Prelude.{ℕ, Bool, true, false, List, codes}
 use Rattle.gw_rules.specs.declared.operation.Operation.{Operation}
 use Rattle.gw_rules.specs.declared.operation.Operation.TheVariants.{Cast, Route, Register, Delete, ReadTable}
 use Rattle.gw_rules.specs.declared.operation.Operation.TheVariants.{WriteTable, Learn, Network, Read, Write}
-use Rattle.gw_rules.specs.declared.operation.Operation.TheVariants.{List as Listing}
+use Rattle.gw_rules.specs.declared.operation.Operation.TheVariants.{List as Listing, Enter, Claim}
 
 -- the number under which asks and rules name an operation, and the name that configurations and the log show
 abbrev pub row : Operation → ℕ × List ℕ
@@ -18,6 +18,8 @@ row Network = (8, codes "network")
 row Read = (9, codes "read")
 row Write = (10, codes "write")
 row Listing = (11, codes "list")
+row Enter = (12, codes "enter")
+row Claim = (13, codes "claim")
 
 -- the number of an operation
 abbrev pub operation_number : Operation → ℕ

@@ -7,7 +7,7 @@ use Rattle.gw_rules.specs.declared.field.FieldName.{FieldName}
 use Rattle.gw_rules.specs.declared.field.TheConstants.FieldName.{ALL}
 use Rattle.gw_rules.specs.declared.range.Range.{Range}
 use Rattle.gw_rules.specs.declared.rule.Rule.{Rule}
-use Rattle.gw_rules.specs.declared.rule.TheConstants.{MAX_RANGES}
+use Rattle.gw_rules.specs.declared.rule.TheConstants.{MAX_LONG_RANGES, MAX_RANGES}
 use Rattle.gw_rules.specs.Fields.{in_each, value_of, with_value}
 use Rattle.gw_rules.specs.Range.{admits, is_ordered}
 
@@ -24,7 +24,7 @@ abbrev pub with_range : FieldName → Range → Rule → Rule
 with_range field range rule =
     record rule { ranges = with_value field (ranges_of field rule ++ range ∷ []) rule.ranges }
 
--- each of the ten fields passes the test
+-- each of the twelve fields passes the test
 abbrev pub each_field : (FieldName → Bool) → Bool
 each_field test = list_all test ALL
 
@@ -52,6 +52,13 @@ HasFewRanges rule = (field : FieldName) → length (ranges_of field rule) ≤ MA
 
 abbrev pub has_few_ranges : Rule → Bool
 has_few_ranges rule = each_field (λ field. nat_le (length (ranges_of field rule)) MAX_RANGES)
+
+-- at most 256 ranges for each field, and the test that computes it
+abbrev pub HasLongRanges : Rule → Type 0
+HasLongRanges rule = (field : FieldName) → length (ranges_of field rule) ≤ MAX_LONG_RANGES
+
+abbrev pub has_long_ranges : Rule → Bool
+has_long_ranges rule = each_field (λ field. nat_le (length (ranges_of field rule)) MAX_LONG_RANGES)
 
 -- no range has its low end above its high end, and the test that computes it
 abbrev pub HasOrderedRanges : Rule → Type 0

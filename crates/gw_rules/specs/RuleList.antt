@@ -1,14 +1,16 @@
 -- The first rule that matches, whether the policy allows an ask, and the limits of a rule list.
 use Rattle.std.specs.Prelude.{◌≡◌, ℕ, ◌+◌, ◌-◌, ◌≤◌, ◌<◌, Bool, false, ◌&&◌, if◌then◌else◌, nat_le, IsTrue, List}
 use Rattle.std.specs.Prelude.{length, Option, Some, slice_get, position, All}
-use Rattle.std.specs.List.{list_all}
+use Rattle.std.specs.List.{list_all, sum_by}
 use Rattle.std.specs.Option.{option_map, option_map_or}
 use Rattle.gw_rules.specs.Ask.{Ask}
 use Rattle.gw_rules.specs.declared.decision.Decision.{Decision}
 use Rattle.gw_rules.specs.declared.decision.Decision.TheVariants.{Allow, Deny}
 use Rattle.gw_rules.specs.declared.rule.Rule.{Rule}
-use Rattle.gw_rules.specs.declared.rule_list.TheConstants.{MAX_RULES}
-use Rattle.gw_rules.specs.Rule.{matches, Matches, HasFewRanges, has_few_ranges, HasOrderedRanges, has_ordered_ranges}
+use Rattle.gw_rules.specs.declared.rule_list.TheConstants.{MAX_RANGES_IN_ALL, MAX_RULES}
+use Rattle.gw_rules.specs.declared.field.FieldName.{FieldName}
+use Rattle.gw_rules.specs.Rule.{each_field, matches, Matches, ranges_of, HasFewRanges, has_few_ranges, HasLongRanges, has_long_ranges}
+use Rattle.gw_rules.specs.Rule.{HasOrderedRanges, has_ordered_ranges}
 
 -- the number of the first rule that matches an ask, counted from 1, or none
 unfoldable pub first : List Rule → Ask → Option ℕ
@@ -50,6 +52,16 @@ Allows rules ask = (number : ℕ) × (deciding : IsFirst rules ask number) × Is
 abbrev pub keeps_counts : List Rule → Bool
 keeps_counts rules = nat_le (length rules) MAX_RULES && list_all has_few_ranges rules
 
+-- how many ranges all rules together have for a field
+abbrev pub ranges_in_all : List Rule → FieldName → ℕ
+ranges_in_all rules field = sum_by (λ rule. length (ranges_of field rule)) rules
+
+-- at most 512 rules, each with at most 256 ranges for a field, and 2048 for a field in all
+abbrev pub keeps_long_counts : List Rule → Bool
+keeps_long_counts rules =
+    nat_le (length rules) MAX_RULES
+    && (list_all has_long_ranges rules && each_field (λ field. nat_le (ranges_in_all rules field) MAX_RANGES_IN_ALL))
+
 -- no range has its low end above its high end
 abbrev pub keeps_order : List Rule → Bool
 keeps_order rules = list_all has_ordered_ranges rules
@@ -57,6 +69,12 @@ keeps_order rules = list_all has_ordered_ranges rules
 -- the limits of counts, in words
 abbrev pub KeepsCounts : List Rule → Type 0
 KeepsCounts rules = (length rules ≤ MAX_RULES) × All HasFewRanges rules
+
+-- the same of a long list
+pub record KeepsLongCounts (rules : List Rule) : Type 0 where
+  pub few_rules : length rules ≤ MAX_RULES
+  pub each_rule : All HasLongRanges rules
+  pub in_all : (field : FieldName) → ranges_in_all rules field ≤ MAX_RANGES_IN_ALL
 
 -- the limits of ends, in words
 abbrev pub KeepsOrder : List Rule → Type 0

@@ -5,7 +5,7 @@ ghost use Rattle.gw_rules.specs.Ask.{ask_of};
 use crate::{Fields, Operation};
 
 /// What the gateway is about to do, on whose word and with what, for the policy to judge: a number
-/// for each of the ten fields. A field that the datagram doesn't have is `None`, and no rule that
+/// for each of the twelve fields. A field that the datagram doesn't have is `None`, and no rule that
 /// names it matches then.
 ///
 /// ```text
@@ -29,6 +29,8 @@ impl Ask {
             instance: None,
             property: None,
             priority: None,
+            sender: None,
+            station: None,
         }
     }
 }

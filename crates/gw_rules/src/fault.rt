@@ -8,7 +8,7 @@ use thiserror::Error;
 /// Why a rule or a rule list isn't made.
 #[derive(Clone, Copy, Debug, Error)]
 pub enum RuleFault {
-    /// 1: there are more than 512 rules, or one has more than four ranges for a field.
+    /// 1: there are more than 512 rules, or one has too many ranges for a field, or all together have.
     #[error("too many rules or ranges")]
     TooMany,
     /// 2: the low end of a range is above its high end, or a text is no rule's name.

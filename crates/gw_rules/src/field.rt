@@ -1,9 +1,9 @@
-//! The ten fields by which a rule picks asks.
+//! The twelve fields by which a rule picks asks.
 ghost use Rattle.std.specs.Prelude.{◌≡◌};
-ghost use Rattle.gw_rules.specs.Bounds.{bounds};
+ghost use Rattle.gw_rules.specs.Bounds.{bounds, last_destination, last_operation};
 ghost use Rattle.gw_rules.specs.Field.{field_number};
 
-use crate::Range;
+use crate::{Format, Operation, Range};
 use gw_addr::MAX_PORTS;
 
 /// A field of an ask, and of the rules that look at it. [`Fields`](crate::Fields) says what each is.
@@ -29,11 +29,15 @@ pub enum FieldName {
     Property = 9,
     /// 10: the priority.
     Priority = 10,
+    /// 11: the sender, in format 3 alone.
+    Sender = 11,
+    /// 12: the station, in format 3 alone.
+    Station = 12,
 }
 
 impl FieldName {
-    /// The ten fields in the order of their numbers.
-    pub const ALL: [FieldName; 10] = [
+    /// The twelve fields in the order of their numbers.
+    pub const ALL: [FieldName; 12] = [
         FieldName::Operation,
         FieldName::Port,
         FieldName::SourceNetwork,
@@ -44,32 +48,56 @@ impl FieldName {
         FieldName::Instance,
         FieldName::Property,
         FieldName::Priority,
+        FieldName::Sender,
+        FieldName::Station,
     ];
 
-    /// The number of the field, from 1 to 10.
+    /// The number of the field, from 1 to 12.
     pub fn number(self) -> u64
         ensures { result ≡ field_number self }
     {
         self as u64
     }
 
-    /// The least and the greatest number that the field can have: 1 to 11 of an operation, 1 to 8 of a
-    /// port, 1 to 65534 of a network (clause 6), 48 bits of a source key (Annex J.1.2), 0 to 1031 of a
-    /// service, 10 bits of an object's type and 22 of its instance (clause 20.2.14), 22 bits of a
-    /// property (clause 21), 1 to 16 of a priority (clause 19.2).
-    pub fn bounds(self) -> Range
-        ensures { result ≡ bounds self }
+    /// The least and the greatest number that the field can have in a policy of this format: 1 to 11 of an
+    /// operation, and to 13 in format 3; 1 to 8 of a port; 1 to 65534 of a network (clause 6), and in format
+    /// 3 to 65535 of a destination, which is then all networks; 48 bits of a source key, a sender or a
+    /// station (Annex J.1.2); 0 to 1031 of a service; 10 bits of an object's type and 22 of its instance
+    /// (clause 20.2.14); 22 bits of a property (clause 21); 1 to 16 of a priority (clause 19.2).
+    pub fn bounds(self, format: Format) -> Range
+        ensures { result ≡ bounds format self }
     {
         let (low, high) = match self {
-            FieldName::Operation => (1, 11),
+            FieldName::Operation => (1, last_operation(format)),
             FieldName::Port => (1, MAX_PORTS as u64),
-            FieldName::SourceNetwork | FieldName::DestinationNetwork => (1, 65534),
-            FieldName::SourceKey => (0, 0xFFFF_FFFF_FFFF),
+            FieldName::SourceNetwork => (1, 65534),
+            FieldName::DestinationNetwork => (1, last_destination(format)),
+            FieldName::SourceKey | FieldName::Sender | FieldName::Station => (0, 0xFFFF_FFFF_FFFF),
             FieldName::Service => (0, 1031),
             FieldName::ObjectType => (0, 1023),
             FieldName::Instance | FieldName::Property => (0, 4_194_303),
             FieldName::Priority => (1, 16),
         };
         Range { low, high }
+    }
+}
+
+/// The number of the last operation that a policy of this format can name.
+fn last_operation(format: Format) -> u64
+    ensures { result ≡ last_operation format }
+{
+    match format {
+        Format::One | Format::Two => Operation::List.number(),
+        Format::Three => Operation::Claim.number(),
+    }
+}
+
+/// The greatest destination that a policy of this format can name.
+fn last_destination(format: Format) -> u64
+    ensures { result ≡ last_destination format }
+{
+    match format {
+        Format::One | Format::Two => 65534,
+        Format::Three => 65535,
     }
 }

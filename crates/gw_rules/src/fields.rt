@@ -1,10 +1,10 @@
-//! A value for each of the ten fields.
+//! A value for each of the twelve fields.
 ghost use Rattle.std.specs.Prelude.{◌≡◌};
 ghost use Rattle.gw_rules.specs.Fields.{value_of};
 
 use crate::FieldName;
 
-/// A value for each of the ten fields: an [`Ask`](crate::Ask) has one number or none for each, a
+/// A value for each of the twelve fields: an [`Ask`](crate::Ask) has one number or none for each, a
 /// [`Rule`](crate::Rule) some ranges for each.
 #[derive(Clone, Copy, Drop, PartialEq, Eq)]
 pub struct Fields<T> {
@@ -28,6 +28,10 @@ pub struct Fields<T> {
     pub property: T,
     /// 10: the priority of a write, from 1 to 16 (clause 19).
     pub priority: T,
+    /// 11: the address of the station whose datagram it is, as a source key, in format 3 (Annex J).
+    pub sender: T,
+    /// 12: the address of the one station that it names, as a source key, in format 3 (Annex J).
+    pub station: T,
 }
 
 impl<T> Fields<T> {
@@ -46,6 +50,8 @@ impl<T> Fields<T> {
             FieldName::Instance => &self.instance,
             FieldName::Property => &self.property,
             FieldName::Priority => &self.priority,
+            FieldName::Sender => &self.sender,
+            FieldName::Station => &self.station,
         }
     }
 }

@@ -3,6 +3,7 @@
 ghost use Rattle.std.specs.Prelude.{◌≡◌, ◌↔◌, ◌<◌, ◌-◌, ◌++◌, ℕ, List, [], ◌∷◌, IsTrue, IfSome, All, Option, filter, map, not, slice_get};
 ghost use Rattle.gw_rules.specs.declared.decision.Decision.{Decision};
 ghost use Rattle.gw_rules.specs.declared.field.FieldName.{FieldName};
+ghost use Rattle.gw_rules.specs.declared.format.Format.{Format};
 ghost use Rattle.gw_rules.specs.declared.operation.Operation.{Operation};
 ghost use Rattle.gw_rules.specs.declared.range.Range.{Range};
 ghost use Rattle.gw_rules.specs.declared.refusal.Refusal.{Refusal};
@@ -14,10 +15,13 @@ ghost use Rattle.gw_rules.specs.Bounds.{HasBoundedRanges, are_bounded, bounds};
 ghost use Rattle.gw_rules.specs.Field.{field_number};
 ghost use Rattle.gw_rules.specs.Operation.{operation_name, operation_number};
 ghost use Rattle.gw_rules.specs.Rule.{Matches, matches};
-ghost use Rattle.gw_rules.specs.RuleList.{Allows, IsFirst, IsNumberOf, KeepsCounts, KeepsOrder, allows, decide, first, keeps_counts, keeps_order};
+ghost use Rattle.gw_rules.specs.RuleList.{Allows, IsFirst, IsNumberOf, KeepsCounts, KeepsLongCounts, KeepsOrder, allows, decide, first, keeps_counts, keeps_long_counts, keeps_order};
 ghost use Rattle.gw_rules.specs.Service.{own_number, service_number};
 
-use crate::{Ask, Decision, FieldName, MAX_NAME, MAX_RANGES, MAX_RULES, Operation, Range, Refusal};
+use crate::{
+    Ask, Decision, FieldName, Format, MAX_LONG_RANGES, MAX_NAME, MAX_RANGES, MAX_RANGES_IN_ALL,
+    MAX_RULES, Operation, Range, Refusal,
+};
 
 /// A rule matches an ask exactly where, for every field that the rule names, the ask has that field
 /// and one of the rule's ranges holds its value.
@@ -59,39 +63,51 @@ pub fn refusals()
         denied_of rules (asks ++ more) ≡ denied_of rules asks ++ denied_of rules more }
 {}
 
-/// The limits are 512 rules, four ranges for a field and 32 characters of a name. The tests of a list's limits hold exactly
-/// where there are at most so many, and where no range has its low end above its high end.
+/// The limits are 512 rules and 32 characters of a name; four ranges for a field, or in a long list 256
+/// for a field and 2048 for it in all rules. The tests of a list's limits hold exactly if there are at most
+/// so many, and if no range has its low end above its high end; and a long list may be what another may.
 pub fn limits()
     ensures rules { MAX_RULES ≡ 512 }
     ensures ranges { MAX_RANGES ≡ 4 }
+    ensures long_ranges { MAX_LONG_RANGES ≡ 256 }
+    ensures in_all { MAX_RANGES_IN_ALL ≡ 2048 }
     ensures name { MAX_NAME ≡ 32 }
     ensures counts { (rules : List Rule) → IsTrue (keeps_counts rules) ↔ KeepsCounts rules }
+    ensures long_counts { (rules : List Rule) →
+        IsTrue (keeps_long_counts rules) ↔ KeepsLongCounts rules }
+    ensures short { (rules : List Rule) → KeepsCounts rules → KeepsLongCounts rules }
     ensures order { (rules : List Rule) → IsTrue (keeps_order rules) ↔ KeepsOrder rules }
 {}
 
-/// The bounds of the ten fields, in the order of their numbers. The test of a rule's ranges holds exactly
-/// where each of them lies within the bounds of its field.
+/// The bounds of the twelve fields, in the order of their numbers, in each format. The test of a rule's
+/// ranges holds exactly if each of them lies within the bounds of its field.
 pub fn bounds()
-    ensures lows { map (λ field. (bounds field).low) FieldName.ALL ≡
-        1 ∷ 1 ∷ 1 ∷ 0 ∷ 1 ∷ 0 ∷ 0 ∷ 0 ∷ 0 ∷ 1 ∷ [] }
-    ensures highs { map (λ field. (bounds field).high) FieldName.ALL ≡
-        11 ∷ 8 ∷ 65534 ∷ 281474976710655 ∷ 65534 ∷ 1031 ∷ 1023 ∷ 4194303 ∷ 4194303 ∷ 16 ∷ [] }
-    ensures bounded { (rule : Rule) → IsTrue (are_bounded rule.ranges) ↔ HasBoundedRanges rule }
+    ensures lows { (format : Format) → map (λ field. (bounds format field).low) FieldName.ALL ≡
+        1 ∷ 1 ∷ 1 ∷ 0 ∷ 1 ∷ 0 ∷ 0 ∷ 0 ∷ 0 ∷ 1 ∷ 0 ∷ 0 ∷ [] }
+    ensures one { map (λ field. (bounds Format.One field).high) FieldName.ALL ≡
+        11 ∷ 8 ∷ 65534 ∷ 281474976710655 ∷ 65534 ∷ 1031 ∷ 1023 ∷ 4194303 ∷ 4194303 ∷ 16
+        ∷ 281474976710655 ∷ 281474976710655 ∷ [] }
+    ensures two { (field : FieldName) → bounds Format.Two field ≡ bounds Format.One field }
+    ensures three { map (λ field. (bounds Format.Three field).high) FieldName.ALL ≡
+        13 ∷ 8 ∷ 65534 ∷ 281474976710655 ∷ 65535 ∷ 1031 ∷ 1023 ∷ 4194303 ∷ 4194303 ∷ 16
+        ∷ 281474976710655 ∷ 281474976710655 ∷ [] }
+    ensures bounded { (format : Format) (rule : Rule) →
+        IsTrue (are_bounded format rule.ranges) ↔ HasBoundedRanges format rule }
 {}
 
-/// `FieldName::ALL` has each of the ten fields once, in the order of their numbers.
+/// `FieldName::ALL` has each of the twelve fields once, in the order of their numbers.
 pub fn fields()
     ensures numbers { map field_number FieldName.ALL ≡
-        1 ∷ 2 ∷ 3 ∷ 4 ∷ 5 ∷ 6 ∷ 7 ∷ 8 ∷ 9 ∷ 10 ∷ [] }
+        1 ∷ 2 ∷ 3 ∷ 4 ∷ 5 ∷ 6 ∷ 7 ∷ 8 ∷ 9 ∷ 10 ∷ 11 ∷ 12 ∷ [] }
     ensures places { (field : FieldName) →
         slice_get FieldName.ALL (field_number field - 1) ≡ Some field }
 {}
 
-/// `Operation::ALL` has each of the eleven operations once, in the order of their numbers. No two
+/// `Operation::ALL` has each of the thirteen operations once, in the order of their numbers. No two
 /// share a name or a number.
 pub fn operations()
     ensures all { map operation_number Operation.ALL ≡
-        1 ∷ 2 ∷ 3 ∷ 4 ∷ 5 ∷ 6 ∷ 7 ∷ 8 ∷ 9 ∷ 10 ∷ 11 ∷ [] }
+        1 ∷ 2 ∷ 3 ∷ 4 ∷ 5 ∷ 6 ∷ 7 ∷ 8 ∷ 9 ∷ 10 ∷ 11 ∷ 12 ∷ 13 ∷ [] }
     ensures places { (operation : Operation) →
         slice_get Operation.ALL (operation_number operation - 1) ≡ Some operation }
     ensures names { (a b : Operation) → operation_name a ≡ operation_name b → a ≡ b }

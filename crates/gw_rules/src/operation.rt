@@ -29,11 +29,17 @@ pub enum Operation {
     Write = 10,
     /// 11, `list`: tell that the device or one of its objects is here (clause 16).
     List = 11,
+    /// 12, `enter`: take a datagram from a station that doesn't belong to its port (Annex J), in format 3
+    /// alone.
+    Enter = 12,
+    /// 13, `claim`: take a message that names a source network behind another router (clause 6), in format
+    /// 3 alone.
+    Claim = 13,
 }
 
 impl Operation {
-    /// The eleven operations in the order of their numbers.
-    pub const ALL: [Operation; 11] = [
+    /// The thirteen operations in the order of their numbers.
+    pub const ALL: [Operation; 13] = [
         Operation::Cast,
         Operation::Route,
         Operation::Register,
@@ -45,6 +51,8 @@ impl Operation {
         Operation::Read,
         Operation::Write,
         Operation::List,
+        Operation::Enter,
+        Operation::Claim,
     ];
 
     /// The name under which a configuration and the log show it.
@@ -63,6 +71,8 @@ impl Operation {
             Operation::Read => "read",
             Operation::Write => "write",
             Operation::List => "list",
+            Operation::Enter => "enter",
+            Operation::Claim => "claim",
         }
     }
 
@@ -74,7 +84,7 @@ impl Operation {
         of_name(text)
     }
 
-    /// The number under which asks and rules name it, from 1 to 11.
+    /// The number under which asks and rules name it, from 1 to 13.
     pub fn number(self) -> u64
         ensures { result ≡ operation_number self }
     {

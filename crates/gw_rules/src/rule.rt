@@ -4,14 +4,18 @@ ghost use Rattle.gw_rules.specs.Bounds.{are_bounded};
 ghost use Rattle.gw_rules.specs.Hides.{may_match, may_match_some, must_match, must_match_all, names_no_other, settles};
 ghost use Rattle.gw_rules.specs.Name.{is_name};
 ghost use Rattle.gw_rules.specs.Fields.{in_each, value_of, with_value};
-ghost use Rattle.gw_rules.specs.Rule.{has_few_ranges, has_ordered_ranges, matches, ranges_of, rule_without_fields, with_range};
+ghost use Rattle.gw_rules.specs.Rule.{has_few_ranges, has_long_ranges, has_ordered_ranges, matches, ranges_of, rule_without_fields, with_range};
 
 use crate::ranges::{admit, are_ordered, are_within};
-use crate::{Ask, FieldName, Fields, Range, Ranges, RuleFault, RuleName};
+use crate::{Ask, FieldName, Fields, Format, Range, Ranges, RuleFault, RuleName};
 use std::alloc::{AllocError, Global};
 
-/// How many ranges a rule in a [`RuleList`](crate::RuleList) may have for one field.
+/// How many ranges a rule may have for one field in a list that [`RuleList::new`](crate::RuleList::new)
+/// makes.
 pub const MAX_RANGES: usize = 4;
+
+/// How many it may have in one that [`RuleList::new_long`](crate::RuleList::new_long) makes.
+pub const MAX_LONG_RANGES: usize = 256;
 
 /// A rule. It matches an ask where, for every field that the rule names, the ask has that field and
 /// one of the rule's ranges holds the value. A field with no range isn't named.
@@ -69,13 +73,13 @@ impl Rule {
         self.ranges.get(field)
     }
 
-    /// Whether each range of the rule is within the bounds of its field.
-    pub fn is_bounded(&self) -> bool
-        ensures { result ≡ are_bounded self.now.ranges }
+    /// Whether each range of the rule is within the bounds of its field in this format.
+    pub fn is_bounded(&self, format: Format) -> bool
+        ensures { result ≡ are_bounded format self.now.ranges }
     {
         FieldName::ALL.iter().all(|field| are_within(
             self.ranges(*field).as_slice(),
-            field.bounds(),
+            field.bounds(format),
         ))
     }
 
@@ -98,6 +102,8 @@ impl Rule {
             && admit(ranges.instance.as_slice(), ask.instance)
             && admit(ranges.property.as_slice(), ask.property)
             && admit(ranges.priority.as_slice(), ask.priority)
+            && admit(ranges.sender.as_slice(), ask.sender)
+            && admit(ranges.station.as_slice(), ask.station)
     }
 
     /// Whether the rule may match an ask of some source that has these four fields, whatever else that
@@ -119,7 +125,7 @@ impl Rule {
         self.may_match_some(ask) && admit(self.ranges.source_key.as_slice(), ask.source_key)
     }
 
-    /// Whether the rule names none of the other five fields.
+    /// Whether the rule names none of the other seven fields.
     fn names_no_other(&self) -> bool
         ensures { result ≡ names_no_other self.now }
     {
@@ -129,6 +135,8 @@ impl Rule {
             && ranges.service.as_slice().is_empty()
             && ranges.property.as_slice().is_empty()
             && ranges.priority.as_slice().is_empty()
+            && ranges.sender.as_slice().is_empty()
+            && ranges.station.as_slice().is_empty()
     }
 
     /// Whether the rule settles what asks of a source come to: it allows and may match, or it denies
@@ -165,6 +173,15 @@ impl Rule {
             .all(|field| self.ranges(*field).len() <= MAX_RANGES)
     }
 
+    /// Whether the rule has at most 256 ranges for each field.
+    pub(crate) fn has_long_ranges(&self) -> bool
+        ensures { result ≡ has_long_ranges self.now }
+    {
+        FieldName::ALL
+            .iter()
+            .all(|field| self.ranges(*field).len() <= MAX_LONG_RANGES)
+    }
+
     /// Whether no range of the rule has its low end above its high end.
     pub(crate) fn has_ordered_ranges(&self) -> bool
         ensures { result ≡ has_ordered_ranges self.now }
@@ -190,6 +207,8 @@ fn no_ranges(alloc: Global) -> Fields<Ranges>
         instance: Ranges::new(alloc),
         property: Ranges::new(alloc),
         priority: Ranges::new(alloc),
+        sender: Ranges::new(alloc),
+        station: Ranges::new(alloc),
     }
 }
 
@@ -209,5 +228,7 @@ fn put(ranges: &mut Fields<Ranges>, field: FieldName, range: Range) -> Result<()
         FieldName::Instance => ranges.instance.push(range),
         FieldName::Property => ranges.property.push(range),
         FieldName::Priority => ranges.priority.push(range),
+        FieldName::Sender => ranges.sender.push(range),
+        FieldName::Station => ranges.station.push(range),
     }
 }

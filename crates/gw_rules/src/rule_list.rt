@@ -1,20 +1,24 @@
 //! A policy: rules in order, of which the first that matches an ask decides.
-ghost use Rattle.std.specs.Prelude.{◌≡◌, ◌<◌, ◌↔◌, ◌&&◌, Bool, IsTrue, true, find, List, ℕ, Option, option_copied, IsFalse, IsOk, IfOk, IfSome, IsErrOf, [], false, length, position};
+ghost use Rattle.std.specs.Prelude.{◌≡◌, nat_le, ◌<◌, ◌↔◌, ◌&&◌, Bool, IsTrue, true, find, List, ℕ, Option, option_copied, IsFalse, IsOk, IfOk, IfSome, IsErrOf, [], false, length, position};
 ghost use Rattle.std.specs.List.{list_all};
 ghost use Rattle.gw_rules.specs.declared.rule.Rule.{Rule};
+ghost use Rattle.gw_rules.specs.declared.rule_list.TheConstants.{MAX_RANGES_IN_ALL};
 ghost use Rattle.gw_rules.specs.Hides.{HidesFrom, HidesFromNetwork, IsHidden, hides, may_match, may_match_some, must_match, must_match_all, reading, settles};
-ghost use Rattle.gw_rules.specs.Rule.{has_few_ranges, matches};
-ghost use Rattle.gw_rules.specs.RuleList.{IsNumberOf, KeepsCounts, KeepsOrder, allows, decide, first, keeps_counts, keeps_order};
+ghost use Rattle.gw_rules.specs.Rule.{each_field, has_few_ranges, has_long_ranges, matches};
+ghost use Rattle.gw_rules.specs.RuleList.{IsNumberOf, KeepsLongCounts, KeepsOrder, allows, decide, first, keeps_counts, keeps_long_counts, keeps_order, ranges_in_all};
 
-use crate::{Ask, Decision, Operation, Rule, RuleFault};
+use crate::{Ask, Decision, FieldName, Operation, Rule, RuleFault};
 use std::marker::Model;
 
 /// How many rules a [`RuleList`] may have.
 pub const MAX_RULES: usize = 512;
 
-/// A policy: at most 512 rules in order, each with at most four ranges for a field, none of which
-/// has its low end above its high end. The first rule that matches an ask decides; where none does,
-/// the ask is denied. Contracts see the list of the rules.
+/// How many ranges all rules of a [`RuleList`] together may have for a field.
+pub const MAX_RANGES_IN_ALL: usize = 2048;
+
+/// A policy: at most 512 rules in order, each with at most 256 ranges for a field and all together with
+/// at most 2048 for it, none of which has its low end above its high end. The first rule that matches an
+/// ask decides; if none does, the ask is denied. Contracts see the list of the rules.
 #[derive(Drop)]
 pub struct RuleList {
     rules: Vec<Rule>,
@@ -23,20 +27,20 @@ pub struct RuleList {
 impl Model for RuleList {
     ghost use Rattle.std.specs.Prelude.{◌&&◌, IsTrue, List};
     ghost use Rattle.gw_rules.specs.declared.rule.Rule.{Rule};
-    ghost use Rattle.gw_rules.specs.RuleList.{keeps_counts, keeps_order};
+    ghost use Rattle.gw_rules.specs.RuleList.{keeps_long_counts, keeps_order};
 
     ghost Value = { List Rule };
 
     ghost view = { λ a. a.rules.items };
 
-    ghost invariant = { λ a. IsTrue (keeps_counts a.rules.items && keeps_order a.rules.items) };
+    ghost invariant = { λ a. IsTrue (keeps_long_counts a.rules.items && keeps_order a.rules.items) };
 }
 
 impl RuleList {
     /// The policy of these rules in their order. It takes no memory, so it never answers `Memory`.
     ///
-    /// `TooMany` where there are more than 512 rules, or one has more than four ranges for a field;
-    /// else `Range` where a range's low end is above its high end. The rules are dropped then.
+    /// `TooMany` if there are more than 512 rules, or one has more than four ranges for a field; else
+    /// `Range` if a range's low end is above its high end. The rules are dropped then.
     pub fn new(rules: Vec<Rule>) -> Result<Self, RuleFault>
         ensures list { IfOk result (λ list. list ≡ rules.items) }
         ensures accepted { IsOk result ↔
@@ -54,10 +58,34 @@ impl RuleList {
         Ok(RuleList { rules })
     }
 
+    /// The policy of these rules in their order, with many ranges for a field. It takes no memory, so it
+    /// never answers `Memory`.
+    ///
+    /// `TooMany` if there are more than 512 rules, or one has more than 256 ranges for a field, or all
+    /// together have more than 2048 for one; else `Range` if a range's low end is above its high end. The
+    /// rules are dropped then.
+    pub fn new_long(rules: Vec<Rule>) -> Result<Self, RuleFault>
+        ensures list { IfOk result (λ list. list ≡ rules.items) }
+        ensures accepted { IsOk result ↔
+            IsTrue (keeps_long_counts rules.items && keeps_order rules.items) }
+        ensures too_many { IsErrOf result RuleFault.TooMany ↔
+            IsFalse (keeps_long_counts rules.items) }
+        ensures range { IsErrOf result RuleFault.Range ↔
+            (IsTrue (keeps_long_counts rules.items) × IsFalse (keeps_order rules.items)) }
+    {
+        if !are_few_enough(&rules) {
+            return Err(RuleFault::TooMany);
+        }
+        if !are_ordered(&rules) {
+            return Err(RuleFault::Range);
+        }
+        Ok(RuleList { rules })
+    }
+
     /// The rules in order.
     pub fn rules(&self) -> &[Rule]
         ensures rules { result.now ≡ self.now }
-        ensures counts { KeepsCounts self.now }
+        ensures counts { KeepsLongCounts self.now }
         ensures order { KeepsOrder self.now }
     {
         self.rules.as_slice()
@@ -194,6 +222,41 @@ fn have_few_ranges(rules: &[Rule]) -> bool
     ensures { result ≡ list_all has_few_ranges rules.now }
 {
     rules.iter().all(|rule| rule.has_few_ranges())
+}
+
+/// Whether the rules keep the counts of a list that has many ranges for a field.
+fn are_few_enough(rules: &[Rule]) -> bool
+    ensures { result ≡ keeps_long_counts rules.now }
+{
+    rules.len() <= MAX_RULES && have_long_ranges(rules) && have_few_in_all(rules)
+}
+
+fn have_long_ranges(rules: &[Rule]) -> bool
+    ensures { result ≡ list_all has_long_ranges rules.now }
+{
+    rules.iter().all(|rule| rule.has_long_ranges())
+}
+
+fn have_few_in_all(rules: &[Rule]) -> bool
+    ensures { result ≡ each_field (λ field. nat_le (ranges_in_all rules.now field) MAX_RANGES_IN_ALL) }
+{
+    FieldName::ALL
+        .iter()
+        .all(|field| have_few_for(rules, *field))
+}
+
+/// Whether the rules together have at most 2048 ranges for a field.
+fn have_few_for(rules: &[Rule], field: FieldName) -> bool
+    ensures { result ≡ nat_le (ranges_in_all rules.now field) MAX_RANGES_IN_ALL }
+{
+    let mut left = MAX_RANGES_IN_ALL;
+    for rule in rules {
+        match left.checked_sub(rule.ranges(field).len()) {
+            Some(rest) => left = rest,
+            None => return false,
+        }
+    }
+    true
 }
 
 fn are_ordered(rules: &[Rule]) -> bool
