@@ -256,7 +256,7 @@ fn values_fault(sets: &[Value], shape: Shape, values: &[Value]) -> Option<Config
     match shape {
         Shape::One(_) => None,
         Shape::List { of: _, least, most } => list_fault(sets, shape, least, most, values),
-        Shape::Ranges(_) => list_fault(sets, shape, 1, MAX_RANGES, values),
+        Shape::Ranges(of) => list_fault(sets, Shape::Ranges(of), 1, MAX_RANGES, values),
         Shape::Items(of) => items_fault(sets, of, values),
     }
 }

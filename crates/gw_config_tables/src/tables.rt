@@ -373,8 +373,11 @@ pub fn rule_located<'a>(
         Format::Three => {
             located_beside(sets, Place::Rule(rule), &rule_fields_with_stations(), table)
         }
-        Format::One | Format::Two => {
-            located_beside(sets, Place::Rule(rule), &rule_fields(format), table)
+        Format::Two => {
+            located_beside(sets, Place::Rule(rule), &rule_fields(Format::Two), table)
+        }
+        Format::One => {
+            located_beside(sets, Place::Rule(rule), &rule_fields(Format::One), table)
         }
     }
 }
