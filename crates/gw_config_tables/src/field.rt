@@ -91,12 +91,7 @@ impl Field {
 }
 
 /// The position of the first item with this fault in the list that a value is.
-fn item_of(
-    sets: &[Value],
-    fault: ConfigFault,
-    shape: Shape,
-    value: Option<&Value>,
-) -> Option<usize>
+fn item_of(sets: &[Value], fault: ConfigFault, shape: Shape, value: Option<&Value>) -> Option<usize>
     ensures { result ≡ item_of (map view sets.now) fault shape (option_map (λ v. view v.now) value.entry) }
 {
     match value::list(value?) {
@@ -106,12 +101,7 @@ fn item_of(
 }
 
 #[tactic(auto, using(crate::proofs::Values::position_view))]
-fn item_with(
-    sets: &[Value],
-    fault: ConfigFault,
-    shape: Shape,
-    items: &[Value],
-) -> Option<usize>
+fn item_with(sets: &[Value], fault: ConfigFault, shape: Shape, items: &[Value]) -> Option<usize>
     ensures { result ≡ item_with (map view sets.now) fault shape (map view items.now) }
 {
     match fault {

@@ -7,7 +7,7 @@ use Rattle.gw_config_tables.proofs.items.put_spans.Goals as goal
 pub returns-in_err-span-clause-ranges : goal.returns-in_err-span-clause-ranges
 returns-in_err-span-clause-ranges c =
     let stopped : behind c.args.all.now (spans_in c.args.of (map view c.args.items.now)) ≡ Err c.in_err-span.field-0.0 =
-        spans_stop _ _ _ _ _ _ _ _ c.have_span_kind.ensures c.if-have_span_kind.false c.loop-item-test.true c.item-item.is c.in_err-span.ensures.range c.loop-item.invariant.put in
+    spans_stop _ _ _ _ _ _ _ _ c.have_span_kind.ensures c.if-have_span_kind.false c.loop-item-test.true c.item-item.is c.in_err-span.ensures.range c.loop-item.invariant.put in
     search rules
 
 pub returns-clause-ranges : goal.returns-clause-ranges
