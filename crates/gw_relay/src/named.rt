@@ -116,7 +116,7 @@ fn are_references(left: u8, current: Option<ObjectId>, octets: &[u8]) -> bool
 }
 
 /// Puts one ask, and answers whether it is allowed.
-fn authorize_one<A: Asker>(asker: &mut A, ask: &Ask) -> Result<bool, AllocError>
+pub(crate) fn authorize_one<A: Asker>(asker: &mut A, ask: &Ask) -> Result<bool, AllocError>
     ensures asked { (rules : List Rule) → A.StandsFor asker.old rules →
         IfOk result (AreAsked A.kept A.kept_of rules (ask.now ∷ []) asker.old asker.new) }
     ensures stays { (rules : List Rule) → A.StandsFor asker.old rules →
