@@ -22,19 +22,7 @@ use Rattle.gw_audit.specs.internal.Reading.{◌>>=◌, ask_at, ask_of_parts, beh
 use Rattle.gw_audit.proofs.Fields.{IsSmall, colon, comma, digits_lack, field_lacks, operation_spaceless, space}
 use Rattle.gw_audit.proofs.LineLemmas.{step}
 use Rattle.gw_audit.proofs.MacLemmas.{mac_again, mac_takes}
-use Rattle.gw_audit.proofs.ReadingLemmas.{pair, field_again, field_takes, first_is, number_again, number_takes, operation_again, other_character, operation_takes, parted_again, parted_takes, place_first, same_as_itself, second_is, some_is}
-
--- ---- steps
-
--- what came of a step that gave something
-pub record Step {A B : Type 0} (r : Option A) (f : A → Option B) (y : B) : Type 0 where
-  pub value : A
-  pub gave : r ≡ Some value
-  pub goes_on : f value ≡ Some y
-
-pub step_of : {A B : Type 0} (r : Option A) (f : A → Option B) (y : B) → (r >>= f) ≡ Some y → Step r f y
-step_of (Some x) f y e = record { value = x; gave = refl; goes_on = e }
-step_of None f y e = absurd cc
+use Rattle.gw_audit.proofs.ReadingLemmas.{pair, field_again, field_takes, first_is, number_again, number_takes, operation_again, other_character, operation_takes, step_of, parted_again, parted_takes, place_first, same_as_itself, second_is, some_is}
 
 -- ---- a word up to a character
 

@@ -9,7 +9,7 @@ ghost use Rattle.gw_rules.specs.Operation.{operation_name};
 ghost use Rattle.gw_audit.specs.declared.denial.Denial.{Denial};
 ghost use Rattle.gw_audit.specs.Entry.{IsLineOf, IsShowable, TellsAsk, denial_of};
 ghost use Rattle.gw_audit.specs.Laws.{AreShownAlike};
-ghost use Rattle.gw_audit.specs.internal.Reading.{Gives, ask_as, ask_at, ask_in, behind, field_in, field_to, is_lower, key_in, key_to, labelled_to, line_as, line_in, long_key, long_key_in, mac_in, mac_to, name_of, named_number, named_stations, net_of, number_in, number_to, operation_in, operation_to, other_number, parted_at, port_at, port_of, priority_at, request_at, rule_at, source_at, station_in, station_key, stations_in, target_at, told_by, with_stations, word_at};
+ghost use Rattle.gw_audit.specs.internal.Reading.{Gives, ask_at, ask_in, behind, field_in, field_to, is_lower, key_in, key_to, labelled_to, line_in, long_key, long_key_in, mac_in, mac_to, name_of, named_number, named_stations, net_of, number_in, number_to, operation_in, other_number, parted_at, port_at, port_of, priority_at, request_at, rule_at, source_at, station_in, station_key, stations_in, target_at, told_by, whole_ask, word_at};
 
 use crate::entry::{Shown, ShownAsk, Stations};
 use crate::text::{KEYS, operation_named};
@@ -63,40 +63,37 @@ fn ask_told(line: &[u8]) -> Option<ShownAsk>
     }
 }
 
-/// What a whole line shows. It names stations or none, and is of one form only.
+/// What a whole line shows.
 fn line_in(text: &[u8]) -> Option<Shown<'_>>
     ensures { Gives denial_of result (line_in text.now) }
 {
-    match line_as(false, text) {
-        Some(shown) => Some(shown),
-        None => line_as(true, text),
-    }
-}
-
-/// What a whole line of this form shows.
-fn line_as(has_sender: bool, text: &[u8]) -> Option<Shown<'_>>
-    ensures { Gives denial_of result (line_as has_sender text.now) }
-{
     let (number, rest) = number_to(b' ', text)?;
     let (tick, rest) = number_to(b' ', rest)?;
-    let Some((ask, rest)) = ask_at(has_sender, rest) else {
+    let Some((ask, operation, rest)) = ask_at(rest) else {
         return None;
     };
     let (rule, rest) = rule_at(rest)?;
-    let stations = stations_in(has_sender, rest)?;
+    let ask = whole_ask(ask, operation, rest)?;
     Some(Shown {
         number,
         tick,
-        ask: with_stations(ask, stations),
+        ask,
         rule,
     })
 }
 
-/// The ask, with these stations.
-fn with_stations(ask: ShownAsk, stations: Option<Stations>) -> ShownAsk
-    ensures { result ≡ with_stations ask stations }
+/// The ask with its operation and the stations at the line's end. Which operations have names hangs on
+/// whether there are stations.
+fn whole_ask(ask: ShownAsk, operation: &[u8], end: &[u8]) -> Option<ShownAsk>
+    ensures { result ≡ whole_ask ask operation.now end.now }
 {
-    ShownAsk { stations, ..ask }
+    let stations = stations_in(end)?;
+    let operation = operation_in(stations.is_some(), operation)?;
+    Some(ShownAsk {
+        operation,
+        stations,
+        ..ask
+    })
 }
 
 /// The name of a rule behind its label, up to the next space, and what stands from there on.
@@ -109,14 +106,17 @@ fn rule_at(text: &[u8]) -> Option<(&str, &[u8])>
     Some((name, rest))
 }
 
-/// The stations at the end of a line of this form.
-fn stations_in(has_sender: bool, text: &[u8]) -> Option<Option<Stations>>
-    ensures { result ≡ stations_in has_sender text.now }
+/// The stations at the end of a line, which may name none.
+fn stations_in(text: &[u8]) -> Option<Option<Stations>>
+    ensures { result ≡ stations_in text.now }
 {
-    if has_sender {
-        return Some(Some(named_stations(text)?));
+    if text.is_empty() {
+        return Some(None);
     }
-    if text.is_empty() { Some(None) } else { None }
+    match named_stations(text) {
+        Some(stations) => Some(Some(stations)),
+        None => None,
+    }
 }
 
 /// The sender, and the station that the message is for, to the end of the line.
@@ -192,42 +192,32 @@ fn name_of(text: &[u8]) -> Option<&str>
     }
 }
 
-/// The ask of eight words, and the stations behind them where it names them. It is of one form only.
+/// The ask of eight words and of the stations behind them, with nothing more.
 fn ask_in(text: &[u8]) -> Option<ShownAsk>
     ensures { result ≡ ask_in text.now }
 {
-    match ask_as(false, text) {
-        Some(ask) => Some(ask),
-        None => ask_as(true, text),
-    }
-}
-
-/// The ask of words of this form, with nothing behind them.
-fn ask_as(has_sender: bool, text: &[u8]) -> Option<ShownAsk>
-    ensures { result ≡ ask_as has_sender text.now }
-{
-    let Some((ask, rest)) = ask_at(has_sender, text) else {
+    let Some((ask, operation, rest)) = ask_at(text) else {
         return None;
     };
-    let stations = stations_in(has_sender, rest)?;
-    Some(with_stations(ask, stations))
+    whole_ask(ask, operation, rest)
 }
 
-/// The ask of eight words, without its stations, and what stands behind them.
-fn ask_at(has_sender: bool, text: &[u8]) -> Option<(ShownAsk, &[u8])>
-    ensures { Gives (λ x. (x.0, x.1.now)) result (ask_at has_sender text.now) }
+/// The ask of eight words but for its operation, the word of that, and what stands behind the eight.
+fn ask_at(text: &[u8]) -> Option<(ShownAsk, &[u8], &[u8])>
+    ensures { Gives (λ x. (x.0, x.1.now, x.2.now)) result (ask_at text.now) }
 {
     let (port, rest) = port_at(text)?;
     let Some((source, rest)) = source_at(rest) else {
         return None;
     };
-    let (request, rest) = request_at(has_sender, rest)?;
+    let (operation, rest) = parted_at(b' ', rest)?;
+    let (request, rest) = request_at(rest)?;
     let (target, rest) = target_at(rest)?;
     let (priority, rest) = priority_at(rest)?;
     let ask = ShownAsk {
         port,
         source,
-        operation: request.operation,
+        operation: None,
         destination_network: request.destination_network,
         service: request.service,
         object_type: target.object_type,
@@ -236,7 +226,7 @@ fn ask_at(has_sender: bool, text: &[u8]) -> Option<(ShownAsk, &[u8])>
         priority,
         stations: None,
     };
-    Some((ask, rest))
+    Some((ask, operation, rest))
 }
 
 /// A port, and what stands behind its space.
@@ -275,23 +265,20 @@ fn net_of(number: u64) -> Option<NetNum>
     NetNum::new(number)
 }
 
-/// What is asked for, and to which network.
+/// By which service it is asked, and to which network.
 #[derive(Clone, Copy)]
 struct Request {
-    operation: Option<u64>,
     destination_network: Option<u64>,
     service: Option<u64>,
 }
 
-/// What is asked for, and what stands behind its space.
-fn request_at(has_sender: bool, text: &[u8]) -> Option<(Request, &[u8])>
-    ensures { Gives (λ x. (x.0, x.1.now)) result (request_at has_sender text.now) }
+/// By which service it is asked and to which network, and what stands behind its space.
+fn request_at(text: &[u8]) -> Option<(Request, &[u8])>
+    ensures { Gives (λ x. (x.0, x.1.now)) result (request_at text.now) }
 {
-    let (operation, rest) = operation_to(has_sender, text)?;
-    let (destination_network, rest) = labelled_to(b"dst=", b' ', rest)?;
+    let (destination_network, rest) = labelled_to(b"dst=", b' ', text)?;
     let (service, rest) = labelled_to(b"svc=", b' ', rest)?;
     let request = Request {
-        operation,
         destination_network,
         service,
     };
@@ -365,15 +352,6 @@ fn number_to(end: u8, text: &[u8]) -> Option<(u64, &[u8])>
     let (word, rest) = parted_at(end, text)?;
     let number = number_in(word)?;
     Some((number, rest))
-}
-
-/// An operation, and what stands behind its space.
-fn operation_to(has_sender: bool, text: &[u8]) -> Option<(Option<u64>, &[u8])>
-    ensures { Gives (λ x. (x.0, x.1.now)) result (operation_to has_sender text.now) }
-{
-    let (word, rest) = parted_at(b' ', text)?;
-    let operation = operation_in(has_sender, word)?;
-    Some((operation, rest))
 }
 
 /// A station's octets, and what stands behind the character at their end.

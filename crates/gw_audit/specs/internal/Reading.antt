@@ -1,5 +1,5 @@
 -- What is read of a line, piece by piece from its front.
-use Rattle.std.specs.Prelude.{◌≡◌, ℕ, ◌+◌, ◌^◌, ◌==◌, ◌&&◌, Bool, true, false, nat_eq, nat_le, nat_lt, is_some, if◌then◌else◌, List}
+use Rattle.std.specs.Prelude.{◌≡◌, ℕ, ◌+◌, ◌^◌, ◌==◌, ◌&&◌, Bool, nat_eq, nat_le, nat_lt, is_some, if◌then◌else◌, List}
 use Rattle.std.specs.Prelude.{length, take, drop, find, position, codes, Option, Some, None, Result, Ok, Err}
 use Rattle.std.specs.Cmp.Lexicographic.{pointwise}
 use Rattle.std.specs.Fmt.{decimal}
@@ -132,9 +132,6 @@ number_to c text = up_to number_in c text
 abbrev pub field_to : ℕ → List ℕ → Option (Option ℕ × List ℕ)
 field_to c text = up_to field_in c text
 
-abbrev pub operation_to : Bool → List ℕ → Option (Option ℕ × List ℕ)
-operation_to has_sender text = up_to (operation_in has_sender) 32 text
-
 abbrev pub key_to : ℕ → List ℕ → Option (ℕ × List ℕ)
 key_to c text = up_to key_in c text
 
@@ -160,13 +157,12 @@ source_at text = do
   mac ← mac_to 32 number.1
   Some (record { net = net; mac = mac.0 }, mac.1)
 
--- `<operation> dst=<n> svc=<n> `
-abbrev pub request_at : Bool → List ℕ → Option (Request × List ℕ)
-request_at has_sender text = do
-  operation ← operation_to has_sender text
-  destination ← labelled_to (codes "dst=") 32 operation.1
+-- `dst=<n> svc=<n> `
+abbrev pub request_at : List ℕ → Option (Request × List ℕ)
+request_at text = do
+  destination ← labelled_to (codes "dst=") 32 text
   service ← labelled_to (codes "svc=") 32 destination.1
-  Some (record { operation = operation.0; destination_network = destination.0; service = service.0 }, service.1)
+  Some (record { destination_network = destination.0; service = service.0 }, service.1)
 
 -- `obj=<type>,<instance> prop=<n> `
 abbrev pub target_at : List ℕ → Option (Target × List ℕ)
@@ -190,12 +186,12 @@ priority_of word = field_in word.0 >>= (λ value. Some (value, word.1))
 abbrev pub priority_at : List ℕ → Option (Option ℕ × List ℕ)
 priority_at text = behind (codes "prio=") text >>= (λ rest. priority_of (word_at rest))
 
--- an ask of these parts
+-- an ask of these parts, without its operation and its stations
 abbrev pub ask_of_parts : ℕ → Source → Request → Target → Option ℕ → ShownAsk
 ask_of_parts port source request target priority = record {
   port = port;
   source = source;
-  operation = request.operation;
+  operation = None;
   destination_network = request.destination_network;
   service = request.service;
   object_type = target.object_type;
@@ -205,15 +201,16 @@ ask_of_parts port source request target priority = record {
   stations = None;
 }
 
--- the eight words of an ask, and what stands behind them
-abbrev pub ask_at : Bool → List ℕ → Option (ShownAsk × List ℕ)
-ask_at has_sender text = do
+-- the eight words of an ask: what they tell but for the operation, the word of that, and what stands behind them
+abbrev pub ask_at : List ℕ → Option (ShownAsk × List ℕ × List ℕ)
+ask_at text = do
   port ← port_at text
   source ← source_at port.1
-  request ← request_at has_sender source.1
+  operation ← parted_at 32 source.1
+  request ← request_at operation.1
   target ← target_at request.1
   priority ← priority_at target.1
-  Some (ask_of_parts port.0 source.0 request.0 target.0 priority.0, priority.1)
+  Some (ask_of_parts port.0 source.0 request.0 target.0 priority.0, operation.0, priority.1)
 
 -- ` sender=<MAC> station=<MAC>` to the end
 abbrev pub named_stations : List ℕ → Option Stations
@@ -224,18 +221,17 @@ named_stations text = do
   station ← station_key word
   Some (record { sender = sender.0; station = station })
 
--- the stations at the end of a line: named, or none and nothing more
-abbrev pub stations_in : Bool → List ℕ → Option (Option Stations)
-stations_in has_sender text =
-    if has_sender then option_map (λ stations. Some stations) (named_stations text)
-    else if length text == 0 then Some None else None
+-- the stations at the end of a line, which may name none
+abbrev pub stations_in : List ℕ → Option (Option Stations)
+stations_in text =
+    if length text == 0 then Some None else option_map (λ stations. Some stations) (named_stations text)
 
--- the ask with its stations
-abbrev pub with_stations : ShownAsk → Option Stations → ShownAsk
-with_stations ask stations = record {
+-- the ask with its operation and its stations
+abbrev pub with_both : ShownAsk → Option ℕ → Option Stations → ShownAsk
+with_both ask operation stations = record {
   port = ask.port;
   source = ask.source;
-  operation = ask.operation;
+  operation = operation;
   destination_network = ask.destination_network;
   service = ask.service;
   object_type = ask.object_type;
@@ -245,17 +241,18 @@ with_stations ask stations = record {
   stations = stations;
 }
 
--- ---- a whole line, which names stations or none
+-- which operations have names hangs on whether there are stations
+abbrev pub whole_ask : ShownAsk → List ℕ → List ℕ → Option ShownAsk
+whole_ask ask operation end = do
+  stations ← stations_in end
+  operation ← operation_in (is_some stations) operation
+  Some (with_both ask operation stations)
 
--- these words and nothing more
-abbrev pub ask_as : Bool → List ℕ → Option ShownAsk
-ask_as has_sender text = do
-  ask ← ask_at has_sender text
-  stations ← stations_in has_sender ask.1
-  Some (with_stations ask.0 stations)
+-- ---- a whole line
 
+-- an ask alone
 abbrev pub ask_in : List ℕ → Option ShownAsk
-ask_in text = or_else (ask_as false text) (ask_as true text)
+ask_in text = ask_at text >>= (λ asked. whole_ask asked.0 asked.1 asked.2)
 
 -- a name of UTF-8
 abbrev pub name_of : List ℕ → Option (List ℕ)
@@ -279,17 +276,14 @@ denial_of_parts number tick ask rule = record {
 }
 
 -- the denial of a line
-abbrev pub line_as : Bool → List ℕ → Option Denial
-line_as has_sender text = do
+abbrev pub line_in : List ℕ → Option Denial
+line_in text = do
   number ← number_to 32 text
   tick ← number_to 32 number.1
-  ask ← ask_at has_sender tick.1
-  rule ← rule_at ask.1
-  stations ← stations_in has_sender rule.1
-  Some (denial_of_parts number.0 tick.0 (with_stations ask.0 stations) rule.0)
-
-abbrev pub line_in : List ℕ → Option Denial
-line_in text = or_else (line_as false text) (line_as true text)
+  asked ← ask_at tick.1
+  rule ← rule_at asked.2
+  ask ← whole_ask asked.0 asked.1 rule.1
+  Some (denial_of_parts number.0 tick.0 ask rule.0)
 
 -- the ask of a line, or of its words alone
 abbrev pub told_by : Option Denial → List ℕ → Option ShownAsk
