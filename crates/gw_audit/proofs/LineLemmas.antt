@@ -130,7 +130,7 @@ record AskedAlike (a b : Denial) : Type 0 where
 abbrev pub AreSmall : Option Stations → Type 0
 AreSmall stations = IfSome stations AreShownStations
 
-abbrev stations_from : Option ℕ → Option ℕ → Option Stations
+abbrev pub stations_from : Option ℕ → Option ℕ → Option Stations
 stations_from sender other = option_map (λ k. record { sender = k; station = other }) sender
 
 pub stations_small : (sender other : Option ℕ) → IsSmall sender → IsSmall other → AreSmall (stations_from sender other)
@@ -154,6 +154,12 @@ unfolding stations_on
 stations_whole s rest =
     step (codes " sender=" ++ key_text s.sender) (codes " station=") (station_text s.station) rest
     ∙ append_assoc (codes " sender=") (key_text s.sender) (32 ∷ (codes "station=" ++ (station_text s.station ++ rest)))
+
+-- the stations alone
+pub stations_right : (s : Stations) → stations_text (Some s) ≡ codes " sender=" ++ (key_text s.sender ++ (codes " station=" ++ station_text s.station))
+stations_right s =
+    append_assoc (codes " sender=" ++ key_text s.sender) (codes " station=") (station_text s.station)
+    ∙ append_assoc (codes " sender=") (key_text s.sender) (codes " station=" ++ station_text s.station)
 
 abbrev both : ℕ → Option ℕ → Option Stations
 both sender other = Some (record { sender = sender; station = other })
