@@ -237,10 +237,7 @@ fn put_deed_of(out: &mut Vec<u8>, operation: Operation, ask: &ShownAsk) -> Resul
         Operation::Write => put_write(out, ask),
         Operation::List => put_search(out, ask),
         Operation::Enter => put_number(out, b"enters by port ", u64::from(ask.port)),
-        Operation::Claim => {
-            put_slice(out, b"speaks for ")?;
-            put_source(out, &ask.source)
-        }
+        Operation::Claim => put_speaking(out, ask),
     }
 }
 
@@ -257,10 +254,17 @@ fn put_delete(out: &mut Vec<u8>, ask: &ShownAsk) -> Result<(), AllocError>
 fn put_foreign(out: &mut Vec<u8>, ask: &ShownAsk) -> Result<(), AllocError>
     ensures { IsAppended (foreign_text ask.now) out.old out.new result }
 {
-    let Some(key) = station_of(ask) else {
-        return put_slice(out, b"a foreign device");
-    };
-    put_slice(out, b"the foreign device ")?;
+    match station_of(ask) {
+        Some(key) => put_named(out, b"the foreign device ", key),
+        None => put_slice(out, b"a foreign device"),
+    }
+}
+
+/// Appends a station by its key, behind a word.
+fn put_named(out: &mut Vec<u8>, word: &[u8], key: u64) -> Result<(), AllocError>
+    ensures { IsAppended (word.now ++ key_name key) out.old out.new result }
+{
+    put_slice(out, word)?;
     put_key_name(out, key)
 }
 
@@ -278,8 +282,7 @@ fn put_goal(out: &mut Vec<u8>, word: &[u8], ask: &ShownAsk) -> Result<(), AllocE
     let Some(key) = station_of(ask) else {
         return put_network(out, word, ask.destination_network);
     };
-    put_slice(out, word)?;
-    put_key_name(out, key)?;
+    put_named(out, word, key)?;
     put_network(out, b" on ", ask.destination_network)
 }
 
@@ -310,6 +313,14 @@ fn put_search(out: &mut Vec<u8>, ask: &ShownAsk) -> Result<(), AllocError>
     put_object(out, ask.object_type, ask.instance)?;
     put_network(out, b" on ", ask.destination_network)?;
     put_by(out, ask.service)
+}
+
+/// Appends for which station the sender speaks.
+fn put_speaking(out: &mut Vec<u8>, ask: &ShownAsk) -> Result<(), AllocError>
+    ensures { IsAppended (deed_of Operation.Claim ask.now) out.old out.new result }
+{
+    put_slice(out, b"speaks for ")?;
+    put_source(out, &ask.source)
 }
 
 /// Appends that the way to a network is told.
