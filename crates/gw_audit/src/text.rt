@@ -157,7 +157,7 @@ fn stations_of(ask: &Ask) -> Option<Stations>
     })
 }
 
-/// Appends the sender, and the station that the message is for, where they are named.
+/// Appends the sender, and the station that the message is for, if they are named.
 fn put_stations(out: &mut Vec<u8>, stations: Option<Stations>) -> Result<(), AllocError>
     ensures { IsAppended (stations_text stations) out.old out.new result }
 {
@@ -170,7 +170,7 @@ fn put_stations(out: &mut Vec<u8>, stations: Option<Stations>) -> Result<(), All
     put_station(out, stations.station)
 }
 
-/// Appends a station by its key, or a dash where there is none.
+/// Appends a station by its key, or a dash if there is none.
 fn put_station(out: &mut Vec<u8>, station: Option<u64>) -> Result<(), AllocError>
     ensures { IsAppended (station_text station) out.old out.new result }
 {
@@ -214,12 +214,8 @@ fn hex_digit(number: u8) -> u8
     }
 }
 
-/// Appends the name of an operation by its number, or that number where the line doesn't name it.
-fn put_operation(
-    out: &mut Vec<u8>,
-    number: Option<u64>,
-    has_sender: bool,
-) -> Result<(), AllocError>
+/// Appends the name of an operation by its number, or that number if the line doesn't name it.
+fn put_operation(out: &mut Vec<u8>, number: Option<u64>, has_sender: bool) -> Result<(), AllocError>
     ensures { IsAppended (operation_word has_sender number) out.old out.new result }
 {
     let Some(number) = number else {
