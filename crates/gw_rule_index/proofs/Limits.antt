@@ -36,7 +36,7 @@ pub ten_named : (rules : List Rule) → is_named rules Sender ≡ false → is_n
 ten_named rules sender station =
     let parts : named_fields_in rules (take 10 ALL) + named_fields_in rules (drop 10 ALL) ≡ named_fields rules = sum_by-take-drop (λ field. cond (is_named rules field) 1 0) ALL 10 in
     let first : named_fields_in rules (take 10 ALL) ≤ 10 * 1 = sum_by-le (λ field. cond (is_named rules field) 1 0) 1 (take 10 ALL) (λ k d within. at_most_one (is_named rules (get_or (take 10 ALL) k d))) in
-    let one : cond (is_named rules Sender) 1 0 ≡ 0 = ap (λ b. cond b 1 0) sender in
-    let two : cond (is_named rules Station) 1 0 ≡ 0 = ap (λ b. cond b 1 0) station in
+    let one = ap {B = ℕ} (λ b. cond b 1 0) sender in
+    let two = ap {B = ℕ} (λ b. cond b 1 0) station in
     let last : named_fields_in rules (drop 10 ALL) ≡ 0 + cond (is_named rules Sender) 1 0 + cond (is_named rules Station) 1 0 = refl in
     omega (arith, parts, first, one, two, last)
