@@ -1,20 +1,17 @@
 -- Rows from field to field.
-use Rattle.std.proofs.Common.{◌≡◌, ℕ, ◌+◌, ◌*◌, ◌≤◌, ◌<◌, Bool, true, false, ◌&&◌, ◌==◌, List, [], length, take, get_or, Option, Some, None, arith, cond, nat_lt, refl, sym, ◌∙◌, ap}
+use Rattle.std.proofs.Common.{◌≡◌, ℕ, ◌+◌, ◌*◌, ◌≤◌, ◌<◌, Bool, false, ◌&&◌, List, [], length, take, get_or, Option, Some, None, arith, nat_lt, refl, sym, ◌∙◌, ap}
 use Rattle.std.specs.List.{Contains, slice_get, sum_by}
 use Rattle.std.specs.Option.{option_map_or}
-use Rattle.std.proofs.lemmas.Bool.{eqb-false}
 use Rattle.std.proofs.lemmas.List.Elements.{Contains-get_or}
 use Rattle.std.proofs.lemmas.List.Folds.{list_all_more, list_any_none}
 use Rattle.std.proofs.lemmas.List.Sums.{sum_by_more}
 use Rattle.std.proofs.lemmas.Option.{get_or_from_slice_get, slice_get_within}
 use Rattle.gw_rules.specs.Ask.{Ask}
 use Rattle.gw_rules.specs.Fields.{value_of}
-use Rattle.gw_rules.specs.Range.{admits}
 use Rattle.gw_rules.specs.Rule.{ranges_of}
 use Rattle.gw_rules.specs.declared.field.FieldName.{FieldName}
 use Rattle.gw_rules.specs.declared.range.Range.{Range}
 use Rattle.gw_rules.specs.declared.rule.Rule.{Rule}
-use Rattle.gw_rule_index.specs.declared.bound.Bound.{Bound}
 use Rattle.gw_rule_index.specs.Comparisons.{is_named, most_comparisons, most_comparisons_in, one_comparison}
 use Rattle.gw_rule_index.specs.internal.Row.{Marks, admits_all, admits_in, bit}
 
