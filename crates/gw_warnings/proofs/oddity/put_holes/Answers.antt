@@ -1,5 +1,5 @@
 use Rattle.gw_addr.proofs.Appended.{then_put}
-use Rattle.gw_warnings.proofs.Refused.{cut, refused}
+use Rattle.gw_audit.proofs.Refused.{cut, refused}
 use Rattle.gw_warnings.proofs.oddity.put_holes.Goals as goal
 
 pub returns : goal.returns

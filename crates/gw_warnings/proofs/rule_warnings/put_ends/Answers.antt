@@ -1,6 +1,6 @@
 use Rattle.gw_warnings.specs.Warnings.{ends_words}
 use Rattle.gw_addr.proofs.Appended.{then_put}
-use Rattle.gw_warnings.proofs.Refused.{cut, refused}
+use Rattle.gw_audit.proofs.Refused.{cut, refused}
 use Rattle.gw_warnings.proofs.rule_warnings.put_ends.Goals as goal
 
 pub returns : goal.returns
