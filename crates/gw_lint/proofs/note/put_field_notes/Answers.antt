@@ -1,6 +1,6 @@
 use Rattle.gw_lint.specs.Notes.{network_note, object_note, overlap_notes}
 use Rattle.gw_lint.proofs.Appending.{three}
-use Rattle.gw_lint.proofs.note.put_rule_notes.Goals as goal
+use Rattle.gw_lint.proofs.note.put_field_notes.Goals as goal
 
 pub returns : goal.returns
 returns c =
