@@ -10,13 +10,14 @@ use Rattle.gw_addr.specs.declared.mask.Mask.{Mask}
 use Rattle.gw_addr.specs.declared.entry.BdtEntry.{BdtEntry}
 use Rattle.gw_rules.specs.declared.field.FieldName.{FieldName}
 use Rattle.gw_rules.specs.declared.field.FieldName.TheVariants as fields
+use Rattle.gw_rules.specs.declared.field.TheConstants.FieldName.{ALL}
 use Rattle.gw_rules.specs.declared.fields.Fields.{Fields}
+use Rattle.gw_rules.specs.declared.format.Format.{Format}
 use Rattle.gw_rules.specs.declared.range.Range.{Range as RuleRange}
 use Rattle.gw_rules.specs.declared.rule.Rule.{Rule}
 use Rattle.gw_rules.specs.RuleList.{keeps_counts, keeps_order}
 use Rattle.gw_configuration.specs.declared.device.Device.{Device}
 use Rattle.gw_configuration.specs.declared.fault.ConfigFault.TheVariants.{Missing, Range, TooMany}
-use Rattle.gw_configuration.specs.declared.format.Format.{Format}
 use Rattle.gw_configuration.specs.declared.located.Place.TheVariants as places
 use Rattle.gw_configuration.specs.declared.object.Object.{Object}
 use Rattle.gw_configuration.specs.declared.object.ObjectKind.{ObjectKind}
@@ -135,19 +136,26 @@ peer_in port peer value = whole (table_in value) >>= peer_of port peer
 abbrev pub peers_at : ℕ → List ℕ → Members → Find (List BdtEntry)
 peers_at port key table = whole (list_at 0 64 key table) >>= each_at (peer_in port) 0
 
-abbrev pub port_parts : ℕ → Members → Find Port
-port_parts port table = do
+-- the subnets of its stations, in format 3
+abbrev pub stations_at : Format → List ℕ → Members → Read (List Subnet)
+stations_at format key table =
+    if names_stations format then (list_at 0 16 key table >>= each subnet_in) else Ok []
+
+abbrev pub port_parts : Format → ℕ → Members → Find Port
+port_parts format port table = do
   network ← whole (number_at 1 65534 (codes "network") table)
   address ← whole (address_at (codes "address") table)
   broadcast ← whole (address_at (codes "broadcast") table)
+  stations ← whole (stations_at format (codes "stations") table)
   peers ← peers_at port (codes "peer") table
-  Ok (record { network = network; address = address; broadcast = broadcast; peers = peers })
+  Ok (record { network = network; address = address; broadcast = broadcast; stations = stations; peers = peers })
 
-abbrev pub port_of : ℕ → Members → Find Port
-port_of port table = unless (located_in (places.Port port) port_fields table) (port_parts port table)
+abbrev pub port_of : Format → ℕ → Members → Find Port
+port_of format port table =
+    unless (located_in (places.Port port) (port_fields format) table) (port_parts format port table)
 
-abbrev pub port_in : ℕ → Data → Find Port
-port_in port value = whole (table_in value) >>= port_of port
+abbrev pub port_in : Format → ℕ → Data → Find Port
+port_in format port value = whole (table_in value) >>= port_of format port
 
 -- a route by one of so many ports
 
@@ -252,29 +260,58 @@ object_of object table =
 abbrev pub object_in : ℕ → Data → Find Object
 object_in object value = whole (table_in value) >>= object_of object
 
--- a rule
+-- a set of items
 
-abbrev pub ranges_at : FieldName → List ℕ → Members → Read (List RuleRange)
-ranges_at field key table = list_at 0 4 key table >>= each (range_in (scalar_of field))
+abbrev pub set_parts : Members → Read Items
+set_parts table = do
+  name ← rule_name_at (codes "name") table
+  items ← list_at 0 64 (codes "items") table
+  Ok (record { name = name; items = items })
 
-abbrev pub rule_name_at : List ℕ → Members → Read (List ℕ)
-rule_name_at key table = at key table >>= rule_name_in
+abbrev pub set_of : ℕ → Members → Find Items
+set_of set table = unless (located_in (places.Set set) set_fields table) (whole (set_parts table))
+
+abbrev pub set_in : ℕ → Data → Find Items
+set_in set value = whole (table_in value) >>= set_of set
+
+-- a rule, of a text with these sets
+
+-- the ranges for a field, in formats 1 and 2 at most 4 of them
+abbrev pub short_ranges_at : Format → FieldName → List ℕ → Members → Read (List RuleRange)
+short_ranges_at format field key table = list_at 0 4 key table >>= each (range_in (scalar_of format field))
+
+-- in format 3 those of at most 64 items, at most 256
+abbrev pub long_ranges_at : Format → Sets → FieldName → List ℕ → Members → Read (List RuleRange)
+long_ranges_at format sets field key table =
+    list_at 0 64 key table >>= all_in sets (scalar_of format field) >>= within 0 256
+
+abbrev pub ranges_at : Format → Sets → FieldName → List ℕ → Members → Read (List RuleRange)
+ranges_at format sets field key table =
+    if names_stations format then long_ranges_at format sets field key table
+    else short_ranges_at format field key table
+
+-- no rule of formats 1 and 2 names the sender or the station
+abbrev pub station_ranges_at : Format → Sets → FieldName → List ℕ → Members → Read (List RuleRange)
+station_ranges_at format sets field key table =
+    if names_stations format then long_ranges_at format sets field key table else Ok []
 
 abbrev pub boolean_at : List ℕ → Members → Read Bool
 boolean_at key table = at key table >>= boolean_in
 
-abbrev pub fields_of : Members → Read (Fields (List RuleRange))
-fields_of table = do
-  operation ← ranges_at fields.Operation (codes "operation") table
-  port ← ranges_at fields.Port (codes "port") table
-  source_network ← ranges_at fields.SourceNetwork (codes "source_network") table
-  source_key ← ranges_at fields.SourceKey (codes "source") table
-  destination_network ← ranges_at fields.DestinationNetwork (codes "destination") table
-  service ← ranges_at fields.Service (codes "service") table
-  object_type ← ranges_at fields.ObjectType (codes "object_type") table
-  instance ← ranges_at fields.Instance (codes "instance") table
-  property ← ranges_at fields.Property (codes "property") table
-  priority ← ranges_at fields.Priority (codes "priority") table
+abbrev pub fields_of : Format → Sets → Members → Read (Fields (List RuleRange))
+fields_of format sets table = do
+  operation ← ranges_at format sets fields.Operation (codes "operation") table
+  port ← ranges_at format sets fields.Port (codes "port") table
+  source_network ← ranges_at format sets fields.SourceNetwork (codes "source_network") table
+  source_key ← ranges_at format sets fields.SourceKey (codes "source") table
+  destination_network ← ranges_at format sets fields.DestinationNetwork (codes "destination") table
+  service ← ranges_at format sets fields.Service (codes "service") table
+  object_type ← ranges_at format sets fields.ObjectType (codes "object_type") table
+  instance ← ranges_at format sets fields.Instance (codes "instance") table
+  property ← ranges_at format sets fields.Property (codes "property") table
+  priority ← ranges_at format sets fields.Priority (codes "priority") table
+  sender ← station_ranges_at format sets fields.Sender (codes "sender") table
+  station ← station_ranges_at format sets fields.Station (codes "station") table
   Ok (record {
     operation = operation;
     port = port;
@@ -286,31 +323,56 @@ fields_of table = do
     instance = instance;
     property = property;
     priority = priority;
+    sender = sender;
+    station = station;
   })
 
-abbrev pub rule_parts : Members → Read Rule
-rule_parts table = do
+abbrev pub rule_parts : Format → Sets → Members → Read Rule
+rule_parts format sets table = do
   name ← rule_name_at (codes "name") table
   allow ← boolean_at (codes "allow") table
-  ranges ← fields_of table
+  ranges ← fields_of format sets table
   Ok (record { name = name; allow = allow; ranges = ranges })
 
-unfoldable pub rule_of : ℕ → Members → Find Rule
-rule_of rule table = unless (located_in (places.Rule rule) rule_fields table) (whole (rule_parts table))
+unfoldable pub rule_of : Format → Sets → ℕ → Members → Find Rule
+rule_of format sets rule table =
+    unless (located_in (places.Rule rule) (rule_fields format sets) table) (whole (rule_parts format sets table))
 
-abbrev pub rule_in : ℕ → Data → Find Rule
-rule_in rule value = whole (table_in value) >>= rule_of rule
+abbrev pub rule_in : Format → Sets → ℕ → Data → Find Rule
+rule_in format sets rule value = whole (table_in value) >>= rule_of format sets rule
+
+-- rules one after the other
+
+-- the first field of which rules have more than 2048 ranges in all
+abbrev pub crowded : List Rule → Option FieldName
+crowded rules = find (λ field. nat_lt 2048 (ranges_in_all rules field)) ALL
+
+-- that fault, of the rule at this position with those before it
+unfoldable pub crowd : Format → ℕ → List Rule → Option Located
+crowd format rule rules = if names_stations format then option_map (crowded_at format rule) (crowded rules) else None
+
+-- the rules that the values say from a position on, behind those that were read
+abbrev pub rules_behind : Format → Sets → List Rule → ℕ → List Data → Find (List Rule)
+rules_behind format sets before rule [] = Ok before
+rules_behind format sets before rule (value ∷ later) =
+    rule_in format sets rule value >>= λ read.
+    unless (crowd format rule (before ++ read ∷ [])) (rules_behind format sets (before ++ read ∷ []) (rule + 1) later)
+
+-- the note of a rule, which in formats 1 and 2 has none
+abbrev pub note_in : Format → Data → Read (List ℕ)
+note_in format value =
+    if names_stations format then (table_in value >>= optional_text [] (codes "note")) else Ok []
 
 -- the whole
 
 abbrev pub format_at : List ℕ → Members → Read Format
-format_at key table = number_at 1 2 key table >>= λ number. Ok (format_of number)
+format_at key table = number_at 1 3 key table >>= λ number. Ok (format_of number)
 
 abbrev pub device_at : List ℕ → Members → Find Device
 device_at key table = whole (at key table >>= table_in) >>= device_of
 
-abbrev pub ports_at : List ℕ → Members → Find (List Port)
-ports_at key table = whole (list_at 1 MAX_PORTS key table) >>= each_at port_in 0
+abbrev pub ports_at : Format → List ℕ → Members → Find (List Port)
+ports_at format key table = whole (list_at 1 MAX_PORTS key table) >>= each_at (port_in format) 0
 
 abbrev pub routes_at : ℕ → List ℕ → Members → Find (List Route)
 routes_at ports key table = whole (list_at 0 512 key table) >>= each_at (route_in ports) 0
@@ -318,24 +380,44 @@ routes_at ports key table = whole (list_at 0 512 key table) >>= each_at (route_i
 abbrev pub objects_at : List ℕ → Members → Find (List Object)
 objects_at key table = whole (list_at 0 256 key table) >>= each_at object_in 0
 
-abbrev pub rules_at : List ℕ → Members → Find (List Rule)
-rules_at key table = whole (list_at 0 512 key table) >>= each_at rule_in 0
+-- the sets, in format 3
+abbrev pub sets_at : Format → List ℕ → Members → Find Sets
+sets_at format key table =
+    if names_stations format then (whole (list_or (get_member key table)) >>= each_at set_in 0) else Ok []
+
+-- each set, and whether a rule names it
+abbrev pub sets_of : List Data → Sets → List Set
+sets_of rules sets = map (λ set. record { name = set.name; used = is_used set.name rules }) sets
 
 -- the rules as a policy
-abbrev pub policy_of : List Rule → Read (List Rule)
-policy_of rules =
-    if not (keeps_counts rules) then Err TooMany else if not (keeps_order rules) then Err Range else Ok rules
+abbrev pub policy_of : Format → List Rule → Read (List Rule)
+policy_of format rules =
+    if not (keeps_counts_of format rules) then Err TooMany
+    else if not (keeps_order rules) then Err Range
+    else Ok rules
 
 -- the tables in their order, behind the format
 abbrev pub parts_of_format : Format → Members → Find Configuration
 parts_of_format format top = do
   device ← device_at (codes "device") top
-  ports ← ports_at (codes "port") top
+  ports ← ports_at format (codes "port") top
   routes ← routes_at (length ports) (codes "route") top
   objects ← objects_at (codes "object") top
-  rules ← rules_at (codes "rule") top
-  policy ← whole (policy_of rules)
-  Ok (record { format = format; device = device; ports = ports; routes = routes; objects = objects; rules = policy })
+  sets ← sets_at format (codes "set") top
+  tables ← whole (list_at 0 512 (codes "rule") top)
+  rules ← rules_behind format sets [] 0 tables
+  policy ← whole (policy_of format rules)
+  notes ← whole (each (note_in format) tables)
+  Ok (record {
+    format = format;
+    device = device;
+    ports = ports;
+    routes = routes;
+    objects = objects;
+    rules = policy;
+    notes = notes;
+    sets = sets_of tables sets;
+  })
 
 -- the format, and then the tables
 abbrev pub parts_of : Members → Find Configuration
