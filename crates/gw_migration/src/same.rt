@@ -3,7 +3,7 @@ ghost use Rattle.std.specs.Prelude.{◌≡◌, IsTrue};
 
 use gw_addr::BdtEntry;
 use gw_configuration::{Config, Device, Object, ObjectValue, Port, Route, Set, Subnet, Text};
-use gw_rules::{FieldName, Range, Rule};
+use gw_rules::{Range, Rule};
 
 /// What can be compared.
 pub(crate) trait Same {
@@ -153,9 +153,19 @@ impl Same for Rule {
 fn have_same_ranges(rule: &Rule, other: &Rule) -> bool
     ensures { IsTrue result → rule.now.ranges ≡ other.now.ranges }
 {
-    FieldName::ALL.iter().all(|field| {
-        are_same(rule.ranges(*field).as_slice(), other.ranges(*field).as_slice())
-    })
+    let (some, others) = (&rule.ranges, &other.ranges);
+    are_same(some.operation.as_slice(), others.operation.as_slice())
+        && are_same(some.port.as_slice(), others.port.as_slice())
+        && are_same(some.source_network.as_slice(), others.source_network.as_slice())
+        && are_same(some.source_key.as_slice(), others.source_key.as_slice())
+        && are_same(some.destination_network.as_slice(), others.destination_network.as_slice())
+        && are_same(some.service.as_slice(), others.service.as_slice())
+        && are_same(some.object_type.as_slice(), others.object_type.as_slice())
+        && are_same(some.instance.as_slice(), others.instance.as_slice())
+        && are_same(some.property.as_slice(), others.property.as_slice())
+        && are_same(some.priority.as_slice(), others.priority.as_slice())
+        && are_same(some.sender.as_slice(), others.sender.as_slice())
+        && are_same(some.station.as_slice(), others.station.as_slice())
 }
 
 impl Same for Set {

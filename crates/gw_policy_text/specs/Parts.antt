@@ -141,6 +141,10 @@ abbrev pub stations_at : Format → List ℕ → Members → Read (List Subnet)
 stations_at format key table =
     if names_stations format then (list_at 0 16 key table >>= each subnet_in) else Ok []
 
+-- no port of format 1 or 2 has any
+abbrev pub has_no_stations : Format → Port → Bool
+has_no_stations format port = names_stations format || (length port.stations == 0)
+
 abbrev pub port_parts : Format → ℕ → Members → Find Port
 port_parts format port table = do
   network ← whole (number_at 1 65534 (codes "network") table)

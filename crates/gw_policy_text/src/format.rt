@@ -12,8 +12,9 @@ use toml::Table;
 pub(crate) fn format_at(key: &str, table: &Table) -> Result<Format, ConfigFault>
     ensures { Gives (λ f. f) result (format_at key.now (table_view table.now)) }
 {
-    match number_at(1, 2, key, table)? {
+    match number_at(1, 3, key, table)? {
         1 => Ok(Format::One),
-        _ => Ok(Format::Two),
+        2 => Ok(Format::Two),
+        _ => Ok(Format::Three),
     }
 }
