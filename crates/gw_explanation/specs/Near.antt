@@ -38,9 +38,12 @@ nearest names text zero = None
 nearest names text (suc number) = nearer_of text (nearest names text number) (name_of names number)
 
 -- with at most 3 edits it may be meant
+abbrev pub meant_within : ℕ → List ℕ → List ℕ
+meant_within count name = if nat_le count 3 then codes "; did you mean " ++ name else []
+
 abbrev pub meant : Option (ℕ × List ℕ) → List ℕ
 meant None = []
-meant (Some best) = if nat_le best.0 3 then codes "; did you mean " ++ best.1 else []
+meant (Some best) = meant_within best.0 best.1
 
 -- the numbers of all names are below 1032
 abbrev pub near_words : Names → List ℕ → List ℕ

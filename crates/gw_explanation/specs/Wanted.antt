@@ -25,7 +25,8 @@ use Rattle.gw_configuration.specs.declared.shape.Names.{Names}
 use Rattle.gw_configuration.specs.declared.shape.Shape.{Shape}
 use Rattle.gw_configuration.specs.declared.shape.Shape.TheVariants.{One, List as Listing, Ranges, Items}
 use Rattle.gw_configuration.specs.Located.{Located, Read}
-use Rattle.gw_config_tables.specs.Field.{between, bounds_of}
+use Rattle.gw_config_tables.specs.Items.{number_named}
+use Rattle.gw_config_tables.specs.Range.{between, bounds_of}
 use Rattle.gw_config_tables.specs.Value.{list_in}
 use Rattle.gw_config_tables.specs.Written.{mask_written}
 use Rattle.gw_explanation.specs.Near.{near_words, noun_of}
@@ -211,8 +212,13 @@ subnet_words (Some subnet) = every_port_words subnet.0 subnet.1
 
 -- what an item for a field of a rule must be
 
+-- the ends of a list of two where a number or a name is due are numbers
+abbrev pub end_of : Scalar → Scalar
+end_of (Named names) = number_named names
+end_of of = of
+
 abbrev pub reversed_ends : Scalar → List Data → Bool
-reversed_ends of (low ∷ high ∷ []) = is_ok (between of high low)
+reversed_ends of (low ∷ high ∷ []) = is_ok (between (end_of of) high low)
 reversed_ends of ends = false
 
 abbrev pub reversed_list : Scalar → Read (List Data) → Bool

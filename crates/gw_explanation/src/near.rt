@@ -1,10 +1,10 @@
 //! The name that a text may be meant as.
-ghost use Rattle.std.specs.Prelude.{◌≡◌, ◌++◌, IfOk, OnOk, option_map};
-ghost use Rattle.gw_explanation.specs.Near.{edits, meant, name_of, near_words, nearer, nearer_of, nearest, noun_of};
+ghost use Rattle.std.specs.Prelude.{◌≡◌, ◌++◌, codes, IfOk, OnOk, option_map};
+ghost use Rattle.gw_explanation.specs.Near.{edits, meant, meant_within, name_of, near_words, nearer, nearer_of, nearest, noun_of};
 
 use gw_configuration::Names;
 use gw_names::{object_type_name, property_name, service_name};
-use std::alloc::AllocError;
+use std::alloc::{AllocError, Global};
 use strsim::levenshtein;
 
 /// The numbers of all names are below this one.
@@ -30,24 +30,45 @@ pub(crate) fn noun_of(names: Names) -> &'static str
 pub(crate) fn put_near(line: &mut Vec<u8>, names: Names, text: &str) -> Result<(), AllocError>
     ensures { OnOk result (line.new.items ≡ line.old.items ++ near_words names text.now) }
 {
-    let best = nearest(line.allocator(), names, text)?;
+    let best = nearest(*line.allocator(), names, text)?;
     put_meant(line, best)
 }
 
 fn put_meant(line: &mut Vec<u8>, best: Near) -> Result<(), AllocError>
-    ensures { let words = meant (option_map (λ x. (x.0, x.1.now)) best) in
+    ensures { let words = meant (option_map (λ x. (x.0, x.1.now)) best.entry) in
         OnOk result (line.new.items ≡ line.old.items ++ words) }
 {
     match best {
-        Some((count, name)) if count <= MAX_EDITS => {
-            line.extend_from_slice(b"; did you mean ")?;
-            line.extend_from_slice(name.as_bytes())
-        }
-        _ => Ok(()),
+        Some((count, name)) => put_if_near(line, count, name),
+        None => Ok(()),
     }
 }
 
+fn put_if_near(line: &mut Vec<u8>, count: usize, name: &str) -> Result<(), AllocError>
+    ensures { OnOk result (line.new.items ≡ line.old.items ++ meant_within count name.now) }
+{
+    if count <= MAX_EDITS {
+        put_suggestion(line, name)
+    } else {
+        Ok(())
+    }
+}
+
+fn put_suggestion(line: &mut Vec<u8>, name: &str) -> Result<(), AllocError>
+    ensures { OnOk result (line.new.items ≡ line.old.items ++ (codes "; did you mean " ++ name.now)) }
+{
+    line.extend_from_slice(b"; did you mean ")?;
+    put_text(line, name)
+}
+
+fn put_text(line: &mut Vec<u8>, text: &str) -> Result<(), AllocError>
+    ensures { OnOk result (line.new.items ≡ line.old.items ++ text.now) }
+{
+    line.extend_from_slice(text.as_bytes())
+}
+
 /// The name with the fewest edits.
+#[tactic(auto, unfolding(crate::specs::Near::nearest))]
 fn nearest(alloc: Global, names: Names, text: &str) -> Result<Near, AllocError>
     ensures { IfOk result (λ best. option_map (λ x. (x.0, x.1.now)) best ≡ nearest names text.now 1032) }
 {
@@ -75,9 +96,9 @@ fn nearer_of(
     best: Near,
     name: Option<&'static str>,
 ) -> Result<Near, AllocError>
-    ensures { let before = option_map (λ x. (x.0, x.1.now)) best in
+    ensures { let before = option_map (λ x. (x.0, x.1.now)) best.entry in
         IfOk result (λ best. option_map (λ x. (x.0, x.1.now)) best
-        ≡ nearer_of text.now before (option_map (λ name. name.now) name)) }
+        ≡ nearer_of text.now before (option_map (λ name. name.now) name.entry)) }
 {
     match name {
         Some(name) => Ok(nearer(best, edits(alloc, text, name)?, name)),
@@ -87,7 +108,7 @@ fn nearer_of(
 
 fn nearer(best: Near, count: usize, name: &'static str) -> Near
     ensures { option_map (λ x. (x.0, x.1.now)) result
-        ≡ nearer (option_map (λ x. (x.0, x.1.now)) best) count name.now }
+        ≡ nearer (option_map (λ x. (x.0, x.1.now)) best.entry) count name.now }
 {
     match best {
         Some((least, _)) if least <= count => best,

@@ -4,10 +4,10 @@ ghost use Rattle.std.specs.List.{after_first, before_first, list_any, position_o
 ghost use Rattle.toml.specs.View.{table_view, view};
 ghost use Rattle.gw_addr.specs.Address.{text_of};
 ghost use Rattle.gw_configuration.specs.Located.{located_view};
-ghost use Rattle.gw_config_tables.specs.Field.{bounds_of};
+ghost use Rattle.gw_config_tables.specs.Range.{bounds_of};
 ghost use Rattle.gw_explanation.specs.Place.{name_in};
 ghost use Rattle.toml.specs.Data.{as_table};
-ghost use Rattle.gw_explanation.specs.Wanted.{address_text, addresses_words, bits_in, bounds_words, due_words, every_port_words, first_address, first_octet, fixed_words, has_named, host_bits, is_reversed, is_slash, is_named, item_words, kind_at, kind_words, known, last_address, last_octet, length_range_words, length_words, list_kind_words, list_noun, list_words, long_item_words, long_length_words, mention_in, mention_words, missing_words, must_words, name_words, named_text, named_words, number_words, other_front, other_words, range_words, reversed_ends, scalar_words, shape_words, straight_words, subnet_in, subnet_words, twice_words, two_front, two_words, type_words, wanted_words, within_32};
+ghost use Rattle.gw_explanation.specs.Wanted.{address_text, addresses_words, bits_in, bounds_words, due_words, end_of, every_port_words, first_address, first_octet, fixed_words, has_named, host_bits, is_reversed, is_slash, is_named, item_words, kind_at, kind_words, known, last_address, last_octet, length_range_words, length_words, list_kind_words, list_noun, list_words, long_item_words, long_length_words, mention_in, mention_words, missing_words, must_words, name_words, named_text, named_words, number_words, other_front, other_words, range_words, reversed_ends, scalar_words, shape_words, straight_words, subnet_in, subnet_words, twice_words, two_front, two_words, type_words, wanted_words, within_32};
 
 use crate::near::{noun_of, put_near};
 use crate::told::{put_value, value_at};
@@ -375,11 +375,27 @@ fn is_reversed(of: Scalar, item: &Value) -> bool
     }
 }
 
+/// What the ends of a list of two are: numbers, where a number or a name is due.
+fn end_of(of: Scalar) -> Scalar
+    ensures { result ≡ end_of of }
+{
+    match of {
+        Scalar::Named(names) => {
+            let bounds = bounds_of(names);
+            Scalar::Number {
+                low: bounds.low,
+                high: bounds.high,
+            }
+        }
+        _ => of,
+    }
+}
+
 fn are_reversed(of: Scalar, ends: &[Value]) -> bool
     ensures { result ≡ reversed_ends of (map view ends.now) }
 {
     match ends {
-        [low, high] => match between(of, high, low) {
+        [low, high] => match between(end_of(of), high, low) {
             Ok(_) => true,
             Err(_) => false,
         },

@@ -1,7 +1,8 @@
 //! Why a configuration isn't written in format 3.
 ghost use Rattle.std.specs.Prelude.{◌≡◌};
+ghost use Rattle.gw_migration.specs.declared.fault.MigrationFault.TheVariants.{Memory};
 
-use std::alloc::{AllocError, AllocFailed};
+use std::alloc::AllocError;
 use thiserror::Error;
 
 /// Why a configuration isn't written in format 3.
@@ -20,17 +21,9 @@ pub enum MigrationFault {
 }
 
 impl From<AllocError> for MigrationFault {
-    ghost from_gives = { λ _ fault. fault ≡ MigrationFault.Memory };
+    ghost from_gives = { λ _ fault. fault ≡ Memory };
 
     fn from(_error: AllocError) -> Self {
-        MigrationFault::Memory
-    }
-}
-
-impl<T: Drop> From<AllocFailed<T>> for MigrationFault {
-    ghost from_gives = { λ _ fault. fault ≡ MigrationFault.Memory };
-
-    fn from(_error: AllocFailed<T>) -> Self {
         MigrationFault::Memory
     }
 }

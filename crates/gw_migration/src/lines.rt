@@ -1,4 +1,5 @@
 //! Lines of a text of TOML.
+ghost use Rattle.std.specs.Prelude.{◌<◌};
 
 use gw_addr::{BipAddr, put_decimal};
 use std::alloc::AllocError;

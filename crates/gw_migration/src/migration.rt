@@ -59,6 +59,7 @@ fn is_migrated(config: &Config, back: &Config) -> bool
         && are_same(config.routes(), back.routes())
         && are_same(config.objects(), back.objects())
         && are_same(config.rules().rules(), back.rules().rules())
-        && are_same(config.sets(), back.sets())
+        && config.sets().is_empty()
+        && back.sets().is_empty()
         && are_same(config.notes(), back.notes())
 }

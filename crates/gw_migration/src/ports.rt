@@ -35,7 +35,8 @@ fn put_peer(out: &mut Vec<u8>, peer: BdtEntry) -> Result<(), AllocError> {
     out.extend_from_slice(b"[[port.peer]]\n")?;
     put_address(out, "address", peer.address)?;
     out.extend_from_slice(b"mask = \"")?;
-    Mask { octets: peer.mask }.put_text(out)?;
+    let octets = peer.mask;
+    Mask { octets }.put_text(out)?;
     out.extend_from_slice(b"\"\n")
 }
 

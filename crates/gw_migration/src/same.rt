@@ -2,12 +2,12 @@
 ghost use Rattle.std.specs.Prelude.{◌≡◌, IsTrue};
 
 use gw_addr::BdtEntry;
-use gw_configuration::{Config, Device, Object, ObjectValue, Port, Route, Set, Subnet, Text};
+use gw_configuration::{Config, Device, Object, ObjectValue, Port, Route, Text};
 use gw_rules::{Range, Rule};
 
 /// What can be compared.
 pub(crate) trait Same {
-    /// Whether it is the same as another.
+    /// Whether it is the same as another. A false says nothing of a port that has stations.
     fn is_same(&self, other: &Self) -> bool
         ensures { IsTrue result → self.now ≡ other.now };
 }
@@ -45,18 +45,13 @@ impl Same for BdtEntry {
     }
 }
 
-impl Same for Subnet {
-    fn is_same(&self, other: &Self) -> bool {
-        self == other
-    }
-}
-
 impl Same for Port {
     fn is_same(&self, other: &Self) -> bool {
         self.network.is_same(other.network)
             && self.address.is_same(other.address)
             && self.broadcast.is_same(other.broadcast)
-            && are_same(self.stations.as_slice(), other.stations.as_slice())
+            && self.stations.as_slice().is_empty()
+            && other.stations.as_slice().is_empty()
             && are_same(self.peers.as_slice(), other.peers.as_slice())
     }
 }
@@ -166,10 +161,4 @@ fn have_same_ranges(rule: &Rule, other: &Rule) -> bool
         && are_same(some.priority.as_slice(), others.priority.as_slice())
         && are_same(some.sender.as_slice(), others.sender.as_slice())
         && are_same(some.station.as_slice(), others.station.as_slice())
-}
-
-impl Same for Set {
-    fn is_same(&self, other: &Self) -> bool {
-        self.name.as_str() == other.name.as_str() && self.used == other.used
-    }
 }

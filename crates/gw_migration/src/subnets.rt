@@ -3,24 +3,21 @@
 use gw_addr::{BipAddr, Mask, put_decimal};
 use std::alloc::AllocError;
 
-/// How many bits an IPv4 address has.
-const ADDRESS_BITS: u8 = 32;
-
 /// The lengths that the prefix of a subnet of several addresses may have, the longest first.
 const PREFIXES: [u8; 32] = [
     31, 30, 29, 28, 27, 26, 25, 24, 23, 22, 21, 20, 19, 18, 17, 16, 15, 14, 13, 12, 11, 10, 9, 8,
     7, 6, 5, 4, 3, 2, 1, 0,
 ];
 
-/// How many addresses a subnet with a prefix of this length has.
-fn size_of(prefix: u8) -> u64 {
-    1 << u32::from(ADDRESS_BITS.saturating_sub(prefix))
+/// The number of the last address of a subnet with a prefix of this length, where the first has 0.
+fn last_host(prefix: u8) -> u32 {
+    u32::MAX.checked_shr(u32::from(prefix)).unwrap_or(0)
 }
 
 /// Whether the addresses from one to another are a subnet with a prefix of this length.
 fn is_whole(prefix: u8, first: u64, last: u64) -> bool {
-    let size = size_of(prefix);
-    first % size == 0 && first <= last && last - first == size - 1
+    let host = u64::from(last_host(prefix));
+    first % (host + 1) == 0 && first <= last && last - first == host
 }
 
 /// The length of the prefix of the subnet that the addresses from one to another are, where they are one
@@ -34,8 +31,8 @@ pub(crate) fn whole_prefix(first: u64, last: u64) -> Option<u8> {
 
 /// Whether a subnet with a prefix of this length has both addresses, and the second as its last one.
 fn is_ended(prefix: u8, address: u64, broadcast: u64) -> bool {
-    let size = size_of(prefix);
-    address / size == broadcast / size && broadcast % size == size - 1
+    let host = u64::from(last_host(prefix));
+    address / (host + 1) == broadcast / (host + 1) && broadcast % (host + 1) == host
 }
 
 /// The length of the longest prefix that an address shares with the one to which its broadcasts go, where
@@ -64,7 +61,7 @@ pub(crate) fn put_host(out: &mut Vec<u8>, host: u64) -> Result<(), AllocError> {
 
 /// Appends the subnet of an address, with a prefix of this length.
 pub(crate) fn put_subnet(out: &mut Vec<u8>, host: u64, prefix: u8) -> Result<(), AllocError> {
-    let size = size_of(prefix);
+    let size = u64::from(last_host(prefix)) + 1;
     put_host(out, host - host % size)?;
     out.extend_from_slice(b"/")?;
     put_decimal(out, prefix)

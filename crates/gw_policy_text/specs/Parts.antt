@@ -1,5 +1,5 @@
 -- How what a gateway is configured with is read from the tables of its text.
-use Rattle.std.specs.Prelude.{ℕ, ◌+◌, ℤ, List, [], ◌∷◌, length, Bool, codes, ◌==◌, nat_lt, not}
+use Rattle.std.specs.Prelude.{ℕ, ◌+◌, ℤ, List, [], ◌∷◌, length, Bool, codes, ◌==◌, ◌||◌, nat_lt}
 use Rattle.std.specs.Prelude.{if◌then◌else◌, Option, Some, None, Ok, Err}
 use Rattle.std.specs.Option.{ok_or, option_map}
 use Rattle.toml.specs.Data.{Data, Members, get_member}
@@ -10,12 +10,8 @@ use Rattle.gw_addr.specs.declared.mask.Mask.{Mask}
 use Rattle.gw_addr.specs.declared.entry.BdtEntry.{BdtEntry}
 use Rattle.gw_rules.specs.declared.field.FieldName.{FieldName}
 use Rattle.gw_rules.specs.declared.field.FieldName.TheVariants as fields
-use Rattle.gw_rules.specs.declared.field.TheConstants.FieldName.{ALL}
-use Rattle.gw_rules.specs.declared.fields.Fields.{Fields}
 use Rattle.gw_rules.specs.declared.format.Format.{Format}
-use Rattle.gw_rules.specs.declared.range.Range.{Range as RuleRange}
-use Rattle.gw_rules.specs.declared.rule.Rule.{Rule}
-use Rattle.gw_rules.specs.RuleList.{keeps_counts, keeps_order}
+use Rattle.gw_rules.specs.Format.{names_stations}
 use Rattle.gw_configuration.specs.declared.device.Device.{Device}
 use Rattle.gw_configuration.specs.declared.fault.ConfigFault.TheVariants.{Missing, Range, TooMany}
 use Rattle.gw_configuration.specs.declared.located.Place.TheVariants as places
@@ -26,15 +22,17 @@ use Rattle.gw_configuration.specs.declared.object.ObjectValue.{ObjectValue}
 use Rattle.gw_configuration.specs.declared.object.ObjectValue.TheVariants as values
 use Rattle.gw_configuration.specs.declared.port.Port.{Port}
 use Rattle.gw_configuration.specs.declared.route.Route.{Route}
-use Rattle.gw_configuration.specs.Configuration.{Configuration, format_of}
+use Rattle.gw_configuration.specs.Configuration.{format_of}
 use Rattle.gw_configuration.specs.Located.{Find, Located, Read, unless, whole}
 use Rattle.gw_configuration.specs.States.{States}
+use Rattle.gw_configuration.specs.Subnet.{Subnet}
 use Rattle.gw_configuration.specs.Text.{text_within}
-use Rattle.gw_config_tables.specs.Field.{at_field, field_fault, located_in, range_in}
+use Rattle.gw_config_tables.specs.Field.{at_field, field_fault, located_in}
+use Rattle.gw_config_tables.specs.Items.{each}
 use Rattle.gw_config_tables.specs.Tables.{device_fields, object_fields, peer_fields, port_fields, route_fields}
-use Rattle.gw_config_tables.specs.Tables.{rule_fields, scalar_of, type_field}
-use Rattle.gw_config_tables.specs.Value.{address_in, boolean_in, kind_in, list_in, mask_in, number_in, rule_name_in}
-use Rattle.gw_config_tables.specs.Value.{signed_in, table_in, text_in}
+use Rattle.gw_config_tables.specs.Tables.{type_field}
+use Rattle.gw_config_tables.specs.Value.{address_in, kind_in, list_in, mask_in, number_in}
+use Rattle.gw_config_tables.specs.Value.{signed_in, subnet_in, table_in, text_in}
 
 -- the value at a key
 abbrev pub at : List ℕ → Members → Read Data
@@ -75,16 +73,26 @@ list_or (Some value) = list_in value
 abbrev pub list_at : ℕ → ℕ → List ℕ → Members → Read (List Data)
 list_at least most key table = list_or (get_member key table) >>= within least most
 
--- each value of a list, in order, up to the first fault
-abbrev pub each : {A : Type 0} → (Data → Read A) → List Data → Read (List A)
-each read [] = Ok []
-each read (value ∷ later) = read value >>= λ first. each read later >>= λ others. Ok (first ∷ others)
-
--- the same of tables, each with its position, from the first on
+-- each table of a list with its position, in order, up to the first fault
 abbrev pub each_at : {A : Type 0} → (ℕ → Data → Find A) → ℕ → List Data → Find (List A)
 each_at read place [] = Ok []
 each_at read place (value ∷ later) =
     read place value >>= λ first. each_at read (place + 1) later >>= λ others. Ok (first ∷ others)
+
+-- the key of a field in the table of a rule
+abbrev pub key_of : FieldName → List ℕ
+key_of fields.Operation = codes "operation"
+key_of fields.Port = codes "port"
+key_of fields.SourceNetwork = codes "source_network"
+key_of fields.SourceKey = codes "source"
+key_of fields.DestinationNetwork = codes "destination"
+key_of fields.Service = codes "service"
+key_of fields.ObjectType = codes "object_type"
+key_of fields.Instance = codes "instance"
+key_of fields.Property = codes "property"
+key_of fields.Priority = codes "priority"
+key_of fields.Sender = codes "sender"
+key_of fields.Station = codes "station"
 
 -- the device
 
@@ -254,7 +262,7 @@ object_of_kind object kind table =
 -- the fault of its type, which is judged first
 abbrev pub type_located : ℕ → Members → Option Located
 type_located object table =
-    option_map (λ fault. at_field (places.Object object) fault table (Some type_field)) (field_fault table type_field)
+    option_map (λ fault. at_field [] (places.Object object) fault table (Some type_field)) (field_fault [] table type_field)
 
 abbrev pub object_of : ℕ → Members → Find Object
 object_of object table =
@@ -263,109 +271,6 @@ object_of object table =
 
 abbrev pub object_in : ℕ → Data → Find Object
 object_in object value = whole (table_in value) >>= object_of object
-
--- a set of items
-
-abbrev pub set_parts : Members → Read Items
-set_parts table = do
-  name ← rule_name_at (codes "name") table
-  items ← list_at 0 64 (codes "items") table
-  Ok (record { name = name; items = items })
-
-abbrev pub set_of : ℕ → Members → Find Items
-set_of set table = unless (located_in (places.Set set) set_fields table) (whole (set_parts table))
-
-abbrev pub set_in : ℕ → Data → Find Items
-set_in set value = whole (table_in value) >>= set_of set
-
--- a rule, of a text with these sets
-
--- the ranges for a field, in formats 1 and 2 at most 4 of them
-abbrev pub short_ranges_at : Format → FieldName → List ℕ → Members → Read (List RuleRange)
-short_ranges_at format field key table = list_at 0 4 key table >>= each (range_in (scalar_of format field))
-
--- in format 3 those of at most 64 items, at most 256
-abbrev pub long_ranges_at : Format → Sets → FieldName → List ℕ → Members → Read (List RuleRange)
-long_ranges_at format sets field key table =
-    list_at 0 64 key table >>= all_in sets (scalar_of format field) >>= within 0 256
-
-abbrev pub ranges_at : Format → Sets → FieldName → List ℕ → Members → Read (List RuleRange)
-ranges_at format sets field key table =
-    if names_stations format then long_ranges_at format sets field key table
-    else short_ranges_at format field key table
-
--- no rule of formats 1 and 2 names the sender or the station
-abbrev pub station_ranges_at : Format → Sets → FieldName → List ℕ → Members → Read (List RuleRange)
-station_ranges_at format sets field key table =
-    if names_stations format then long_ranges_at format sets field key table else Ok []
-
-abbrev pub boolean_at : List ℕ → Members → Read Bool
-boolean_at key table = at key table >>= boolean_in
-
-abbrev pub fields_of : Format → Sets → Members → Read (Fields (List RuleRange))
-fields_of format sets table = do
-  operation ← ranges_at format sets fields.Operation (codes "operation") table
-  port ← ranges_at format sets fields.Port (codes "port") table
-  source_network ← ranges_at format sets fields.SourceNetwork (codes "source_network") table
-  source_key ← ranges_at format sets fields.SourceKey (codes "source") table
-  destination_network ← ranges_at format sets fields.DestinationNetwork (codes "destination") table
-  service ← ranges_at format sets fields.Service (codes "service") table
-  object_type ← ranges_at format sets fields.ObjectType (codes "object_type") table
-  instance ← ranges_at format sets fields.Instance (codes "instance") table
-  property ← ranges_at format sets fields.Property (codes "property") table
-  priority ← ranges_at format sets fields.Priority (codes "priority") table
-  sender ← station_ranges_at format sets fields.Sender (codes "sender") table
-  station ← station_ranges_at format sets fields.Station (codes "station") table
-  Ok (record {
-    operation = operation;
-    port = port;
-    source_network = source_network;
-    source_key = source_key;
-    destination_network = destination_network;
-    service = service;
-    object_type = object_type;
-    instance = instance;
-    property = property;
-    priority = priority;
-    sender = sender;
-    station = station;
-  })
-
-abbrev pub rule_parts : Format → Sets → Members → Read Rule
-rule_parts format sets table = do
-  name ← rule_name_at (codes "name") table
-  allow ← boolean_at (codes "allow") table
-  ranges ← fields_of format sets table
-  Ok (record { name = name; allow = allow; ranges = ranges })
-
-unfoldable pub rule_of : Format → Sets → ℕ → Members → Find Rule
-rule_of format sets rule table =
-    unless (located_in (places.Rule rule) (rule_fields format sets) table) (whole (rule_parts format sets table))
-
-abbrev pub rule_in : Format → Sets → ℕ → Data → Find Rule
-rule_in format sets rule value = whole (table_in value) >>= rule_of format sets rule
-
--- rules one after the other
-
--- the first field of which rules have more than 2048 ranges in all
-abbrev pub crowded : List Rule → Option FieldName
-crowded rules = find (λ field. nat_lt 2048 (ranges_in_all rules field)) ALL
-
--- that fault, of the rule at this position with those before it
-unfoldable pub crowd : Format → ℕ → List Rule → Option Located
-crowd format rule rules = if names_stations format then option_map (crowded_at format rule) (crowded rules) else None
-
--- the rules that the values say from a position on, behind those that were read
-abbrev pub rules_behind : Format → Sets → List Rule → ℕ → List Data → Find (List Rule)
-rules_behind format sets before rule [] = Ok before
-rules_behind format sets before rule (value ∷ later) =
-    rule_in format sets rule value >>= λ read.
-    unless (crowd format rule (before ++ read ∷ [])) (rules_behind format sets (before ++ read ∷ []) (rule + 1) later)
-
--- the note of a rule, which in formats 1 and 2 has none
-abbrev pub note_in : Format → Data → Read (List ℕ)
-note_in format value =
-    if names_stations format then (table_in value >>= optional_text [] (codes "note")) else Ok []
 
 -- the whole
 
@@ -383,46 +288,3 @@ routes_at ports key table = whole (list_at 0 512 key table) >>= each_at (route_i
 
 abbrev pub objects_at : List ℕ → Members → Find (List Object)
 objects_at key table = whole (list_at 0 256 key table) >>= each_at object_in 0
-
--- the sets, in format 3
-abbrev pub sets_at : Format → List ℕ → Members → Find Sets
-sets_at format key table =
-    if names_stations format then (whole (list_or (get_member key table)) >>= each_at set_in 0) else Ok []
-
--- each set, and whether a rule names it
-abbrev pub sets_of : List Data → Sets → List Set
-sets_of rules sets = map (λ set. record { name = set.name; used = is_used set.name rules }) sets
-
--- the rules as a policy
-abbrev pub policy_of : Format → List Rule → Read (List Rule)
-policy_of format rules =
-    if not (keeps_counts_of format rules) then Err TooMany
-    else if not (keeps_order rules) then Err Range
-    else Ok rules
-
--- the tables in their order, behind the format
-abbrev pub parts_of_format : Format → Members → Find Configuration
-parts_of_format format top = do
-  device ← device_at (codes "device") top
-  ports ← ports_at format (codes "port") top
-  routes ← routes_at (length ports) (codes "route") top
-  objects ← objects_at (codes "object") top
-  sets ← sets_at format (codes "set") top
-  tables ← whole (list_at 0 512 (codes "rule") top)
-  rules ← rules_behind format sets [] 0 tables
-  policy ← whole (policy_of format rules)
-  notes ← whole (each (note_in format) tables)
-  Ok (record {
-    format = format;
-    device = device;
-    ports = ports;
-    routes = routes;
-    objects = objects;
-    rules = policy;
-    notes = notes;
-    sets = sets_of tables sets;
-  })
-
--- the format, and then the tables
-abbrev pub parts_of : Members → Find Configuration
-parts_of top = whole (format_at (codes "format") top) >>= λ format. parts_of_format format top

@@ -3,7 +3,8 @@
 ghost use Rattle.std.specs.Prelude.{◌≡◌, ◌≤◌, ◌||◌, codes, length, map, IfOk, IsTrue};
 ghost use Rattle.std.specs.List.{list_all};
 ghost use Rattle.toml.specs.View.{table_view, view};
-ghost use Rattle.gw_policy_text.specs.Parts.{each, each_at, has_no_stations, peer_in, peer_of, peer_parts, peers_at, port_in, port_of, port_parts, stations_at};
+ghost use Rattle.gw_policy_text.specs.Parts.{each_at, has_no_stations, peer_in, peer_of, peer_parts, peers_at, port_in, port_of, port_parts, stations_at};
+ghost use Rattle.gw_config_tables.specs.Items.{each};
 ghost use Rattle.gw_config_tables.specs.Value.{subnet_in};
 ghost use Rattle.gw_rules.specs.Format.{names_stations};
 ghost use Rattle.gw_config_tables.specs.Field.{located_in};
@@ -15,7 +16,7 @@ ghost use Rattle.gw_addr.specs.Reading as plain;
 use crate::reading::{address_at, list_at, mask_at, network_at};
 use gw_addr::{BdtEntry, Sequence};
 use gw_config_tables::located_in;
-use gw_config_tables::tables::{peer_fields, port_fields};
+use gw_config_tables::tables::{peer_fields, port_located};
 use gw_config_tables::value::{self, table};
 use gw_configuration::{
     ConfigFault, Format, Located, MAX_PEERS, MAX_STATIONS, Peers, Place, Port, Stations, Subnet,
@@ -64,7 +65,7 @@ fn port_of_table<'a>(
         (located_in (places.Port port) (port_fields format) (table_view table.now)) }
     ensures plain { IfOk result (λ p. IsTrue (has_no_stations format p)) }
 {
-    match located_in(Place::Port(port), &port_fields(format), table) {
+    match port_located(format, port, table) {
         Some(located) => Err(located),
         None => port_parts(alloc, format, port, table),
     }
