@@ -1,5 +1,5 @@
 //! Subnets of IPv4 addresses.
-ghost use Rattle.std.specs.Prelude.{◌≡◌, ◌≤◌, ◌<◌, ◌++◌, ◌∷◌, ℕ, Some, IfSome};
+ghost use Rattle.std.specs.Prelude.{◌≡◌, ◌≤◌, ◌<◌, ◌^◌, ◌++◌, ◌∷◌, ℕ, Some, IfSome};
 ghost use Rattle.std.specs.Fmt.{decimal};
 ghost use Rattle.gw_addr.specs.declared.mask.Mask.{Mask};
 ghost use Rattle.gw_addr.specs.Mask.{IsMask, mask_text};
@@ -73,8 +73,11 @@ impl Subnet {
     }
 
     /// The keys of its addresses at every UDP port (Annex J.1.2).
+    #[tactic(auto, using(crate::proofs::Keys::last_key))]
     pub fn keys(&self) -> Range
-        ensures { result ≡ keys_of self.now }
+        ensures keys { result ≡ keys_of self.now }
+        ensures some { result.low ≤ result.high }
+        ensures high { result.high < 2 ^ 48 }
     {
         let network = u64::from(self.network);
         Range {
