@@ -1,5 +1,5 @@
 -- The name that a text may be meant as.
-use Rattle.std.specs.Prelude.{ℕ, suc, zero, ◌≤◌, nat_eq, nat_le, nat_lt, if◌then◌else◌, List, [], ◌++◌, length, codes}
+use Rattle.std.specs.Prelude.{ℕ, suc, zero, ◌*◌, Bool, ◌&&◌, nat_eq, nat_le, nat_lt, if◌then◌else◌, List, [], ◌++◌, length, codes}
 use Rattle.std.specs.Prelude.{Option, Some, None}
 use Rattle.std.specs.Str.{chars}
 use Rattle.strsim.specs.Edits.{levenshtein_row}
@@ -37,14 +37,17 @@ unfoldable pub nearest : Names → List ℕ → ℕ → Option (ℕ × List ℕ)
 nearest names text zero = None
 nearest names text (suc number) = nearer_of text (nearest names text number) (name_of names number)
 
--- with at most 3 edits it may be meant
-abbrev pub meant_within : ℕ → List ℕ → List ℕ
-meant_within count name = if nat_le count 3 then codes "; did you mean " ++ name else []
+-- with at most 3 edits, and one for each two octets of the text, it may be meant
+abbrev pub is_near : List ℕ → ℕ → Bool
+is_near text count = nat_le count 3 && nat_le (2 * count) (length text)
 
-abbrev pub meant : Option (ℕ × List ℕ) → List ℕ
-meant None = []
-meant (Some best) = meant_within best.0 best.1
+abbrev pub meant_within : Bool → List ℕ → List ℕ
+meant_within near name = if near then codes "; did you mean " ++ name else []
+
+abbrev pub meant : List ℕ → Option (ℕ × List ℕ) → List ℕ
+meant text None = []
+meant text (Some best) = meant_within (is_near text best.0) best.1
 
 -- the numbers of all names are below 1032
 abbrev pub near_words : Names → List ℕ → List ℕ
-near_words names text = meant (nearest names text 1032)
+near_words names text = meant text (nearest names text 1032)

@@ -1,6 +1,6 @@
 //! The name that a text may be meant as.
 ghost use Rattle.std.specs.Prelude.{◌≡◌, ◌++◌, codes, IfOk, OnOk, option_map};
-ghost use Rattle.gw_explanation.specs.Near.{edits, meant, meant_within, name_of, near_words, nearer, nearer_of, nearest, noun_of};
+ghost use Rattle.gw_explanation.specs.Near.{edits, is_near, meant, meant_within, name_of, near_words, nearer, nearer_of, nearest, noun_of};
 
 use gw_configuration::Names;
 use gw_names::{object_type_name, property_name, service_name};
@@ -31,23 +31,30 @@ pub(crate) fn put_near(line: &mut Vec<u8>, names: Names, text: &str) -> Result<(
     ensures { OnOk result (line.new.items ≡ line.old.items ++ near_words names text.now) }
 {
     let best = nearest(*line.allocator(), names, text)?;
-    put_meant(line, best)
+    put_meant(line, text, best)
 }
 
-fn put_meant(line: &mut Vec<u8>, best: Near) -> Result<(), AllocError>
-    ensures { let words = meant (option_map (λ x. (x.0, x.1.now)) best.entry) in
+fn put_meant(line: &mut Vec<u8>, text: &str, best: Near) -> Result<(), AllocError>
+    ensures { let words = meant text.now (option_map (λ x. (x.0, x.1.now)) best.entry) in
         OnOk result (line.new.items ≡ line.old.items ++ words) }
 {
     match best {
-        Some((count, name)) => put_if_near(line, count, name),
+        Some((count, name)) => put_if_near(line, is_near(text, count), name),
         None => Ok(()),
     }
 }
 
-fn put_if_near(line: &mut Vec<u8>, count: usize, name: &str) -> Result<(), AllocError>
-    ensures { OnOk result (line.new.items ≡ line.old.items ++ meant_within count name.now) }
+/// Whether a name with so many edits may be meant by a text.
+fn is_near(text: &str, count: usize) -> bool
+    ensures { result ≡ is_near text.now count }
 {
-    if count <= MAX_EDITS {
+    count <= MAX_EDITS && 2 * count <= text.len()
+}
+
+fn put_if_near(line: &mut Vec<u8>, is_near: bool, name: &str) -> Result<(), AllocError>
+    ensures { OnOk result (line.new.items ≡ line.old.items ++ meant_within is_near name.now) }
+{
+    if is_near {
         put_suggestion(line, name)
     } else {
         Ok(())
