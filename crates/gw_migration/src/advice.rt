@@ -1,9 +1,9 @@
 //! What the comments of the text say: what format 3 will deny that was not, and what a site may need.
 
 use crate::subnets::{host_of, put_subnet, shared_prefix};
-use gw_addr::put_decimal;
-use gw_configuration::{Port, Route};
-use gw_rules::{FieldName, Rule};
+use gw_addr::{NetNum, put_decimal};
+use gw_configuration::{Config, Port, Route};
+use gw_rules::{FieldName, Range, Rule};
 use std::alloc::AllocError;
 
 /// What stands at the head of the text.
@@ -66,10 +66,50 @@ pub(crate) fn put_route_note(out: &mut Vec<u8>, route: &Route) -> Result<(), All
     out.extend_from_slice(b".\n")
 }
 
-/// Appends that a rule is about what format 3 judges first.
-pub(crate) fn put_rule_note(out: &mut Vec<u8>, rule: &Rule) -> Result<(), AllocError> {
-    if !rule.ranges(FieldName::Operation).as_slice().is_empty() {
-        return Ok(());
+/// Appends what format 3 makes of a rule: it is about what is judged first, or names a network that can't
+/// claim to be one.
+pub(crate) fn put_rule_note(
+    out: &mut Vec<u8>,
+    config: &Config,
+    rule: &Rule,
+) -> Result<(), AllocError> {
+    if rule.ranges(FieldName::Operation).as_slice().is_empty() {
+        out.extend_from_slice(
+            b"# This rule names no operation: it is about \"enter\" and \"claim\", too.\n",
+        )?;
     }
-    out.extend_from_slice(b"# This rule names no operation: it is about \"enter\" and \"claim\", too.\n")
+    for range in rule.ranges(FieldName::SourceNetwork).as_slice() {
+        if !is_reached(config, *range) {
+            put_network_note(out, range.low, range.high)?;
+        }
+    }
+    Ok(())
+}
+
+/// Appends that messages of some networks come by no route.
+fn put_network_note(out: &mut Vec<u8>, low: u64, high: u64) -> Result<(), AllocError> {
+    out.extend_from_slice(b"# Of the networks ")?;
+    put_decimal(out, low)?;
+    out.extend_from_slice(b" to ")?;
+    put_decimal(out, high)?;
+    out.extend_from_slice(
+        b" no route is known: their messages are denied by \"claim\" until a route is learned.\n",
+    )
+}
+
+/// Whether one of these networks is that of a port, of the device or of a route.
+fn is_reached(config: &Config, range: Range) -> bool {
+    range.holds(network_of(config.device().network))
+        || config
+            .ports()
+            .iter()
+            .any(|port| range.holds(network_of(port.network)))
+        || config
+            .routes()
+            .iter()
+            .any(|route| range.holds(network_of(route.network)))
+}
+
+fn network_of(network: NetNum) -> u64 {
+    u64::from(network.get())
 }

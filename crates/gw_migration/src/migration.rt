@@ -44,7 +44,7 @@ fn written(alloc: Global, config: &Config) -> Result<Vec<u8>, AllocError> {
     put_ports(&mut out, config.ports())?;
     put_routes(&mut out, config.routes())?;
     put_objects(&mut out, config.objects())?;
-    put_rules(&mut out, config.rules().rules())?;
+    put_rules(&mut out, config)?;
     put_tail(&mut out)?;
     Ok(out)
 }

@@ -22,7 +22,15 @@ fn put_device_texts(out: &mut Vec<u8>, device: &Device) -> Result<(), AllocError
     put_text(out, "model", device.model.as_str())?;
     put_text(out, "firmware", device.firmware.as_str())?;
     put_text(out, "software", device.software.as_str())?;
-    put_text(out, "description", device.description.as_str())
+    put_description(out, &device.description)
+}
+
+/// Appends a description, if there is one.
+fn put_description(out: &mut Vec<u8>, description: &Text) -> Result<(), AllocError> {
+    if description.as_str().is_empty() {
+        return Ok(());
+    }
+    put_text(out, "description", description.as_str())
 }
 
 /// Appends the tables of the objects.
@@ -38,7 +46,7 @@ fn put_object(out: &mut Vec<u8>, object: &Object) -> Result<(), AllocError> {
     put_number(out, "type", type_number(&object.value))?;
     put_number(out, "instance", u64::from(object.instance.get()))?;
     put_text(out, "name", object.name.as_str())?;
-    put_text(out, "description", object.description.as_str())?;
+    put_description(out, &object.description)?;
     put_value(out, &object.value)
 }
 

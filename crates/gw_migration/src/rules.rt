@@ -4,6 +4,7 @@ use crate::advice::put_rule_note;
 use crate::lines::{put_key, put_quoted, put_text};
 use crate::subnets::{put_host, put_subnet, whole_prefix};
 use gw_addr::{BipAddr, put_decimal};
+use gw_configuration::Config;
 use gw_names::{object_type_name, property_name, service_name};
 use gw_rules::{FieldName, Operation, Range, Rule};
 use std::alloc::AllocError;
@@ -12,16 +13,16 @@ use std::alloc::AllocError;
 const PORTS: u64 = 65536;
 
 /// Appends the tables of the rules.
-pub(crate) fn put_rules(out: &mut Vec<u8>, rules: &[Rule]) -> Result<(), AllocError> {
-    for rule in rules {
-        put_rule(out, rule)?;
+pub(crate) fn put_rules(out: &mut Vec<u8>, config: &Config) -> Result<(), AllocError> {
+    for rule in config.rules().rules() {
+        put_rule(out, config, rule)?;
     }
     Ok(())
 }
 
-fn put_rule(out: &mut Vec<u8>, rule: &Rule) -> Result<(), AllocError> {
+fn put_rule(out: &mut Vec<u8>, config: &Config, rule: &Rule) -> Result<(), AllocError> {
     out.extend_from_slice(b"\n[[rule]]\n")?;
-    put_rule_note(out, rule)?;
+    put_rule_note(out, config, rule)?;
     put_text(out, "name", rule.name.as_str())?;
     out.extend_from_slice(if rule.allow {
         b"allow = true\n"
