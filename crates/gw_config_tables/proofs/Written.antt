@@ -232,6 +232,9 @@ subnet_network octets prefix s four fits e =
     let text = subnet_found octets prefix s four fits e in
     (subst IsSubnet c.1 is, text)
 
+joined : (a b x y : List ℕ) → a ≡ x → b ≡ y → a ++ 47 ∷ b ≡ x ++ 47 ∷ y
+joined a b x y e f = rw (e, f) refl
+
 pub subnet_is : (text : List ℕ) (s : Subnet) → subnet_written text ≡ Some s → IsSubnet s × (text ≡ subnet_text s)
 unfolding subnet_written
 subnet_is text s e =
@@ -241,7 +244,7 @@ subnet_is text s e =
     let ip = mask_found p.0.0 q.0 q.1 in
     let n = number_found 33 p.0.1 r.0 (omega arith) r.1 in
     let made = subnet_network q.0.octets r.0 s ip.0.four ip.0.octets r.2 in
-    (made.0, split_found 47 text p.0.0 p.0.1 p.1 ∙ rw (ip.1, n.0) refl ∙ made.1)
+    (made.0, split_found 47 text p.0.0 p.0.1 p.1 ∙ joined p.0.0 p.0.1 (mask_text q.0) (decimal r.0) ip.1 n.0 ∙ made.1)
 
 pub subnet_written_again : (s : Subnet) → IsSubnet s → subnet_written (subnet_text s) ≡ Some s
 unfolding subnet_written

@@ -72,8 +72,11 @@ stations_written text =
     (or_else (option_map keys_of_host (mask_written text)) (option_map keys_of (subnet_written text)))
 
 -- a list of two, low and high; a value of a wrong kind in it comes before all else
+abbrev pub stations_from : Data → Data → Read RuleRange
+stations_from low high = end_in 0 low >>= λ l. end_in 65535 high >>= λ h. ordered l h
+
 abbrev pub station_ends : List Data → Read RuleRange
-station_ends (low ∷ high ∷ []) = end_in 0 low >>= λ l. end_in 65535 high >>= λ h. ordered l h
+station_ends (low ∷ high ∷ []) = stations_from low high
 station_ends _ = Err Range
 
 abbrev pub stations_between : List Data → Read RuleRange
@@ -146,11 +149,15 @@ items_or sets scalar item (Some name) = set_ranges scalar (items_named name sets
 abbrev pub items_in : List Data → Scalar → Data → Read (List RuleRange)
 items_in sets scalar item = items_or sets scalar item (set_name_in item)
 
+-- ranges behind others
+abbrev pub behind : List RuleRange → Read (List RuleRange) → Read (List RuleRange)
+behind front reading = reading >>= λ ranges. Ok (front ++ ranges)
+
 -- what a list of items names, in order
 abbrev pub ranges_in : List Data → Scalar → List Data → Read (List RuleRange)
 ranges_in sets scalar [] = Ok []
 ranges_in sets scalar (item ∷ later) =
-    items_in sets scalar item >>= λ first. ranges_in sets scalar later >>= λ others. Ok (first ++ others)
+    items_in sets scalar item >>= λ first. behind first (ranges_in sets scalar later)
 
 -- how many ranges an item names
 abbrev pub count_of : List Data → Data → ℕ

@@ -1,18 +1,19 @@
 //! Items for a field of a rule of format 3: besides values and lists of two they are names, stations and
 //! sets.
-ghost use Rattle.std.specs.Prelude.{◌≡◌, ◌==◌, ◌++◌, map, find, length, Ok, option_copied, option_map, IfOk, IsTrue, nat_lt};
+ghost use Rattle.std.specs.Prelude.{◌≡◌, map, find, option_copied, option_map, IfOk, IfSome, IsTrue, OnOk};
 ghost use Rattle.std.specs.List.{list_all, list_any};
 ghost use Rattle.std.specs.Result.{result_err};
 ghost use Rattle.gw_addr.specs.Reading as plain;
 ghost use Rattle.gw_rules.specs.Bounds.{is_within};
 ghost use Rattle.gw_rules.specs.Range.{holds};
 ghost use Rattle.toml.specs.View.{table_view, view};
-ghost use Rattle.gw_configuration.specs.Duplicates.{key};
+ghost use Rattle.gw_configuration.specs.Subnet.{keys_of};
 ghost use Rattle.gw_configuration.specs.Reading.{Gives};
 ghost use Rattle.gw_config_tables.specs.Field.{has_too_many};
-ghost use Rattle.gw_config_tables.specs.Items.{count_of, end_in, end_written, is_set_named, items_in, items_named, items_of_set, key_with, keys_of_host, name_behind, name_of_set, named_in, number_named, number_of, ranges_in, set_item_fault, set_name_in, span_in, spans_in, station_ends, stations_between, stations_in, stations_written};
+ghost use Rattle.gw_config_tables.specs.Items.{behind, count_of, end_in, end_written, is_set_named, items_in, items_named, items_of_set, key_with, keys_of_host, name_behind, name_of_set, named_in, number_named, number_of, only, ranges_in, set_item_fault, set_name_in, span_in, spans_in, station_ends, stations_between, stations_from, stations_in, stations_written};
 ghost use Rattle.gw_config_tables.specs.Range.{bounds_of, field_named, is_kind};
 ghost use Rattle.gw_config_tables.specs.Value.{reading};
+ghost use Rattle.gw_config_tables.specs.Written.{subnet_written};
 ghost use Rattle.toml.specs.Data.{as_str};
 
 use crate::range::{self, range};
@@ -28,8 +29,10 @@ use toml::Value;
 const LAST_PORT: u16 = u16::MAX;
 
 /// The number of a name.
+#[tactic(auto, using(crate::proofs::Bounds::number_within))]
 fn number_of(names: Names, name: &str) -> Option<u64>
-    ensures { result ≡ number_of names name.now }
+    ensures number { result ≡ number_of names name.now }
+    ensures held { IfSome result (λ n. IsTrue (is_within (bounds_of (Scalar.Named names)) (only n))) }
 {
     match names {
         Names::Services => service_number(name),
@@ -76,17 +79,20 @@ fn number_named(names: Names) -> Scalar
 
 /// The key of an IPv4 address, which is written as a mask is, with this UDP port.
 fn key_with(udp: u16, ip: Mask) -> u64
-    ensures { result ≡ key_with udp ip }
+    ensures number { result ≡ key_with udp ip }
+    ensures held { IsTrue (holds result (bounds_of Scalar.Stations)) }
 {
-    BipAddr { ip: ip.octets, udp }.key48()
+    let ip = ip.octets;
+    range::key(BipAddr { ip, udp })
 }
 
 /// The end of a range that a text is: an address, or an IPv4 address with this UDP port.
 fn end_written(udp: u16, text: &str) -> Option<u64>
-    ensures { result ≡ end_written udp text.now }
+    ensures number { result ≡ end_written udp text.now }
+    ensures held { IfSome result (λ n. IsTrue (holds n (bounds_of Scalar.Stations))) }
 {
     match value::address_of(text) {
-        Some(address) => Some(address.key48()),
+        Some(address) => Some(range::key(address)),
         None => match value::mask_of(text) {
             Some(ip) => Some(key_with(udp, ip)),
             None => None,
@@ -95,7 +101,8 @@ fn end_written(udp: u16, text: &str) -> Option<u64>
 }
 
 fn end(udp: u16, value: &Value) -> Result<u64, ConfigFault>
-    ensures { plain.Gives (λ n. n) result (end_in udp (view value.now)) }
+    ensures number { plain.Gives (λ n. n) result (end_in udp (view value.now)) }
+    ensures held { IfOk result (λ n. IsTrue (holds n (bounds_of Scalar.Stations))) }
 {
     match string(value) {
         Some(text) => end_written(udp, text).ok_or(ConfigFault::Range),
@@ -106,14 +113,22 @@ fn end(udp: u16, value: &Value) -> Result<u64, ConfigFault>
 /// The stations that a text is: one by its address, or those at every UDP port of an IPv4 address or of a
 /// subnet.
 fn stations_written(text: &str) -> Option<Range>
-    ensures { result ≡ stations_written text.now }
+    ensures range { result ≡ stations_written text.now }
+    ensures within { IfSome result (λ r. IsTrue (is_within (bounds_of Scalar.Stations) r)) }
 {
-    if let Some(address) = value::address_of(text) {
-        return Some(Range::only(address.key48()));
+    match value::address_of(text) {
+        Some(address) => Some(Range::only(range::key(address))),
+        None => match value::mask_of(text) {
+            Some(ip) => Some(keys_of_host(ip)),
+            None => keys_of_subnet(text),
+        },
     }
-    if let Some(ip) = value::mask_of(text) {
-        return Some(keys_of_host(ip));
-    }
+}
+
+fn keys_of_subnet(text: &str) -> Option<Range>
+    ensures range { result ≡ option_map keys_of (subnet_written text.now) }
+    ensures within { IfSome result (λ r. IsTrue (is_within (bounds_of Scalar.Stations) r)) }
+{
     match value::subnet_of(text) {
         Some(subnet) => Some(subnet.keys()),
         None => None,
@@ -121,7 +136,8 @@ fn stations_written(text: &str) -> Option<Range>
 }
 
 fn keys_of_host(ip: Mask) -> Range
-    ensures { result ≡ keys_of_host ip }
+    ensures range { result ≡ keys_of_host ip }
+    ensures within { IsTrue (is_within (bounds_of Scalar.Stations) result) }
 {
     Range {
         low: key_with(0, ip),
@@ -136,11 +152,21 @@ fn have_kind(ends: &[Value]) -> bool
         .any(|value| matches!(end(0, value), Err(ConfigFault::Kind)))
 }
 
+fn between(low: &Value, high: &Value) -> Result<Range, ConfigFault>
+    ensures range { plain.Gives (λ r. r) result (stations_from (view low.now) (view high.now)) }
+    ensures within { IfOk result (λ r. IsTrue (is_within (bounds_of Scalar.Stations) r)) }
+{
+    let low = end(0, low)?;
+    let high = end(LAST_PORT, high)?;
+    range::ordered(low, high)
+}
+
 fn station_ends(ends: &[Value]) -> Result<Range, ConfigFault>
-    ensures { plain.Gives (λ r. r) result (station_ends (map view ends.now)) }
+    ensures range { plain.Gives (λ r. r) result (station_ends (map view ends.now)) }
+    ensures within { IfOk result (λ r. IsTrue (is_within (bounds_of Scalar.Stations) r)) }
 {
     match ends {
-        [low, high] => range::ordered(end(0, low)?, end(LAST_PORT, high)?),
+        [low, high] => between(low, high),
         _ => Err(ConfigFault::Range),
     }
 }
@@ -148,7 +174,8 @@ fn station_ends(ends: &[Value]) -> Result<Range, ConfigFault>
 /// A list of two, low and high; a value of a wrong kind in it comes before all else.
 #[tactic(auto, using(crate::proofs::Values::any_view))]
 fn stations_between(ends: &[Value]) -> Result<Range, ConfigFault>
-    ensures { plain.Gives (λ r. r) result (stations_between (map view ends.now)) }
+    ensures range { plain.Gives (λ r. r) result (stations_between (map view ends.now)) }
+    ensures within { IfOk result (λ r. IsTrue (is_within (bounds_of Scalar.Stations) r)) }
 {
     if have_kind(ends) {
         return Err(ConfigFault::Kind);
@@ -168,7 +195,8 @@ pub fn stations(value: &Value) -> Result<Range, ConfigFault>
 }
 
 fn stations_of(value: &Value) -> Result<Range, ConfigFault>
-    ensures { plain.Gives (λ r. r) result (reading stations_written (as_str (view value.now))) }
+    ensures range { plain.Gives (λ r. r) result (reading stations_written (as_str (view value.now))) }
+    ensures within { IfOk result (λ r. IsTrue (is_within (bounds_of Scalar.Stations) r)) }
 {
     match string(value) {
         Some(text) => stations_written(text).ok_or(ConfigFault::Range),
@@ -339,8 +367,10 @@ fn put_item(
     of: Scalar,
     item: &Value,
 ) -> Result<(), ConfigFault>
-    ensures { Gives (λ _. all.new) result
-        (items_in (map view sets.now) of (view item.now) >>= λ rs. Ok (all.old ++ rs)) }
+    ensures ranges { Gives (λ _. all.new) result
+        (behind all.old (items_in (map view sets.now) of (view item.now))) }
+    ensures within { OnOk result (IsTrue (list_all (is_within (bounds_of of)) all.old)
+        → IsTrue (list_all (is_within (bounds_of of)) all.new)) }
 {
     match set_name(item) {
         Some(name) => match items_named(sets, name) {
@@ -355,7 +385,9 @@ fn put_item(
 }
 
 fn put_spans(all: &mut Ranges, of: Scalar, items: &[Value]) -> Result<(), ConfigFault>
-    ensures { Gives (λ _. all.new) result (spans_in of (map view items.now) >>= λ rs. Ok (all.old ++ rs)) }
+    ensures ranges { Gives (λ _. all.new) result (behind all.old (spans_in of (map view items.now))) }
+    ensures within { OnOk result (IsTrue (list_all (is_within (bounds_of of)) all.old)
+        → IsTrue (list_all (is_within (bounds_of of)) all.new)) }
 {
     if have_span_kind(of, items) {
         return Err(ConfigFault::Kind);

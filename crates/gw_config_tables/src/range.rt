@@ -43,7 +43,7 @@ fn operation_number(format: Format, operation: Operation) -> u64
 
 /// The number by which rules know an address.
 #[tactic(auto, using(crate::proofs::Bounds::key_held))]
-fn key(address: BipAddr) -> u64
+pub(crate) fn key(address: BipAddr) -> u64
     ensures number { result ≡ big_endian (octets_of address) }
     ensures held { IsTrue (holds result (bounds formats.One fields.SourceKey)) }
 {
