@@ -1,13 +1,13 @@
 //! What the sets of a configuration are read to.
-ghost use Rattle.std.specs.Prelude.{◌≡◌, map, option_map};
+ghost use Rattle.std.specs.Prelude.{◌≡◌, length, map, option_map, IfOk};
 ghost use Rattle.std.specs.List.{list_any};
-ghost use Rattle.gw_addr.specs.Reading as plain;
 ghost use Rattle.toml.specs.Data.{get_member};
 ghost use Rattle.toml.specs.View.{table_view, view};
 ghost use Rattle.gw_configuration.specs.Reading.{Finds, Gives};
 ghost use Rattle.gw_policy_text.specs.Parts.{each_at, list_or};
 ghost use Rattle.gw_policy_text.specs.Policy.{is_mention, is_used, mentions, mentions_for, mentions_in, set_in, set_of, set_parts};
 ghost use Rattle.gw_config_tables.specs.Value.{table_in};
+ghost use Rattle.gw_rules.specs.declared.field.TheConstants.FieldName.{ALL};
 
 use crate::reading::{any_list, at, key_of};
 use gw_addr::Sequence;
@@ -27,7 +27,8 @@ pub(crate) fn sets<'a>(
     rules: &[Value],
     values: &'a [Value],
 ) -> Result<Sequence<Set>, Located<'a>>
-    ensures { Finds (λ ss. ss) result (each_at (set_in (map view rules.now)) 0 (map view values.now)) }
+    ensures count { IfOk result (λ ss. length ss ≡ length values.now) }
+    ensures sets { Finds (λ ss. ss) result (each_at (set_in (map view rules.now)) 0 (map view values.now)) }
 {
     let mut all = Sequence::new(alloc);
     for (place, value) in values.iter().enumerate() {
