@@ -1,5 +1,6 @@
 -- The numbers by which rules know operations and addresses.
 use Rattle.std.proofs.Common.{◌≡◌, ◌∙◌, ℕ, Bool, true, false, cond, List, [], ◌∷◌, Option, Some, None, ap, sym, refl, arith, nat_eq, nat_le}
+use Rattle.std.specs.Prelude.{IfSome}
 use Rattle.std.specs.Cmp.Lexicographic.{pointwise}
 use Rattle.std.specs.List.{find, list_all}
 use Rattle.std.specs.Option.{option_map}
@@ -54,3 +55,7 @@ pub number_within : (names : Names) (name : List ℕ) (number : ℕ) → number_
 number_within Services name number e = within 1031 number (all_below 1031 services services_below name number e)
 number_within ObjectTypes name number e = within 1023 number (all_below 1023 object_types types_below name number e)
 number_within Properties name number e = within 4194303 number (all_below 4194303 properties properties_below name number e)
+
+pub held : (names : Names) (name : List ℕ) (r : Option ℕ) → r ≡ number_of names name → IfSome r (λ n. is_within (bounds_of (Named names)) (only n) ≡ true)
+held names name None e = tt
+held names name (Some n) e = number_within names name n (sym e)

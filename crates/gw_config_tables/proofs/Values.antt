@@ -1,7 +1,8 @@
 -- Values of TOML, as code and as definitions see them.
 use Rattle.std.proofs.Common.{◌≡◌, ◌||◌, ◌+◌, ℕ, suc, Bool, true, false, not, if◌then◌else◌, length, String, Global, string_bytes, List, [], ◌∷◌, map, Option, Some, None, Ok, refl, sym, ap, ◌∙◌}
 use Rattle.std.specs.Map.{keys_of}
-use Rattle.std.specs.List.{find, list_any, position, prefix_len}
+use Rattle.std.proofs.lemmas.List.Sums.{sum_by-cons}
+use Rattle.std.specs.List.{find, list_any, position, prefix_len, sum_by}
 use Rattle.std.specs.Option.{ok_or, option_map}
 use Rattle.toml.specs.Data.{Data, Items}
 use Rattle.toml.specs.View.{items_of, items_view, members_view, view}
@@ -67,3 +68,8 @@ find_view test (v ∷ vs) = on (test (view v)) (find_view test vs)
     on : (b : Bool) → find test (map view vs) ≡ option_map view (find (λ x. test (view x)) vs) → (if b then Some (view v) else find test (map view vs)) ≡ option_map view (if b then Some v else find (λ x. test (view x)) vs)
     on true later = refl
     on false later = later
+
+-- a sum over what the values are seen as
+pub sum_view : (count : Data → ℕ) (vs : List Value) → sum_by count (map view vs) ≡ sum_by (λ v. count (view v)) vs
+sum_view count [] = refl
+sum_view count (v ∷ vs) = sum_by-cons count (view v) (map view vs) ∙ ap (λ n. count (view v) + n) (sum_view count vs) ∙ sym (sum_by-cons (λ x. count (view x)) v vs)

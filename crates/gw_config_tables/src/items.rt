@@ -29,7 +29,6 @@ use toml::Value;
 const LAST_PORT: u16 = u16::MAX;
 
 /// The number of a name.
-#[tactic(auto, using(crate::proofs::Bounds::number_within))]
 fn number_of(names: Names, name: &str) -> Option<u64>
     ensures number { result ≡ number_of names name.now }
     ensures held { IfSome result (λ n. IsTrue (is_within (bounds_of (Scalar.Named names)) (only n))) }
@@ -293,6 +292,7 @@ pub fn fault(sets: &[Value], of: Scalar, item: &Value) -> Option<ConfigFault>
 }
 
 /// The fault of the items of a set: `Kind` of any comes before `Range`.
+#[tactic(auto, using(crate::proofs::Values::any_view))]
 fn spans_fault(of: Scalar, items: &[Value]) -> Option<ConfigFault>
     ensures { result ≡ result_err (spans_in of (map view items.now)) }
 {
@@ -329,6 +329,7 @@ fn count_of(sets: &[Value], item: &Value) -> usize
 }
 
 /// Whether items name more than 256 ranges once sets are put in.
+#[tactic(auto, using(crate::proofs::Values::sum_view))]
 pub(crate) fn has_too_many(sets: &[Value], items: &[Value]) -> bool
     ensures { result ≡ has_too_many (map view sets.now) (map view items.now) }
 {
@@ -384,6 +385,8 @@ fn put_item(
     }
 }
 
+/// Puts the ranges of the items of a set behind those that are there.
+#[tactic(auto, using(crate::proofs::Values::any_view))]
 fn put_spans(all: &mut Ranges, of: Scalar, items: &[Value]) -> Result<(), ConfigFault>
     ensures ranges { Gives (λ _. all.new) result (behind all.old (spans_in of (map view items.now))) }
     ensures within { OnOk result (IsTrue (list_all (is_within (bounds_of of)) all.old)

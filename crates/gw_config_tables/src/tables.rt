@@ -89,7 +89,7 @@ pub fn top_located<'a>(format: Format, table: &'a Table) -> Option<Located<'a>>
 {
     match format {
         Format::Three => located_in(Place::Top, &top_fields_with_sets(), table),
-        _ => located_in(Place::Top, &top_fields(), table),
+        Format::One | Format::Two => located_in(Place::Top, &top_fields(), table),
     }
 }
 
@@ -158,7 +158,7 @@ pub fn port_located<'a>(format: Format, port: usize, table: &'a Table) -> Option
 {
     match format {
         Format::Three => located_in(Place::Port(port), &port_fields_with_stations(), table),
-        _ => located_in(Place::Port(port), &port_fields(), table),
+        Format::One | Format::Two => located_in(Place::Port(port), &port_fields(), table),
     }
 }
 
@@ -354,7 +354,7 @@ fn ranges(format: Format, key: &'static str, field: FieldName) -> Field
     let of = scalar_of(format, field);
     match format {
         Format::Three => Field::may(key, Shape::Items(of)),
-        _ => Field::may(key, Shape::Ranges(of)),
+        Format::One | Format::Two => Field::may(key, Shape::Ranges(of)),
     }
 }
 
@@ -373,7 +373,9 @@ pub fn rule_located<'a>(
         Format::Three => {
             located_beside(sets, Place::Rule(rule), &rule_fields_with_stations(), table)
         }
-        _ => located_beside(sets, Place::Rule(rule), &rule_fields(format), table),
+        Format::One | Format::Two => {
+            located_beside(sets, Place::Rule(rule), &rule_fields(format), table)
+        }
     }
 }
 
