@@ -1,6 +1,6 @@
 -- Reading the items of a list one after the other, as a loop does.
-use Rattle.std.proofs.Common.{◌≡◌, ◌≢◌, ℕ, zero, suc, ◌+◌, ◌<◌, ◌≤◌, Bool, true, List, [], ◌∷◌, ◌++◌, length, get_or, drop, map, Option, Some, None, Ok, Err, refl, sym, ap, ◌∙◌, append_assoc, add-one, arith, drop-cons}
-use Rattle.std.specs.List.{list_all}
+use Rattle.std.proofs.Common.{◌≡◌, ◌≢◌, ℕ, zero, suc, ◌+◌, ◌<◌, ◌≤◌, Bool, true, false, List, [], ◌∷◌, ◌++◌, length, get_or, drop, map, Option, Some, None, Ok, Err, refl, sym, ap, ◌∙◌, append_assoc, add-one, arith, drop-cons}
+use Rattle.std.specs.List.{list_all, list_any}
 use Rattle.std.specs.Result.{result_err}
 use Rattle.std.proofs.lemmas.List.{append-nil}
 use Rattle.std.proofs.lemmas.List.Folds.{list_all-append}
@@ -13,7 +13,9 @@ use Rattle.gw_configuration.specs.declared.fault.ConfigFault.{ConfigFault}
 use Rattle.gw_configuration.specs.declared.fault.ConfigFault.TheVariants.{Memory}
 use Rattle.gw_configuration.specs.declared.shape.Scalar.{Scalar}
 use Rattle.gw_configuration.specs.Located.{Read}
-use Rattle.gw_config_tables.specs.Items.{behind, each, items_in, ranges_in}
+use Rattle.gw_config_tables.specs.Items.{behind, each, items_in, ranges_in, span_in, spans_in}
+use Rattle.gw_config_tables.specs.Range.{is_kind}
+use Rattle.gw_config_tables.proofs.Values.{any_view}
 
 left : (values : List Value) (place : ℕ) (value : Value) → place < length values → value ≡ get_or values place value → map view (drop place values) ≡ view value ∷ map view (drop (place + 1) values)
 left values place value h is = ap (map view) (drop-cons values place value h) ∙ rw (add-one, ← is) refl
@@ -73,6 +75,31 @@ fault_stops read values place value fault h is e so_far =
 
 pub fault_ends : (read : Data → Read Range) (values : List Value) (place : ℕ) → length values ≤ place → result_err (each read (map view (drop place values))) ≡ result_err (each read (map view values)) → None ≡ result_err (each read (map view values))
 fault_ends read values place h so_far = sym (ap (λ (vs : List Value). result_err (each read (map view vs))) (drop_all place values h)) ∙ so_far
+
+-- the items of a set, of which none is of a wrong kind
+
+abbrev pub have_kind : Scalar → List Value → Bool
+have_kind scalar values = list_any (λ v. is_kind (result_err (span_in scalar (view v)))) values
+
+spans_are : (scalar : Scalar) (values : List Value) (kinds : Bool) → kinds ≡ have_kind scalar values → kinds ≡ false → spans_in scalar (map view values) ≡ each (span_in scalar) (map view values)
+spans_are scalar values kinds is none = rw (any_view (λ d. is_kind (result_err (span_in scalar d))) values, ← is, none) refl
+
+pub spans_stop : (scalar : Scalar) (values : List Value) (kinds : Bool) (place : ℕ) (before all : List Range) (value : Value) (fault : ConfigFault) → kinds ≡ have_kind scalar values → kinds ≡ false → place < length values → value ≡ get_or values place value → span_in scalar (view value) ≡ Err fault
+    → IsPutTo (span_in scalar) values place before all → behind before (spans_in scalar (map view values)) ≡ Err fault
+spans_stop scalar values kinds place before all value fault k none h is e so_far =
+    ap (behind before) (spans_are scalar values kinds k none) ∙ stops (span_in scalar) values place before all value fault h is e so_far
+
+pub spans_end : (scalar : Scalar) (values : List Value) (kinds : Bool) (place : ℕ) (before all : List Range) → kinds ≡ have_kind scalar values → kinds ≡ false → length values ≤ place → IsPutTo (span_in scalar) values place before all → behind before (spans_in scalar (map view values)) ≡ Ok all
+spans_end scalar values kinds place before all k none h so_far =
+    ap (behind before) (spans_are scalar values kinds k none) ∙ ends (span_in scalar) values place before all h so_far
+
+pub spans_fault_stop : (scalar : Scalar) (values : List Value) (kinds : Bool) (place : ℕ) (value : Value) (fault : ConfigFault) → kinds ≡ have_kind scalar values → kinds ≡ false → place < length values → value ≡ get_or values place value → span_in scalar (view value) ≡ Err fault
+    → result_err (each (span_in scalar) (map view (drop place values))) ≡ result_err (each (span_in scalar) (map view values)) → Some fault ≡ result_err (spans_in scalar (map view values))
+spans_fault_stop scalar values kinds place value fault k none h is e so_far =
+    fault_stops (span_in scalar) values place value fault h is e so_far ∙ sym (ap result_err (spans_are scalar values kinds k none))
+
+pub spans_fault_end : (scalar : Scalar) (values : List Value) (kinds : Bool) (place : ℕ) → kinds ≡ have_kind scalar values → kinds ≡ false → length values ≤ place → result_err (each (span_in scalar) (map view (drop place values))) ≡ result_err (each (span_in scalar) (map view values)) → None ≡ result_err (spans_in scalar (map view values))
+spans_fault_end scalar values kinds place k none h so_far = fault_ends (span_in scalar) values place h so_far ∙ sym (ap result_err (spans_are scalar values kinds k none))
 
 -- ranges of items, of which some may name sets
 

@@ -91,12 +91,7 @@ impl Field {
 }
 
 /// The position of the first item with this fault in the list that a value is.
-fn item_of(
-    sets: &[Value],
-    fault: ConfigFault,
-    shape: Shape,
-    value: Option<&Value>,
-) -> Option<usize>
+fn item_of(sets: &[Value], fault: ConfigFault, shape: Shape, value: Option<&Value>) -> Option<usize>
     ensures { result ≡ item_of (map view sets.now) fault shape (option_map (λ v. view v.now) value.entry) }
 {
     match value::list(value?) {
@@ -106,12 +101,7 @@ fn item_of(
 }
 
 #[tactic(auto, using(crate::proofs::Values::position_view))]
-fn item_with(
-    sets: &[Value],
-    fault: ConfigFault,
-    shape: Shape,
-    items: &[Value],
-) -> Option<usize>
+fn item_with(sets: &[Value], fault: ConfigFault, shape: Shape, items: &[Value]) -> Option<usize>
     ensures { result ≡ item_with (map view sets.now) fault shape (map view items.now) }
 {
     match fault {
@@ -256,7 +246,7 @@ fn values_fault(sets: &[Value], shape: Shape, values: &[Value]) -> Option<Config
     match shape {
         Shape::One(_) => None,
         Shape::List { of: _, least, most } => list_fault(sets, shape, least, most, values),
-        Shape::Ranges(_) => list_fault(sets, shape, 1, MAX_RANGES, values),
+        Shape::Ranges(of) => list_fault(sets, Shape::Ranges(of), 1, MAX_RANGES, values),
         Shape::Items(of) => items_fault(sets, of, values),
     }
 }

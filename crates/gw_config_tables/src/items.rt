@@ -362,12 +362,7 @@ pub fn ranges(
 }
 
 /// Puts the ranges that an item names behind those that are there.
-fn put_item(
-    all: &mut Ranges,
-    sets: &[Value],
-    of: Scalar,
-    item: &Value,
-) -> Result<(), ConfigFault>
+fn put_item(all: &mut Ranges, sets: &[Value], of: Scalar, item: &Value) -> Result<(), ConfigFault>
     ensures ranges { Gives (λ _. all.new) result
         (behind all.old (items_in (map view sets.now) of (view item.now))) }
     ensures within { OnOk result (IsTrue (list_all (is_within (bounds_of of)) all.old)
@@ -407,7 +402,11 @@ pub fn set_item_fault(item: &Value) -> Option<ConfigFault>
     ensures { result ≡ set_item_fault (view item.now) }
 {
     if let Some(ends) = value::values(item) {
-        return if ends.len() == 2 { None } else { Some(ConfigFault::Range) };
+        return if ends.len() == 2 {
+            None
+        } else {
+            Some(ConfigFault::Range)
+        };
     }
     match string(item) {
         Some(text) if name_behind(text).is_some() => Some(ConfigFault::Range),

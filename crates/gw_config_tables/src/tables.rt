@@ -10,13 +10,13 @@ ghost use Rattle.gw_configuration.specs.Located.{located_view};
 ghost use Rattle.gw_configuration.specs.declared.located.Place.TheVariants as places;
 ghost use Rattle.gw_configuration.specs.declared.object.ObjectKind.{ObjectKind};
 
+use crate::Field;
 use crate::field::{MAX_ITEMS, located_beside, located_in};
 use crate::value::{member, number};
-use crate::Field;
 use gw_addr::MAX_PORTS;
 use gw_configuration::{
-    ConfigFault, Located, MAX_OBJECTS, MAX_PEERS, MAX_ROUTES, MAX_STATES, MAX_STATIONS, Names, Place,
-    Scalar, Shape,
+    ConfigFault, Located, MAX_OBJECTS, MAX_PEERS, MAX_ROUTES, MAX_STATES, MAX_STATIONS, Names,
+    Place, Scalar, Shape,
 };
 use gw_rules::{FieldName, Format, MAX_RULES, Range};
 use toml::{Table, Value};
@@ -373,9 +373,8 @@ pub fn rule_located<'a>(
         Format::Three => {
             located_beside(sets, Place::Rule(rule), &rule_fields_with_stations(), table)
         }
-        Format::One | Format::Two => {
-            located_beside(sets, Place::Rule(rule), &rule_fields(format), table)
-        }
+        Format::Two => { located_beside(sets, Place::Rule(rule), &rule_fields(Format::Two), table) }
+        Format::One => { located_beside(sets, Place::Rule(rule), &rule_fields(Format::One), table) }
     }
 }
 

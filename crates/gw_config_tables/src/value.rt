@@ -194,7 +194,10 @@ fn if_of_format(format: Format, operation: Operation) -> Option<Operation>
     ensures operation { result ≡ if_of_format format operation }
     ensures held { IfSome result (λ o. IsTrue (is_of_format format o)) }
 {
-    if FieldName::Operation.bounds(format).holds(operation.number()) {
+    if FieldName::Operation
+        .bounds(format)
+        .holds(operation.number())
+    {
         Some(operation)
     } else {
         None
