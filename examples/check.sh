@@ -44,7 +44,7 @@ same() {
     fi
 }
 
-for script in "$here"/*.script; do
+for script in "$here"/*.script "$here"/format2/*.script; do
     name=${script%.script}
     words=(replay)
     [ -e "$name.toml" ] && words+=(--config "$name.toml")
@@ -203,10 +203,15 @@ accepts() {
     printf '%s\n' "$2" > "$work/line"
     agrees "$1" 0 "$work/line" /dev/null
 }
-accepts two_subnets.toml 'ok 2 ports 1 objects 6 rules'
+accepts two_subnets.toml 'ok 2 ports 1 objects 4 rules'
 accepts workstation.toml 'ok 1 ports 1 objects 7 rules'
 accepts plant_room.toml 'ok 1 ports 4 objects 3 rules'
-accepts routed.toml 'ok 2 ports 0 objects 11 rules'
+accepts routed.toml 'ok 2 ports 0 objects 9 rules'
+accepts recipes.toml 'ok 2 ports 2 objects 0 rules'
+accepts format2/two_subnets.toml 'ok 2 ports 1 objects 6 rules'
+accepts format2/workstation.toml 'ok 1 ports 1 objects 7 rules'
+accepts format2/plant_room.toml 'ok 1 ports 4 objects 3 rules'
+accepts format2/routed.toml 'ok 2 ports 0 objects 11 rules'
 
 # faulty TEXT NAME: `check` tells this fault of a text, and `replay` tells it before the script
 faulty() {
@@ -242,7 +247,7 @@ bacgw: configuration: NotToml' --config "$work/faulty.toml" --log "$work/log" --
 sed 's/10\.1\.0/127.1.0/; s/10\.2\.0/127.2.0/' "$here/two_subnets.toml" > "$work/loopback.toml"
 echo 'a line of before' > "$work/log"
 ran 0 "bacgw: serving port 1 at 127.1.0.2:47808, broadcast 127.1.0.255:47808; port 2 at 127.2.0.2:47808, broadcast \
-127.2.0.255:47808; device 1234 on network 100 with 1 objects; 6 rules; log to $work/log" --config "$work/loopback.toml" --log "$work/log" \
+127.2.0.255:47808; device 1234 on network 100 with 1 objects; 4 rules; log to $work/log" --config "$work/loopback.toml" --log "$work/log" \
     --turns 2 --verbose
 
 same 'what stood in the log before a run' "$(cat "$work/log"; echo .)" 'a line of before
@@ -349,7 +354,7 @@ same 'each socket of eight ports is heard' "$(cat "$work/out")" '48 of 48 reads 
 for octets in 4000 900000; do
     { cat "$here/two_subnets.toml"; head -c "$octets" /dev/zero | tr '\0' '#'; printf '\n[[rule]]\nname = "last"\nallow = true\n'; } > "$work/long.toml"
     checked "$work/long.toml"
-    echo 'ok 2 ports 1 objects 7 rules' > "$work/line"
+    echo 'ok 2 ports 1 objects 5 rules' > "$work/line"
     agrees "a configuration behind $octets octets" 0 "$work/line" /dev/null
 done
 # The most rules in the most octets, one rule more, and one octet more.
@@ -398,7 +403,7 @@ unsuspected() {
     agrees "the lint of $1" 0 "$work/plain" /dev/null
     same "the warnings of $1" "$("$program" check --config "$1" --explain | grep -v '^ok \|^object .* is hidden from network ')" ''
 }
-for file in "$here"/*.toml "$here/site/site.toml" "$here/../dist/site.toml"; do
+for file in "$here"/*.toml "$here"/format2/*.toml "$here/site/site.toml" "$here/../dist/site.toml"; do
     case ${file##*/} in
         lint.toml | warnings.toml | wrong_texts.toml) ;;
         *) unsuspected "$file" ;;
@@ -420,55 +425,31 @@ explained '\xff' NotToml "the text: is no TOML document, since it isn't UTF-8"
 explained 'colour = 1' UnknownKey 'colour: is no key of this table'
 explained 'format = 1\nport = []\n[device]\n' Range 'port: a list of 0 must have 1 to 8'
 
-# Each recipe of the cookbook: its rules behind base.toml, of another format where they begin with one, are accepted, and its lines,
-# marked by `> `, print what stands under them.
-recipe() {
-    format=$(grep '^format = ' "$work/rules" || echo 'format = 1')
-    { sed "s/^format = .*/$format/" "$here/base.toml"; grep -v '^format = ' "$work/rules"; } > "$work/recipe.toml"
-    [ -e "$work/recipes/$wish" ] || cp "$work/recipe.toml" "$work/recipes/$wish"
-    checked "$work/recipe.toml"
-    agrees "recipe: $(head -1 "$work/lines")" 0 "$work/out" /dev/null
-    note=
-    # of the one that shows how not to hide the door of another device
-    if [ "$format" = 'format = 2' ] && grep -q '^name = "all"' "$work/rules"; then
-        note='note: rule 2 all: look at object_type: without one, requests pass that name no object'
-    fi
-    unsuspected "$work/recipe.toml" "$note"
-    sed -n 's/^> //p' "$work/lines" > "$work/script"
-    sed '/^> /d' "$work/lines" > "$work/shown"
-    "$program" replay --config "$work/recipe.toml" < "$work/script" > "$work/out" 2> "$work/err"
-    status=$?
-    agrees "recipe: $(head -1 "$work/lines")" 0 "$work/shown" /dev/null
-}
-mkdir "$work/recipes"
-while IFS= read -r line; do
-    case $line in
-        '## '[0-9]*'. '*) wish=${line#\#\# } ;;
-        '```toml') to=rules; : > "$work/rules" ;;
-        '```text') to=lines; : > "$work/lines" ;;
-        '```') [ "$to" = lines ] && recipe; to= ;;
-        *) [ -n "${to:-}" ] && printf '%s\n' "$line" >> "$work/$to" ;;
+# The recipes of the cookbook, and what each policy lets through and refuses.
+"$here/attempts.sh" "$program" "$work/recipes" > "$work/out" 2>&1
+status=$?
+sed '$d' "$work/out"
+read -r agreed _ differing _ < <(tail -1 "$work/out")
+passed=$((passed + agreed))
+failed=$((failed + differing))
+same 'the status of the attempts' "$status" "$((differing > 0))"
+for file in "$work"/recipes/* "$here"/format2/recipes/*; do
+    case ${file##*/} in
+        # how not to hide the door of another device, and a rule that means every service of one device
+        *', otherwise' | *_not.toml) unsuspected "$file" 'note: rule 2 all: look at object_type: without one, requests pass that name no object' ;;
+        '16. '*) unsuspected "$file" 'note: rule 1 maintenance: look at object_type: without one, requests pass that name no object' ;;
+        *) unsuspected "$file" ;;
     esac
-done < "$here/../docs/policy.md"
-
-# What the policies let through and what they refuse, each by a gateway of its own: a row of attempts.tsv has the policy (a file, or the
-# heading of a recipe), what is tried, the line of a script, and what is printed for it, with ` | ` between its lines.
-while IFS=$'\t' read -r policy what event shown; do
-    file=$here/../$policy
-    [ -e "$file" ] || file=$work/recipes/$policy
-    echo "$event" | "$program" replay --config "$file" > "$work/out" 2> "$work/err"
-    status=$?
-    printf '%s\n' "${shown// | /$'\n'}" > "$work/shown"
-    agrees "$policy: $what" 0 "$work/shown" /dev/null
-    case $shown in
-        'deny '* | end) echo "$policy" >> "$work/refused" ;;
-    esac
-done < "$here/attempts.tsv"
-# Each recipe and each policy that is shipped refuses three attempts at least.
-for policy in "$work"/recipes/* dist/site.toml examples/{two_subnets,workstation,plant_room,routed,refusals,site/site}.toml; do
-    [ "$(grep -cxF "${policy#"$work/recipes/"}" "$work/refused")" -ge 3 ]
-    same "three attempts that $policy refuses" "$?" 0
 done
+
+# Each attack, under a policy of format 3, which stops it, and under one of format 2, which doesn't.
+"$here/attacks.sh" "$program" > "$work/out" 2>&1
+status=$?
+sed '$d' "$work/out"
+read -r agreed _ differing _ < <(tail -1 "$work/out")
+passed=$((passed + agreed))
+failed=$((failed + differing))
+same 'the status of the attacks' "$status" "$((differing > 0))"
 
 checked /dev/zero
 tells "a file without an end" 2 'bacgw: configuration: TooMany'
