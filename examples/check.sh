@@ -78,35 +78,38 @@ if command -v tshark > /dev/null; then
     agrees 'a capture under a configuration without a port' 1 /dev/null "$work/told"
 fi
 
-# The asks of the refusals, each with its rule; and what the rules say of the lines of their log, of the middle words of these, and of
-# a line that is none.
-"$program" replay --config "$here/refusals.toml" --explain < "$here/refusals.script" > "$work/out" 2> "$work/err"
-status=$?
-agrees 'a replay that explains' 0 "$here/refusals.explained.out" /dev/null
-sed -n 's/^deny //p' "$here/refusals.out" > "$work/denials"
-"$program" why --config "$here/refusals.toml" < "$work/denials" > "$work/out" 2> "$work/err"
-status=$?
-agrees 'the rules of a log' 0 "$here/refusals.why.out" /dev/null
-cut -d' ' -f3-10 "$work/denials" | "$program" why --config "$here/refusals.toml" > "$work/out" 2> "$work/err"
-status=$?
-agrees 'the rules of the middle words of a log' 0 "$here/refusals.why.out" /dev/null
-{ head -2 "$work/denials"; echo 'no line of a log'; } | "$program" why --config "$here/refusals.toml" > "$work/out" 2> "$work/err"
-status=$?
-head -2 "$here/refusals.why.out" > "$work/line"
-echo 'bacgw: line 3' > "$work/told"
-agrees 'a line that is no ask' 2 "$work/line" "$work/told"
+# refusals NAME: the asks of the refusals of this name, each with its rule; and what the rules say of the lines of their log, of the
+# middle words of these, and of a line that is none
+refusals() {
+    "$program" replay --config "$1.toml" --explain < "$1.script" > "$work/out" 2> "$work/err"
+    status=$?
+    agrees "a replay that explains: $1" 0 "$1.explained.out" /dev/null
+    sed -n 's/^deny //p' "$1.out" > "$work/denials"
+    "$program" why --config "$1.toml" < "$work/denials" > "$work/out" 2> "$work/err"
+    status=$?
+    agrees "the rules of a log: $1" 0 "$1.why.out" /dev/null
+    cut -d' ' -f3-10,12- "$work/denials" | "$program" why --config "$1.toml" > "$work/out" 2> "$work/err"
+    status=$?
+    agrees "the rules of the middle words of a log: $1" 0 "$1.why.out" /dev/null
+    { head -2 "$work/denials"; echo 'no line of a log'; } | "$program" why --config "$1.toml" > "$work/out" 2> "$work/err"
+    status=$?
+    head -2 "$1.why.out" > "$work/line"
+    echo 'bacgw: line 3' > "$work/told"
+    agrees "a line that is no ask: $1" 2 "$work/line" "$work/told"
 
+    # The same log in words, with a line that is none among its lines.
+    sed '2a no line of a log' "$work/denials" > "$work/lines"
+    "$program" log < "$work/lines" > "$work/out" 2> "$work/err"
+    status=$?
+    agrees "a log in words: $1" 0 "$1.log.out" /dev/null
 
-# The same log in words, with a line that is none among its lines.
-{ head -2 "$work/denials"; echo 'no line of a log'; tail -3 "$work/denials"; } | "$program" log > "$work/out" 2> "$work/err"
-status=$?
-agrees 'a log in words' 0 "$here/refusals.log.out" /dev/null
-
-# And with the moments, where the run began at eight.
-{ head -2 "$work/denials"; echo 'no line of a log'; tail -3 "$work/denials"; } | "$program" log --start 2026-11-25T08:00:00+01:00 \
-    > "$work/out" 2> "$work/err"
-status=$?
-agrees 'a log in words with its moments' 0 "$here/refusals.since.out" /dev/null
+    # And with the moments, for a run that began at eight.
+    "$program" log --start 2026-11-25T08:00:00+01:00 < "$work/lines" > "$work/out" 2> "$work/err"
+    status=$?
+    agrees "a log in words with its moments: $1" 0 "$1.since.out" /dev/null
+}
+refusals "$here/refusals"
+refusals "$here/format2/refusals"
 
 echo 'bacgw: bad command line' > "$work/refusal"
 
