@@ -1,9 +1,9 @@
 """Sends the attacks of a table to a gateway in a network namespace, and looks at what leaves it (attacks.sh makes the namespaces).
 
-    attacks.py PROGRAM FOLDER GATEWAY FIRST SECOND
+    attacks.py PROGRAM FOLDER GATEWAY OTHER FIRST SECOND
 
-After the events of a row comes a read that the policy allows, on the port of the last event. Once it is answered the gateway is done
-with the row.
+After each event comes a read that the policy allows, on the port of the event. Once it is answered the gateway is done with the event.
+An attack of the last kind is a broadcast to both gateways: what leaves the first one within a second is counted.
 """
 
 import ctypes
@@ -18,6 +18,8 @@ import time
 OURS = 47808
 ALL_PROTOCOLS, OUTGOING = 3, 4
 PORTS = {"1": "10.1.0.2", "2": "10.2.0.2"}
+BROADCASTS = {"1": "10.1.0.255", "2": "10.2.0.255"}
+MANY = 100  # datagrams of a second, which no answer to one datagram is here
 READERS = {"1": "10.1.0.5", "2": "10.2.0.9"}
 INVOKE = 0xEE
 READ_FAN = bytes.fromhex(f"810A0016012400640101FF0005{INVOKE:02X}0C0C014000011955")
@@ -32,8 +34,8 @@ def enter(namespace):
 
 
 class Site:
-    def __init__(self, program, gateway, first, second):
-        self.program, self.gateway, self.first, self.second = program, gateway, first, second
+    def __init__(self, program, gateway, other, first, second):
+        self.program, self.gateway, self.other, self.first, self.second = program, gateway, other, first, second
         enter(gateway)
         self.ear = socket.socket(socket.AF_PACKET, socket.SOCK_DGRAM, socket.htons(ALL_PROTOCOLS))
         self.lines = {}
@@ -44,6 +46,7 @@ class Site:
             host, port = sender.split(":")
             enter(self.second if host.startswith("10.2.") else self.first)
             line = socket.socket(socket.AF_INET, socket.SOCK_DGRAM)
+            line.setsockopt(socket.SOL_SOCKET, socket.SO_BROADCAST, 1)
             line.bind((host, int(port)))
             self.lines[sender] = line
             enter(self.gateway)
@@ -52,23 +55,28 @@ class Site:
     def say(self, port, sender, octets):
         self.line(sender).sendto(octets, (PORTS[port], OURS))
 
-    def leaving(self, until):
-        """The datagrams that leave the gateway, as `ADDRESS OCTETS`, up to one for which `until` holds."""
-        end = time.monotonic() + WAIT
+    def leaving(self, seconds):
+        """The datagrams that leave the gateway within so many seconds: where each goes, and its octets."""
+        end = time.monotonic() + seconds
         while (left := end - time.monotonic()) > 0:
             self.ear.settimeout(left)
             try:
                 packet, (_, _, kind, *_) = self.ear.recvfrom(2048)
             except socket.timeout:
-                break
-            start = (packet[0] & 15) * 4
-            if kind != OUTGOING or packet[0] >> 4 != 4 or packet[9] != socket.IPPROTO_UDP or packet[start:start + 2] != OURS.to_bytes(2, "big"):
-                continue
-            host, port = socket.inet_ntoa(packet[16:20]), int.from_bytes(packet[start + 2:start + 4], "big")
-            octets = packet[start + 8:]
-            yield f"{host}:{port} {octets.hex().upper()}"
-            if until(octets):
                 return
+            start = (packet[0] & 15) * 4
+            if kind == OUTGOING and packet[0] >> 4 == 4 and packet[9] == socket.IPPROTO_UDP and packet[start:start + 2] == OURS.to_bytes(2, "big"):
+                to = socket.inet_ntoa(packet[16:20]), int.from_bytes(packet[start + 2:start + 4], "big")
+                yield to, packet[start + 8:]
+
+    def answered(self, port):
+        """What leaves the gateway before it answers a read on this port, as `ADDRESS OCTETS`."""
+        self.say(port, f"{READERS[port]}:{OURS}", READ_FAN)
+        sent = []
+        for (host, to), octets in self.leaving(WAIT):
+            if len(octets) > 11 and octets[10] >> 4 == 3 and octets[11] == INVOKE:
+                return sent
+            sent.append(f"{host}:{to} {octets.hex().upper()}")
         raise TimeoutError
 
     def serve(self, file, log):
@@ -93,13 +101,52 @@ class Site:
                 for event in events:
                     port, sender, octets = event.split(" ")
                     self.say(port, sender, bytes.fromhex(octets))
-                    self.say(port, f"{READERS[port]}:{OURS}", READ_FAN)
-                    sent = list(self.leaving(lambda octets: len(octets) > 11 and octets[10] >> 4 == 3 and octets[11] == INVOKE))
+                    sent = self.answered(port)
             finally:
                 run.kill()
                 run.wait()
             with open(log) as lines:
-                return sent[:-1], [re.sub(r"^(\d+) \d+ ", r"\1 . ", line) for line in lines.read().splitlines()]
+                return sent, [re.sub(r"^(\d+) \d+ ", r"\1 . ", line) for line in lines.read().splitlines()]
+
+    def count(self, first, second, event):
+        """How many datagrams leave the first of two gateways within a second of a broadcast."""
+        runs = []
+        try:
+            runs.append(self.serve(first, "/dev/null"))
+            enter(self.other)
+            runs.append(self.serve(second, "/dev/null"))
+            enter(self.gateway)
+            port, sender, octets = event.split(" ")
+            self.line(sender).sendto(bytes.fromhex(octets), (BROADCASTS[port], OURS))
+            return sum(1 for _ in self.leaving(1.0))
+        finally:
+            enter(self.gateway)
+            for run in runs:
+                run.kill()
+                run.wait()
+
+
+def attacked(site, folder, script, wanted, shown):
+    """What isn't as expected of an attack on one gateway."""
+    events, wanted = script.split(" | "), wanted.split(" ", 2)[2]
+    denied = [re.sub(r"^deny (\d+) \d+ ", r"\1 . ", line) for line in shown.split(" | ") if line.startswith("deny ")]
+    before, _ = site.play(os.path.join(folder, "format2.toml"), events)
+    after, log = site.play(os.path.join(folder, "format3.toml"), events)
+    if wanted not in before:
+        yield f"fails under format 2: {before}"
+    if wanted in after:
+        yield f"succeeds under format 3: {after}"
+    if log != denied:
+        yield f"the log under format 3: {log}"
+
+
+def stormed(site, folder, event):
+    """What isn't as expected of a broadcast to two gateways."""
+    for form, storms in ((2, True), (3, False)):
+        files = [os.path.join(folder, f"loop_{which}.format{form}.toml") for which in ("first", "second")]
+        number = site.count(*files, event)
+        if (number > MANY) != storms:
+            yield f"{number} datagrams under format {form}"
 
 
 def main():
@@ -109,19 +156,7 @@ def main():
     with open(os.path.join(folder, "attacks.tsv")) as table:
         rows = [line.rstrip("\n").split("\t") for line in table]
     for kind, what, script, wanted, shown in rows:
-        if kind == "8":
-            continue
-        events, wanted = script.split(" | "), wanted.split(" ", 2)[2]
-        denied = [re.sub(r"^deny (\d+) \d+ ", r"\1 . ", line) for line in shown.split(" | ") if line.startswith("deny ")]
-        attacked, _ = site.play(os.path.join(folder, "format2.toml"), events)
-        kept, log = site.play(os.path.join(folder, "format3.toml"), events)
-        faults = []
-        if wanted not in attacked:
-            faults.append(f"fails under format 2: {attacked}")
-        if wanted in kept:
-            faults.append(f"succeeds under format 3: {kept}")
-        if log != denied:
-            faults.append(f"the log under format 3: {log}")
+        faults = list(stormed(site, folder, script) if kind == "8" else attacked(site, folder, script, wanted, shown))
         if faults:
             failed += 1
             print(f"not as expected: {kind}: {what}: {'; '.join(faults)}")
