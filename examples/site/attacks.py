@@ -52,8 +52,8 @@ class Site:
             enter(self.gateway)
         return self.lines[sender]
 
-    def say(self, port, sender, octets):
-        self.line(sender).sendto(octets, (PORTS[port], OURS))
+    def say(self, to, sender, octets):
+        self.line(sender).sendto(octets, (to, OURS))
 
     def leaving(self, seconds):
         """The datagrams that leave the gateway within so many seconds: where each goes, and its octets."""
@@ -71,7 +71,7 @@ class Site:
 
     def answered(self, port):
         """What leaves the gateway before it answers a read on this port, as `ADDRESS OCTETS`."""
-        self.say(port, f"{READERS[port]}:{OURS}", READ_FAN)
+        self.say(PORTS[port], f"{READERS[port]}:{OURS}", READ_FAN)
         sent = []
         for (host, to), octets in self.leaving(WAIT):
             if len(octets) > 11 and octets[10] >> 4 == 3 and octets[11] == INVOKE:
@@ -91,8 +91,9 @@ class Site:
         run.kill()
         sys.exit(f"the gateway doesn't begin: {run.stderr.read().decode()}")
 
-    def play(self, file, events):
-        """What leaves the gateway for the last of the events, and its log."""
+    def play(self, file, events, directed):
+        """What leaves the gateway for the last of the events, and its log. An Original-Broadcast goes to the port's broadcast address if
+        it is directed there, else to the port's own."""
         with tempfile.TemporaryDirectory() as work:
             log = os.path.join(work, "log")
             run = self.serve(file, log)
@@ -100,7 +101,8 @@ class Site:
                 sent = []
                 for event in events:
                     port, sender, octets = event.split(" ")
-                    self.say(port, sender, bytes.fromhex(octets))
+                    to = BROADCASTS if directed and octets.startswith("810B") else PORTS
+                    self.say(to[port], sender, bytes.fromhex(octets))
                     sent = self.answered(port)
             finally:
                 run.kill()
@@ -117,7 +119,7 @@ class Site:
             runs.append(self.serve(second, "/dev/null"))
             enter(self.gateway)
             port, sender, octets = event.split(" ")
-            self.line(sender).sendto(bytes.fromhex(octets), (BROADCASTS[port], OURS))
+            self.say(BROADCASTS[port], sender, bytes.fromhex(octets))
             return sum(1 for _ in self.leaving(1.0))
         finally:
             enter(self.gateway)
@@ -126,12 +128,13 @@ class Site:
                 run.wait()
 
 
-def attacked(site, folder, script, wanted, shown):
+def attacked(site, folder, row):
     """What isn't as expected of an attack on one gateway."""
-    events, wanted = script.split(" | "), wanted.split(" ", 2)[2]
+    kind, _, script, wanted, shown = row
+    events, wanted, directed = script.split(" | "), wanted.split(" ", 2)[2], kind == "2"
     denied = [re.sub(r"^deny (\d+) \d+ ", r"\1 . ", line) for line in shown.split(" | ") if line.startswith("deny ")]
-    before, _ = site.play(os.path.join(folder, "format2.toml"), events)
-    after, log = site.play(os.path.join(folder, "format3.toml"), events)
+    before, _ = site.play(os.path.join(folder, "format2.toml"), events, directed)
+    after, log = site.play(os.path.join(folder, "format3.toml"), events, directed)
     if wanted not in before:
         yield f"fails under format 2: {before}"
     if wanted in after:
@@ -140,8 +143,9 @@ def attacked(site, folder, script, wanted, shown):
         yield f"the log under format 3: {log}"
 
 
-def stormed(site, folder, event):
+def stormed(site, folder, row):
     """What isn't as expected of a broadcast to two gateways."""
+    event = row[2]
     for form, storms in ((2, True), (3, False)):
         files = [os.path.join(folder, f"loop_{which}.format{form}.toml") for which in ("first", "second")]
         number = site.count(*files, event)
@@ -155,11 +159,11 @@ def main():
     agreed = failed = 0
     with open(os.path.join(folder, "attacks.tsv")) as table:
         rows = [line.rstrip("\n").split("\t") for line in table]
-    for kind, what, script, wanted, shown in rows:
-        faults = list(stormed(site, folder, script) if kind == "8" else attacked(site, folder, script, wanted, shown))
+    for row in rows:
+        faults = list((stormed if row[0] == "8" else attacked)(site, folder, row))
         if faults:
             failed += 1
-            print(f"not as expected: {kind}: {what}: {'; '.join(faults)}")
+            print(f"not as expected: {row[0]}: {row[1]}: {'; '.join(faults)}")
         else:
             agreed += 1
     print(f"{agreed} agreed, {failed} failed")
