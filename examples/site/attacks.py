@@ -2,7 +2,8 @@
 
     attacks.py PROGRAM FOLDER GATEWAY OTHER FIRST SECOND
 
-After each event comes a read that the policy allows, on the port of the event. Once it is answered the gateway is done with the event.
+After each event comes a read that the policy allows, to the address that the event was sent to. Once it is answered the gateway is done
+with the event.
 An attack of the last kind is a broadcast to both gateways: what leaves the first one within a second is counted.
 """
 
@@ -69,9 +70,18 @@ class Site:
                 to = socket.inet_ntoa(packet[16:20]), int.from_bytes(packet[start + 2:start + 4], "big")
                 yield to, packet[start + 8:]
 
-    def answered(self, port):
-        """What leaves the gateway before it answers a read on this port, as `ADDRESS OCTETS`."""
-        self.say(PORTS[port], f"{READERS[port]}:{OURS}", READ_FAN)
+    def forget(self):
+        """What left a gateway before isn't heard any more."""
+        self.ear.setblocking(False)
+        try:
+            while True:
+                self.ear.recvfrom(2048)
+        except BlockingIOError:
+            pass
+
+    def answered(self, to, reader):
+        """What leaves the gateway before it answers a read, as `ADDRESS OCTETS`."""
+        self.say(to, f"{reader}:{OURS}", READ_FAN)
         sent = []
         for (host, to), octets in self.leaving(WAIT):
             if len(octets) > 11 and octets[10] >> 4 == 3 and octets[11] == INVOKE:
@@ -86,6 +96,7 @@ class Site:
         while time.monotonic() < end and run.poll() is None:
             with open("/proc/self/net/udp") as table:
                 if table.read().count(f":{OURS:04X} 00000000:0000") == 2 * len(PORTS):
+                    self.forget()
                     return run
             time.sleep(0.01)
         run.kill()
@@ -103,7 +114,7 @@ class Site:
                     port, sender, octets = event.split(" ")
                     to = BROADCASTS if directed and octets.startswith("810B") else PORTS
                     self.say(to[port], sender, bytes.fromhex(octets))
-                    sent = self.answered(port)
+                    sent = self.answered(to[port], READERS[port])
             finally:
                 run.kill()
                 run.wait()
