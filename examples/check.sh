@@ -422,7 +422,7 @@ explained() {
     printf 'bacgw: configuration: %s\n' "$2" > "$work/told"
     agrees "an explanation: $3" 2 "$work/line" "$work/told"
 }
-explained '' Missing 'format: is missing; it must be 1 to 2'
+explained '' Missing 'format: is missing; it must be 1 to 3'
 explained 'format = 1\nformat = ' NotToml 'the text: is no TOML document, line 2, column 10: invalid value, expected a string, number, boolean, date-time, array or inline table'
 explained '\xff' NotToml "the text: is no TOML document, since it isn't UTF-8"
 explained 'colour = 1' UnknownKey 'colour: is no key of this table'
