@@ -27,4 +27,4 @@ origin_of (lent.Managed m) = Some (node_origin m.here.now m.from)
 origin_of (lent.Message m) = Some (message_origin (message_view m))
 
 abbrev pub origin_view : CodeOrigin → Origin
-origin_view o = record { port = o.port; source = o.source }
+origin_view o = record { port = o.port; source = o.source; link = o.link }
