@@ -11,8 +11,8 @@ use Rattle.gw_apdu.specs.declared.fault.ApduFault.{ApduFault}
 use Rattle.gw_apdu.specs.declared.header.ConfirmedRequest.{ConfirmedRequest as Request}
 use Rattle.gw_apdu.specs.declared.header.Header.{Header}
 use Rattle.gw_apdu.specs.declared.header.Header.TheVariants as header
-use Rattle.gw_configuration.specs.declared.format.Format.{Format}
-use Rattle.gw_configuration.specs.declared.format.Format.TheVariants.{One, Two}
+use Rattle.gw_rules.specs.declared.format.Format.{Format}
+use Rattle.gw_rules.specs.declared.format.Format.TheVariants.{One, Two}
 use Rattle.gw_npdu.specs.Npdu.{Destination, Payload, apdu, message, payload_octets}
 use Rattle.gw_relay.specs.Asks.{bound_for}
 use Rattle.gw_relay.specs.Cast.{cast_asks, goes_on, is_broadcast}

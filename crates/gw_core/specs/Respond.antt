@@ -1,11 +1,12 @@
 -- What the code's steps do about a message, as far as they have come.
-use Rattle.std.specs.Prelude.{◌≡◌, Bool, true, false, ◌&&◌, List, [], ◌++◌, Option, None, if◌then◌else◌}
+use Rattle.std.specs.Prelude.{◌≡◌, Bool, true, false, not, ◌&&◌, ◌||◌, List, [], ◌++◌, Option, None, if◌then◌else◌}
 use Rattle.gw_bvll.specs.Bvll.{original_unicast}
 use Rattle.gw_bvll.specs.Bvll.{Message as Frame}
 use Rattle.gw_device.specs.Response.{HasPlace}
 use Rattle.gw_npdu.specs.Npdu.{Payload, apdu, message}
 use Rattle.gw_objects.specs.Objects.{Database}
 use Rattle.gw_relay.specs.Cast.{cast_asks, cast_sends, goes_on}
+use Rattle.gw_relay.specs.Entry.{admits, entry_response}
 use Rattle.gw_relay.specs.Manage.{manage_asks, manage_change, manage_sends}
 use Rattle.gw_relay.specs.Route.{route_asks, route_sends}
 use Rattle.gw_relay.specs.Response.{Response as RelayDue}
@@ -37,6 +38,16 @@ is_apdu (message m) = false
 -- a unicast with an APDU: it is neither distributed nor answered by the network layer
 abbrev pub is_plain : Message → Bool
 is_plain m = is_unicast m.frame && is_apdu m.npdu.payload
+
+-- what is asked before a message is taken that goes on to the network layer
+abbrev pub entered_response : List Rule → Relay → Message → RelayDue
+entered_response rules relay m =
+    if goes_on m.here m.from m.frame then entry_response rules relay m
+    else record { asks = []; sends = []; change = None }
+
+-- the policy doesn't keep it out
+abbrev pub is_taken : List Rule → Relay → Message → Bool
+is_taken rules relay m = not (goes_on m.here m.from m.frame) || admits rules relay m
 
 -- What is asked before the device is: for the distribution, and where the frame goes on, for the routing
 -- and the network layer.
