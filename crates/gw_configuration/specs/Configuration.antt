@@ -54,17 +54,20 @@ keeps_counts c =
     && (nat_le (length c.objects) 256 && list_all (is_by (length c.ports)) c.routes)))
 
 -- a note for each rule, and rules that a configuration can have
-abbrev pub keeps_rules : Configuration → Bool
-keeps_rules c = (length c.notes == length c.rules) && list_all (is_configurable c.format) c.rules
+abbrev pub keeps_rules : Format → List Rule → List (List ℕ) → Bool
+keeps_rules format rules notes = (length notes == length rules) && list_all (is_configurable format) rules
 
 -- what a configuration of format 1 or 2 doesn't have: stations of a port, sets, notes, and more than four ranges for a
 -- field of a rule
-abbrev pub is_plain : Configuration → Bool
-is_plain c =
-    list_all (λ port. length port.stations == 0) c.ports
-    && ((length c.sets == 0) && (list_all (λ note. length note == 0) c.notes && has_short_fields c.rules))
+abbrev pub is_plain : List Port → List Rule → List (List ℕ) → List Set → Bool
+is_plain ports rules notes sets =
+    list_all (λ port. length port.stations == 0) ports
+    && (has_short_fields rules && (list_all (λ note. length note == 0) notes && (length sets == 0)))
 
 -- these, names that aren't empty, and in formats 1 and 2 nothing that they don't have
 abbrev pub keeps_limits : Configuration → Bool
 keeps_limits c =
-    keeps_counts c && (are_named c.device c.objects && (keeps_rules c && (names_stations c.format || is_plain c)))
+    keeps_counts c
+    && (are_named c.device c.objects
+    && (keeps_rules c.format c.rules c.notes
+    && (names_stations c.format || is_plain c.ports c.rules c.notes c.sets)))

@@ -56,7 +56,8 @@ impl Config {
         ensures format { result ≡ self.now.format }
         // In formats 1 and 2 no port has stations, there is no set and no note, and no rule has more than
         // four ranges for a field.
-        ensures plain { IsTrue (names_stations self.now.format || is_plain self.now) }
+        ensures plain { IsTrue (names_stations self.now.format
+            || is_plain self.now.ports self.now.rules self.now.notes self.now.sets) }
     {
         self.parts.format()
     }

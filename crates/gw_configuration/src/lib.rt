@@ -23,6 +23,7 @@ mod text;
 pub use config::Config;
 pub use device::Device;
 pub use fault::ConfigFault;
+pub use gw_rules::Format;
 pub use instance::{Instance, MAX_INSTANCE};
 pub use located::{Located, Place};
 pub use object::{MAX_STATES, MultiState, Object, ObjectKind, ObjectValue};
@@ -35,5 +36,3 @@ pub use shape::{Names, Scalar, Shape};
 pub use stations::{MAX_STATIONS, Stations};
 pub use subnet::Subnet;
 pub use text::{MAX_TEXT, Text};
-
-pub use gw_rules::Format;

@@ -5,7 +5,7 @@ ghost use Rattle.gw_addr.specs.declared.TheConstants.{MAX_PORTS};
 ghost use Rattle.gw_rules.specs.Format.{names_stations};
 ghost use Rattle.gw_rules.specs.Rule.{has_few_ranges};
 ghost use Rattle.gw_rules.specs.RuleList.{keeps_counts as has_short_fields};
-ghost use Rattle.gw_configuration.specs.Configuration.{Configuration, are_named, is_by, is_configurable, is_named, is_plain, keeps_limits};
+ghost use Rattle.gw_configuration.specs.Configuration.{Configuration, are_named, is_by, is_configurable, is_named, is_plain, keeps_limits, keeps_rules};
 
 use crate::{Device, Object, Policing, Port, Route, Set, Text};
 use gw_addr::{MAX_PORTS, Sequence};
@@ -63,8 +63,9 @@ impl Model for Parts {
 
     ghost invariant = { λ c. (1 ≤ length c.ports) × ((length c.ports ≤ MAX_PORTS) × ((length c.routes ≤ 512)
         × ((length c.objects ≤ 256) × (IsTrue (list_all (is_by (length c.ports)) c.routes)
-        × (IsTrue (are_named c.device c.objects) × (IsTrue (keeps_rules c)
-        × IsTrue (names_stations c.format || is_plain c))))))) };
+        × (IsTrue (are_named c.device c.objects) × (IsTrue (keeps_rules c.format c.policy.rules c.policy.notes)
+        × IsTrue (names_stations c.format
+        || is_plain c.ports c.policy.rules c.policy.notes c.policy.sets))))))) };
 }
 
 impl Parts {
@@ -120,7 +121,8 @@ impl Parts {
         ensures format { result ≡ self.now.format }
         // In formats 1 and 2 no port has stations, there is no set and no note, and no rule has more than
         // four ranges for a field.
-        ensures plain { IsTrue (names_stations self.now.format || is_plain self.now) }
+        ensures plain { IsTrue (names_stations self.now.format
+            || is_plain self.now.ports self.now.rules self.now.notes self.now.sets) }
     {
         self.format
     }
@@ -223,8 +225,7 @@ fn have_names(objects: &[Object]) -> bool
 
 /// Whether there is a note for each rule, and a configuration of the format can have each of them.
 fn keeps_rules(format: Format, policy: &Policing) -> bool
-    ensures { result ≡ ((length policy.now.notes == length policy.now.rules)
-        && list_all (is_configurable format) policy.now.rules) }
+    ensures { result ≡ keeps_rules format policy.now.rules policy.now.notes }
 {
     let rules = policy.rules.rules();
     policy.notes.len() == rules.len() && are_configurable(format, rules)
@@ -239,14 +240,12 @@ fn are_configurable(format: Format, rules: &[Rule]) -> bool
 
 /// Whether these parts have nothing that a configuration of format 1 or 2 doesn't have.
 fn is_plain(ports: &[Port], policy: &Policing) -> bool
-    ensures { result ≡ (list_all (λ port. length port.stations == 0) ports.now
-        && ((length policy.now.sets == 0)
-        && (list_all (λ note. length note == 0) policy.now.notes && has_short_fields policy.now.rules))) }
+    ensures { result ≡ is_plain ports.now policy.now.rules policy.now.notes policy.now.sets }
 {
     name_no_stations(ports)
-        && policy.sets.is_empty()
-        && are_empty(policy.notes.as_slice())
         && have_short_fields(&policy.rules)
+        && are_empty(policy.notes.as_slice())
+        && policy.sets.is_empty()
 }
 
 fn name_no_stations(ports: &[Port]) -> bool

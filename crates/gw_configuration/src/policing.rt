@@ -1,4 +1,5 @@
 //! The policy of a configuration.
+ghost use Rattle.std.specs.Prelude.{◌≡◌};
 
 use crate::{Set, Text};
 use gw_addr::Sequence;

@@ -82,6 +82,7 @@ impl Subnet {
 impl fmt::Display for Subnet {
     ghost output = { λ s. Some (subnet_text s) };
 
+    #[tactic(auto, unfolding(gw_addr::specs::Text::four_text))]
     fn fmt<W: fmt::Write>(&self, f: &mut fmt::Formatter<W>) -> fmt::Result {
         let [a, b, c, d] = self.network.to_be_bytes();
         let prefix = self.prefix;

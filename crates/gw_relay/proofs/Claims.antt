@@ -13,8 +13,8 @@ use Rattle.gw_apdu.specs.declared.header.ConfirmedRequest.{ConfirmedRequest as R
 use Rattle.gw_apdu.specs.declared.header.Header.{Header}
 use Rattle.gw_apdu.specs.declared.header.Header.TheVariants as header
 use Rattle.gw_npdu.specs.Npdu.{Destination, Payload, apdu, message, payload_octets}
-use Rattle.gw_configuration.specs.declared.format.Format.{Format}
-use Rattle.gw_configuration.specs.declared.format.Format.TheVariants.{One, Two}
+use Rattle.gw_rules.specs.declared.format.Format.{Format}
+use Rattle.gw_rules.specs.declared.format.Format.TheVariants.{One, Two}
 use Rattle.gw_services.specs.Choices.{read_property, read_property_multiple, write_property}
 use Rattle.gw_services.specs.Limits.{priority_of}
 use Rattle.gw_services.specs.Multi.{Reference}

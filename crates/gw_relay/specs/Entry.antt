@@ -46,11 +46,13 @@ enter_ask format m = record (ask_of Enter) {
   sender = sender_of format m.from;
 }
 
--- it is asked for a link source that doesn't belong to the port
+-- the link source enters the network of a port to which it doesn't belong
+abbrev pub is_stranger : Format → Message → Bool
+is_stranger format m = enters m.frame && not (belongs format m.here m.link)
+
+-- then it is asked for
 abbrev pub enter_asks : Format → Message → List Ask
-enter_asks format m =
-    if names_stations format && enters m.frame && not (belongs format m.here m.link)
-    then enter_ask format m ∷ [] else []
+enter_asks format m = if is_stranger format m then enter_ask format m ∷ [] else []
 
 -- ---- who speaks for a network
 
@@ -72,13 +74,15 @@ claim_ask format m = record (ask_of Claim) {
   sender = sender_of format m.from;
 }
 
--- it is asked for a source that the NPDU names and that doesn't come by its route
+-- the NPDU names a source that doesn't come by its route
+abbrev pub speaks_for_others : Relay → Message → Bool
+speaks_for_others relay m =
+    names_stations relay.format
+    && option_map_or (λ source. not (comes_by_route relay m source)) m.npdu.source false
+
+-- then it is asked for
 abbrev pub claim_asks : Relay → Message → List Ask
-claim_asks relay m =
-    if names_stations relay.format
-    then option_map_or
-    (λ source. if comes_by_route relay m source then [] else claim_ask relay.format m ∷ []) m.npdu.source []
-    else []
+claim_asks relay m = if speaks_for_others relay m then claim_ask relay.format m ∷ [] else []
 
 -- ---- both
 

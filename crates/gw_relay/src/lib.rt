@@ -8,6 +8,7 @@
 mod ask;
 mod cast;
 mod change;
+mod entry;
 mod initial;
 pub mod laws;
 mod link;
@@ -23,6 +24,7 @@ mod relay;
 mod response;
 mod route;
 mod sends;
+mod stations;
 mod turn;
 
 pub use change::Change;
