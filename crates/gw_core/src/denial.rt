@@ -92,7 +92,7 @@ pub(crate) fn origin_of(received: &Received<'_>) -> Option<Origin>
             port: message.here.port.number,
             source: message.claim(),
             network: message.here.port.network,
-            link: message.link_source(),
+            link: message.link(),
         }),
     }
 }

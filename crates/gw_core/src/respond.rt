@@ -139,10 +139,11 @@ fn add_entry<A: Asker>(
     ensures silent { (rules : List Rule) → A.StandsFor turn.old.asker rules →
         (entered_response rules relay.now (message_view message.now)).asks ≡ [] → IsOk result }
 {
-    if !relay.format().names_stations() || !message.goes_on() {
-        return Ok(true);
+    if relay.format().names_stations() && message.here.goes_on(message.from, message.frame) {
+        relay.add_entry(message, turn)
+    } else {
+        Ok(true)
     }
-    relay.add_entry(message, turn)
 }
 
 /// Adds what the device does about a message (step 10), and answers the write that is granted, if there is
