@@ -15,7 +15,7 @@ use Rattle.gw_rules.specs.declared.field.FieldName.{FieldName}
 use Rattle.gw_rules.specs.declared.range.Range.{Range}
 use Rattle.gw_rules.specs.declared.rule.Rule.{Rule}
 use Rattle.gw_rule_index.specs.declared.bound.Bound.{Bound}
-use Rattle.gw_rule_index.specs.Comparisons.{is_named, least_comparisons, least_comparisons_in, most_comparisons, most_comparisons_in, one_comparison}
+use Rattle.gw_rule_index.specs.Comparisons.{is_named, least_comparisons, least_comparisons_in, most_comparisons, most_comparisons_in, most_named_comparisons, most_named_comparisons_in, named_fields_in, one_comparison}
 use Rattle.gw_rule_index.specs.internal.Row.{Marks, admits_all, admits_in, bit}
 
 -- a row marks alike by two tests that agree on the rules of the list
@@ -82,3 +82,19 @@ pub some_there : (bounds seen : List Bound) → seen ≡ bounds → (length seen
 some_there bounds seen same some =
     let not_none = eqb-false (length seen) 0 some in
     omega (arith, ap length same, not_none)
+
+-- a field whose index has a bound is named
+pub some_named : (rules : List Rule) (field : FieldName) (bounds : List Bound) → (is_named rules field ≡ false → length bounds ≡ 0) → 1 ≤ length bounds → is_named rules field ≡ true
+some_named rules field bounds skipped some = at (is_named rules field) skipped
+  where
+    at : (b : Bool) → (b ≡ false → length bounds ≡ 0) → b ≡ true
+    at true skipped = refl
+    at false skipped = absurd (omega (arith, skipped refl))
+
+pub named_more : (rules : List Rule) (ask : Ask) (fields : List FieldName) (i : ℕ) (d : FieldName) (value : Option ℕ) → i < length fields → value ≡ value_of (get_or fields i d) ask → most_named_comparisons_in rules ask (take (i + 1) fields) ≡ most_named_comparisons_in rules ask (take i fields) + most_named_comparisons rules (get_or fields i d) value
+named_more rules ask fields i d value within is =
+    sum_by_more (λ field. most_named_comparisons rules field (value_of field ask)) fields i d within
+    ∙ ap (λ v. most_named_comparisons_in rules ask (take i fields) + most_named_comparisons rules (get_or fields i d) v) (sym is)
+
+pub joins_more : (rules : List Rule) (fields : List FieldName) (i : ℕ) (d : FieldName) → i < length fields → named_fields_in rules (take (i + 1) fields) ≡ named_fields_in rules (take i fields) + cond (is_named rules (get_or fields i d)) 1 0
+joins_more rules fields i d within = sum_by_more (λ field. cond (is_named rules field) 1 0) fields i d within

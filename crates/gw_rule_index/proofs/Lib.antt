@@ -3,3 +3,4 @@ pub mod Gathered
 pub mod Halving
 pub mod Fields
 pub mod Ends
+pub mod Limits

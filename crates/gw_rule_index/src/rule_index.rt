@@ -3,11 +3,11 @@ ghost use Rattle.std.specs.Prelude.{◌≡◌, ◌*◌, ◌≤◌, List, IfOk, I
 ghost use Rattle.std.specs.Option.{option_map_or};
 ghost use Rattle.gw_rules.specs.Rule.{matches};
 ghost use Rattle.gw_rules.specs.Fields.{value_of};
-ghost use Rattle.gw_rules.specs.RuleList.{KeepsCounts, allows, allows_at, decide, first};
+ghost use Rattle.gw_rules.specs.RuleList.{KeepsLongCounts, allows, allows_at, decide, first};
 ghost use Rattle.gw_rules.specs.declared.field.FieldName.{FieldName};
 ghost use Rattle.gw_rules.specs.declared.rule.Rule.{Rule};
 ghost use Rattle.gw_rule_index.specs.declared.counted.TheConstants.{COMPARISONS_A_FIELD, MAX_ANDS, MAX_COMPARISONS};
-ghost use Rattle.gw_rule_index.specs.Comparisons.{least_comparisons_in, least_comparisons_of, most_comparisons_in, most_comparisons_of};
+ghost use Rattle.gw_rule_index.specs.Comparisons.{least_comparisons_in, least_comparisons_of, most_comparisons_in, most_comparisons_of, most_named_comparisons_in, most_named_comparisons_of, named_fields, named_fields_in};
 ghost use Rattle.gw_rule_index.specs.internal.Field.{IsIndexOf};
 ghost use Rattle.gw_rule_index.specs.internal.Index.{IsBuiltFrom};
 ghost use Rattle.gw_rule_index.specs.internal.Row.{Marks, admits_all};
@@ -22,7 +22,8 @@ use std::alloc::{AllocError, Global};
 /// of these the rules that admit it, a bit a rule. It answers as the list does that it was built
 /// from, and doesn't keep that list.
 ///
-/// An ask costs at most 13 comparisons for each field that it has and at most ten ANDs of 512 bits.
+/// An ask costs at most 13 comparisons for each field that it has and some rule names, and an AND of
+/// 512 bits for each field that some rule names.
 pub struct RuleIndex {
     fields: Fields<FieldIndex>,
     every: Row,
@@ -41,8 +42,8 @@ impl Drop for RuleIndex {
 }
 
 impl RuleIndex {
-    /// The index of these rules. `AllocError` where there is no memory for it: up to 3 MiB for 512
-    /// rules with four ranges in each field.
+    /// The index of these rules. `AllocError` where there is no memory for it: up to 3.4 MiB, since
+    /// each of the twelve fields may have 4096 bounds of 8 octets and 4097 rows of 64.
     pub fn build(alloc: Global, rules: &RuleList) -> Result<Self, AllocError>
         ensures { IfOk result (λ index. IsBuiltFrom index rules.now) }
     {
@@ -71,10 +72,15 @@ impl RuleIndex {
         ensures number { IfSome result.rule (λ number. 1 ≤ number) }
         ensures each_field { result.comparisons ≤ most_comparisons_of ask.now }
         ensures comparisons { result.comparisons ≤ MAX_COMPARISONS }
+        ensures named { (rules : List Rule) → IsBuiltFrom self.now rules →
+            result.comparisons ≤ most_named_comparisons_of rules ask.now }
         // Each field that the ask has and a rule names takes a comparison.
         ensures least { (rules : List Rule) → IsBuiltFrom self.now rules →
             least_comparisons_of rules ask.now ≤ result.comparisons }
         ensures ands { result.ands ≤ MAX_ANDS }
+        // Each field that a rule names takes an AND, and no other does.
+        ensures joins { (rules : List Rule) → IsBuiltFrom self.now rules →
+            result.ands ≡ named_fields rules }
     {
         let mut counted = Counted::start();
         let row = self.matching(ask, &mut counted);
@@ -92,9 +98,13 @@ impl RuleIndex {
             Marks result.words (λ rule. matches rule ask.now) rules }
         ensures each_field { counted.new.comparisons ≤ most_comparisons_of ask.now }
         ensures comparisons { counted.new.comparisons ≤ MAX_COMPARISONS }
+        ensures named { (rules : List Rule) → IsBuiltFrom self.now rules →
+            counted.new.comparisons ≤ most_named_comparisons_of rules ask.now }
         ensures least { (rules : List Rule) → IsBuiltFrom self.now rules →
             least_comparisons_of rules ask.now ≤ counted.new.comparisons }
         ensures ands { counted.new.ands ≤ MAX_ANDS }
+        ensures joins { (rules : List Rule) → IsBuiltFrom self.now rules →
+            counted.new.ands ≡ named_fields rules }
     {
         let mut row = self.every;
         self.keep_fields(ask, &FieldName::ALL, &mut row, counted);
@@ -111,9 +121,13 @@ impl RuleIndex {
             Marks row.new.words (admits_all ask.now fields.now) rules }
         ensures each_field { counted.new.comparisons ≤ most_comparisons_in ask.now fields.now }
         ensures comparisons { counted.new.comparisons ≤ COMPARISONS_A_FIELD * length fields.now }
+        ensures named { (rules : List Rule) → IsBuiltFrom self.now rules →
+            counted.new.comparisons ≤ most_named_comparisons_in rules ask.now fields.now }
         ensures least { (rules : List Rule) → IsBuiltFrom self.now rules →
             least_comparisons_in rules ask.now fields.now ≤ counted.new.comparisons }
         ensures ands { counted.new.ands ≤ length fields.now }
+        ensures joins { (rules : List Rule) → IsBuiltFrom self.now rules →
+            counted.new.ands ≡ named_fields_in rules fields.now }
     {
         for field in fields {
             let index = self.fields.get(*field);
@@ -170,7 +184,7 @@ impl Judge for RuleIndex {
 
 /// The index of each field.
 fn index_fields(alloc: Global, rules: &[Rule]) -> Result<Fields<FieldIndex>, AllocError>
-    requires { KeepsCounts rules.now }
+    requires { KeepsLongCounts rules.now }
     ensures { IfOk result (λ fields. (field : FieldName) →
         IsIndexOf rules.now field (value_of field fields)) }
 {
@@ -184,6 +198,8 @@ fn index_fields(alloc: Global, rules: &[Rule]) -> Result<Fields<FieldIndex>, All
     let instance = FieldIndex::build(alloc, rules, FieldName::Instance)?;
     let property = FieldIndex::build(alloc, rules, FieldName::Property)?;
     let priority = FieldIndex::build(alloc, rules, FieldName::Priority)?;
+    let sender = FieldIndex::build(alloc, rules, FieldName::Sender)?;
+    let station = FieldIndex::build(alloc, rules, FieldName::Station)?;
     Ok(Fields {
         operation,
         port,
@@ -195,6 +211,8 @@ fn index_fields(alloc: Global, rules: &[Rule]) -> Result<Fields<FieldIndex>, All
         instance,
         property,
         priority,
+        sender,
+        station,
     })
 }
 

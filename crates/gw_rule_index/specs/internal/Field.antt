@@ -1,11 +1,12 @@
 -- What the index of a field is.
-use Rattle.std.specs.Prelude.{◌≡◌, ℕ, ◌^◌, ◌≤◌, ◌<◌, List, [], ◌∷◌, length, Some, None, slice_index, slice_index_or}
+use Rattle.std.specs.Prelude.{◌≡◌, ℕ, ◌^◌, ◌≤◌, ◌<◌, false, List, [], ◌∷◌, length, Some, None, slice_index, slice_index_or}
 use Rattle.std.specs.List.{Contains}
 use Rattle.gw_rules.specs.Rule.{ranges_of}
 use Rattle.gw_rules.specs.declared.field.FieldName.{FieldName}
 use Rattle.gw_rules.specs.declared.rule.Rule.{Rule}
 use Rattle.gw_rule_index.specs.declared.field_index.FieldIndex.{FieldIndex}
 use Rattle.gw_rule_index.specs.declared.row.Row.{Row}
+use Rattle.gw_rule_index.specs.Comparisons.{is_named}
 use Rattle.gw_rule_index.specs.internal.Bounds.{AreSearchable, IsPlace}
 use Rattle.gw_rule_index.specs.internal.Row.{Marks, admits_in}
 
@@ -28,3 +29,4 @@ pub record IsIndexOf (rules : List Rule) (field : FieldName) (index : FieldIndex
   pub absent : Marks index.absent.words (admits_in field None) rules
   pub unnamed : length index.bounds.items ≡ 0 →
       (rule : Rule) → Contains rules rule → ranges_of field rule ≡ []
+  pub skipped : is_named rules field ≡ false → length index.bounds.items ≡ 0
