@@ -61,6 +61,8 @@ impl ShownAsk {
             instance: self.instance,
             property: self.property,
             priority: self.priority,
+            sender: None,
+            station: None,
         }
     }
 }

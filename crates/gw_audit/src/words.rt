@@ -192,6 +192,7 @@ fn put_deed_of(out: &mut Vec<u8>, operation: Operation, ask: &ShownAsk) -> Resul
         Operation::Network => put_question(out, ask),
         Operation::Read => put_read(out, ask),
         Operation::Write => put_write(out, ask),
+        Operation::Enter | Operation::Claim => Ok(()),
         Operation::List => {
             put_slice(out, b"looks for ")?;
             put_object(out, ask.object_type, ask.instance)?;

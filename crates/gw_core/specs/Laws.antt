@@ -264,11 +264,12 @@ FormatStays = (c : Configuration) (k : Counts) (h : List Event) → (state_after
 
 -- ---- the third format
 
--- An event does nothing but what a refusal is: the denials of the asks that were denied, and for a
--- Distribute-Broadcast-To-Network its negative code. No table, no route and no value of the device changes.
+-- An event does nothing but what a refusal is: one denial, and for a Distribute-Broadcast-To-Network its negative code.
+-- No table, no route and no value of the device changes.
 pub record IsKeptOut (w : State) (e : Event) (m : Message) : Type 0 where
   pub sends : (effects_at w e).sends ≡ map (answer_to m.here.port m.from) (refused m.frame)
   pub asked : asks w e ≡ entry_asks w.rules w.relay m
+  pub denied : length (effects_at w e).denials ≡ 1
   pub relay : (next w e).relay ≡ w.relay
   pub device : (next w e).device ≡ w.device
 

@@ -193,7 +193,8 @@ fn add_message<A: Asker>(
         asks_for rules relay.now device.now due ≡ [] →
         sends_for rules relay.now device.now due ≡ [] → IsOk result }
 {
-    if !add_entry(relay, message, turn)? {
+    let taken = add_entry(relay, message, turn)?;
+    if !taken {
         return Ok(None);
     }
     let goes_on = add_passed(relay, message, turn)?;
