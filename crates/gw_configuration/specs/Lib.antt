@@ -5,3 +5,4 @@ pub mod Reading
 pub mod States
 pub mod Subnet
 pub mod Text
+pub mod internal

@@ -2,10 +2,16 @@
 //! nothing: its contract is the laws.
 
 ghost use Rattle.std.specs.Prelude.{◌≡◌};
+ghost use Rattle.gw_addr.specs.declared.bip.BipAddr.{BipAddr};
+ghost use Rattle.gw_addr.specs.Address.{IsAddress, big_endian, octets_of};
+ghost use Rattle.gw_rules.specs.Range.{holds};
 ghost use Rattle.gw_configuration.specs.Configuration.{format_of};
+ghost use Rattle.gw_configuration.specs.Subnet as spec;
+ghost use Rattle.gw_configuration.specs.Subnet.{IsSubnet, keys_of, subnet_holds};
 ghost use Rattle.gw_configuration.specs.Duplicates.{RepetitionsAreTold};
 ghost use Rattle.gw_rules.specs.declared.format.Format.TheVariants.{One, Three, Two};
 
+use crate::Subnet;
 use crate::instance::MAX_INSTANCE;
 use crate::object::MAX_STATES;
 use crate::parts::{MAX_OBJECTS, MAX_ROUTES};
@@ -32,6 +38,18 @@ pub fn formats()
     ensures one { format_of 1 ≡ One }
     ensures two { format_of 2 ≡ Two }
     ensures three { format_of 3 ≡ Three }
+{}
+
+/// Each value of the type keeps so many bits of its network and has zeros behind them.
+pub fn fits(subnet: Subnet)
+    ensures { IsSubnet subnet }
+{}
+
+/// A subnet has an address exactly where the address's key is one of its keys.
+#[tactic(auto, using(crate::proofs::Keys::holds_key))]
+pub fn subnets()
+    ensures { (s : spec.Subnet) (a : BipAddr) → IsSubnet s → IsAddress a →
+        subnet_holds s a ≡ holds (big_endian (octets_of a)) (keys_of s) }
 {}
 
 /// A place where something stands for the second time is told exactly where something stands twice that

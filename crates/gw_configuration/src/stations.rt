@@ -24,9 +24,9 @@ impl Drop for Stations {
 
 impl Model for Stations {
     ghost use Rattle.std.specs.Prelude.{◌≤◌, List, length};
-    ghost use Rattle.gw_configuration.specs.Subnet.{Subnet as Bits};
+    ghost use Rattle.gw_configuration.specs.Subnet as spec;
 
-    ghost Value = { List Bits };
+    ghost Value = { List spec.Subnet };
 
     ghost view = { λ s. s.subnets };
 

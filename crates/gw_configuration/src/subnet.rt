@@ -1,8 +1,11 @@
 //! Subnets of IPv4 addresses.
-ghost use Rattle.std.specs.Prelude.{◌≡◌, ◌≤◌, ◌<◌, ◌^◌, ◌-◌, Some, IfSome};
+ghost use Rattle.std.specs.Prelude.{◌≡◌, ◌≤◌, ◌<◌, ◌^◌, ◌++◌, ◌∷◌, ℕ, Some, IfSome};
 ghost use Rattle.std.specs.Fmt.{decimal};
-ghost use Rattle.gw_addr.specs.Text.{four_text};
-ghost use Rattle.gw_configuration.specs.Subnet.{IsSubnet, Subnet as Bits, keys_of, size_of, subnet_holds, subnet_of, subnet_text};
+ghost use Rattle.gw_addr.specs.declared.mask.Mask.{Mask};
+ghost use Rattle.gw_addr.specs.Mask.{IsMask, mask_text};
+ghost use Rattle.gw_configuration.specs.Subnet as spec;
+ghost use Rattle.gw_configuration.specs.Subnet.{IsSubnet, keys_of, size_of, subnet_holds, subnet_of, subnet_text};
+ghost use Rattle.gw_configuration.specs.internal.Prefix.{digit_of, prefix_of, two_digits_of};
 
 use gw_addr::{BipAddr, Mask};
 use gw_rules::Range;
@@ -24,9 +27,10 @@ pub struct Subnet {
 
 impl Model for Subnet {
     ghost use Rattle.std.specs.Prelude.{◌≡◌, ◌≤◌, ◌%◌};
-    ghost use Rattle.gw_configuration.specs.Subnet.{Subnet as Bits, size_of};
+    ghost use Rattle.gw_configuration.specs.Subnet as spec;
+    ghost use Rattle.gw_configuration.specs.Subnet.{size_of};
 
-    ghost Value = { Bits };
+    ghost Value = { spec.Subnet };
 
     ghost view = { λ s. record { network = s.network; prefix = s.prefix } };
 
@@ -53,13 +57,14 @@ impl Subnet {
     /// the text is anything else, or no subnet.
     pub fn parse(text: &str) -> Option<Self>
         ensures found { IfSome result (λ s. text.now ≡ subnet_text s) }
-        ensures only { (s : Bits) → IsSubnet s → text.now ≡ subnet_text s → result ≡ Some s }
+        ensures only { (s : spec.Subnet) → IsSubnet s → text.now ≡ subnet_text s → result ≡ Some s }
     {
-        let (ip, prefix) = text.split_once('/')?;
-        Subnet::new(Mask::parse(ip)?.octets, prefix_in(prefix.as_bytes())?)
+        let (ip, prefix) = divided(text)?;
+        Subnet::new(ip.octets, prefix)
     }
 
     /// Whether the subnet has the IPv4 address of a node.
+    #[tactic(auto, unfolding(crate::specs::Subnet::subnet_holds))]
     pub fn holds(&self, address: BipAddr) -> bool
         ensures { result ≡ subnet_holds self.now address }
     {
@@ -68,8 +73,11 @@ impl Subnet {
     }
 
     /// The keys of its addresses at every UDP port (Annex J.1.2).
+    #[tactic(auto, using(crate::proofs::Keys::last_key))]
     pub fn keys(&self) -> Range
-        ensures { result ≡ keys_of self.now }
+        ensures keys { result ≡ keys_of self.now }
+        ensures some { result.low ≤ result.high }
+        ensures high { result.high < 2 ^ 48 }
     {
         let network = u64::from(self.network);
         Range {
@@ -98,13 +106,48 @@ fn size_of(prefix: u8) -> u64
     1 << (ADDRESS_BITS - prefix)
 }
 
-/// The number of at most two digits that is written so, without leading zeros.
+/// The IPv4 address that is written before a slash, and the number of one or two digits behind it.
+fn divided(text: &str) -> Option<(Mask, u8)>
+    ensures found { IfSome result (λ x. text.now ≡ mask_text x.0 ++ 47 ∷ decimal x.1) }
+    ensures only { (m : Mask) (n : ℕ) → IsMask m → n < 100 → text.now ≡ mask_text m ++ 47 ∷ decimal n →
+        result ≡ Some (m, n) }
+{
+    let (ip, prefix) = text.split_once('/')?;
+    Some((Mask::parse(ip)?, prefix_in(prefix.as_bytes())?))
+}
+
+/// The number of one or two digits that is written so, without leading zeros.
 fn prefix_in(text: &[u8]) -> Option<u8>
-    ensures found { IfSome result (λ n. text.now ≡ decimal n) }
+    ensures { result ≡ prefix_of text.now }
 {
     match text {
-        [digit @ b'0'..=b'9'] => Some(digit - b'0'),
-        [high @ b'1'..=b'9', low @ b'0'..=b'9'] => Some(10 * (high - b'0') + (low - b'0')),
+        [digit] => digit_in(*digit),
+        [tens, digit] => two_digits_in(digit_in(*tens)?, digit_in(*digit)?),
         _ => None,
+    }
+}
+
+/// The number of two digits, the first of which isn't 0.
+fn two_digits_in(tens: u8, digit: u8) -> Option<u8>
+    requires tens { tens < 10 }
+    requires digit { digit < 10 }
+    ensures { result ≡ two_digits_of tens digit }
+{
+    if tens == 0 {
+        None
+    } else {
+        Some(10 * tens + digit)
+    }
+}
+
+/// The number that a digit is.
+fn digit_in(octet: u8) -> Option<u8>
+    ensures number { result ≡ digit_of octet }
+    ensures small { IfSome result (λ n. n < 10) }
+{
+    if octet.is_ascii_digit() {
+        Some(octet - b'0')
+    } else {
+        None
     }
 }

@@ -14,12 +14,7 @@ use gw_rules::Format;
 fn is_held(subnets: &[Subnet], address: BipAddr) -> bool
     ensures { result ≡ list_any (λ subnet. subnet_holds subnet address) subnets.now }
 {
-    for subnet in subnets {
-        if subnet.holds(address) {
-            return true;
-        }
-    }
-    false
+    subnets.iter().any(|subnet| subnet.holds(address))
 }
 
 impl Port {
