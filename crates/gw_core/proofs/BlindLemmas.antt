@@ -19,7 +19,7 @@ use Rattle.gw_relay.specs.Entry.{admits, claim_ask, claim_asks, enter_ask, enter
 use Rattle.gw_relay.specs.Laws.{AreFrom}
 use Rattle.gw_relay.specs.State.{Relay, link_at}
 use Rattle.gw_relay.specs.declared.port.PortState.{PortState}
-use Rattle.gw_relay.proofs.Formats.{entry_is_unasked}
+use Rattle.gw_core.proofs.EntryLemmas.{entry_is_unasked}
 use Rattle.gw_relay.proofs.Claims.{broadcasts_carry_their_claim, network_messages_carry_their_claim, routing_carries_the_claim, table_asks_read_nothing}
 use Rattle.gw_rules.specs.Ask.{Ask, IsFor, IsFrom}
 use Rattle.gw_rules.specs.declared.operation.Operation.TheVariants as operations

@@ -1,9 +1,18 @@
 -- What is asked before a message is taken, and what an event does that is kept out.
-use Rattle.std.proofs.Common.{◌≡◌, ◌∙◌, sym, ap, refl, Bool, true, false, ◌||◌, List, [], ◌∷◌, ◌++◌, not, Option, None}
-use Rattle.std.specs.Option.{option_or}
+use Rattle.std.proofs.Common.{◌≡◌, ◌∙◌, sym, ap, ap₂, refl, Bool, true, false, ◌&&◌, ◌||◌, ◌==◌, List, [], ◌∷◌, ◌++◌, length, not, Option, None}
+use Rattle.std.specs.Prelude.{if◌then◌else◌}
+use Rattle.std.specs.List.{list_all}
+use Rattle.std.specs.Option.{option_map_or, option_or}
+use Rattle.gw_addr.specs.declared.bip.BipAddr.{BipAddr}
+use Rattle.gw_bdt_fdt.specs.Registrations.{contains}
+use Rattle.gw_rules.specs.Format.{names_stations}
+use Rattle.gw_rules.specs.RuleList.{allows}
+use Rattle.gw_rules.specs.declared.format.Format.{Format}
+use Rattle.gw_relay.specs.Stations.{belongs, is_station}
+use Rattle.gw_relay.specs.declared.port.PortState.{PortState}
 use Rattle.gw_objects.specs.Objects.{Database}
 use Rattle.gw_relay.specs.Cast.{goes_on}
-use Rattle.gw_relay.specs.Entry.{admits, entry_response}
+use Rattle.gw_relay.specs.Entry.{admits, claim_ask, comes_by_route, enter_ask, enters, entry_asks, entry_response, is_stranger, speaks_for_others}
 use Rattle.gw_relay.specs.Message.{Message}
 use Rattle.gw_relay.specs.Response.{Response}
 use Rattle.gw_relay.specs.State.{Relay}
@@ -40,6 +49,26 @@ either false a is e = absurd cc
 pub admitted_on : (rules : List Rule) (relay : Relay) (m : Message) → on m ≡ true → is_taken rules relay m ≡ true
     → admits rules relay m ≡ true
 admitted_on rules relay m is e = either (on m) (admits rules relay m) is e
+
+-- ---- nothing is asked under the first formats
+
+and_false : (b : Bool) → (b && false) ≡ false
+and_false true = refl
+and_false false = refl
+
+all_belong : (format : Format) (link : PortState) (address : BipAddr) → names_stations format ≡ false → belongs format link address ≡ true
+all_belong format link address off = ap (λ (b : Bool). not b || length link.stations == 0 || is_station link.port link.stations address || contains link.fdt address) off
+
+pub entry_is_unasked : (rules : List Rule) (relay : Relay) (m : Message) → names_stations relay.format ≡ false → entry_asks rules relay m ≡ []
+entry_is_unasked rules relay m off =
+    let e = enter_ask relay.format m in
+    let k = claim_ask relay.format m in
+    let known : is_stranger relay.format m ≡ false =
+    ap (λ (b : Bool). enters m.frame && not b) (all_belong relay.format m.here m.link off) ∙ and_false (enters m.frame) in
+    let own : speaks_for_others relay m ≡ false =
+    ap (λ (b : Bool). b && option_map_or (λ source. not (comes_by_route relay m source)) m.npdu.source false) off in
+    ap₂ (λ (strange speaks : Bool). (if strange then e ∷ [] else [])
+    ++ (if list_all (allows rules) (if strange then e ∷ [] else []) then (if speaks then k ∷ [] else []) else [])) known own
 
 -- ---- what is due, step by step
 

@@ -35,7 +35,7 @@ use Rattle.gw_relay.specs.State as move
 use Rattle.gw_relay.specs.Steps.{Step, asks_of, sends_of}
 use Rattle.gw_relay.specs.declared.change.Change.{Change}
 use Rattle.gw_relay.specs.declared.port.PortState.{PortState}
-use Rattle.gw_relay.proofs.Formats.{broadcasts_are_as_before, entry_is_unasked, network_messages_are_as_before, routing_is_as_before, tables_are_as_before}
+use Rattle.gw_relay.proofs.FormatLemmas.{broadcasts_are_as_before, network_messages_are_as_before, routing_is_as_before, tables_are_as_before}
 use Rattle.gw_core.specs.declared.effects.Effects.{Effects}
 use Rattle.gw_core.specs.Asks.{apdu_asks, asks, asks_for, message_asks}
 use Rattle.gw_core.specs.Denials.{denials_at, denials_of}
@@ -48,6 +48,7 @@ use Rattle.gw_core.specs.Receive.{Received, admit, barred, dropped, managed, unr
 use Rattle.gw_core.specs.Reply.{apdu_for, context_of}
 use Rattle.gw_core.specs.State.{State, device_network}
 use Rattle.gw_core.proofs.EffectLemmas.{effects_are}
+use Rattle.gw_core.proofs.EntryLemmas.{entry_is_unasked}
 use Rattle.gw_core.proofs.HistoryLemmas.{run_from-after, state_from-after}
 use Rattle.gw_core.proofs.RespondLemmas.{four_none, three_none}
 use Rattle.gw_script.specs.Event.{Event, Datagram, Tick}

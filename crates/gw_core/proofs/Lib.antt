@@ -24,3 +24,4 @@ pub mod DeviceAskLemmas
 pub mod RelayAskLemmas
 pub mod RefusedLemmas
 pub mod ServedLemmas
+pub mod StationLemmas

@@ -8,6 +8,7 @@ ghost use Rattle.gw_core.specs.Refused.{DeniedListingsAreSilent, DeniedManagemen
 ghost use Rattle.gw_core.specs.Served.{StopsAreServed, TurnsAreServed};
 
 use crate::wire::RECEIVE_ROOM;
+use gw_relay::laws::{delivery, entry};
 
 /// A datagram is received to 1508 octets, one more than the longest that is heard.
 pub fn limits()
@@ -76,7 +77,10 @@ pub fn stations()
     ensures claims { NoForgedClaim }
     ensures strangers { NoStranger }
     ensures inside { NoDeliveryOutside }
-{}
+{
+    entry();
+    delivery();
+}
 
 /// What a gateway counts, whatever it is configured with and whatever comes.
 pub fn counts()
