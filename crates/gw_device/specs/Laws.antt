@@ -101,9 +101,9 @@ AsksHaveTheirSource =
     (rules : List Rule) (d : Database) (context : Context) (octets : List ℕ) →
     AllByRecursion (IsFrom context.source_network context.source_key) (device_asks rules d context octets)
 
--- an ask with this sender that names no station
-pub record IsSentBy (sender : Option ℕ) (ask : Ask) : Type 0 where
-  pub sender : ask.sender ≡ sender
+-- an ask whose sender has this key, or that has none, and that names no station
+pub record IsSentBy (key : Option ℕ) (ask : Ask) : Type 0 where
+  pub sender : ask.sender ≡ key
   pub station : ask.station ≡ None
 
 -- Every ask of the device has the sender that its context tells, and no station.
