@@ -1,4 +1,4 @@
-use Rattle.std.proofs.Common.{ℕ, arith, sym, ap, cond, length, ◌+◌, ◌∙◌}
+use Rattle.std.proofs.Common.{ℕ, arith, sym, ap, cond, length, ◌∙◌}
 use Rattle.std.proofs.lemmas.Bool.{eqb-true}
 use Rattle.gw_rule_index.specs.internal.Row.{admits_in}
 use Rattle.gw_rule_index.specs.Comparisons.{most_comparisons}
