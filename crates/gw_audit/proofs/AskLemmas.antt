@@ -331,7 +331,7 @@ word_again word rest lacks ends =
 pub word_takes : (text : List ℕ) → text ≡ (word_at text).0 ++ (word_at text).1
 word_takes text = sym (take-append-drop (word_len text) text)
 
--- no space stands before the first
+-- no space comes before the first
 no_space_before : (text : List ℕ) (k : ℕ) → k < word_len text → k < length text → get_or text k 0 ≢ 32
 no_space_before text k before within e =
     let passes : (get_or text k 0 == 32) ≡ true = eq-eqb (get_or text k 0) 32 e in

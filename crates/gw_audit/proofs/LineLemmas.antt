@@ -145,7 +145,7 @@ pub names_both : (sender other : Option ℕ) → is_some (stations_from sender o
 names_both None other = refl
 names_both (Some k) other = refl
 
--- the stations and what stands behind them
+-- the stations and what comes after them
 unfoldable pub stations_on : Stations → List ℕ → List ℕ
 stations_on s rest = codes "sender=" ++ (key_text s.sender ++ 32 ∷ (codes "station=" ++ (station_text s.station ++ rest)))
 
@@ -175,7 +175,7 @@ same_stations s t ss st e =
     let ends = append_cancel_right (station_text s.station) (station_text t.station) (10 ∷ []) behind in
     ap₂ both (key_same s.sender t.sender ss.sender st.sender keys.0) (station_same s.station t.station ss.station st.station ends)
 
--- a name without a space, and the stations behind it
+-- a name without a space, and the stations after it
 same_end : (x y : List ℕ) (s t : Option Stations) → Lacks 32 x → Lacks 32 y → AreSmall s → AreSmall t → x ++ (stations_text s ++ 10 ∷ []) ≡ y ++ (stations_text t ++ 10 ∷ [])
     → (x ≡ y) × (s ≡ t)
 unfolding has_none

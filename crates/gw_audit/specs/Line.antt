@@ -35,7 +35,7 @@ operation_text value =
 abbrev pub operation_named : Bool → ℕ → Option Operation
 operation_named has_sender number = if has_sender || nat_lt number 12 then operation_of number else None
 
--- what a line has for an operation: its name, or its number where it isn't named
+-- what a line has for an operation: its name, or its number if it isn't named
 abbrev pub operation_word : Bool → Option ℕ → List ℕ
 operation_word has_sender value =
     option_map_or

@@ -39,7 +39,7 @@ key_name key =
 abbrev pub is_one : ℕ → Option ℕ → Bool
 is_one number value = option_map_or (λ n. n == number) value false
 
--- `<station>, claiming <station> on network <net>,` where the sender isn't the station that it claims to be
+-- `<station>, claiming <station> on network <net>,` if the sender isn't the station that it claims to be
 abbrev pub claim_text : ℕ → Source → List ℕ
 claim_text sender source =
     if is_one sender (key_of source.mac) then source_text source
@@ -50,7 +50,7 @@ abbrev pub sender_text : ℕ → ShownAsk → List ℕ
 sender_text sender ask =
     if is_one 13 ask.operation then key_name sender else claim_text sender ask.source
 
--- who asks: where no sender is told, the station that it claims to be
+-- who asks: if the line has no sender, the station that it claims to be
 abbrev pub asker_text : ShownAsk → List ℕ
 asker_text ask = option_map_or (λ s. sender_text s.sender ask) ask.stations (source_text ask.source)
 
@@ -105,14 +105,14 @@ priority_text priority = option_map_or (λ p. codes " at priority " ++ decimal p
 abbrev pub station_of : ShownAsk → Option ℕ
 station_of ask = option_and_then (λ s. s.station) ask.stations
 
--- a station behind a word, where there is one, and its network; else the network behind that word
+-- a station after a word, if there is one, and its network; else the network after that word
 abbrev pub goal_text : List ℕ → ShownAsk → List ℕ
 goal_text word ask =
     option_map_or
     (λ key. word ++ key_name key ++ network_text (codes " on ") ask.destination_network)
     (station_of ask) (network_text word ask.destination_network)
 
--- the device that is asked: by its address where that is told, and its network
+-- the device that is asked: by its address if the line has that, and its network
 abbrev pub device_name : ShownAsk → List ℕ
 device_name ask = option_map_or key_name (station_of ask) (codes "the device")
 

@@ -1,9 +1,10 @@
 //! Laws of the lines. The functions change nothing and answer nothing: their contracts are the laws.
 
-ghost use Rattle.std.specs.Prelude.{◌<◌, ◌^◌, IfSome};
+ghost use Rattle.std.specs.Prelude.{◌<◌, ◌^◌, IfSome, IsTrue};
 ghost use Rattle.std.specs.Str.{IsUtf8};
 ghost use Rattle.gw_addr.specs.Reading.{AreOctets};
 ghost use Rattle.gw_addr.specs.Text.{Lacks};
+ghost use Rattle.gw_rules.specs.Name.{is_name};
 ghost use Rattle.gw_audit.specs.Entry.{IsShowable};
 ghost use Rattle.gw_audit.specs.Laws.{EndsOnce, IsDenial, IsKept, NamesOneDenial, StaysShort};
 ghost use Rattle.gw_audit.specs.Told.{TellsEach, TellsOnce, TellsWords};
@@ -73,8 +74,9 @@ fn octets(octets: &[u8])
     let _len = octets.len();
 }
 
-/// The name of a rule has no space.
+/// The name of a rule has the shape of one, and so no space.
 fn name(rule: &RuleName)
+    ensures shape { IsTrue (is_name rule.now) }
     ensures spaceless { Lacks 32 rule.now }
     ensures text { IsUtf8 rule.now }
 {

@@ -39,7 +39,7 @@ pub fn read_line(line: &[u8]) -> Option<Shown<'_>>
 }
 
 /// The ask that a line tells, or `None` where it tells none. It is the line of a denial without its
-/// line feed, or the eight words in the middle of one, with the stations behind them where it names
+/// line feed, or the eight words in the middle of one, with the stations after them if it names
 /// them.
 ///
 /// ```text
@@ -96,7 +96,7 @@ fn whole_ask(ask: ShownAsk, operation: &[u8], end: &[u8]) -> Option<ShownAsk>
     })
 }
 
-/// The name of a rule behind its label, up to the next space, and what stands from there on.
+/// The name of a rule after its label, up to the next space, and what follows.
 fn rule_at(text: &[u8]) -> Option<(&str, &[u8])>
     ensures { Gives (λ x. (x.0.now, x.1.now)) result (rule_at text.now) }
 {
@@ -143,7 +143,7 @@ fn station_key(text: &[u8]) -> Option<Option<u64>>
     }
 }
 
-/// The key of a station, and what stands behind the character at its end.
+/// The key of a station, and what comes after the character at its end.
 fn key_to(end: u8, text: &[u8]) -> Option<(u64, &[u8])>
     ensures { Gives (λ x. (x.0, x.1.now)) result (key_to end text.now) }
 {
@@ -163,7 +163,7 @@ fn key_in(text: &[u8]) -> Option<u64>
     }
 }
 
-/// The key of eight octets, where it has more than 48 bits.
+/// The key of eight octets if it has more than 48 bits.
 fn long_key_in(octets: &[u8]) -> Option<u64>
     ensures { result ≡ long_key_in octets.now }
 {
@@ -192,7 +192,7 @@ fn name_of(text: &[u8]) -> Option<&str>
     }
 }
 
-/// The ask of eight words and of the stations behind them, with nothing more.
+/// The ask of eight words and of the stations after them, with nothing more.
 fn ask_in(text: &[u8]) -> Option<ShownAsk>
     ensures { result ≡ ask_in text.now }
 {
@@ -202,7 +202,7 @@ fn ask_in(text: &[u8]) -> Option<ShownAsk>
     whole_ask(ask, operation, rest)
 }
 
-/// The ask of eight words but for its operation, the word of that, and what stands behind the eight.
+/// The ask of eight words but for its operation, the word of that, and what comes after the eight.
 fn ask_at(text: &[u8]) -> Option<(ShownAsk, &[u8], &[u8])>
     ensures { Gives (λ x. (x.0, x.1.now, x.2.now)) result (ask_at text.now) }
 {
@@ -272,7 +272,7 @@ struct Request {
     service: Option<u64>,
 }
 
-/// By which service it is asked and to which network, and what stands behind its space.
+/// By which service it is asked and to which network, and what comes after its space.
 fn request_at(text: &[u8]) -> Option<(Request, &[u8])>
     ensures { Gives (λ x. (x.0, x.1.now)) result (request_at text.now) }
 {

@@ -5,7 +5,7 @@ ghost use Rattle.std.specs.List.{flat_map};
 ghost use Rattle.gw_addr.specs.Appending.{IsAppended, IsAppendedWhole};
 ghost use Rattle.gw_addr.specs.Station.{digit_of, two_digits};
 ghost use Rattle.gw_audit.specs.Line.{ask_text, field_text, key_text, line_text, operation_named, operation_of, operation_word, stations_of, stations_text};
-ghost use Rattle.gw_audit.specs.internal.Parts.{asked_text, counts_text, end_text, object_text, pieces_text, request_text, rule_text, source_text, station_text};
+ghost use Rattle.gw_audit.specs.internal.Parts.{ask_pieces_text, asked_text, counts_text, end_text, object_text, pieces_text, request_text, rule_text, source_text, station_text};
 
 use crate::denial::Denial;
 use crate::entry::Stations;
@@ -57,6 +57,13 @@ pub fn line(denial: &Denial, out: &mut Vec<u8>) -> Result<(), AllocError>
 /// 1 Memory, only where the buffer had no room: a front of it may then stand behind what it held.
 pub fn put_ask(out: &mut Vec<u8>, source: &Source, ask: &Ask) -> Result<(), AllocError>
     ensures { IsAppended (ask_text source.now ask.now) out.old out.new result }
+{
+    put_ask_pieces(out, source, ask)
+}
+
+/// Appends what was asked and by whom, piece by piece.
+fn put_ask_pieces(out: &mut Vec<u8>, source: &Source, ask: &Ask) -> Result<(), AllocError>
+    ensures { IsAppended (ask_pieces_text source.now ask.now) out.old out.new result }
 {
     put_asked(out, source, ask)?;
     put_stations(out, stations_of(ask))
@@ -150,7 +157,7 @@ fn stations_of(ask: &Ask) -> Option<Stations>
     })
 }
 
-/// Appends the sender, and the station that the message is for, where they are named.
+/// Appends the sender, and the station that the message is for, if they are named.
 fn put_stations(out: &mut Vec<u8>, stations: Option<Stations>) -> Result<(), AllocError>
     ensures { IsAppended (stations_text stations) out.old out.new result }
 {
@@ -163,7 +170,7 @@ fn put_stations(out: &mut Vec<u8>, stations: Option<Stations>) -> Result<(), All
     put_station(out, stations.station)
 }
 
-/// Appends a station by its key, or a dash where there is none.
+/// Appends a station by its key, or a dash if there is none.
 fn put_station(out: &mut Vec<u8>, station: Option<u64>) -> Result<(), AllocError>
     ensures { IsAppended (station_text station) out.old out.new result }
 {
@@ -207,12 +214,8 @@ fn hex_digit(number: u8) -> u8
     }
 }
 
-/// Appends the name of an operation by its number, or that number where the line doesn't name it.
-fn put_operation(
-    out: &mut Vec<u8>,
-    number: Option<u64>,
-    has_sender: bool,
-) -> Result<(), AllocError>
+/// Appends the name of an operation by its number, or that number if the line doesn't name it.
+fn put_operation(out: &mut Vec<u8>, number: Option<u64>, has_sender: bool) -> Result<(), AllocError>
     ensures { IsAppended (operation_word has_sender number) out.old out.new result }
 {
     let Some(number) = number else {

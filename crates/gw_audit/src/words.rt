@@ -116,7 +116,7 @@ fn put_text(out: &mut Vec<u8>, text: &str) -> Result<(), AllocError>
     put_slice(out, text.as_bytes())
 }
 
-/// Appends who asks: the sender and the station that it claims to be, where they are two.
+/// Appends who asks: the sender and the station that it claims to be if that is another.
 fn put_asker(out: &mut Vec<u8>, ask: &ShownAsk) -> Result<(), AllocError>
     ensures { IsAppended (asker_text ask.now) out.old out.new result }
 {
@@ -137,7 +137,7 @@ fn put_sender(out: &mut Vec<u8>, sender: u64, ask: &ShownAsk) -> Result<(), Allo
     }
 }
 
-/// Appends the sender and the station that it claims to be, or the station alone where it is the sender.
+/// Appends the sender and the station that it claims to be, or the station alone if it is the sender.
 fn put_claim(out: &mut Vec<u8>, sender: u64, source: &Source) -> Result<(), AllocError>
     ensures { IsAppended (claim_text sender source.now) out.old out.new result }
 {
@@ -237,10 +237,7 @@ fn put_deed_of(out: &mut Vec<u8>, operation: Operation, ask: &ShownAsk) -> Resul
         Operation::Write => put_write(out, ask),
         Operation::List => put_search(out, ask),
         Operation::Enter => put_number(out, b"enters by port ", u64::from(ask.port)),
-        Operation::Claim => {
-            put_slice(out, b"speaks for ")?;
-            put_source(out, &ask.source)
-        }
+        Operation::Claim => put_speaking(out, ask),
     }
 }
 
@@ -253,33 +250,39 @@ fn put_delete(out: &mut Vec<u8>, ask: &ShownAsk) -> Result<(), AllocError>
     put_by_other(out, DELETE, ask.service)
 }
 
-/// Appends which foreign device it is, where it is told.
+/// Appends which foreign device it is, if that is known.
 fn put_foreign(out: &mut Vec<u8>, ask: &ShownAsk) -> Result<(), AllocError>
     ensures { IsAppended (foreign_text ask.now) out.old out.new result }
 {
-    let Some(key) = station_of(ask) else {
-        return put_slice(out, b"a foreign device");
-    };
-    put_slice(out, b"the foreign device ")?;
+    match station_of(ask) {
+        Some(key) => put_named(out, b"the foreign device ", key),
+        None => put_slice(out, b"a foreign device"),
+    }
+}
+
+/// Appends a word and a station by its key.
+fn put_named(out: &mut Vec<u8>, word: &[u8], key: u64) -> Result<(), AllocError>
+    ensures { IsAppended (word.now ++ key_name key) out.old out.new result }
+{
+    put_slice(out, word)?;
     put_key_name(out, key)
 }
 
-/// The one station that a message is for, where it is told.
+/// The one station that a message is for, if that is known.
 fn station_of(ask: &ShownAsk) -> Option<u64>
     ensures { result ≡ station_of ask.now }
 {
     ask.stations.and_then(|stations| stations.station)
 }
 
-/// Appends where a message goes to, behind a word: a station and its network, or a network.
+/// Appends a word and where a message goes to: a station and its network, or a network.
 fn put_goal(out: &mut Vec<u8>, word: &[u8], ask: &ShownAsk) -> Result<(), AllocError>
     ensures { IsAppended (goal_text word.now ask.now) out.old out.new result }
 {
     let Some(key) = station_of(ask) else {
         return put_network(out, word, ask.destination_network);
     };
-    put_slice(out, word)?;
-    put_key_name(out, key)?;
+    put_named(out, word, key)?;
     put_network(out, b" on ", ask.destination_network)
 }
 
@@ -292,7 +295,7 @@ fn put_device(out: &mut Vec<u8>, ask: &ShownAsk) -> Result<(), AllocError>
     put_network(out, b" on ", ask.destination_network)
 }
 
-/// Appends a device by its address, where that is told.
+/// Appends a device by its address, if that is known.
 fn put_device_name(out: &mut Vec<u8>, ask: &ShownAsk) -> Result<(), AllocError>
     ensures { IsAppended (device_name ask.now) out.old out.new result }
 {
@@ -310,6 +313,14 @@ fn put_search(out: &mut Vec<u8>, ask: &ShownAsk) -> Result<(), AllocError>
     put_object(out, ask.object_type, ask.instance)?;
     put_network(out, b" on ", ask.destination_network)?;
     put_by(out, ask.service)
+}
+
+/// Appends for which station the sender speaks.
+fn put_speaking(out: &mut Vec<u8>, ask: &ShownAsk) -> Result<(), AllocError>
+    ensures { IsAppended (deed_of Operation.Claim ask.now) out.old out.new result }
+{
+    put_slice(out, b"speaks for ")?;
+    put_source(out, &ask.source)
 }
 
 /// Appends that the way to a network is told.

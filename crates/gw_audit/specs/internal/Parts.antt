@@ -2,13 +2,13 @@
 use Rattle.std.specs.Prelude.{ℕ, is_some, List, [], ◌∷◌, ◌++◌, Option, codes}
 use Rattle.std.specs.Fmt.{decimal}
 use Rattle.std.specs.List.{flat_map}
+use Rattle.std.specs.Option.{option_map_or}
 use Rattle.gw_addr.specs.Station.{two_digits}
 use Rattle.gw_addr.specs.declared.station.Source.{Source}
 use Rattle.gw_rules.specs.Ask.{Ask}
 use Rattle.gw_audit.specs.declared.denial.Denial.{Denial}
 use Rattle.gw_audit.specs.declared.entry.Stations.{Stations}
 use Rattle.gw_audit.specs.Line.{absent, field_text, key_text, operation_word, stations_of, stations_text}
-use Rattle.std.specs.Option.{option_map_or}
 
 -- `<number> <tick> <port> `
 abbrev pub counts_text : Denial → List ℕ
@@ -35,6 +35,10 @@ object_text ask =
 -- `<net>:<MAC> <operation> dst=<n> svc=<n> obj=<type>,<instance> prop=<n> prio=<n>`
 abbrev pub asked_text : Source → Ask → List ℕ
 asked_text source ask = source_text source ++ request_text ask ++ object_text ask
+
+-- and the stations
+abbrev pub ask_pieces_text : Source → Ask → List ℕ
+ask_pieces_text source ask = asked_text source ask ++ stations_text (stations_of ask)
 
 -- ` rule=<name>`
 abbrev pub rule_text : List ℕ → List ℕ

@@ -92,7 +92,7 @@ station_in (Err fault) = None
 abbrev pub mac_in : List ℕ → Option (List ℕ)
 mac_in text = if list_any is_lower text then None else station_in (decode_of text)
 
--- the key of six octets, or of eight where it has more than 48 bits
+-- the key of six octets, or of eight if it has more than 48 bits
 abbrev pub long_key : ℕ → Option ℕ
 long_key key = if nat_lt key 281474976710656 then None else Some key
 
@@ -201,7 +201,7 @@ ask_of_parts port source request target priority = record {
   stations = None;
 }
 
--- the eight words of an ask: what they tell but for the operation, the word of that, and what stands behind them
+-- the eight words of an ask: what they say but for the operation, the word of that, and what comes after them
 abbrev pub ask_at : List ℕ → Option (ShownAsk × List ℕ × List ℕ)
 ask_at text = do
   port ← port_at text

@@ -6,4 +6,4 @@ use Rattle.gw_audit.proofs.text.put_octets.Given as goal
 
 abbrev pub invariant-loop-octet : goal.invariant-loop-octet
 invariant-loop-octet l =
-    (l.out.items ≡ l.fn.out.items ++ flat_map two_digits (take l.octet-index l.fn.octets.now)) × (vec_capacity l.fn.out ≤ vec_capacity l.out)
+    (l.out.items ≡ l.fn.out.items ++ flat_map two_digits (take l.octet-index l.fn.octets)) × (vec_capacity l.fn.out ≤ vec_capacity l.out)
