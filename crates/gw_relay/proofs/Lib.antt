@@ -14,3 +14,4 @@ pub mod Claims
 pub mod NamedLemmas
 pub mod Entering
 pub mod FormatLemmas
+pub mod Delivery
