@@ -3,7 +3,7 @@ use Rattle.std.proofs.Common.{◌≡◌, ℕ, Bool, true, false, cond, List, [],
 use Rattle.std.specs.List.{find}
 use Rattle.std.specs.Cmp.Lexicographic.{pointwise, same_text}
 use Rattle.gw_rules.specs.declared.operation.Operation.{Operation}
-use Rattle.gw_rules.specs.declared.operation.Operation.TheVariants.{Cast, Route, Register, Delete, ReadTable, WriteTable, Learn, Network, Read, Write, List as Listing}
+use Rattle.gw_rules.specs.declared.operation.Operation.TheVariants.{Cast, Route, Register, Delete, ReadTable, WriteTable, Learn, Network, Read, Write, List as Listing, Enter, Claim}
 use Rattle.gw_rules.specs.declared.operation.TheConstants.Operation.{ALL}
 use Rattle.gw_rules.specs.Operation.{operation_name}
 use Rattle.gw_config_tables.specs.Value.{operation_named}
@@ -29,6 +29,8 @@ by_own_name Network = refl
 by_own_name Read = refl
 by_own_name Write = refl
 by_own_name Listing = refl
+by_own_name Enter = refl
+by_own_name Claim = refl
 
 pub named_same : (text : List ℕ) (o : Option Operation) → ((x : Operation) → (o ≡ Some x) ↔ (text ≡ operation_name x)) → o ≡ operation_named text
 named_same text o is = on o refl (operation_named text) refl

@@ -1,4 +1,6 @@
 pub mod Field
+pub mod Items
+pub mod Range
 pub mod Tables
 pub mod Value
 pub mod Written

@@ -87,7 +87,7 @@ slash h = absurd (omega arith)
 part_lacks : (n : ℕ) (rest : List ℕ) → n < 2 ^ 64 → Lacks 47 rest → Lacks 47 (decimal n ++ 46 ∷ rest)
 part_lacks n rest small lacks = lacks_append 47 (decimal n) (46 ∷ rest) (not_in_decimal n 47 small slash) (lacks_cons 47 46 rest (λ e. absurd cc) lacks)
 
-mask_lacks : (m : Mask) → IsMask m → Lacks 47 (mask_text m)
+pub mask_lacks : (m : Mask) → IsMask m → Lacks 47 (mask_text m)
 unfolding four_text
 mask_lacks m is =
     let small : (i : ℕ) → get_or m.octets i 0 < 2 ^ 64 = λ i. omega (arith, is.octets i) in
