@@ -4,3 +4,4 @@ pub mod Halving
 pub mod Fields
 pub mod Ends
 pub mod Limits
+pub mod Named

@@ -4,7 +4,7 @@ ghost use Rattle.gw_rules.specs.declared.field.FieldName.{FieldName};
 ghost use Rattle.gw_rules.specs.declared.rule.Rule.{Rule};
 ghost use Rattle.gw_rule_index.specs.declared.counted.TheConstants.{COMPARISONS_A_FIELD, MAX_ANDS, MAX_COMPARISONS};
 ghost use Rattle.gw_rule_index.specs.Comparisons.{is_named, least_comparisons, most_comparisons, most_named_comparisons, one_comparison};
-ghost use Rattle.gw_rule_index.specs.internal.Field.{IsIndexOf};
+ghost use Rattle.gw_rule_index.specs.internal.Field.{IsIndexOf, has_bounds};
 ghost use Rattle.gw_rule_index.specs.internal.Row.{Marks, admits_in};
 
 use crate::Counted;
@@ -13,6 +13,13 @@ use crate::row::Row;
 use crate::search::place_of;
 
 impl FieldIndex {
+    /// Whether the field has a bound, so some rule names it.
+    pub(crate) fn has_bounds(&self) -> bool
+        ensures { result ≡ has_bounds self.now }
+    {
+        !self.bounds.as_slice().is_empty()
+    }
+
     /// Keeps the rules that admit in this field what an ask has there. A field that no rule names
     /// is skipped.
     pub(crate) fn keep(&self, value: Option<u64>, kept: &mut Row, counted: &mut Counted)

@@ -1,5 +1,5 @@
 //! The index of a whole rule list, as a judge.
-ghost use Rattle.std.specs.Prelude.{◌≡◌, ◌*◌, ◌≤◌, List, IfOk, IfSome, false, length, map, true};
+ghost use Rattle.std.specs.Prelude.{◌≡◌, ◌*◌, ◌≤◌, List, IfOk, IfSome, false, filter, length, map, true};
 ghost use Rattle.std.specs.Option.{option_map_or};
 ghost use Rattle.gw_rules.specs.Rule.{matches};
 ghost use Rattle.gw_rules.specs.Fields.{value_of};
@@ -8,12 +8,13 @@ ghost use Rattle.gw_rules.specs.declared.field.FieldName.{FieldName};
 ghost use Rattle.gw_rules.specs.declared.rule.Rule.{Rule};
 ghost use Rattle.gw_rule_index.specs.declared.counted.TheConstants.{COMPARISONS_A_FIELD, MAX_ANDS, MAX_COMPARISONS};
 ghost use Rattle.gw_rule_index.specs.Comparisons.{least_comparisons_in, least_comparisons_of, most_comparisons_in, most_comparisons_of, most_named_comparisons_in, most_named_comparisons_of, named_fields, named_fields_in};
-ghost use Rattle.gw_rule_index.specs.internal.Field.{IsIndexOf};
+ghost use Rattle.gw_rule_index.specs.internal.Field.{IsIndexOf, has_bounds};
 ghost use Rattle.gw_rule_index.specs.internal.Index.{IsBuiltFrom};
 ghost use Rattle.gw_rule_index.specs.internal.Row.{Marks, admits_all};
 
 use crate::Counted;
 use crate::field_index::FieldIndex;
+use crate::field_indexes::FieldIndexes;
 use crate::row::Row;
 use gw_rules::{Ask, Decision, FieldName, Fields, Judge, Rule, RuleList};
 use std::alloc::{AllocError, Global};
@@ -25,7 +26,7 @@ use std::alloc::{AllocError, Global};
 /// An ask costs at most 13 comparisons for each field that it has and some rule names, and an AND of
 /// 512 bits for each field that some rule names.
 pub struct RuleIndex {
-    fields: Fields<FieldIndex>,
+    fields: FieldIndexes,
     every: Row,
     verdicts: Vec<bool>,
 }
@@ -49,7 +50,7 @@ impl RuleIndex {
     {
         let rules = rules.rules();
         Ok(RuleIndex {
-            fields: index_fields(alloc, rules)?,
+            fields: indexes_of(alloc, rules)?,
             every: Row::every(rules),
             verdicts: verdicts_of(alloc, rules)?,
         })
@@ -107,7 +108,7 @@ impl RuleIndex {
             counted.new.ands ≡ named_fields rules }
     {
         let mut row = self.every;
-        self.keep_fields(ask, &FieldName::ALL, &mut row, counted);
+        self.keep_fields(ask, &self.fields.named, &mut row, counted);
         row
     }
 
@@ -130,7 +131,7 @@ impl RuleIndex {
             counted.new.ands ≡ named_fields_in rules fields.now }
     {
         for field in fields {
-            let index = self.fields.get(*field);
+            let index = self.fields.each.get(*field);
             let value = *ask.get(*field);
             index.keep(value, row, counted);
         }
@@ -180,6 +181,29 @@ impl Judge for RuleIndex {
             Decision::Deny { by }
         }
     }
+}
+
+/// The index of each field, and the fields that some rule names.
+fn indexes_of(alloc: Global, rules: &[Rule]) -> Result<FieldIndexes, AllocError>
+    requires { KeepsLongCounts rules.now }
+    ensures { IfOk result (λ fields. (field : FieldName) →
+        IsIndexOf rules.now field (value_of field fields.each)) }
+{
+    let each = index_fields(alloc, rules)?;
+    let named = named_of(alloc, &each)?;
+    Ok(FieldIndexes { each, named })
+}
+
+/// The fields that have a bound, in the order of their numbers.
+fn named_of(alloc: Global, fields: &Fields<FieldIndex>) -> Result<Vec<FieldName>, AllocError>
+    ensures { IfOk result (λ named.
+        named.items ≡ filter (λ field. has_bounds (value_of field fields.now)) FieldName.ALL) }
+{
+    FieldName::ALL
+        .iter()
+        .copied()
+        .filter(|field| fields.get(*field).has_bounds())
+        .collect(alloc)
 }
 
 /// The index of each field.

@@ -1,5 +1,5 @@
 -- What the index of a field is.
-use Rattle.std.specs.Prelude.{◌≡◌, ℕ, ◌^◌, ◌≤◌, ◌<◌, false, List, [], ◌∷◌, length, Some, None, slice_index, slice_index_or}
+use Rattle.std.specs.Prelude.{◌≡◌, ℕ, ◌^◌, ◌≤◌, ◌<◌, ◌==◌, Bool, false, not, List, [], ◌∷◌, length, Some, None, slice_index, slice_index_or}
 use Rattle.std.specs.List.{Contains}
 use Rattle.gw_rules.specs.Rule.{ranges_of}
 use Rattle.gw_rules.specs.declared.field.FieldName.{FieldName}
@@ -20,6 +20,10 @@ abbrev pub HasRows : List Rule → FieldName → List ℕ → List Row → Type 
 HasRows rules field numbers rows =
     (place : ℕ) (d : Row) → place < length rows →
     MarksAt rules field rows place d (slice_index (0 ∷ numbers) place)
+
+-- the field has a bound, so some rule names it
+abbrev pub has_bounds : FieldIndex → Bool
+has_bounds index = not (length index.bounds.items == 0)
 
 -- for each value the row that is found marks exactly the rules that admit it
 pub record IsIndexOf (rules : List Rule) (field : FieldName) (index : FieldIndex) : Type 0 where
