@@ -4,7 +4,7 @@ use Rattle.std.specs.Prelude.{ℕ, Bool, true, false, not, ◌&&◌, ◌==◌, L
 use Rattle.std.specs.List.{list_all}
 use Rattle.std.specs.Option.{option_map_or}
 use Rattle.gw_addr.specs.declared.bip.BipAddr.{BipAddr}
-use Rattle.gw_addr.specs.Address.{big_endian, octets_of}
+use Rattle.gw_addr.specs.Address.{octets_of}
 use Rattle.gw_addr.specs.Station.{key_of}
 use Rattle.gw_bdt_fdt.specs.Registrations.{same}
 use Rattle.gw_bvll.specs.Bvll.{forwarded, original_broadcast, original_unicast}
@@ -42,7 +42,7 @@ abbrev pub enter_ask : Format → Message → Ask
 enter_ask format m = record (ask_of Enter) {
   port = Some m.here.port.number;
   source_network = Some m.here.port.network;
-  source_key = Some (big_endian (octets_of m.link));
+  source_key = key_of (octets_of m.link);
   sender = sender_of format m.from;
 }
 

@@ -23,7 +23,8 @@ use Rattle.gw_rules.specs.Allowed.{NoChangeAllowed, NoneAllowed}
 use Rattle.gw_rules.specs.Ask.{Ask, IsFor, IsFrom}
 use Rattle.gw_relay.specs.Asks.{bound_for, link_asks}
 use Rattle.gw_relay.specs.Cast.{cast_asks, cast_response, devices_but, directed}
-use Rattle.gw_relay.specs.Entry.{admits, comes_by_route, entry_asks, enters}
+use Rattle.gw_relay.specs.Claim.{local_source}
+use Rattle.gw_relay.specs.Entry.{admits, claim_asks, comes_by_route, enter_asks, enters, entry_asks}
 use Rattle.gw_relay.specs.FormatTwo.{cast_response_before, link_response_before, manage_response_before}
 use Rattle.gw_relay.specs.FormatTwo.{route_response_before}
 use Rattle.gw_relay.specs.History.{Acts, acts_after, acts_later, initial_acts, ports_from, AreStatesAfter}
@@ -104,6 +105,14 @@ RoutingCarriesTheClaim = (relay : Relay) (m : Message) → AreFrom m.claim (rout
 
 abbrev pub NetworkMessagesCarryTheirClaim : Type 0
 NetworkMessagesCarryTheirClaim = (relay : Relay) (m : Message) → AreFrom m.claim (manage_asks relay m)
+
+-- An ask to enter is of the link source, as a node of the port's network; and an ask to claim is of the claim.
+abbrev pub EnteringCarriesTheLinkSource : Type 0
+EnteringCarriesTheLinkSource =
+    (format : Format) (m : Message) → AreFrom (local_source m.here.port.network m.link) (enter_asks format m)
+
+abbrev pub ClaimingCarriesTheClaim : Type 0
+ClaimingCarriesTheClaim = (relay : Relay) (m : Message) → AreFrom m.claim (claim_asks relay m)
 
 -- ---- who is admitted
 

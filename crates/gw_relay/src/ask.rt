@@ -114,12 +114,7 @@ impl Message<'_> {
     /// The ask of a message that goes to that network, if it names one: it comes from the source that
     /// the message claims.
     #[inline(always)]
-    pub(crate) fn ask(
-        &self,
-        format: Format,
-        operation: Operation,
-        destination: Option<u16>,
-    ) -> Ask
+    pub(crate) fn ask(&self, format: Format, operation: Operation, destination: Option<u16>) -> Ask
         ensures { result ≡ message_ask format operation (message_view self.now) destination }
     {
         Ask {

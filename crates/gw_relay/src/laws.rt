@@ -1,7 +1,7 @@
 //! What the words of the relay mean, proved of every change, every history and every table, for a
 //! reader of the definitions that contracts here and in the crates above cite. The functions do
 //! nothing.
-ghost use Rattle.gw_relay.specs.Laws.{AllOnesReachTheManager, BroadcastsAreAsBefore, BroadcastsCarryTheirClaim, ChangesExtendHistories, ConfiguredLinksStand, EntryAsksReadNothing, EntryIsUnasked, ForgedClaimsAreKeptOut, NetworkMessagesAreAsBefore, NetworkMessagesCarryTheirClaim, NothingIsDeliveredOutside, OwnEntryIsLeftOut, OwnStationsEnterUnasked, RoutersEnterUnasked, RoutesAreKept, RoutingCarriesTheClaim, RoutingIsAsBefore, SenderIsLeftOut, StrangersAreKeptOut, TableAsksReadNothing, TablesAreAsBefore, TablesAreKept, TicksExtendHistories};
+ghost use Rattle.gw_relay.specs.Laws.{AllOnesReachTheManager, BroadcastsAreAsBefore, BroadcastsCarryTheirClaim, ChangesExtendHistories, ClaimingCarriesTheClaim, ConfiguredLinksStand, EnteringCarriesTheLinkSource, EntryAsksReadNothing, EntryIsUnasked, ForgedClaimsAreKeptOut, NetworkMessagesAreAsBefore, NetworkMessagesCarryTheirClaim, NothingIsDeliveredOutside, OwnEntryIsLeftOut, OwnStationsEnterUnasked, RoutersEnterUnasked, RoutesAreKept, RoutingCarriesTheClaim, RoutingIsAsBefore, SenderIsLeftOut, StrangersAreKeptOut, TableAsksReadNothing, TablesAreAsBefore, TablesAreKept, TicksExtendHistories};
 
 /// The ports' tables are those of the last granted entries, and of the granted registrations and
 /// deletions and the ticks: so they begin, and each change and each tick extends that.
@@ -28,11 +28,14 @@ pub fn changes()
     ensures routes { RoutesAreKept }
 {}
 
-/// Every ask of a message is of the source that the message claims.
+/// Every ask of a message is of the source that the message claims, but an ask to enter, which is of the
+/// link source on the port's network.
 pub fn claims()
     ensures broadcasts { BroadcastsCarryTheirClaim }
     ensures routing { RoutingCarriesTheClaim }
     ensures network_messages { NetworkMessagesCarryTheirClaim }
+    ensures entering { EnteringCarriesTheLinkSource }
+    ensures claiming { ClaimingCarriesTheClaim }
 {}
 
 /// Who is admitted where the format names stations: no stranger and no source that doesn't come by its

@@ -260,6 +260,7 @@ impl Relay {
 
     /// Puts the `cast` ask of a message, and after it, in a format that names stations, those of what
     /// the message names, whether or not it is allowed; and answers whether all are.
+    #[inline(always)]
     pub(crate) fn authorize_cast<A: Asker>(
         &self,
         asker: &mut A,

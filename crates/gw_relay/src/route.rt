@@ -283,7 +283,11 @@ impl Relay {
         ensures stays { (rules : List Rule) → A.StandsFor turn.old.asker rules →
             A.StandsFor turn.new.asker rules }
     {
-        let ask = message.passing_ask(self.format(), Operation::Route, Some(port.port.network.get()));
+        let ask = message.passing_ask(
+            self.format(),
+            Operation::Route,
+            Some(port.port.network.get()),
+        );
         if self.authorize_forward(&mut turn.asker, &ask, &message.npdu.payload)? {
             message.copy_to_port(destination, port, &mut turn.sends)
         } else {
