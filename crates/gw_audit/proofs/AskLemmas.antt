@@ -23,7 +23,7 @@ use Rattle.gw_audit.specs.Entry.{AreShownStations, IsShownAsk, ask_text}
 use Rattle.gw_audit.specs.declared.entry.Stations.{Stations}
 use Rattle.gw_audit.specs.internal.Parts.{station_text}
 use Rattle.gw_audit.specs.internal.Reading.{◌>>=◌, key_in, key_to, named_stations, station_key, stations_in, whole_ask, with_both, ask_at, ask_of_parts, behind, field_in, field_to, labelled_to, mac_in, mac_to, net_of, number_in, number_to, operation_in, parted_at, port_at, port_of, priority_at, priority_of, request_at, source_at, target_at, up_to, word_at, word_len}
-use Rattle.gw_audit.proofs.Fields.{IsSmall, colon, comma, digits_lack, field_lacks, operation_spaceless, space}
+use Rattle.gw_audit.proofs.Fields.{IsSmall, colon, comma, digits_lack, field_lacks, space}
 use Rattle.gw_audit.proofs.LineLemmas.{AreSmall, stations_on, stations_right, stations_whole, step}
 use Rattle.gw_audit.proofs.KeyLemmas.{key_again, key_lacks, key_takes, station_again, station_takes}
 use Rattle.gw_audit.proofs.MacLemmas.{mac_again, mac_takes}

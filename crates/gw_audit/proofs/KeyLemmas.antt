@@ -5,21 +5,20 @@ use Rattle.std.specs.Cmp.Lexicographic.{pointwise, same_text}
 use Rattle.std.specs.Prelude.{nat_eq}
 use Rattle.std.specs.Int.{w64, from_be_bytes, to_be_bytes}
 use Rattle.std.specs.List.{flat_map}
-use Rattle.std.specs.Option.{option_map, option_map_or}
-use Rattle.std.proofs.lemmas.Bool.{eqb-true, ltb-false, ltb-true, lt-ltb}
+use Rattle.std.proofs.lemmas.Bool.{eqb-true, ltb-true, lt-ltb}
 use Rattle.std.proofs.lemmas.Nat.{be_bytes_8, from_be_bytes-to_be_bytes_8}
 use Rattle.gw_addr.specs.Address.{big_endian}
 use Rattle.gw_addr.specs.Reading.{AreOctets}
-use Rattle.gw_addr.specs.Station.{is_station, key_of, two_digits}
+use Rattle.gw_addr.specs.Station.{is_station, two_digits}
 use Rattle.gw_addr.specs.Text.{Lacks}
 use Rattle.gw_addr.proofs.Addresses.{key_below}
 use Rattle.gw_addr.proofs.Lacking.{lacks_cons}
 use Rattle.gw_addr.proofs.Reading.{AreOctets-drop}
 use Rattle.gw_audit.specs.Line.{absent, key_octets, key_text}
 use Rattle.gw_audit.specs.internal.Parts.{station_text}
-use Rattle.gw_audit.specs.internal.Reading.{◌>>=◌, key_in, key_of_mac, long_key, long_key_in, mac_in, or_else, station_key}
+use Rattle.gw_audit.specs.internal.Reading.{◌>>=◌, key_in, key_of_mac, long_key, mac_in, or_else, station_key}
 use Rattle.gw_audit.proofs.Fields.{IsSmall, digits_lack, lacks_in_none}
-use Rattle.gw_audit.proofs.MacLemmas.{IsStationIn, mac_again, mac_takes}
+use Rattle.gw_audit.proofs.MacLemmas.{mac_again, mac_takes}
 use Rattle.gw_audit.proofs.ReadingLemmas.{not_same, some_is, step_of}
 
 -- ---- the octets of a number

@@ -1,5 +1,5 @@
 -- A line has one telling.
-use Rattle.std.proofs.Common.{◌≡◌, inl, inr, ℕ, List, [], ◌∷◌, ◌++◌, Option, refl, sym, ap, subst, ◌∙◌}
+use Rattle.std.proofs.Common.{◌≡◌, inl, inr, ℕ, List, [], ◌∷◌, ◌++◌, Option, sym, ap, subst, ◌∙◌}
 use Rattle.gw_audit.specs.Entry.{IsLineOf, IsShowable, shown_ask}
 use Rattle.gw_audit.specs.Laws.{AreShownAlike}
 use Rattle.gw_audit.specs.Moment.{IsMomentOf, front_text}

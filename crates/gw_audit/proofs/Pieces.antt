@@ -11,7 +11,7 @@ use Rattle.gw_rules.specs.Operation.{operation_number}
 use Rattle.gw_rules.proofs.Operations.{number_found}
 use Rattle.gw_audit.specs.declared.denial.Denial.{Denial}
 use Rattle.gw_audit.specs.Line.{ask_text, field_text, line_text, operation_of, operation_word, stations_of, stations_text}
-use Rattle.gw_audit.specs.internal.Parts.{asked_text, counts_text, end_text, object_text, pieces_text, request_text, rule_text, source_text}
+use Rattle.gw_audit.specs.internal.Parts.{asked_text, counts_text, end_text, object_text, pieces_text, request_text, source_text}
 
 -- two that are there in the same cases are the same
 same_option : {A : Type 0} (x y : Option A) → ((a : A) → x ≡ Some a → y ≡ Some a) → ((a : A) → y ≡ Some a → x ≡ Some a) → x ≡ y

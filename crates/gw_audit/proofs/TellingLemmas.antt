@@ -1,5 +1,5 @@
 -- The line of a denial, and what it tells.
-use Rattle.std.proofs.Common.{◌≡◌, inl, inr, ℕ, suc, ◌^◌, ◌<◌, Bool, true, false, List, [], ◌∷◌, ◌++◌, length, Option, Some, None, refl, sym, ap, ap₂, subst, ◌∙◌, append_assoc, append-nil, arith}
+use Rattle.std.proofs.Common.{◌≡◌, inl, inr, ℕ, suc, ◌^◌, ◌<◌, Bool, true, false, List, [], ◌∷◌, ◌++◌, length, Option, Some, None, refl, sym, ap, ap₂, subst, ◌∙◌, arith}
 use Rattle.std.specs.Prelude.{◌==◌, if◌then◌else◌, codes, is_some, IfSome}
 use Rattle.std.specs.Fmt.{decimal}
 use Rattle.std.specs.List.{flat_map}
@@ -19,7 +19,7 @@ use Rattle.gw_rules.specs.declared.field.FieldName.TheVariants.{Operation, Port,
 use Rattle.gw_audit.specs.declared.denial.Denial.{Denial}
 use Rattle.gw_audit.specs.declared.entry.ShownAsk.{ShownAsk}
 use Rattle.gw_audit.specs.declared.entry.Stations.{Stations}
-use Rattle.gw_audit.specs.Entry.{IsAskInWords, IsLineOf, IsShowable, IsShownAsk, TellsAsk, ask_shown, ask_text, shown_ask}
+use Rattle.gw_audit.specs.Entry.{IsAskInWords, IsLineOf, IsShowable, IsShownAsk, TellsAsk, ask_shown, shown_ask}
 use Rattle.gw_audit.specs.Laws.{AreShownAlike, IsDenial}
 use Rattle.gw_audit.specs.Line.{field_text, line_text, operation_word, stations_of, stations_text}
 use Rattle.gw_audit.specs.internal.Reading.{◌>>=◌, Gives, ask_at, ask_in, ask_of_parts, behind, denial_of_parts, line_in, name_of, number_to, rule_at, rule_of, told_by, whole_ask, with_both, word_at}

@@ -1,5 +1,5 @@
 -- What a line shows of a denial, and the ask that it tells.
-use Rattle.std.specs.Prelude.{◌≡◌, ◌⊎◌, ℕ, ◌^◌, ◌<◌, true, is_some, List, [], ◌∷◌, ◌++◌, Option, Some, IfSome, codes}
+use Rattle.std.specs.Prelude.{◌≡◌, ◌⊎◌, ℕ, ◌^◌, ◌<◌, true, is_some, List, [], ◌∷◌, ◌++◌, Some, IfSome, codes}
 use Rattle.std.specs.Fmt.{decimal}
 use Rattle.std.specs.List.{flat_map}
 use Rattle.std.specs.Option.{option_and_then, option_map}

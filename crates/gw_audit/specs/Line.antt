@@ -1,5 +1,5 @@
 -- The line that shows a denial in the log. Its form is this project's own.
-use Rattle.std.specs.Prelude.{ℕ, ◌==◌, Bool, true, nat_lt, ◌||◌, is_some, if◌then◌else◌, List, [], ◌∷◌, ◌++◌, drop, Option}
+use Rattle.std.specs.Prelude.{ℕ, ◌==◌, Bool, nat_lt, ◌||◌, is_some, if◌then◌else◌, List, [], ◌∷◌, ◌++◌, drop, Option}
 use Rattle.std.specs.Prelude.{None, codes}
 use Rattle.std.specs.Fmt.{decimal}
 use Rattle.std.specs.Int.{w64, to_be_bytes}

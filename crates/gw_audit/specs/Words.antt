@@ -1,6 +1,6 @@
 -- The words that tell what a line of the log shows. They are this project's own, the names in them the standard's.
 use Rattle.std.specs.Prelude.{ℕ, ◌==◌, Bool, false, nat_lt, is_some, if◌then◌else◌, List, [], ◌++◌, length, drop, codes}
-use Rattle.std.specs.Prelude.{Option, Some, None}
+use Rattle.std.specs.Prelude.{Option, None}
 use Rattle.std.specs.Fmt.{decimal}
 use Rattle.std.specs.Int.{w64, to_be_bytes}
 use Rattle.std.specs.List.{flat_map}
@@ -14,7 +14,6 @@ use Rattle.gw_rules.specs.declared.operation.Operation.TheVariants.{WriteTable, 
 use Rattle.gw_rules.specs.declared.operation.Operation.TheVariants.{List as Listing, Enter, Claim}
 use Rattle.gw_audit.specs.declared.denial.Denial.{Denial}
 use Rattle.gw_audit.specs.declared.entry.ShownAsk.{ShownAsk}
-use Rattle.gw_audit.specs.declared.entry.Stations.{Stations}
 use Rattle.gw_audit.specs.Entry.{shown_ask}
 use Rattle.gw_audit.specs.Line.{field_text, key_text, operation_named}
 use Rattle.gw_names.specs.Names.{object_type_name, property_name, service_name}

@@ -7,7 +7,6 @@ use Rattle.gw_addr.specs.Station.{two_digits}
 use Rattle.gw_addr.specs.declared.station.Source.{Source}
 use Rattle.gw_rules.specs.Ask.{Ask}
 use Rattle.gw_audit.specs.declared.denial.Denial.{Denial}
-use Rattle.gw_audit.specs.declared.entry.Stations.{Stations}
 use Rattle.gw_audit.specs.Line.{absent, field_text, key_text, operation_word, stations_of, stations_text}
 
 -- `<number> <tick> <port> `

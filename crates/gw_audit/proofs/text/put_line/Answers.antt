@@ -1,5 +1,4 @@
 use Rattle.gw_addr.proofs.Appended.{then_put}
-use Rattle.gw_audit.proofs.Refused.{cut, refused}
 use Rattle.gw_audit.proofs.text.put_line.Goals as goal
 
 pub returns : goal.returns
