@@ -1,9 +1,9 @@
 //! What the index of a field says of an ask.
-ghost use Rattle.std.specs.Prelude.{◌≡◌, ◌+◌, ◌≤◌, ◌<◌, ◌&&◌, Bool, List, if◌then◌else◌, length};
+ghost use Rattle.std.specs.Prelude.{◌≡◌, ◌+◌, ◌≤◌, ◌<◌, ◌&&◌, Bool, IsTrue, List};
 ghost use Rattle.gw_rules.specs.declared.field.FieldName.{FieldName};
 ghost use Rattle.gw_rules.specs.declared.rule.Rule.{Rule};
 ghost use Rattle.gw_rule_index.specs.declared.counted.TheConstants.{COMPARISONS_A_FIELD, MAX_ANDS, MAX_COMPARISONS};
-ghost use Rattle.gw_rule_index.specs.Comparisons.{is_named, least_comparisons, most_comparisons, most_named_comparisons, one_comparison};
+ghost use Rattle.gw_rule_index.specs.Comparisons.{most_comparisons, one_comparison};
 ghost use Rattle.gw_rule_index.specs.internal.Field.{IsIndexOf, has_bounds};
 ghost use Rattle.gw_rule_index.specs.internal.Row.{Marks, admits_in};
 
@@ -20,8 +20,7 @@ impl FieldIndex {
         !self.bounds.as_slice().is_empty()
     }
 
-    /// Keeps the rules that admit in this field what an ask has there. A field that no rule names
-    /// is skipped.
+    /// Keeps the rules that admit in this field what an ask has there.
     pub(crate) fn keep(&self, value: Option<u64>, kept: &mut Row, counted: &mut Counted)
         requires comparisons { counted.old.comparisons + COMPARISONS_A_FIELD ≤ MAX_COMPARISONS }
         requires ands { counted.old.ands < MAX_ANDS }
@@ -30,19 +29,10 @@ impl FieldIndex {
             Marks kept.new.words (λ rule. test rule && admits_in field value rule) rules }
         ensures comparisons { counted.new.comparisons
             ≤ counted.old.comparisons + most_comparisons value }
-        ensures named { (rules : List Rule) (field : FieldName) → IsIndexOf rules field self.now →
-            counted.new.comparisons
-            ≤ counted.old.comparisons + most_named_comparisons rules field value }
-        ensures least { (rules : List Rule) (field : FieldName) → IsIndexOf rules field self.now →
-            counted.old.comparisons + least_comparisons rules field value
-            ≤ counted.new.comparisons }
-        ensures ands { counted.new.ands ≤ counted.old.ands + 1 }
-        ensures joins { (rules : List Rule) (field : FieldName) → IsIndexOf rules field self.now →
-            counted.new.ands ≡ counted.old.ands + (if is_named rules field then 1 else 0) }
+        ensures some { IsTrue (has_bounds self.now) →
+            counted.old.comparisons + one_comparison value ≤ counted.new.comparisons }
+        ensures ands { counted.new.ands ≡ counted.old.ands + 1 }
     {
-        if self.bounds.as_slice().is_empty() {
-            return;
-        }
         let row = self.row(value, counted);
         kept.and(row, counted);
     }
@@ -54,7 +44,7 @@ impl FieldIndex {
             Marks result.now.words (admits_in field value) rules }
         ensures comparisons { counted.new.comparisons
             ≤ counted.old.comparisons + most_comparisons value }
-        ensures some { 1 ≤ length self.now.bounds.items →
+        ensures some { IsTrue (has_bounds self.now) →
             counted.old.comparisons + one_comparison value ≤ counted.new.comparisons }
         ensures ands { counted.new.ands ≡ counted.old.ands }
     {

@@ -1,5 +1,6 @@
 //! The index of a whole rule list, as a judge.
 ghost use Rattle.std.specs.Prelude.{◌≡◌, ◌*◌, ◌≤◌, List, IfOk, IfSome, false, filter, length, map, true};
+ghost use Rattle.std.specs.List.{sum_by};
 ghost use Rattle.std.specs.Option.{option_map_or};
 ghost use Rattle.gw_rules.specs.Rule.{matches};
 ghost use Rattle.gw_rules.specs.Fields.{value_of};
@@ -7,7 +8,7 @@ ghost use Rattle.gw_rules.specs.RuleList.{KeepsLongCounts, allows, allows_at, de
 ghost use Rattle.gw_rules.specs.declared.field.FieldName.{FieldName};
 ghost use Rattle.gw_rules.specs.declared.rule.Rule.{Rule};
 ghost use Rattle.gw_rule_index.specs.declared.counted.TheConstants.{COMPARISONS_A_FIELD, MAX_ANDS, MAX_COMPARISONS};
-ghost use Rattle.gw_rule_index.specs.Comparisons.{least_comparisons_in, least_comparisons_of, most_comparisons_in, most_comparisons_of, most_named_comparisons_in, most_named_comparisons_of, named_fields, named_fields_in};
+ghost use Rattle.gw_rule_index.specs.Comparisons.{least_comparisons_of, most_comparisons_in, most_comparisons_of, most_named_comparisons_of, named_fields, one_comparison};
 ghost use Rattle.gw_rule_index.specs.internal.Field.{IsIndexOf, has_bounds};
 ghost use Rattle.gw_rule_index.specs.internal.Index.{IsBuiltFrom};
 ghost use Rattle.gw_rule_index.specs.internal.Row.{Marks, admits_all};
@@ -108,29 +109,26 @@ impl RuleIndex {
             counted.new.ands ≡ named_fields rules }
     {
         let mut row = self.every;
-        self.keep_fields(ask, &self.fields.named, &mut row, counted);
+        self.keep_named(ask, &mut row, counted);
         row
     }
 
-    /// Keeps the rules that admit what the ask has in each of these fields.
-    fn keep_fields(&self, ask: &Ask, fields: &[FieldName], row: &mut Row, counted: &mut Counted)
-        requires fields { length fields.now ≤ MAX_ANDS }
+    /// Keeps the rules that admit what the ask has in each field that some rule names.
+    fn keep_named(&self, ask: &Ask, row: &mut Row, counted: &mut Counted)
         requires comparisons { counted.old.comparisons ≡ 0 }
         requires ands { counted.old.ands ≡ 0 }
         ensures row { (rules : List Rule) → IsBuiltFrom self.now rules →
             Marks row.old.words (λ _. true) rules →
-            Marks row.new.words (admits_all ask.now fields.now) rules }
-        ensures each_field { counted.new.comparisons ≤ most_comparisons_in ask.now fields.now }
-        ensures comparisons { counted.new.comparisons ≤ COMPARISONS_A_FIELD * length fields.now }
-        ensures named { (rules : List Rule) → IsBuiltFrom self.now rules →
-            counted.new.comparisons ≤ most_named_comparisons_in rules ask.now fields.now }
-        ensures least { (rules : List Rule) → IsBuiltFrom self.now rules →
-            least_comparisons_in rules ask.now fields.now ≤ counted.new.comparisons }
-        ensures ands { counted.new.ands ≤ length fields.now }
-        ensures joins { (rules : List Rule) → IsBuiltFrom self.now rules →
-            counted.new.ands ≡ named_fields_in rules fields.now }
+            Marks row.new.words (admits_all ask.now self.now.fields.named.items) rules }
+        ensures each_field { counted.new.comparisons
+            ≤ most_comparisons_in ask.now self.now.fields.named.items }
+        ensures comparisons { counted.new.comparisons
+            ≤ COMPARISONS_A_FIELD * length self.now.fields.named.items }
+        ensures least { sum_by (λ field. one_comparison (value_of field ask.now))
+            self.now.fields.named.items ≤ counted.new.comparisons }
+        ensures ands { counted.new.ands ≡ length self.now.fields.named.items }
     {
-        for field in fields {
+        for field in &self.fields.named {
             let index = self.fields.each.get(*field);
             let value = *ask.get(*field);
             index.keep(value, row, counted);
