@@ -28,7 +28,7 @@ use Rattle.gw_relay.specs.Asks.{bound_for}
 use Rattle.gw_relay.specs.Cast.{devices, managers, spread}
 use Rattle.gw_relay.specs.Laws.{Inside, NothingIsDeliveredOutside, Reaches, Rejected, ToRouter, is_unicast}
 use Rattle.gw_relay.specs.Message.{Message}
-use Rattle.gw_relay.specs.Route.{copy, copy_to_port, delivered, forward, has_hops, is_kind, is_local, last_hop, leaves, next_hop, others, reject, route_steps, steps_by, who_is_router}
+use Rattle.gw_relay.specs.Route.{copy, delivered, forward, has_hops, is_kind, is_local, last_hop, leaves, next_hop, others, reject, route_steps, steps_by, who_is_router}
 use Rattle.gw_relay.specs.Sends.{Sending, sending, sendings, sent}
 use Rattle.gw_relay.specs.State.{Relay, link_at}
 use Rattle.gw_relay.specs.Stations.{belongs}

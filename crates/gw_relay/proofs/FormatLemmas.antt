@@ -1,16 +1,15 @@
 -- Where the format names no stations, each part is as it was before there was such a format.
-use Rattle.std.proofs.Common.{◌≡◌, ◌∙◌, sym, ap, refl, ℕ, Bool, true, false, ◌&&◌, List, [], ◌∷◌, map, length, Option, Some, None}
+use Rattle.std.proofs.Common.{◌≡◌, ◌∙◌, ap, refl, ℕ, Bool, true, false, ◌&&◌, List, [], ◌∷◌, map, length, Option, Some, None}
 use Rattle.std.specs.Prelude.{◌==◌, if◌then◌else◌}
-use Rattle.std.specs.Int.{w16, from_be_bytes}
 use Rattle.std.specs.List.{list_all}
 use Rattle.std.specs.Option.{option_map_or}
 use Rattle.gw_addr.specs.declared.bip.BipAddr.{BipAddr}
-use Rattle.gw_addr.specs.Address.{address_in, big_endian, octets_of}
+use Rattle.gw_addr.specs.Address.{big_endian, octets_of}
 use Rattle.gw_bvll.specs.Bvll.{function_of, octet_of}
 use Rattle.gw_bvll.specs.Bvll.{Message as Frame}
 use Rattle.gw_bvll.specs.Bvll as bvll
 use Rattle.gw_npdu.specs.Npdu.{Destination, Fields, payload_octets}
-use Rattle.gw_routes.specs.Table.{Table, way}
+use Rattle.gw_routes.specs.Table.{way}
 use Rattle.gw_routes.specs.declared.route.Way.{Way}
 use Rattle.gw_routes.specs.declared.route.Way.TheVariants as ways
 use Rattle.gw_rules.specs.Ask.{Ask, ask_of}
@@ -23,10 +22,10 @@ use Rattle.gw_rules.specs.declared.operation.Operation.TheVariants.{Route}
 use Rattle.gw_rules.specs.declared.rule.Rule.{Rule}
 use Rattle.gw_rules.specs.declared.service.Service.TheVariants.{BvllFunction}
 use Rattle.gw_relay.specs.Asks.{bound_for, deleted_station, link_asks, management_of, sender_of}
-use Rattle.gw_relay.specs.Cast.{cast_asks, cast_response, cast_sends}
+use Rattle.gw_relay.specs.Cast.{cast_asks, cast_sends}
 use Rattle.gw_relay.specs.FormatTwo.{delivered_before, link_asks_before, manage_response_before, message_ask_before, questions_before, steps_before}
 use Rattle.gw_relay.specs.Laws.{BroadcastsAreAsBefore, NetworkMessagesAreAsBefore, RoutingIsAsBefore, TablesAreAsBefore}
-use Rattle.gw_relay.specs.Link.{answer_to, change_of, granted, is_granted, link_answer, link_change, link_response, refused}
+use Rattle.gw_relay.specs.Link.{answer_to, change_of, granted, is_granted, link_answer, link_change, refused}
 use Rattle.gw_relay.specs.Manage.{is_i_am_router, is_what_is_network_number, is_who_is_router, learn_steps, manage_change, manage_response, number_step, question_steps}
 use Rattle.gw_relay.specs.Message.{Message}
 use Rattle.gw_relay.specs.Named.{forward_asks}
@@ -35,7 +34,6 @@ use Rattle.gw_relay.specs.Route.{delivered, is_local, last_hop, leaves, steps_by
 use Rattle.gw_relay.specs.Sends.{Sending}
 use Rattle.gw_relay.specs.State.{Relay, link_at}
 use Rattle.gw_relay.specs.Steps.{Step, asks_of, sends_of, taken}
-use Rattle.gw_relay.specs.declared.change.Change.{Change}
 use Rattle.gw_relay.specs.declared.port.Port.{Port}
 use Rattle.gw_relay.specs.declared.port.PortState.{PortState}
 

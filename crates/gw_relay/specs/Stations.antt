@@ -1,5 +1,5 @@
 -- Which stations belong to a port: those of its subnets, and the foreign devices that are registered there (ours).
-use Rattle.std.specs.Prelude.{ℕ, Bool, not, ◌&&◌, ◌||◌, ◌==◌, List, length, nat_eq}
+use Rattle.std.specs.Prelude.{Bool, not, ◌&&◌, ◌||◌, ◌==◌, List, length, nat_eq}
 use Rattle.std.specs.Cmp.Lexicographic.{pointwise}
 use Rattle.std.specs.List.{list_any}
 use Rattle.gw_addr.specs.declared.bip.BipAddr.{BipAddr}

@@ -1,4 +1,4 @@
-use Rattle.std.proofs.Common.{◌≡◌, ◌∙◌, sym, ap, refl, List, [], ◌∷◌, ◌++◌}
+use Rattle.std.proofs.Common.{◌∙◌, sym, ap, refl, List, ◌++◌}
 use Rattle.gw_relay.specs.Cast.{cast_response}
 use Rattle.gw_relay.specs.Message.{message_view}
 use Rattle.gw_relay.specs.Sends.{Sending}
