@@ -30,7 +30,7 @@ use Rattle.gw_rules.proofs.EachAsk.{each_both, each_weaker, none_allowed}
 use Rattle.gw_script.specs.Event.{Event, Datagram, Tick}
 use Rattle.gw_tags.specs.Object.{Object}
 use Rattle.gw_core.specs.Asks.{apdu_asks, asks, asks_for, cast_asks_for, first_asks_for, manage_asks_for, message_asks, route_asks_for}
-use Rattle.gw_core.specs.NoLeak.{AreBlind, AsksCarryTheirClaim, AsksToReadOn, IsOf, WritesAreHidden, claim, claims, enters, kept, state_before}
+use Rattle.gw_core.specs.NoLeak.{AreBlind, AsksCarryTheirClaim, AsksToReadOn, IsOf, WritesAreHidden, by_claim, by_entry, claim, kept, state_before}
 use Rattle.gw_relay.specs.Message.{Message, message_of}
 use Rattle.gw_core.specs.Receive.{Received, admit, barred, comes_in, dropped, managed, unregistered, manages, message, npdu_of, payload_of, receive, receive_datagram, receive_frame, receive_npdu, receive_on}
 use Rattle.gw_core.specs.Reply.{apdu_for, context_of}
@@ -136,13 +136,13 @@ each_part : (P : Ask → Type 0) (rules : List Rule) (relay : Relay) (d : Databa
     → AllByRecursion P (entry_asks rules relay m) → AllByRecursion P (cast_asks_for relay (message m))
     → AllByRecursion P (route_asks_for relay (message m)) → AllByRecursion P (manage_asks_for relay (message m))
     → AllByRecursion P (message_asks rules relay.format d m) → AllByRecursion P (asks_for rules relay d (message m))
-each_part P rules relay d m entered cast routed managed served =
+each_part P rules relay d m entered cast routed answered served =
     let a = entry_asks rules relay m in
     let b = cast_asks_for relay (message m) in
     let c = route_asks_for relay (message m) in
     let e = manage_asks_for relay (message m) in
     each_both P (a ++ b ++ c ++ e) (message_asks rules relay.format d m)
-    (each_both P (a ++ b ++ c) e (each_both P (a ++ b) c (each_both P a b entered cast) routed) managed) served
+    (each_both P (a ++ b ++ c) e (each_both P (a ++ b) c (each_both P a b entered cast) routed) answered) served
 
 -- the asks once a message is taken are of its claim, and so are all of which this follows
 each_claimed : (P : Ask → Type 0) (rules : List Rule) (relay : Relay) (d : Database) (m : Message)
@@ -174,9 +174,9 @@ entered_by P rules relay m enter claim =
 
 of_message : (rules : List Rule) (relay : Relay) (d : Database) (m : Message) → AllByRecursion (IsOf m) (asks_for rules relay d (message m))
 of_message rules relay d m =
-    each_claimed (IsOf m) rules relay d m (λ ask is. claims is)
-    (entered_by (IsOf m) rules relay m (enters refl (record { source_network = refl; source_key = refl }))
-    (claims (record { source_network = refl; source_key = refl })))
+    each_claimed (IsOf m) rules relay d m (λ ask is. by_claim is)
+    (entered_by (IsOf m) rules relay m (by_entry refl (record { source_network = refl; source_key = refl }))
+    (by_claim (record { source_network = refl; source_key = refl })))
 
 from_message : (rules : List Rule) (relay : Relay) (d : Database) (m : Message) → names_stations relay.format ≡ false
     → AreFrom m.claim (asks_for rules relay d (message m))

@@ -23,7 +23,7 @@ use Rattle.gw_relay.specs.Cast.{cast_response}
 use Rattle.gw_relay.specs.Entry.{admits, entry_asks}
 use Rattle.gw_relay.specs.FormatTwo.{cast_response_before, copy_before, forward_before, link_response_before, manage_response_before, message_ask_before, on_way_before, route_response_before, route_steps_before, steps_before}
 use Rattle.gw_relay.specs.Initial.{initial}
-use Rattle.gw_relay.specs.Link.{link_response}
+use Rattle.gw_relay.specs.Link.{answer_to, link_response, refused}
 use Rattle.gw_relay.specs.Manage.{manage_response}
 use Rattle.gw_relay.specs.Message.{Message}
 use Rattle.gw_relay.specs.Named.{named_asks}
@@ -109,7 +109,7 @@ sent w (managed on from frame) off =
 sent w (unregistered m) off =
     three_none (cast_response w.rules w.relay.format m).sends
     ∙ ap (λ (r : Response). r.sends) (broadcasts_are_as_before w.rules w.relay.format m off)
-sent w (barred m) off = four_none _ ∙ ap (λ (b : Bool). if b then [] else _) (taken w.rules w.relay m off)
+sent w (barred m) off = four_none _ ∙ ap (λ (b : Bool). if b then [] else map (answer_to m.here.port m.from) (refused m.frame)) (taken w.rules w.relay m off)
 sent w (message m) off =
     let network = device_network w.device in
     five [] _ _ _ _ [] _ _ _ _ refl

@@ -274,19 +274,19 @@ nothing_refused rules relay m is = ap (λ (b : Bool). if b then [] else map (ans
 
 pub goes : (rules : List Rule) (relay : Relay) (d : Database) (m : Message) → on m ≡ true → admits rules relay m ≡ true
     → Goes rules relay d m
-goes rules relay d m goes admitted =
-    let is = taken_on rules relay m goes admitted in record {
+goes rules relay d m is_on admitted =
+    let is = taken_on rules relay m is_on admitted in record {
       sends = ap (sends_for rules relay d) is
           ∙ five_are [] (cast_sends rules relay.format m) (route_sends rules relay m) (manage_sends rules relay m)
           (message_sends rules relay.format d m)
-          ∙ ap (λ (l : List Sending). l ++ message_sends rules relay.format d m) (sym (sends_on rules relay m goes))
+          ∙ ap (λ (l : List Sending). l ++ message_sends rules relay.format d m) (sym (sends_on rules relay m is_on))
           ∙ ap (λ (l : List Sending). l ++ (passed_sends rules relay m ++ message_sends rules relay.format d m))
           (sym (nothing_refused rules relay m admitted));
       asks = ap (asks_for rules relay d) is
           ∙ five_are (entry_asks rules relay m) (cast_asks relay.format m) (route_asks relay m) (manage_asks relay m)
           (message_asks rules relay.format d m)
-          ∙ ap (λ (l : List Ask). entry_asks rules relay m ++ (l ++ message_asks rules relay.format d m)) (sym (asks_on relay m goes));
-      change = ap (relay_change_for rules relay) is ∙ yes_change (on m) _ goes;
+          ∙ ap (λ (l : List Ask). entry_asks rules relay m ++ (l ++ message_asks rules relay.format d m)) (sym (asks_on relay m is_on));
+      change = ap (relay_change_for rules relay) is ∙ yes_change (on m) _ is_on;
       write = ap (change_for rules relay.format d) is;
     }
 

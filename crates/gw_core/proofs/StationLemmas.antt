@@ -1,5 +1,5 @@
 -- What an event does that is kept out, and where a message is delivered.
-use Rattle.std.proofs.Common.{◌≡◌, ◌∙◌, sym, ap, ap₂, refl, subst, Bool, true, false, List, [], ◌∷◌, ◌++◌, length, Option, None}
+use Rattle.std.proofs.Common.{◌≡◌, ◌∙◌, sym, ap, ap₂, refl, subst, Bool, true, false, List, [], ◌∷◌, ◌++◌, length, map, Option, None}
 use Rattle.std.specs.Prelude.{if◌then◌else◌}
 use Rattle.std.specs.List.{AllByRecursion, list_all}
 use Rattle.std.specs.Option.{option_map}
@@ -104,7 +104,7 @@ kept_out : (w : State) (e : Event) (m : Message) → received_before w e ≡ mes
 kept_out w e m is out =
     let barred_so = is_barred w e m is out in record {
       sends = sends_are w e m barred_so
-          ∙ ap (λ (b : Bool). if b then [] else _) out;
+          ∙ ap (λ (b : Bool). if b then [] else map (answer_to m.here.port m.from) (refused m.frame)) out;
       asked = asks_are w e m barred_so;
       denied = denials_are w e m barred_so out;
       relay = relay_stays w e m barred_so;

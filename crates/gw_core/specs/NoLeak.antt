@@ -4,7 +4,7 @@ use Rattle.std.specs.Prelude.{slice_get}
 use Rattle.std.specs.List.{AllByRecursion, Contains}
 use Rattle.std.specs.Option.{option_map, option_and_then}
 use Rattle.gw_addr.specs.declared.station.Source.{Source}
-use Rattle.gw_addr.specs.Address.{big_endian, octets_of}
+use Rattle.gw_addr.specs.Address.{octets_of}
 use Rattle.gw_addr.specs.Station.{key_of}
 use Rattle.gw_audit.specs.declared.denial.Denial.{Denial}
 use Rattle.gw_device.specs.Laws.{AsksToRead, object_written}
@@ -118,8 +118,8 @@ claim (message m) = Some m.claim
 
 -- an ask is of the source that the message claims, or is one to enter, of the link source
 pub data IsOf (m : Message) (ask : Ask) : Type 0 where
-  claims : IsFrom m.claim.net (key_of m.claim.mac) ask → IsOf m ask
-  enters : IsFor operations.Enter ask → IsFrom m.here.port.network (Some (big_endian (octets_of m.link))) ask → IsOf m ask
+  by_claim : IsFrom m.claim.net (key_of m.claim.mac) ask → IsOf m ask
+  by_entry : IsFor operations.Enter ask → IsFrom m.here.port.network (key_of (octets_of m.link)) ask → IsOf m ask
 
 -- A message claims what its NPDU and its frame say, and each ask that it raises is of that source; but in format 3, where
 -- the policy is also asked who may enter, an ask to enter is of the link source.
