@@ -1,6 +1,6 @@
 -- Ranges are counted as they are put in.
-use Rattle.std.proofs.Common.{◌≡◌, ◌≤◌, ◌<◌, ℕ, suc, ◌+◌, ◌++◌, Bool, true, false, cond, List, [], ◌∷◌, length, Option, Some, None, Result, Ok, Err, refl, sym, ap, ◌∙◌, arith, nat_lt}
-use Rattle.std.specs.List.{list_any, sum_by}
+use Rattle.std.proofs.Common.{◌≡◌, ◌≤◌, ℕ, suc, ◌++◌, Bool, true, false, cond, List, [], ◌∷◌, length, Option, Some, None, Ok, Err, refl, sym, ap, ◌∙◌, arith, nat_lt}
+use Rattle.std.specs.List.{list_any}
 use Rattle.std.specs.Option.{option_map_or}
 use Rattle.std.specs.Result.{result_err}
 use Rattle.std.proofs.lemmas.Bool.{ltb-false}
@@ -11,7 +11,7 @@ use Rattle.gw_addr.specs.Reading.{◌>>=◌}
 use Rattle.gw_addr.proofs.Reading.{bind_ok}
 use Rattle.gw_rules.specs.declared.range.Range.{Range}
 use Rattle.gw_configuration.specs.declared.fault.ConfigFault.{ConfigFault}
-use Rattle.gw_configuration.specs.declared.fault.ConfigFault.TheVariants.{Kind, Range as OutOfRange}
+use Rattle.gw_configuration.specs.declared.fault.ConfigFault.TheVariants.{Kind}
 use Rattle.gw_configuration.specs.declared.shape.Scalar.{Scalar}
 use Rattle.gw_configuration.specs.Duplicates.{or_else}
 use Rattle.gw_configuration.specs.Located.{Read}

@@ -1,5 +1,5 @@
 -- The fields of a table, and the fault of a table.
-use Rattle.std.specs.Prelude.{ℕ, Bool, false, ◌||◌, nat_lt, nat_eq, if◌then◌else◌, List, [], ◌∷◌, length}
+use Rattle.std.specs.Prelude.{ℕ, Bool, false, ◌||◌, nat_lt, nat_eq, if◌then◌else◌, List, [], length}
 use Rattle.std.specs.Prelude.{find, position, Option, Some, None, is_some, Ok, Err}
 use Rattle.std.specs.Cmp.Lexicographic.{pointwise}
 use Rattle.std.specs.List.{list_any}

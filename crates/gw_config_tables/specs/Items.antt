@@ -1,12 +1,11 @@
 -- Items for a field of a rule, as format 3 has them besides: names, stations, and sets.
-use Rattle.std.specs.Prelude.{ℕ, ◌+◌, ◌++◌, ◌==◌, Bool, false, nat_eq, if◌then◌else◌, List, [], ◌∷◌, length, codes, find}
+use Rattle.std.specs.Prelude.{ℕ, ◌++◌, ◌==◌, Bool, false, nat_eq, if◌then◌else◌, List, [], ◌∷◌, length, codes, find}
 use Rattle.std.specs.Prelude.{Option, Some, None, is_some, Ok, Err}
 use Rattle.std.specs.Cmp.Lexicographic.{pointwise}
 use Rattle.std.specs.List.{list_any, sum_by}
 use Rattle.std.specs.Option.{ok_or, option_and_then, option_map, option_map_or}
 use Rattle.std.specs.Result.{result_err}
 use Rattle.toml.specs.Data.{Data, as_array, as_integer, as_str, as_table, get_member}
-use Rattle.gw_addr.specs.declared.bip.BipAddr.{BipAddr}
 use Rattle.gw_addr.specs.declared.mask.Mask.{Mask}
 use Rattle.gw_addr.specs.Reading.{◌>>=◌}
 use Rattle.gw_names.specs.Names.{object_type_number, property_number, service_number}

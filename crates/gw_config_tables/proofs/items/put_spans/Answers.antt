@@ -1,4 +1,4 @@
-use Rattle.std.proofs.Common.{rules, ◌≡◌, ◌≤◌, Err, map, arith}
+use Rattle.std.proofs.Common.{rules, ◌≡◌, Err, map, arith}
 use Rattle.toml.specs.View.{view}
 use Rattle.gw_config_tables.specs.Items.{behind, spans_in}
 use Rattle.gw_config_tables.proofs.Each.{spans_end, spans_stop}
