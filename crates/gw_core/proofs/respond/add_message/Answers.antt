@@ -1,4 +1,8 @@
-use Rattle.std.proofs.Common.{refl, sym, ◌∙◌}
+use Rattle.std.proofs.Common.{refl, sym, ap, subst, ◌∙◌}
+use Rattle.gw_rules.specs.declared.format.Format.{Format}
+use Rattle.gw_relay.specs.Turn.{IsWalked}
+use Rattle.gw_core.specs.Asks.{message_asks}
+use Rattle.gw_core.specs.Effects.{message_change, message_sends}
 use Rattle.gw_relay.specs.Message.{message_view}
 use Rattle.gw_core.specs.Receive.{admit}
 use Rattle.gw_core.specs.Respond.{entered_response, message_response, passed_response, received_response}
@@ -57,7 +61,9 @@ returns-in_err-write-clause-silent g c = λ rules stands asks sends.
     let taken = sym (c.in_ok-taken.ensures.taken rules stands) ∙ c.if-not-taken.false in
     let silent = served_silent rules relay c.args.device.now m on (admitted_on rules relay m on taken) asks sends in
     let then = c.in_ok-goes_on.ensures.stays rules (c.in_ok-taken.ensures.stays rules stands) in
-    let ok = c.in_err-write.ensures.silent rules then silent.0 silent.1 in
+    let d = c.args.device.now in
+    let ok = c.in_err-write.ensures.silent rules then (ap (λ (f : Format). message_asks rules f d m) c.format.ensures ∙ silent.0)
+    (ap (λ (f : Format). message_sends rules f d m) c.format.ensures ∙ silent.1) in
     absurd cc
 
 pub returns-clause-response : goal.returns-clause-response
@@ -72,7 +78,9 @@ returns-clause-response g c = λ rules stands.
     let then = c.in_ok-goes_on.ensures.stays rules entered in
     let all = goes rules relay d m on admitted in record {
       walked = due_taken g.A.Asker.kept g.A.Asker.kept_of g.met.A.Asker.kept_both rules relay d m _ _ _ _ on admitted
-          (c.in_ok-taken.ensures.walked rules stands) (c.in_ok-goes_on.ensures.walked rules entered) (c.in_ok-write.ensures.walked rules then);
-      write = c.in_ok-write.ensures.write rules then ∙ sym all.write;
+          (c.in_ok-taken.ensures.walked rules stands) (c.in_ok-goes_on.ensures.walked rules entered)
+          (subst (λ (f : Format). IsWalked g.A.Asker.kept g.A.Asker.kept_of rules (message_response rules f d m) c.add_passed.new.turn c.add_served.new.turn) c.format.ensures
+          (c.in_ok-write.ensures.walked rules then));
+      write = c.in_ok-write.ensures.write rules then ∙ ap (λ (f : Format). message_change rules f d m) c.format.ensures ∙ sym all.write;
       place = c.in_ok-write.ensures.place;
     }
