@@ -187,6 +187,6 @@ unfoldable pub located_beside : List Data → Place → List Field → Members �
 located_beside sets place fields table =
     option_map (located_as sets place fields table) (fault_of sets fields table)
 
--- the same where there are no sets
+-- the same if there are no sets
 abbrev pub located_in : Place → List Field → Members → Option Located
 located_in place fields table = located_beside [] place fields table
