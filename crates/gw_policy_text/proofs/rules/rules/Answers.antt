@@ -10,7 +10,7 @@ use Rattle.gw_policy_text.proofs.rules.rules.Goals as goal
 pub loop-place-preserved : goal.loop-place-preserved
 loop-place-preserved c =
     let few : crowd c.args.format c.loop-place.place (c.loop-place.all.items ++ c.in_ok-rule.field-0 ∷ []) ≡ None =
-    ap (crowd c.args.format c.loop-place.place) (sym c.in_ok-push.ensures.items) ∙ sym c.crowd.ensures ∙ ap (option_map located_view) c.in_default.is in
+    ap (crowd c.args.format c.loop-place.place) (sym c.in_ok-push.ensures.items ∙ sym c.deref.ensures.value) ∙ sym c.crowd.ensures ∙ ap (option_map located_view) c.in_default.is in
     record {
       read = rw c.in_ok-push.ensures.items (goes_on_behind _ _ _ _ _ _ _ c.loop-place-test.true c.index-values-place.is c.in_ok-rule.ensures.rule few c.loop-place.invariant.read);
       count = rw c.in_ok-push.ensures.items (omega (arith, length-append c.loop-place.all.items (c.in_ok-rule.field-0 ∷ []), c.loop-place.invariant.count));
