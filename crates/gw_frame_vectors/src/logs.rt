@@ -24,7 +24,14 @@ fn put_fields(ask: &ShownAsk, out: &mut Vec<u8>) -> io::Result<()> {
     put_field(ask.object_type, out)?;
     put_field(ask.instance, out)?;
     put_field(ask.property, out)?;
-    put_field(ask.priority, out)
+    put_field(ask.priority, out)?;
+    match &ask.stations {
+        Some(stations) => {
+            put_field(Some(stations.sender), out)?;
+            put_field(stations.station, out)
+        }
+        None => Ok(()),
+    }
 }
 
 /// Appends a port, a network and a station.
