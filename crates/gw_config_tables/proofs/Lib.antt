@@ -1,3 +1,6 @@
+pub mod Before
+pub mod Counted
+pub mod Each
 pub mod Bounds
 pub mod Named
 pub mod Values

@@ -1,14 +1,16 @@
 -- Values of TOML, as code and as definitions see them.
-use Rattle.std.proofs.Common.{◌≡◌, ◌||◌, ◌+◌, ℕ, suc, Bool, not, if◌then◌else◌, length, String, Global, string_bytes, List, [], ◌∷◌, map, Option, Some, None, Ok, refl, sym, ap, ◌∙◌}
+use Rattle.std.proofs.Common.{◌≡◌, ◌||◌, ◌+◌, ℕ, suc, Bool, true, false, not, if◌then◌else◌, length, String, Global, string_bytes, List, [], ◌∷◌, map, Option, Some, None, Ok, refl, sym, ap, ◌∙◌}
 use Rattle.std.specs.Map.{keys_of}
-use Rattle.std.specs.List.{list_any, position, prefix_len}
+use Rattle.std.proofs.lemmas.List.Sums.{sum_by-cons}
+use Rattle.std.specs.List.{find, list_any, position, prefix_len, sum_by}
 use Rattle.std.specs.Option.{ok_or, option_map}
 use Rattle.toml.specs.Data.{Data, Items}
 use Rattle.toml.specs.View.{items_of, items_view, members_view, view}
 use Rattle.toml.specs.declared.value.Value.{Value}
 use Rattle.gw_configuration.specs.declared.fault.ConfigFault.TheVariants.{Kind}
 use Rattle.gw_configuration.specs.declared.fault.ConfigFault.{ConfigFault}
-use Rattle.gw_config_tables.specs.Field.{Field, is_key, is_kind, is_range, list_fault, list_fault_by, stranger}
+use Rattle.gw_config_tables.specs.Field.{Field, is_key, list_fault, list_fault_by, stranger}
+use Rattle.gw_config_tables.specs.Range.{is_kind, is_range}
 use Rattle.gw_configuration.specs.Located.{Read}
 use Rattle.gw_config_tables.specs.Value.{values_of}
 
@@ -57,3 +59,17 @@ prefix_view test (v ∷ vs) = ap (λ n. if not (test (view v)) then 1 + n else 0
 -- the position of the first value that passes a test
 pub position_view : (test : Data → Bool) (vs : List Value) → position test (map view vs) ≡ position (λ v. test (view v)) vs
 position_view test vs = rw (prefix_view test vs, length_view vs) refl
+
+-- the first value that passes a test
+pub find_view : (test : Data → Bool) (vs : List Value) → find test (map view vs) ≡ option_map view (find (λ v. test (view v)) vs)
+find_view test [] = refl
+find_view test (v ∷ vs) = on (test (view v)) (find_view test vs)
+  where
+    on : (b : Bool) → find test (map view vs) ≡ option_map view (find (λ x. test (view x)) vs) → (if b then Some (view v) else find test (map view vs)) ≡ option_map view (if b then Some v else find (λ x. test (view x)) vs)
+    on true later = refl
+    on false later = later
+
+-- a sum over what the values are seen as
+pub sum_view : (count : Data → ℕ) (vs : List Value) → sum_by count (map view vs) ≡ sum_by (λ v. count (view v)) vs
+sum_view count [] = refl
+sum_view count (v ∷ vs) = sum_by-cons count (view v) (map view vs) ∙ ap (λ n. count (view v) + n) (sum_view count vs) ∙ sym (sum_by-cons (λ x. count (view x)) v vs)

@@ -1,11 +1,12 @@
 -- Addresses and masks are read exactly where they are written.
-use Rattle.std.proofs.Common.{◌≡◌, ℕ, zero, suc, ◌^◌, ◌<◌, ◌≤◌, ◌&&◌, Bool, true, false, cond, eqb, List, [], ◌∷◌, ◌++◌, length, get_or, Option, Some, None, Result, Ok, Err, refl, sym, ap, subst, ◌∙◌, arith, nat_lt}
+use Rattle.std.proofs.Common.{◌≡◌, ℕ, zero, suc, ◌^◌, ◌<◌, ◌≤◌, ◌%◌, ◌&&◌, Bool, true, false, cond, eqb, nat_le, List, [], ◌∷◌, ◌++◌, length, get_or, Option, Some, None, Result, Ok, Err, refl, sym, ap, subst, ◌∙◌, arith, nat_lt}
 use Rattle.std.specs.Char.{IsAsciiDigit}
 use Rattle.std.specs.Fmt.{decimal}
+use Rattle.std.specs.Int.{from_be_bytes, w32}
 use Rattle.std.specs.Option.{option_and_then, option_map}
 use Rattle.std.specs.Str.{all_ascii_digits}
 use Rattle.std.specs.Str.Parse.{digits_value}
-use Rattle.std.proofs.lemmas.Bool.{and_parts, eqb-true, eq-eqb, ne_eqb, ltb-true, lt-ltb}
+use Rattle.std.proofs.lemmas.Bool.{and_parts, eqb-true, eq-eqb, leb-true, ne_eqb, ltb-true, lt-ltb}
 use Rattle.std.proofs.lemmas.Bool.Decides.{nat_tests}
 use Rattle.std.proofs.lemmas.Fmt.{decimal-digits_value, digits_value-decimal, digits_decimal}
 use Rattle.std.proofs.lemmas.Option.{cond_some}
@@ -19,7 +20,10 @@ use Rattle.gw_addr.specs.internal.Digits.{begins_canonical_of}
 use Rattle.gw_addr.proofs.Addresses.{address_of_parts}
 use Rattle.gw_addr.proofs.Decimal.{begins_canonical-decimal, own}
 use Rattle.gw_addr.proofs.Lacking.{not_in_decimal}
-use Rattle.gw_config_tables.specs.Written.{address_written, is_decimal, mask_written, number_written, octet_written, split_at}
+use Rattle.gw_addr.proofs.Reading.{wide32}
+use Rattle.gw_configuration.specs.Subnet.{IsSubnet, Subnet, size_of, subnet_of, subnet_text}
+use Rattle.gw_configuration.proofs.Prefixes.{is_network_mask, mask_lacks, network_mask, subnet_again, subnet_found}
+use Rattle.gw_config_tables.specs.Written.{address_written, is_decimal, mask_written, number_written, octet_written, split_at, subnet_written}
 
 -- what a chain of readings read
 bind_some : {A B : Type 0} (f : A → Option B) (o : Option A) (y : B) → option_and_then f o ≡ Some y → (x : A) × (o ≡ Some x) × (f x ≡ Some y)
@@ -213,3 +217,48 @@ no_mask text only = on (mask_written text) refl
     on : (w : Option Mask) → mask_written text ≡ w → None ≡ mask_written text
     on None f = sym f
     on (Some x) f = let h = mask_found text x f in let never = only x h.0 h.1 in absurd cc
+
+-- ---- subnets
+
+slash : ¬ (IsAsciiDigit 47)
+slash h = absurd (omega arith)
+
+subnet_network : (octets : List ℕ) (prefix : ℕ) (s : Subnet) → length octets ≡ 4 → AreOctets octets → subnet_of octets prefix ≡ Some s → IsSubnet s × (four_text octets ++ 47 ∷ decimal prefix ≡ subnet_text s)
+subnet_network octets prefix s four fits e =
+    let network = from_be_bytes w32 octets in
+    let c = cond_some (nat_le prefix 32 && eqb (network % size_of prefix) 0) (record { network = network; prefix = prefix }) s e in
+    let p = and_parts (nat_le prefix 32) (eqb (network % size_of prefix) 0) c.0 in
+    let is : IsSubnet (record { network = network; prefix = prefix }) = record { short = leb-true prefix 32 p.0; network = wide32.below octets fits; zeros = eqb-true _ 0 p.1 } in
+    let text = subnet_found octets prefix s four fits e in
+    (subst IsSubnet c.1 is, text)
+
+joined : (a b x y : List ℕ) → a ≡ x → b ≡ y → a ++ 47 ∷ b ≡ x ++ 47 ∷ y
+joined a b x y e f = rw (e, f) refl
+
+pub subnet_is : (text : List ℕ) (s : Subnet) → subnet_written text ≡ Some s → IsSubnet s × (text ≡ subnet_text s)
+unfolding subnet_written
+subnet_is text s e =
+    let p = bind_some (λ parts. option_and_then (λ ip. option_and_then (subnet_of ip.octets) (number_written 33 parts.1)) (mask_written parts.0)) (split_at 47 text) s e in
+    let q = bind_some (λ ip. option_and_then (subnet_of ip.octets) (number_written 33 p.0.1)) (mask_written p.0.0) s p.2 in
+    let r = bind_some (subnet_of q.0.octets) (number_written 33 p.0.1) s q.2 in
+    let ip = mask_found p.0.0 q.0 q.1 in
+    let n = number_found 33 p.0.1 r.0 (omega arith) r.1 in
+    let made = subnet_network q.0.octets r.0 s ip.0.four ip.0.octets r.2 in
+    (made.0, split_found 47 text p.0.0 p.0.1 p.1 ∙ joined p.0.0 p.0.1 (mask_text q.0) (decimal r.0) ip.1 n.0 ∙ made.1)
+
+pub subnet_written_again : (s : Subnet) → IsSubnet s → subnet_written (subnet_text s) ≡ Some s
+unfolding subnet_written
+subnet_written_again s is =
+    let ip = network_mask s in
+    let four = is_network_mask s in
+    rw (split_again 47 (mask_text ip) (decimal s.prefix) (mask_lacks ip four), mask_again ip four, number_again 33 s.prefix (omega arith) (omega (arith, is.short))) (subnet_again s is)
+
+pub some_subnet : (text : List ℕ) (a b : Subnet) → b ≡ a → IsSubnet a → text ≡ subnet_text a → Some b ≡ subnet_written text
+some_subnet text a b same is found = ap (λ (x : Subnet). Some x) same ∙ sym (ap subnet_written found ∙ subnet_written_again a is)
+
+pub no_subnet : (text : List ℕ) → ((a : Subnet) → IsSubnet a → text ≡ subnet_text a → ◌≡◌ {A = Option Subnet} None (Some a)) → None ≡ subnet_written text
+no_subnet text only = on (subnet_written text) refl
+  where
+    on : (w : Option Subnet) → subnet_written text ≡ w → None ≡ subnet_written text
+    on None f = sym f
+    on (Some x) f = let h = subnet_is text x f in let never = only x h.0 h.1 in absurd cc

@@ -1,19 +1,30 @@
 -- The tables of a configuration, key by key, with what each key's value may be.
-use Rattle.std.specs.Prelude.{ℕ, ◌++◌, List, [], ◌∷◌, true, false, codes}
+use Rattle.std.specs.Prelude.{ℕ, ◌++◌, List, [], ◌∷◌, true, false, codes, Ok, Err}
+use Rattle.std.specs.Option.{ok_or}
+use Rattle.toml.specs.Data.{Members, get_member}
+use Rattle.gw_addr.specs.Reading.{◌>>=◌}
 use Rattle.gw_addr.specs.declared.TheConstants.{MAX_PORTS}
 use Rattle.gw_rules.specs.declared.field.FieldName.{FieldName}
 use Rattle.gw_rules.specs.declared.field.FieldName.TheVariants as fields
+use Rattle.gw_rules.specs.declared.format.Format.{Format}
+use Rattle.gw_rules.specs.declared.format.Format.TheVariants as formats
 use Rattle.gw_rules.specs.Bounds.{bounds}
 use Rattle.gw_configuration.specs.declared.object.ObjectKind.{ObjectKind}
 use Rattle.gw_configuration.specs.declared.object.ObjectKind.TheVariants.{BinaryValue, MultiStateValue}
 use Rattle.gw_configuration.specs.declared.object.ObjectKind.TheVariants.{CharacterStringValue, IntegerValue}
 use Rattle.gw_configuration.specs.declared.object.ObjectKind.TheVariants.{PositiveIntegerValue}
+use Rattle.gw_configuration.specs.declared.fault.ConfigFault.TheVariants.{Kind}
+use Rattle.gw_configuration.specs.declared.shape.Names.TheVariants.{Services, ObjectTypes, Properties}
 use Rattle.gw_configuration.specs.declared.shape.Scalar.{Scalar}
 use Rattle.gw_configuration.specs.declared.shape.Scalar.TheVariants.{Number, Signed, ObjectType, Text, RuleName}
 use Rattle.gw_configuration.specs.declared.shape.Scalar.TheVariants.{Operation, Boolean, Address, Mask, Table}
+use Rattle.gw_configuration.specs.declared.shape.Scalar.TheVariants.{Named, Stations, Subnet, Item}
 use Rattle.gw_configuration.specs.declared.shape.Shape.{Shape}
-use Rattle.gw_configuration.specs.declared.shape.Shape.TheVariants.{One, List as Listing, Ranges}
+use Rattle.gw_configuration.specs.declared.shape.Shape.TheVariants.{One, List as Listing, Ranges, Items}
+use Rattle.gw_configuration.specs.Configuration.{format_of}
+use Rattle.gw_configuration.specs.Located.{Read}
 use Rattle.gw_config_tables.specs.Field.{Field}
+use Rattle.gw_config_tables.specs.Value.{number_in}
 
 -- a field that must be there
 abbrev pub needs : List ℕ → Shape → Field
@@ -43,15 +54,29 @@ name = One (Text 1)
 abbrev pub tables : ℕ → ℕ → Shape
 tables least most = Listing Table least most
 
-abbrev pub top_fields : List Field
-top_fields =
-    needs (codes "format") (number 1 2)
+-- what formats 1, 2 and 3 have
+abbrev pub common_top_fields : List Field
+common_top_fields =
+    needs (codes "format") (number 1 3)
     ∷ needs (codes "device") (One Table)
     ∷ needs (codes "port") (tables 1 MAX_PORTS)
     ∷ may (codes "route") (tables 0 512)
     ∷ may (codes "object") (tables 0 256)
     ∷ may (codes "rule") (tables 0 512)
     ∷ []
+
+-- and format 3 alone: sets, of which there may be as many as a text has octets
+abbrev pub top_fields : Format → List Field
+top_fields formats.Three = common_top_fields ++ may (codes "set") (tables 0 1048576) ∷ []
+top_fields _ = common_top_fields
+
+-- the format by which a text's keys are judged: 3 exactly where its `format` is the whole number 3
+abbrev pub format_read : Read ℕ → Format
+format_read (Ok number) = format_of number
+format_read (Err _) = formats.One
+
+abbrev pub format_in : Members → Format
+format_in table = format_read (ok_or (get_member (codes "format") table) Kind >>= number_in 1 3)
 
 abbrev pub device_fields : List Field
 device_fields =
@@ -68,13 +93,18 @@ device_fields =
     ∷ may (codes "description") text
     ∷ []
 
-abbrev pub port_fields : List Field
-port_fields =
+abbrev pub common_port_fields : List Field
+common_port_fields =
     needs (codes "network") network
     ∷ needs (codes "address") (One Address)
     ∷ needs (codes "broadcast") (One Address)
     ∷ may (codes "peer") (tables 0 64)
     ∷ []
+
+-- format 3 alone: the subnets of the port's stations
+abbrev pub port_fields : Format → List Field
+port_fields formats.Three = common_port_fields ++ may (codes "stations") (Listing Subnet 1 16) ∷ []
+port_fields _ = common_port_fields
 
 abbrev pub peer_fields : List Field
 peer_fields =
@@ -116,29 +146,56 @@ object_fields IntegerValue states =
 object_fields PositiveIntegerValue states =
     common_fields (number 0 4294967295) ++ needs (codes "units") (number 0 65535) ∷ []
 
--- what a rule may name for a field: an operation by its name, a source by its address, and of all else a number within
--- the bounds of the field
-abbrev pub scalar_of : FieldName → Scalar
-scalar_of fields.Operation = Operation
-scalar_of fields.SourceKey = Address
-scalar_of field = Number (bounds field).low (bounds field).high
+-- a set, whose items are judged in full in each rule that names it
+abbrev pub set_fields : List Field
+set_fields =
+    needs (codes "name") (One RuleName)
+    ∷ needs (codes "items") (Listing Item 1 64)
+    ∷ []
 
--- ranges for a field of a rule
-abbrev pub ranges : List ℕ → FieldName → Field
-ranges key field = may key (Ranges (scalar_of field))
+-- what a rule may name for a field: an operation by its name, a source, sender or station by its address, and of all
+-- else a number within the bounds of the field, of some in format 3 by its name too
+abbrev pub scalar_of : Format → FieldName → Scalar
+scalar_of format fields.Operation = Operation format
+scalar_of formats.Three fields.SourceKey = Stations
+scalar_of format fields.SourceKey = Address
+scalar_of formats.Three fields.Service = Named Services
+scalar_of formats.Three fields.ObjectType = Named ObjectTypes
+scalar_of formats.Three fields.Property = Named Properties
+scalar_of format fields.Sender = Stations
+scalar_of format fields.Station = Stations
+scalar_of format field = Number (bounds format field).low (bounds format field).high
 
-abbrev pub rule_fields : List Field
-rule_fields =
+-- items for a field of a rule
+abbrev pub items_for : Format → FieldName → Shape
+items_for formats.Three field = Items (scalar_of formats.Three field)
+items_for format field = Ranges (scalar_of format field)
+
+abbrev pub ranges : Format → List ℕ → FieldName → Field
+ranges format key field = may key (items_for format field)
+
+abbrev pub common_rule_fields : Format → List Field
+common_rule_fields format =
     needs (codes "name") (One RuleName)
     ∷ needs (codes "allow") (One Boolean)
-    ∷ ranges (codes "operation") fields.Operation
-    ∷ ranges (codes "port") fields.Port
-    ∷ ranges (codes "source_network") fields.SourceNetwork
-    ∷ ranges (codes "source") fields.SourceKey
-    ∷ ranges (codes "destination") fields.DestinationNetwork
-    ∷ ranges (codes "service") fields.Service
-    ∷ ranges (codes "object_type") fields.ObjectType
-    ∷ ranges (codes "instance") fields.Instance
-    ∷ ranges (codes "property") fields.Property
-    ∷ ranges (codes "priority") fields.Priority
+    ∷ ranges format (codes "operation") fields.Operation
+    ∷ ranges format (codes "port") fields.Port
+    ∷ ranges format (codes "source_network") fields.SourceNetwork
+    ∷ ranges format (codes "source") fields.SourceKey
+    ∷ ranges format (codes "destination") fields.DestinationNetwork
+    ∷ ranges format (codes "service") fields.Service
+    ∷ ranges format (codes "object_type") fields.ObjectType
+    ∷ ranges format (codes "instance") fields.Instance
+    ∷ ranges format (codes "property") fields.Property
+    ∷ ranges format (codes "priority") fields.Priority
     ∷ []
+
+-- format 3 alone: the station that sent, the station that a message names, and a note
+abbrev pub rule_fields : Format → List Field
+rule_fields formats.Three =
+    common_rule_fields formats.Three
+    ++ ranges formats.Three (codes "sender") fields.Sender
+    ∷ ranges formats.Three (codes "station") fields.Station
+    ∷ may (codes "note") text
+    ∷ []
+rule_fields format = common_rule_fields format

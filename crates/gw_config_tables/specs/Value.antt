@@ -2,22 +2,27 @@
 use Rattle.std.specs.Prelude.{ℕ, pos, negsuc, ℤ, ◌^◌, Bool, ◌&&◌, ◌==◌, not, nat_le, nat_lt, nat_eq}
 use Rattle.std.specs.Prelude.{if◌then◌else◌, List, [], ◌∷◌, Option, Some, None, Err, find}
 use Rattle.std.specs.Cmp.Lexicographic.{pointwise}
-use Rattle.std.specs.Option.{ok_or, option_map}
+use Rattle.std.specs.Option.{ok_or, option_and_then, option_map}
 use Rattle.toml.specs.Data.{Data, Items, no_items, item, Members, as_str, as_integer, as_bool, as_array, as_table}
 use Rattle.gw_addr.specs.declared.bip.BipAddr.{BipAddr}
 use Rattle.gw_addr.specs.declared.mask.Mask.{Mask}
 use Rattle.gw_rules.specs.declared.operation.Operation.{Operation}
 use Rattle.gw_rules.specs.declared.operation.TheConstants.Operation.{ALL}
+use Rattle.gw_rules.specs.declared.field.FieldName.TheVariants as fields
+use Rattle.gw_rules.specs.declared.format.Format.{Format}
+use Rattle.gw_rules.specs.Bounds.{bounds}
 use Rattle.gw_rules.specs.Name.{is_name, is_no_rule}
-use Rattle.gw_rules.specs.Operation.{operation_name}
+use Rattle.gw_rules.specs.Operation.{operation_name, operation_number}
+use Rattle.gw_rules.specs.Range.{holds}
 use Rattle.gw_configuration.specs.declared.fault.ConfigFault.TheVariants.{Kind, Range}
 use Rattle.gw_configuration.specs.declared.object.ObjectKind.{ObjectKind}
 use Rattle.gw_configuration.specs.declared.object.ObjectKind.TheVariants.{BinaryValue, MultiStateValue}
 use Rattle.gw_configuration.specs.declared.object.ObjectKind.TheVariants.{CharacterStringValue, IntegerValue}
 use Rattle.gw_configuration.specs.declared.object.ObjectKind.TheVariants.{PositiveIntegerValue}
 use Rattle.gw_configuration.specs.Located.{Read}
+use Rattle.gw_configuration.specs.Subnet.{Subnet}
 use Rattle.gw_configuration.specs.Text.{text_of_length}
-use Rattle.gw_config_tables.specs.Written.{address_written, mask_written}
+use Rattle.gw_config_tables.specs.Written.{address_written, mask_written, subnet_written}
 
 -- of a value that is there; of another kind is Kind, without a reading Range
 abbrev pub reading : {A B : Type 0} → (A → Option B) → Option A → Read B
@@ -74,20 +79,32 @@ rule_name text = if is_rule_name text then Some text else None
 abbrev pub rule_name_in : Data → Read (List ℕ)
 rule_name_in value = reading rule_name (as_str value)
 
--- an operation by its name
+-- an operation by its name, of those that a rule of the format can name
 abbrev pub operation_named : List ℕ → Option Operation
 operation_named text = find (λ operation. pointwise nat_eq (operation_name operation) text) ALL
 
-abbrev pub operation_in : Data → Read Operation
-operation_in value = reading operation_named (as_str value)
+abbrev pub is_of_format : Format → Operation → Bool
+is_of_format format operation = holds (operation_number operation) (bounds format fields.Operation)
 
--- addresses and masks
+abbrev pub if_of_format : Format → Operation → Option Operation
+if_of_format format operation = if is_of_format format operation then Some operation else None
+
+abbrev pub operation_of : Format → List ℕ → Option Operation
+operation_of format text = option_and_then (if_of_format format) (operation_named text)
+
+abbrev pub operation_in : Format → Data → Read Operation
+operation_in format value = reading (operation_of format) (as_str value)
+
+-- addresses, masks and subnets
 
 abbrev pub address_in : Data → Read BipAddr
 address_in value = reading address_written (as_str value)
 
 abbrev pub mask_in : Data → Read Mask
 mask_in value = reading mask_written (as_str value)
+
+abbrev pub subnet_in : Data → Read Subnet
+subnet_in value = reading subnet_written (as_str value)
 
 -- true or false
 abbrev pub boolean_in : Data → Read Bool

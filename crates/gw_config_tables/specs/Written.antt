@@ -1,4 +1,4 @@
--- Addresses and masks as they are written.
+-- Addresses, masks and subnets as they are written.
 use Rattle.std.specs.Prelude.{ℕ, List, [], ◌∷◌, Bool, ◌&&◌, ◌==◌, nat_lt, if◌then◌else◌, Option, Some, None, option_map}
 use Rattle.std.specs.Option.{option_and_then}
 use Rattle.std.specs.Str.{all_ascii_digits}
@@ -6,6 +6,7 @@ use Rattle.std.specs.Str.Parse.{digits_value}
 use Rattle.gw_addr.specs.internal.Digits.{begins_canonical_of}
 use Rattle.gw_addr.specs.declared.bip.BipAddr.{BipAddr}
 use Rattle.gw_addr.specs.declared.mask.Mask.{Mask}
+use Rattle.gw_configuration.specs.Subnet.{Subnet, subnet_of}
 
 -- decimal digits without leading zeros
 abbrev pub is_decimal : List ℕ → Bool
@@ -42,3 +43,9 @@ mask_written text =
     option_and_then (λ a. option_and_then (λ b. option_and_then (λ c.
     option_map (λ d. record { octets = a.0 ∷ b.0 ∷ c.0 ∷ d ∷ [] })
     (number_written 256 c.1)) (octet_written 46 b.1)) (octet_written 46 a.1)) (octet_written 46 text)
+
+-- the subnet that is written `a.b.c.d/n`
+unfoldable pub subnet_written : List ℕ → Option Subnet
+subnet_written text =
+    option_and_then (λ parts. option_and_then (λ ip. option_and_then (subnet_of ip.octets)
+    (number_written 33 parts.1)) (mask_written parts.0)) (split_at 47 text)

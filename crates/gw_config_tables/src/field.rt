@@ -1,16 +1,21 @@
 //! The fields of a table, and the fault of a table.
-ghost use Rattle.std.specs.Prelude.{◌≡◌, map, position, Some, option_map};
+ghost use Rattle.std.specs.Prelude.{◌≡◌, [], map, position, Some, option_map};
 ghost use Rattle.std.specs.List.{list_any};
 ghost use Rattle.toml.specs.View.{table_view, view};
-ghost use Rattle.gw_config_tables.specs.Field.{at_field, fault_of, fault_of_fields, field_fault, field_with, has, is_key, is_kind, is_missing, is_range, is_this, is_too_many, item_fault, item_of, item_with, list_fault, list_fault_by, located_as, located_in, scalar_fault, stranger, value_fault};
+ghost use Rattle.gw_config_tables.specs.Field.{at_field, count_fault, fault_of, fault_of_fields, field_fault, field_with, has, is_key, is_this, item_fault, item_of, item_with, items_fault, list_fault, list_fault_by, located_as, located_beside, located_in, scalar_fault, stranger, value_fault, values_fault};
+ghost use Rattle.gw_config_tables.specs.Range.{is_kind, is_missing, is_range, is_too_many};
 ghost use Rattle.gw_configuration.specs.Located.{located_view};
 
+use crate::items;
 use crate::range::range;
 use crate::value::{self, member};
 use gw_configuration::{ConfigFault, Located, Place, Scalar, Shape};
 use gw_rules::MAX_RANGES;
 use std::marker::Model;
 use toml::{Table, Value};
+
+/// How many items a field of a rule or a set has at most as they are written.
+pub const MAX_ITEMS: usize = 64;
 
 /// A key of a table, whether it must be there, and what its value may be.
 #[derive(Drop)]
@@ -53,48 +58,55 @@ impl Field {
         }
     }
 
-    /// The fault of the field in a table.
-    pub fn fault(&self, table: &Table) -> Option<ConfigFault>
-        ensures { result ≡ field_fault (table_view table.now) self.now }
+    /// The fault of the field in a table, beside the tables of the text's sets.
+    pub fn fault(&self, sets: &[Value], table: &Table) -> Option<ConfigFault>
+        ensures { result ≡ field_fault (map view sets.now) (table_view table.now) self.now }
     {
         match member(table, self.key) {
-            Some(value) => value_fault(self.shape, value),
+            Some(value) => value_fault(sets, self.shape, value),
             None if self.required => Some(ConfigFault::Missing),
             None => None,
         }
     }
 
     /// This fault of the field, where it is.
-    pub fn located<'a>(&self, place: Place, fault: ConfigFault, table: &'a Table) -> Located<'a>
-        ensures { located_view result ≡ at_field place fault (table_view table.now) (Some self.now) }
+    pub fn located<'a>(
+        &self,
+        sets: &[Value],
+        place: Place,
+        fault: ConfigFault,
+        table: &'a Table,
+    ) -> Located<'a>
+        ensures { located_view result ≡
+            at_field (map view sets.now) place fault (table_view table.now) (Some self.now) }
     {
         Located {
             fault,
             place,
             key: self.key,
-            item: item_of(fault, self.shape, member(table, self.key)),
+            item: item_of(sets, fault, self.shape, member(table, self.key)),
             wanted: Some(self.shape),
         }
     }
 }
 
 /// The position of the first item with this fault in the list that a value is.
-fn item_of(fault: ConfigFault, shape: Shape, value: Option<&Value>) -> Option<usize>
-    ensures { result ≡ item_of fault shape (option_map (λ v. view v.now) value.entry) }
+fn item_of(sets: &[Value], fault: ConfigFault, shape: Shape, value: Option<&Value>) -> Option<usize>
+    ensures { result ≡ item_of (map view sets.now) fault shape (option_map (λ v. view v.now) value.entry) }
 {
     match value::list(value?) {
-        Ok(items) => item_with(fault, shape, items),
+        Ok(items) => item_with(sets, fault, shape, items),
         Err(_) => None,
     }
 }
 
 #[tactic(auto, using(crate::proofs::Values::position_view))]
-fn item_with(fault: ConfigFault, shape: Shape, items: &[Value]) -> Option<usize>
-    ensures { result ≡ item_with fault shape (map view items.now) }
+fn item_with(sets: &[Value], fault: ConfigFault, shape: Shape, items: &[Value]) -> Option<usize>
+    ensures { result ≡ item_with (map view sets.now) fault shape (map view items.now) }
 {
     match fault {
-        ConfigFault::Kind => first_kind(shape, items),
-        ConfigFault::Range => first_range(shape, items),
+        ConfigFault::Kind => first_kind(sets, shape, items),
+        ConfigFault::Range => first_range(sets, shape, items),
         _ => None,
     }
 }
@@ -109,47 +121,52 @@ fn scalar_fault(scalar: Scalar, value: &Value) -> Option<ConfigFault>
         Scalar::ObjectType => value::kind(value).err(),
         Scalar::Text { least } => value::text(least, value).err(),
         Scalar::RuleName => value::rule_name(value).err(),
-        Scalar::Operation => value::operation(value).err(),
+        Scalar::Operation(format) => value::operation(format, value).err(),
         Scalar::Boolean => value::boolean(value).err(),
         Scalar::Address => value::address(value).err(),
         Scalar::Mask => value::mask(value).err(),
         Scalar::Table => value::table(value).err(),
+        Scalar::Named(names) => items::named(names, value).err(),
+        Scalar::Stations => items::stations(value).err(),
+        Scalar::Subnet => value::subnet(value).err(),
+        Scalar::Item => items::set_item_fault(value),
     }
 }
 
 /// The fault of an item of a list.
-fn item_fault(shape: Shape, item: &Value) -> Option<ConfigFault>
-    ensures { result ≡ item_fault shape (view item.now) }
+fn item_fault(sets: &[Value], shape: Shape, item: &Value) -> Option<ConfigFault>
+    ensures { result ≡ item_fault (map view sets.now) shape (view item.now) }
 {
     match shape {
         Shape::One(_) => None,
         Shape::List { of, .. } => scalar_fault(of, item),
         Shape::Ranges(of) => range(of, item).err(),
+        Shape::Items(of) => items::fault(sets, of, item),
     }
 }
 
-fn have_kind(shape: Shape, items: &[Value]) -> bool
-    ensures { result ≡ list_any (λ item. is_kind (item_fault shape (view item))) items.now }
+fn have_kind(sets: &[Value], shape: Shape, items: &[Value]) -> bool
+    ensures { result ≡ list_any (λ item. is_kind (item_fault (map view sets.now) shape (view item))) items.now }
 {
-    items.iter().any(|item| matches!(item_fault(shape, item), Some(ConfigFault::Kind)))
+    items.iter().any(|item| matches!(item_fault(sets, shape, item), Some(ConfigFault::Kind)))
 }
 
-fn have_range(shape: Shape, items: &[Value]) -> bool
-    ensures { result ≡ list_any (λ item. is_range (item_fault shape (view item))) items.now }
+fn have_range(sets: &[Value], shape: Shape, items: &[Value]) -> bool
+    ensures { result ≡ list_any (λ item. is_range (item_fault (map view sets.now) shape (view item))) items.now }
 {
-    items.iter().any(|item| matches!(item_fault(shape, item), Some(ConfigFault::Range)))
+    items.iter().any(|item| matches!(item_fault(sets, shape, item), Some(ConfigFault::Range)))
 }
 
-fn first_kind(shape: Shape, items: &[Value]) -> Option<usize>
-    ensures { result ≡ position (λ item. is_kind (item_fault shape (view item))) items.now }
+fn first_kind(sets: &[Value], shape: Shape, items: &[Value]) -> Option<usize>
+    ensures { result ≡ position (λ item. is_kind (item_fault (map view sets.now) shape (view item))) items.now }
 {
-    items.iter().position(|item| matches!(item_fault(shape, item), Some(ConfigFault::Kind)))
+    items.iter().position(|item| matches!(item_fault(sets, shape, item), Some(ConfigFault::Kind)))
 }
 
-fn first_range(shape: Shape, items: &[Value]) -> Option<usize>
-    ensures { result ≡ position (λ item. is_range (item_fault shape (view item))) items.now }
+fn first_range(sets: &[Value], shape: Shape, items: &[Value]) -> Option<usize>
+    ensures { result ≡ position (λ item. is_range (item_fault (map view sets.now) shape (view item))) items.now }
 {
-    items.iter().position(|item| matches!(item_fault(shape, item), Some(ConfigFault::Range)))
+    items.iter().position(|item| matches!(item_fault(sets, shape, item), Some(ConfigFault::Range)))
 }
 
 /// The fault of a list, by what is known of its values and of its length.
@@ -174,28 +191,63 @@ fn fault_by(
 }
 
 /// The fault of a list of so many items.
-fn list_fault(shape: Shape, least: usize, most: usize, items: &[Value]) -> Option<ConfigFault>
-    ensures { result ≡ list_fault (item_fault shape) least most (map view items.now) }
+fn list_fault(
+    sets: &[Value],
+    shape: Shape,
+    least: usize,
+    most: usize,
+    items: &[Value],
+) -> Option<ConfigFault>
+    ensures { result ≡ list_fault (item_fault (map view sets.now) shape) least most (map view items.now) }
 {
-    let kinds = have_kind(shape, items);
-    let ranges = have_range(shape, items);
+    let kinds = have_kind(sets, shape, items);
+    let ranges = have_range(sets, shape, items);
     fault_by(kinds, ranges, least, most, items.len())
 }
 
+/// The fault of the items of a rule's field, by their own faults, their number and that of the ranges
+/// that they name.
+fn items_fault(sets: &[Value], of: Scalar, items: &[Value]) -> Option<ConfigFault>
+    ensures { result ≡ items_fault (map view sets.now) of (map view items.now) }
+{
+    match list_fault(sets, Shape::Items(of), 1, MAX_ITEMS, items) {
+        Some(fault) => Some(fault),
+        None => count_fault(items::has_too_many(sets, items)),
+    }
+}
+
+fn count_fault(has_too_many: bool) -> Option<ConfigFault>
+    ensures { result ≡ count_fault has_too_many }
+{
+    if has_too_many {
+        Some(ConfigFault::TooMany)
+    } else {
+        None
+    }
+}
+
 /// The fault of a value: the first of `Kind`, `Range` and `TooMany` that it has.
-fn value_fault(shape: Shape, value: &Value) -> Option<ConfigFault>
-    ensures { result ≡ value_fault shape (view value.now) }
+fn value_fault(sets: &[Value], shape: Shape, value: &Value) -> Option<ConfigFault>
+    ensures { result ≡ value_fault (map view sets.now) shape (view value.now) }
+{
+    if let Shape::One(scalar) = shape {
+        return scalar_fault(scalar, value);
+    }
+    match value::list(value) {
+        Ok(items) => values_fault(sets, shape, items),
+        Err(fault) => Some(fault),
+    }
+}
+
+/// The fault of the values of a list.
+fn values_fault(sets: &[Value], shape: Shape, values: &[Value]) -> Option<ConfigFault>
+    ensures { result ≡ values_fault (map view sets.now) shape (map view values.now) }
 {
     match shape {
-        Shape::One(scalar) => scalar_fault(scalar, value),
-        Shape::List { of: _, least, most } => match value::list(value) {
-            Ok(items) => list_fault(shape, least, most, items),
-            Err(fault) => Some(fault),
-        },
-        Shape::Ranges(_) => match value::list(value) {
-            Ok(items) => list_fault(shape, 1, MAX_RANGES, items),
-            Err(fault) => Some(fault),
-        },
+        Shape::One(_) => None,
+        Shape::List { of: _, least, most } => list_fault(sets, shape, least, most, values),
+        Shape::Ranges(of) => list_fault(sets, Shape::Ranges(of), 1, MAX_RANGES, values),
+        Shape::Items(of) => items_fault(sets, of, values),
     }
 }
 
@@ -217,51 +269,51 @@ fn stranger<'a>(fields: &[Field], table: &'a Table) -> Option<&'a str>
     None
 }
 
-fn has_missing(fields: &[Field], table: &Table) -> bool
-    ensures { result ≡ has is_missing fields.now (table_view table.now) }
+fn has_missing(sets: &[Value], fields: &[Field], table: &Table) -> bool
+    ensures { result ≡ has (map view sets.now) is_missing fields.now (table_view table.now) }
 {
-    fields.iter().any(|field| matches!(field.fault(table), Some(ConfigFault::Missing)))
+    fields.iter().any(|field| matches!(field.fault(sets, table), Some(ConfigFault::Missing)))
 }
 
-fn has_kind(fields: &[Field], table: &Table) -> bool
-    ensures { result ≡ has is_kind fields.now (table_view table.now) }
+fn has_kind(sets: &[Value], fields: &[Field], table: &Table) -> bool
+    ensures { result ≡ has (map view sets.now) is_kind fields.now (table_view table.now) }
 {
-    fields.iter().any(|field| matches!(field.fault(table), Some(ConfigFault::Kind)))
+    fields.iter().any(|field| matches!(field.fault(sets, table), Some(ConfigFault::Kind)))
 }
 
-fn has_range(fields: &[Field], table: &Table) -> bool
-    ensures { result ≡ has is_range fields.now (table_view table.now) }
+fn has_range(sets: &[Value], fields: &[Field], table: &Table) -> bool
+    ensures { result ≡ has (map view sets.now) is_range fields.now (table_view table.now) }
 {
-    fields.iter().any(|field| matches!(field.fault(table), Some(ConfigFault::Range)))
+    fields.iter().any(|field| matches!(field.fault(sets, table), Some(ConfigFault::Range)))
 }
 
-fn has_too_many(fields: &[Field], table: &Table) -> bool
-    ensures { result ≡ has is_too_many fields.now (table_view table.now) }
+fn has_too_many(sets: &[Value], fields: &[Field], table: &Table) -> bool
+    ensures { result ≡ has (map view sets.now) is_too_many fields.now (table_view table.now) }
 {
-    fields.iter().any(|field| matches!(field.fault(table), Some(ConfigFault::TooMany)))
+    fields.iter().any(|field| matches!(field.fault(sets, table), Some(ConfigFault::TooMany)))
 }
 
 /// The fault of a table, each of the five judged for the whole table before the next.
-fn fault_of(fields: &[Field], table: &Table) -> Option<ConfigFault>
-    ensures { result ≡ fault_of fields.now (table_view table.now) }
+fn fault_of(sets: &[Value], fields: &[Field], table: &Table) -> Option<ConfigFault>
+    ensures { result ≡ fault_of (map view sets.now) fields.now (table_view table.now) }
 {
     match stranger(fields, table) {
         Some(_) => Some(ConfigFault::UnknownKey),
-        None => fault_of_fields(fields, table),
+        None => fault_of_fields(sets, fields, table),
     }
 }
 
 /// The fault of a table that has no other keys than those of the fields.
-fn fault_of_fields(fields: &[Field], table: &Table) -> Option<ConfigFault>
-    ensures { result ≡ fault_of_fields fields.now (table_view table.now) }
+fn fault_of_fields(sets: &[Value], fields: &[Field], table: &Table) -> Option<ConfigFault>
+    ensures { result ≡ fault_of_fields (map view sets.now) fields.now (table_view table.now) }
 {
-    if has_missing(fields, table) {
+    if has_missing(sets, fields, table) {
         Some(ConfigFault::Missing)
-    } else if has_kind(fields, table) {
+    } else if has_kind(sets, fields, table) {
         Some(ConfigFault::Kind)
-    } else if has_range(fields, table) {
+    } else if has_range(sets, fields, table) {
         Some(ConfigFault::Range)
-    } else if has_too_many(fields, table) {
+    } else if has_too_many(sets, fields, table) {
         Some(ConfigFault::TooMany)
     } else {
         None
@@ -282,39 +334,60 @@ fn is_this(fault: ConfigFault, found: Option<ConfigFault>) -> bool
 }
 
 /// The first field that has this fault.
-fn field_with<'f>(fault: ConfigFault, fields: &'f [Field], table: &Table) -> Option<&'f Field>
-    ensures { option_map (λ f. f.now) result ≡ field_with fault fields.now (table_view table.now) }
+fn field_with<'f>(
+    sets: &[Value],
+    fault: ConfigFault,
+    fields: &'f [Field],
+    table: &Table,
+) -> Option<&'f Field>
+    ensures { option_map (λ f. f.now) result ≡
+        field_with (map view sets.now) fault fields.now (table_view table.now) }
 {
     fields
         .iter()
-        .find(|field| is_this(fault, field.fault(table)))
+        .find(|field| is_this(fault, field.fault(sets, table)))
 }
 
 /// This fault of a table, where it is.
 fn located_as<'a>(
+    sets: &[Value],
     place: Place,
     fields: &[Field],
     table: &'a Table,
     fault: ConfigFault,
 ) -> Located<'a>
-    ensures { located_view result ≡ located_as place fields.now (table_view table.now) fault }
+    ensures { located_view result ≡
+        located_as (map view sets.now) place fields.now (table_view table.now) fault }
 {
     match fault {
         ConfigFault::UnknownKey => Located::at_table(place, fault, stranger(fields, table)),
-        _ => match field_with(fault, fields, table) {
-            Some(field) => field.located(place, fault, table),
+        _ => match field_with(sets, fault, fields, table) {
+            Some(field) => field.located(sets, place, fault, table),
             None => Located::at_table(place, fault, None),
         },
     }
 }
 
-/// The fault of a table with these fields, with its place.
-#[tactic(auto, unfolding(crate::specs::Field::located_in))]
+/// The fault of a table with these fields, with its place, beside the tables of the text's sets.
+#[tactic(auto, unfolding(crate::specs::Field::located_beside))]
+pub fn located_beside<'a>(
+    sets: &[Value],
+    place: Place,
+    fields: &[Field],
+    table: &'a Table,
+) -> Option<Located<'a>>
+    ensures { option_map located_view result ≡
+        located_beside (map view sets.now) place fields.now (table_view table.now) }
+{
+    match fault_of(sets, fields, table) {
+        Some(fault) => Some(located_as(sets, place, fields, table, fault)),
+        None => None,
+    }
+}
+
+/// The fault of a table with these fields, with its place, where no sets matter.
 pub fn located_in<'a>(place: Place, fields: &[Field], table: &'a Table) -> Option<Located<'a>>
     ensures { option_map located_view result ≡ located_in place fields.now (table_view table.now) }
 {
-    match fault_of(fields, table) {
-        Some(fault) => Some(located_as(place, fields, table, fault)),
-        None => None,
-    }
+    located_beside(&[], place, fields, table)
 }

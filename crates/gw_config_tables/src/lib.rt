@@ -3,8 +3,10 @@
 #![tactic(auto)]
 
 mod field;
+pub mod items;
+pub mod laws;
 pub mod range;
 pub mod tables;
 pub mod value;
 
-pub use field::{Field, located_in};
+pub use field::{Field, MAX_ITEMS, located_beside, located_in};

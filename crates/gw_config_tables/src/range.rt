@@ -1,4 +1,4 @@
-//! Items for a field of a rule: one value, or a list of two, low and high.
+//! Items for a field of a rule: one value, or a list of two, low and high. Formats 1 and 2 have no others.
 ghost use Rattle.std.specs.Prelude.{◌≡◌, map, IfOk, IsTrue};
 ghost use Rattle.std.specs.List.{list_any};
 ghost use Rattle.std.specs.Result.{result_err};
@@ -9,12 +9,14 @@ ghost use Rattle.gw_rules.specs.Bounds.{bounds, is_within};
 ghost use Rattle.gw_rules.specs.Operation.{operation_number};
 ghost use Rattle.gw_rules.specs.Range.{holds};
 ghost use Rattle.toml.specs.View.{view};
-ghost use Rattle.gw_config_tables.specs.Field.{between, bounds_of, is_kind, ordered, point_in, range_between, range_in, range_of_list, two_ends};
+ghost use Rattle.gw_rules.specs.declared.format.Format.TheVariants as formats;
+ghost use Rattle.gw_config_tables.specs.Value.{is_of_format};
+ghost use Rattle.gw_config_tables.specs.Range.{between, bounds_of, is_kind, ordered, point_in, range_between, range_in, range_of_list, two_ends};
 
 use crate::value::{address, list, number, operation, whole_address};
 use gw_addr::BipAddr;
 use gw_configuration::{ConfigFault, Scalar};
-use gw_rules::{Operation, Range};
+use gw_rules::{Format, Operation, Range};
 use toml::Value;
 
 /// The number by which rules know a value.
@@ -24,26 +26,26 @@ fn point(of: Scalar, value: &Value) -> Result<u64, ConfigFault>
 {
     match of {
         Scalar::Number { low, high } => number(low, high, value),
-        Scalar::Operation => Ok(operation_number(operation(value)?)),
+        Scalar::Operation(format) => Ok(operation_number(format, operation(format, value)?)),
         Scalar::Address => Ok(key(address(value)?)),
         _ => Err(ConfigFault::Kind),
     }
 }
 
 /// The number by which rules know an operation.
-#[tactic(auto, using(crate::proofs::Bounds::operation_held))]
-fn operation_number(operation: Operation) -> u64
+fn operation_number(format: Format, operation: Operation) -> u64
+    requires { IsTrue (is_of_format format operation) }
     ensures number { result ≡ operation_number operation }
-    ensures held { IsTrue (holds result (bounds fields.Operation)) }
+    ensures held { IsTrue (holds result (bounds format fields.Operation)) }
 {
     operation.number()
 }
 
 /// The number by which rules know an address.
 #[tactic(auto, using(crate::proofs::Bounds::key_held))]
-fn key(address: BipAddr) -> u64
+pub(crate) fn key(address: BipAddr) -> u64
     ensures number { result ≡ big_endian (octets_of address) }
-    ensures held { IsTrue (holds result (bounds fields.SourceKey)) }
+    ensures held { IsTrue (holds result (bounds formats.One fields.SourceKey)) }
 {
     whole_address(address).key48()
 }
@@ -55,7 +57,7 @@ fn have_kind(of: Scalar, ends: &[Value]) -> bool
         .any(|value| matches!(point(of, value), Err(ConfigFault::Kind)))
 }
 
-fn ordered(low: u64, high: u64) -> Result<Range, ConfigFault>
+pub(crate) fn ordered(low: u64, high: u64) -> Result<Range, ConfigFault>
     ensures { Gives (λ r. r) result (ordered low high) }
 {
     if low <= high {
@@ -103,7 +105,7 @@ fn range_of_list(of: Scalar, ends: &[Value]) -> Result<Range, ConfigFault>
     ensures within { IfOk result (λ r. IsTrue (is_within (bounds_of of) r)) }
 {
     match of {
-        Scalar::Operation => Err(ConfigFault::Kind),
+        Scalar::Operation(_) => Err(ConfigFault::Kind),
         _ => range_between(of, ends),
     }
 }

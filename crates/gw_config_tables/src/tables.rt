@@ -1,14 +1,28 @@
 //! The tables of a configuration, key by key, with what each key's value may be.
-ghost use Rattle.std.specs.Prelude.{◌≡◌};
+ghost use Rattle.std.specs.Prelude.{◌≡◌, map, option_map};
+ghost use Rattle.toml.specs.View.{table_view, view};
 ghost use Rattle.gw_rules.specs.Bounds.{bounds};
-ghost use Rattle.gw_config_tables.specs.Field.{bounds_of};
+ghost use Rattle.gw_config_tables.specs.Field.{located_beside, located_in};
+ghost use Rattle.gw_config_tables.specs.Range.{bounds_of};
 ghost use Rattle.gw_config_tables.specs.Tables as spec;
+ghost use Rattle.gw_configuration.specs.Configuration.{format_of};
+ghost use Rattle.gw_configuration.specs.Located.{located_view};
+ghost use Rattle.gw_configuration.specs.declared.located.Place.TheVariants as places;
 ghost use Rattle.gw_configuration.specs.declared.object.ObjectKind.{ObjectKind};
 
 use crate::Field;
+use crate::field::{MAX_ITEMS, located_beside, located_in};
+use crate::value::{member, number};
 use gw_addr::MAX_PORTS;
-use gw_configuration::{MAX_OBJECTS, MAX_PEERS, MAX_ROUTES, MAX_STATES, Scalar, Shape};
-use gw_rules::{FieldName, MAX_RULES, Range};
+use gw_configuration::{
+    ConfigFault, Located, MAX_OBJECTS, MAX_PEERS, MAX_ROUTES, MAX_STATES, MAX_STATIONS, Names,
+    Place, Scalar, Shape,
+};
+use gw_rules::{FieldName, Format, MAX_RULES, Range};
+use toml::{Table, Value};
+
+/// How many sets a text may have: as many as it may have octets.
+const MAX_SETS: usize = 1 << 20;
 
 const NETWORK: Shape = Shape::One(Scalar::Number {
     low: 1,
@@ -38,17 +52,73 @@ const NAME: Shape = Shape::One(Scalar::Text { least: 1 });
 
 const ADDRESS: Shape = Shape::One(Scalar::Address);
 
-/// The fields of the top table.
-pub fn top_fields() -> [Field; 6]
-    ensures { result ≡ spec.top_fields }
+/// The format by which the keys of a text are judged: 3 exactly where its `format` is the whole number 3.
+pub fn format_of(top: &Table) -> Format
+    ensures { result ≡ spec.format_in (table_view top.now) }
+{
+    match member(top, "format") {
+        Some(value) => format_read(number(1, 3, value)),
+        None => Format::One,
+    }
+}
+
+fn format_read(number: Result<u64, ConfigFault>) -> Format
+    ensures { result ≡ spec.format_read number }
+{
+    match number {
+        Ok(number) => format_numbered(number),
+        Err(_) => Format::One,
+    }
+}
+
+/// The format of a number.
+pub fn format_numbered(number: u64) -> Format
+    ensures { result ≡ format_of number }
+{
+    match number {
+        1 => Format::One,
+        2 => Format::Two,
+        _ => Format::Three,
+    }
+}
+
+/// The fault of the top table of a text of this format, with its place.
+pub fn top_located<'a>(format: Format, table: &'a Table) -> Option<Located<'a>>
+    ensures { option_map located_view result ≡
+        located_in places.Top (spec.top_fields format) (table_view table.now) }
+{
+    match format {
+        Format::Three => located_in(Place::Top, &top_fields_with_sets(), table),
+        Format::One | Format::Two => located_in(Place::Top, &top_fields(), table),
+    }
+}
+
+/// The fields of the top table in formats 1 and 2.
+fn top_fields() -> [Field; 6]
+    ensures { result ≡ spec.common_top_fields }
 {
     [
-        Field::needs("format", Shape::One(Scalar::Number { low: 1, high: 2 })),
+        Field::needs("format", Shape::One(Scalar::Number { low: 1, high: 3 })),
         Field::needs("device", Shape::One(Scalar::Table)),
         Field::needs("port", tables(1, MAX_PORTS)),
         Field::may("route", tables(0, MAX_ROUTES)),
         Field::may("object", tables(0, MAX_OBJECTS)),
         Field::may("rule", tables(0, MAX_RULES)),
+    ]
+}
+
+/// Those of format 3.
+fn top_fields_with_sets() -> [Field; 7]
+    ensures { result ≡ spec.top_fields Format.Three }
+{
+    [
+        Field::needs("format", Shape::One(Scalar::Number { low: 1, high: 3 })),
+        Field::needs("device", Shape::One(Scalar::Table)),
+        Field::needs("port", tables(1, MAX_PORTS)),
+        Field::may("route", tables(0, MAX_ROUTES)),
+        Field::may("object", tables(0, MAX_OBJECTS)),
+        Field::may("rule", tables(0, MAX_RULES)),
+        Field::may("set", tables(0, MAX_SETS)),
     ]
 }
 
@@ -81,9 +151,40 @@ pub fn peer_fields() -> [Field; 2]
     ]
 }
 
-/// The fields of a port.
-pub fn port_fields() -> [Field; 4]
-    ensures { result ≡ spec.port_fields }
+/// The fault of the table of a port in a text of this format, with its place.
+pub fn port_located<'a>(format: Format, port: usize, table: &'a Table) -> Option<Located<'a>>
+    ensures { option_map located_view result ≡
+        located_in (places.Port port) (spec.port_fields format) (table_view table.now) }
+{
+    match format {
+        Format::Three => located_in(Place::Port(port), &port_fields_with_stations(), table),
+        Format::One | Format::Two => located_in(Place::Port(port), &port_fields(), table),
+    }
+}
+
+/// The fields of a port in format 3.
+fn port_fields_with_stations() -> [Field; 5]
+    ensures { result ≡ spec.port_fields Format.Three }
+{
+    [
+        Field::needs("network", NETWORK),
+        Field::needs("address", ADDRESS),
+        Field::needs("broadcast", ADDRESS),
+        Field::may("peer", tables(0, MAX_PEERS)),
+        Field::may(
+            "stations",
+            Shape::List {
+                of: Scalar::Subnet,
+                least: 1,
+                most: MAX_STATIONS,
+            },
+        ),
+    ]
+}
+
+/// The fields of a port in formats 1 and 2.
+fn port_fields() -> [Field; 4]
+    ensures { result ≡ spec.common_port_fields }
 {
     [
         Field::needs("network", NETWORK),
@@ -201,16 +302,38 @@ pub fn positive_integer_fields() -> [Field; 6]
     ]
 }
 
-/// What a rule may name for a field: an operation by its name, a source by its address, and of all else
-/// a number within the bounds of the field.
-pub fn scalar_of(field: FieldName) -> Scalar
-    ensures scalar { result ≡ spec.scalar_of field }
-    ensures bounds { bounds_of result ≡ bounds field }
+/// The fields of a set, whose items are judged in full in each rule that names it.
+pub fn set_fields() -> [Field; 2]
+    ensures { result ≡ spec.set_fields }
 {
-    match field {
-        FieldName::Operation => Scalar::Operation,
-        FieldName::SourceKey => Scalar::Address,
-        _ => within(field.bounds()),
+    [
+        Field::needs("name", Shape::One(Scalar::RuleName)),
+        Field::needs(
+            "items",
+            Shape::List {
+                of: Scalar::Item,
+                least: 1,
+                most: MAX_ITEMS,
+            },
+        ),
+    ]
+}
+
+/// What a rule may name for a field: an operation by its name, a source, sender or station by its
+/// address, and of all else a number within the bounds of the field, of some in format 3 by its name too.
+pub fn scalar_of(format: Format, field: FieldName) -> Scalar
+    ensures scalar { result ≡ spec.scalar_of format field }
+    ensures bounds { bounds_of result ≡ bounds format field }
+{
+    match (format, field) {
+        (_, FieldName::Operation) => Scalar::Operation(format),
+        (Format::Three, FieldName::SourceKey) => Scalar::Stations,
+        (_, FieldName::SourceKey) => Scalar::Address,
+        (Format::Three, FieldName::Service) => Scalar::Named(Names::Services),
+        (Format::Three, FieldName::ObjectType) => Scalar::Named(Names::ObjectTypes),
+        (Format::Three, FieldName::Property) => Scalar::Named(Names::Properties),
+        (_, FieldName::Sender | FieldName::Station) => Scalar::Stations,
+        _ => within(field.bounds(format)),
     }
 }
 
@@ -224,29 +347,77 @@ fn within(bounds: Range) -> Scalar
     }
 }
 
-/// Ranges for a field of a rule.
-fn ranges(key: &'static str, field: FieldName) -> Field
-    ensures { result ≡ spec.ranges key.now field }
+/// Items for a field of a rule.
+fn ranges(format: Format, key: &'static str, field: FieldName) -> Field
+    ensures { result ≡ spec.ranges format key.now field }
 {
-    Field::may(key, Shape::Ranges(scalar_of(field)))
+    let of = scalar_of(format, field);
+    match format {
+        Format::Three => Field::may(key, Shape::Items(of)),
+        Format::One | Format::Two => Field::may(key, Shape::Ranges(of)),
+    }
 }
 
-/// The fields of a rule.
-pub fn rule_fields() -> [Field; 12]
-    ensures { result ≡ spec.rule_fields }
+/// The fault of the table of a rule in a text of this format, with its place, beside the tables of the
+/// text's sets.
+pub fn rule_located<'a>(
+    format: Format,
+    sets: &[Value],
+    rule: usize,
+    table: &'a Table,
+) -> Option<Located<'a>>
+    ensures { option_map located_view result ≡
+        located_beside (map view sets.now) (places.Rule rule) (spec.rule_fields format) (table_view table.now) }
+{
+    match format {
+        Format::Three => {
+            located_beside(sets, Place::Rule(rule), &rule_fields_with_stations(), table)
+        }
+        Format::Two => { located_beside(sets, Place::Rule(rule), &rule_fields(Format::Two), table) }
+        Format::One => { located_beside(sets, Place::Rule(rule), &rule_fields(Format::One), table) }
+    }
+}
+
+/// The fields of a rule in format 3.
+fn rule_fields_with_stations() -> [Field; 15]
+    ensures { result ≡ spec.rule_fields Format.Three }
+{
+    let format = Format::Three;
+    [
+        Field::needs("name", Shape::One(Scalar::RuleName)),
+        Field::needs("allow", Shape::One(Scalar::Boolean)),
+        ranges(format, "operation", FieldName::Operation),
+        ranges(format, "port", FieldName::Port),
+        ranges(format, "source_network", FieldName::SourceNetwork),
+        ranges(format, "source", FieldName::SourceKey),
+        ranges(format, "destination", FieldName::DestinationNetwork),
+        ranges(format, "service", FieldName::Service),
+        ranges(format, "object_type", FieldName::ObjectType),
+        ranges(format, "instance", FieldName::Instance),
+        ranges(format, "property", FieldName::Property),
+        ranges(format, "priority", FieldName::Priority),
+        ranges(format, "sender", FieldName::Sender),
+        ranges(format, "station", FieldName::Station),
+        Field::may("note", TEXT),
+    ]
+}
+
+/// The fields of a rule in formats 1 and 2.
+fn rule_fields(format: Format) -> [Field; 12]
+    ensures { result ≡ spec.common_rule_fields format }
 {
     [
         Field::needs("name", Shape::One(Scalar::RuleName)),
         Field::needs("allow", Shape::One(Scalar::Boolean)),
-        ranges("operation", FieldName::Operation),
-        ranges("port", FieldName::Port),
-        ranges("source_network", FieldName::SourceNetwork),
-        ranges("source", FieldName::SourceKey),
-        ranges("destination", FieldName::DestinationNetwork),
-        ranges("service", FieldName::Service),
-        ranges("object_type", FieldName::ObjectType),
-        ranges("instance", FieldName::Instance),
-        ranges("property", FieldName::Property),
-        ranges("priority", FieldName::Priority),
+        ranges(format, "operation", FieldName::Operation),
+        ranges(format, "port", FieldName::Port),
+        ranges(format, "source_network", FieldName::SourceNetwork),
+        ranges(format, "source", FieldName::SourceKey),
+        ranges(format, "destination", FieldName::DestinationNetwork),
+        ranges(format, "service", FieldName::Service),
+        ranges(format, "object_type", FieldName::ObjectType),
+        ranges(format, "instance", FieldName::Instance),
+        ranges(format, "property", FieldName::Property),
+        ranges(format, "priority", FieldName::Priority),
     ]
 }

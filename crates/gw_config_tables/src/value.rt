@@ -1,17 +1,20 @@
 //! Single values of a configuration.
-ghost use Rattle.std.specs.Prelude.{◌≡◌, ◌≤◌, IfOk, IsFalse, IsTrue, length, map, option_map, option_copied};
+ghost use Rattle.std.specs.Prelude.{◌≡◌, ◌≤◌, IfOk, IfSome, IsFalse, IsTrue, length, map, option_map, option_copied};
 ghost use Rattle.gw_addr.specs.Address.{IsAddress};
 ghost use Rattle.gw_addr.specs.Mask.{IsMask};
 ghost use Rattle.gw_addr.specs.Reading.{Gives};
 ghost use Rattle.gw_rules.specs.Name.{is_name, is_no_rule};
-ghost use Rattle.toml.specs.Data.{Data, as_array, as_str, get_member};
+ghost use Rattle.std.specs.Option.{option_and_then};
+ghost use Rattle.toml.specs.Data.{Data, as_array, as_str, as_table, get_member};
 ghost use Rattle.toml.specs.View.{table_view, view};
-ghost use Rattle.gw_config_tables.specs.Written.{address_written, mask_written};
-ghost use Rattle.gw_config_tables.specs.Value.{address_in, boolean_in, kind_in, kind_numbered, list_in, mask_in, number_in, operation_in, rule_name_in, is_rule_name, operation_named, signed_in, table_in, text_in};
+ghost use Rattle.gw_config_tables.specs.Items.{list_of};
+ghost use Rattle.gw_config_tables.specs.Written.{address_written, mask_written, subnet_written};
+ghost use Rattle.gw_configuration.specs.Subnet.{IsSubnet};
+ghost use Rattle.gw_config_tables.specs.Value.{address_in, boolean_in, if_of_format, is_of_format, is_rule_name, kind_in, kind_numbered, list_in, mask_in, number_in, operation_in, operation_named, operation_of, rule_name_in, signed_in, subnet_in, table_in, text_in};
 
 use gw_addr::{BipAddr, Mask};
-use gw_configuration::{ConfigFault, MAX_TEXT, ObjectKind};
-use gw_rules::{Operation, RuleName};
+use gw_configuration::{ConfigFault, MAX_TEXT, ObjectKind, Subnet, laws};
+use gw_rules::{FieldName, Format, Operation, RuleName};
 use toml::{Table, Value};
 
 /// The value at a key.
@@ -126,6 +129,24 @@ pub fn list(value: &Value) -> Result<&[Value], ConfigFault>
     }
 }
 
+/// The values of a list, or `None` where it is none.
+pub fn values(value: &Value) -> Option<&[Value]>
+    ensures { option_map (λ vs. map view vs.now) result ≡ list_of (view value.now) }
+{
+    list(value).ok()
+}
+
+/// The value at a key of a table, or `None` where the value is no table or has no such key.
+pub(crate) fn member_of<'a>(value: &'a Value, key: &str) -> Option<&'a Value>
+    ensures { option_map (λ v. view v.now) result
+        ≡ option_and_then (get_member key.now) (as_table (view value.now)) }
+{
+    match table(value) {
+        Ok(table) => member(table, key),
+        Err(_) => None,
+    }
+}
+
 /// The name of a rule. `Kind` where it is no text, `Range` where it is another.
 pub fn rule_name(value: &Value) -> Result<&str, ConfigFault>
     ensures name { Gives (λ t. t.now) result (rule_name_in (view value.now)) }
@@ -147,17 +168,43 @@ fn is_rule_name(text: &str) -> bool
     RuleName::is_name(text) && !RuleName::is_no_rule(text)
 }
 
-/// An operation, by its name. `Kind` where it is no text, `Range` where it names none.
-pub fn operation(value: &Value) -> Result<Operation, ConfigFault>
-    ensures { Gives (λ o. o) result (operation_in (view value.now)) }
+/// An operation that a rule of the format can name, by its name. `Kind` where it is no text, `Range`
+/// where it names none.
+pub fn operation(format: Format, value: &Value) -> Result<Operation, ConfigFault>
+    ensures operation { Gives (λ o. o) result (operation_in format (view value.now)) }
+    ensures held { IfOk result (λ o. IsTrue (is_of_format format o)) }
 {
     let Some(text) = string(value) else {
         return Err(ConfigFault::Kind);
     };
-    operation_of(text).ok_or(ConfigFault::Range)
+    operation_of(format, text).ok_or(ConfigFault::Range)
 }
 
-fn operation_of(text: &str) -> Option<Operation>
+fn operation_of(format: Format, text: &str) -> Option<Operation>
+    ensures operation { result ≡ operation_of format text.now }
+    ensures held { IfSome result (λ o. IsTrue (is_of_format format o)) }
+{
+    match operation_named(text) {
+        Some(operation) => if_of_format(format, operation),
+        None => None,
+    }
+}
+
+fn if_of_format(format: Format, operation: Operation) -> Option<Operation>
+    ensures operation { result ≡ if_of_format format operation }
+    ensures held { IfSome result (λ o. IsTrue (is_of_format format o)) }
+{
+    if FieldName::Operation
+        .bounds(format)
+        .holds(operation.number())
+    {
+        Some(operation)
+    } else {
+        None
+    }
+}
+
+fn operation_named(text: &str) -> Option<Operation>
     ensures { result ≡ operation_named text.now }
 {
     Operation::from_name(text)
@@ -173,7 +220,8 @@ pub fn address(value: &Value) -> Result<BipAddr, ConfigFault>
     address_of(text).ok_or(ConfigFault::Range)
 }
 
-fn address_of(text: &str) -> Option<BipAddr>
+/// The address that is written so.
+pub(crate) fn address_of(text: &str) -> Option<BipAddr>
     ensures { result ≡ address_written text.now }
 {
     match BipAddr::parse(text) {
@@ -216,4 +264,33 @@ fn whole_mask(mask: Mask) -> Mask
     ensures whole { IsMask mask }
 {
     mask
+}
+
+/// A subnet, `a.b.c.d/n`. `Kind` where it is no text, `Range` where it is another.
+pub fn subnet(value: &Value) -> Result<Subnet, ConfigFault>
+    ensures { Gives (λ s. s) result (subnet_in (view value.now)) }
+{
+    let Some(text) = string(value) else {
+        return Err(ConfigFault::Kind);
+    };
+    subnet_of(text).ok_or(ConfigFault::Range)
+}
+
+/// The subnet that is written so.
+pub(crate) fn subnet_of(text: &str) -> Option<Subnet>
+    ensures { result ≡ subnet_written text.now }
+{
+    match Subnet::parse(text) {
+        Some(subnet) => Some(whole_subnet(subnet)),
+        None => None,
+    }
+}
+
+/// The subnet, which has zeros behind the bits that count.
+fn whole_subnet(subnet: Subnet) -> Subnet
+    ensures same { result ≡ subnet }
+    ensures whole { IsSubnet subnet }
+{
+    laws::fits(subnet);
+    subnet
 }

@@ -1,2 +1,4 @@
 pub mod Repeats
 pub mod Twice
+pub mod Prefixes
+pub mod Keys

@@ -1,18 +1,21 @@
 -- What a gateway is configured with.
-use Rattle.std.specs.Prelude.{ℕ, Bool, ◌&&◌, ◌==◌, not, nat_le, if◌then◌else◌, List, length}
+use Rattle.std.specs.Prelude.{ℕ, Bool, ◌&&◌, ◌||◌, ◌==◌, not, nat_le, if◌then◌else◌, List, length}
 use Rattle.std.specs.List.{list_all}
 use Rattle.gw_addr.specs.declared.TheConstants.{MAX_PORTS}
+use Rattle.gw_rules.specs.declared.format.Format.{Format}
+use Rattle.gw_rules.specs.declared.format.Format.TheVariants as formats
 use Rattle.gw_rules.specs.declared.rule.Rule.{Rule}
 use Rattle.gw_rules.specs.Bounds.{are_bounded}
+use Rattle.gw_rules.specs.Format.{names_stations}
 use Rattle.gw_rules.specs.Name.{is_no_rule}
+use Rattle.gw_rules.specs.RuleList.{keeps_counts as has_short_fields}
 use Rattle.gw_configuration.specs.declared.device.Device.{Device}
-use Rattle.gw_configuration.specs.declared.format.Format.{Format}
-use Rattle.gw_configuration.specs.declared.format.Format.TheVariants as formats
 use Rattle.gw_configuration.specs.declared.object.Object.{Object}
 use Rattle.gw_configuration.specs.declared.port.Port.{Port}
 use Rattle.gw_configuration.specs.declared.route.Route.{Route}
+use Rattle.gw_configuration.specs.declared.set.Set.{Set}
 
--- what contracts see of a configuration
+-- what contracts see of a configuration: of the rules' notes there is one for each rule in order, empty where it has none
 pub record Configuration : Type 0 where
   pub format : Format
   pub device : Device
@@ -20,10 +23,12 @@ pub record Configuration : Type 0 where
   pub routes : List Route
   pub objects : List Object
   pub rules : List Rule
+  pub notes : List (List ℕ)
+  pub sets : List Set
 
 -- the format of a number
 abbrev pub format_of : ℕ → Format
-format_of number = if number == 1 then formats.One else formats.Two
+format_of number = if number == 1 then formats.One else if number == 2 then formats.Two else formats.Three
 
 -- a route by one of so many ports
 abbrev pub is_by : ℕ → Route → Bool
@@ -37,9 +42,10 @@ is_named name = nat_le 1 (length name)
 abbrev pub are_named : Device → List Object → Bool
 are_named device objects = is_named device.name && list_all (λ object. is_named object.name) objects
 
--- a rule that a configuration can have: it isn't named as the log names no rule, and its fields can have what it names
-abbrev pub is_configurable : Rule → Bool
-is_configurable rule = not (is_no_rule rule.name) && are_bounded rule.ranges
+-- a rule that a configuration of this format can have: it isn't named as the log names no rule, and its fields can have
+-- what it names
+abbrev pub is_configurable : Format → Rule → Bool
+is_configurable format rule = not (is_no_rule rule.name) && are_bounded format rule.ranges
 
 -- 1 to 8 ports, at most 512 routes, each by one of the ports, and at most 256 objects
 abbrev pub keeps_counts : Configuration → Bool
@@ -47,6 +53,21 @@ keeps_counts c =
     nat_le 1 (length c.ports) && (nat_le (length c.ports) MAX_PORTS && (nat_le (length c.routes) 512
     && (nat_le (length c.objects) 256 && list_all (is_by (length c.ports)) c.routes)))
 
--- these, names that aren't empty, and rules that a configuration can have
+-- a note for each rule, and rules that a configuration can have
+abbrev pub keeps_rules : Format → List Rule → List (List ℕ) → Bool
+keeps_rules format rules notes = (length notes == length rules) && list_all (is_configurable format) rules
+
+-- what a configuration of format 1 or 2 doesn't have: stations of a port, sets, notes, and more than four ranges for a
+-- field of a rule
+abbrev pub is_plain : List Port → List Rule → List (List ℕ) → List Set → Bool
+is_plain ports rules notes sets =
+    list_all (λ port. length port.stations == 0) ports
+    && (has_short_fields rules && (list_all (λ note. length note == 0) notes && (length sets == 0)))
+
+-- these, names that aren't empty, and in formats 1 and 2 nothing that they don't have
 abbrev pub keeps_limits : Configuration → Bool
-keeps_limits c = keeps_counts c && (are_named c.device c.objects && list_all is_configurable c.rules)
+keeps_limits c =
+    keeps_counts c
+    && (are_named c.device c.objects
+    && (keeps_rules c.format c.rules c.notes
+    && (names_stations c.format || is_plain c.ports c.rules c.notes c.sets)))

@@ -16,8 +16,9 @@ use Rattle.gw_configuration.specs.declared.object.ObjectValue.TheVariants.{Binar
 use Rattle.gw_configuration.specs.declared.object.ObjectValue.TheVariants.{CharacterStringValue, IntegerValue}
 use Rattle.gw_configuration.specs.declared.object.ObjectValue.TheVariants.{PositiveIntegerValue}
 use Rattle.gw_configuration.specs.declared.located.Place.{Place}
-use Rattle.gw_configuration.specs.declared.located.Place.TheVariants.{Port, Peer, Device, Route, Object, Rule}
+use Rattle.gw_configuration.specs.declared.located.Place.TheVariants.{Port, Peer, Device, Route, Object, Set, Rule}
 use Rattle.gw_configuration.specs.declared.port.Port.{Port as PortEntry}
+use Rattle.gw_configuration.specs.declared.set.Set.{Set as SetEntry}
 use Rattle.gw_configuration.specs.Configuration.{Configuration}
 use Rattle.gw_configuration.specs.Located.{Find, Located, at_key, unless}
 
@@ -61,6 +62,9 @@ identifiers objects = map identifier objects
 abbrev pub names : DeviceEntry → List ObjectEntry → List (List ℕ)
 names device objects = device.name ∷ map (λ object. object.name) objects
 
+abbrev pub set_names : List SetEntry → List (List ℕ)
+set_names sets = map (λ set. set.name) sets
+
 abbrev pub rule_names : List RuleEntry → List (List ℕ)
 rule_names rules = map (λ rule. rule.name) rules
 
@@ -72,7 +76,8 @@ has_duplicates c =
     || (list_any (λ port. has_twice nat_eq (peer_addresses port.peers)) c.ports
     || (has_twice nat_eq (identifiers c.objects)
     || (has_twice (pointwise nat_eq) (names c.device c.objects)
-    || has_twice (pointwise nat_eq) (rule_names c.rules)))))
+    || (has_twice (pointwise nat_eq) (set_names c.sets)
+    || has_twice (pointwise nat_eq) (rule_names c.rules))))))
 
 -- where it stands for the second time
 
@@ -108,6 +113,9 @@ identifier_twice index = twice (Object index) (codes "instance")
 abbrev pub name_twice : ℕ → Located
 name_twice index = twice (if index == 0 then Device else Object (index - 1)) (codes "name")
 
+abbrev pub set_twice : ℕ → Located
+set_twice index = twice (Set index) (codes "name")
+
 abbrev pub rule_twice : ℕ → Located
 rule_twice index = twice (Rule index) (codes "name")
 
@@ -129,7 +137,8 @@ repetition c =
     (or_else (peers_twice 0 c.ports)
     (or_else (option_map identifier_twice (second nat_eq (identifiers c.objects)))
     (or_else (option_map name_twice (second (pointwise nat_eq) (names c.device c.objects)))
-    (option_map rule_twice (second (pointwise nat_eq) (rule_names c.rules)))))))
+    (or_else (option_map set_twice (second (pointwise nat_eq) (set_names c.sets)))
+    (option_map rule_twice (second (pointwise nat_eq) (rule_names c.rules))))))))
 
 -- law: such a place is told exactly where something stands twice
 abbrev pub RepetitionsAreTold : Type 0

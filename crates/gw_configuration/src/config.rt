@@ -1,14 +1,15 @@
 //! What a gateway is configured with.
-ghost use Rattle.std.specs.Prelude.{◌≡◌, ◌≤◌, length, IsFalse, IsTrue};
+ghost use Rattle.std.specs.Prelude.{◌≡◌, ◌≤◌, ◌||◌, length, IsFalse, IsTrue};
 ghost use Rattle.std.specs.List.{list_all};
 ghost use Rattle.gw_addr.specs.declared.TheConstants.{MAX_PORTS};
-ghost use Rattle.gw_configuration.specs.Configuration.{is_by, is_configurable, is_named};
+ghost use Rattle.gw_rules.specs.Format.{names_stations};
+ghost use Rattle.gw_configuration.specs.Configuration.{is_by, is_configurable, is_named, is_plain};
 ghost use Rattle.gw_configuration.specs.Duplicates.{has_duplicates, unique};
 ghost use Rattle.gw_configuration.specs.Reading.{Finds};
 
 use crate::duplicates::repetition;
-use crate::{Device, Format, Located, Object, Parts, Port, Route};
-use gw_rules::RuleList;
+use crate::{Device, Located, Object, Parts, Port, Route, Set, Text};
+use gw_rules::{Format, RuleList};
 use std::alloc::Global;
 use std::marker::Model;
 
@@ -44,15 +45,7 @@ impl Config {
     pub fn of_parts<'a>(alloc: Global, parts: Parts) -> Result<Self, Located<'a>>
         ensures { Finds (λ c. c) result (unique parts) }
     {
-        let twice = repetition(
-            alloc,
-            parts.device(),
-            parts.ports(),
-            parts.routes(),
-            parts.objects(),
-            parts.rules().rules(),
-        )?;
-        match twice {
+        match repetition(alloc, &parts)? {
             Some(located) => Err(located),
             None => Ok(Config { parts }),
         }
@@ -60,7 +53,11 @@ impl Config {
 
     /// The format of the policy.
     pub fn format(&self) -> Format
-        ensures { result ≡ self.now.format }
+        ensures format { result ≡ self.now.format }
+        // In formats 1 and 2 no port has stations, there is no set and no note, and no rule has more than
+        // four ranges for a field.
+        ensures plain { IsTrue (names_stations self.now.format
+            || is_plain self.now.ports self.now.rules self.now.notes self.now.sets) }
     {
         self.parts.format()
     }
@@ -107,9 +104,24 @@ impl Config {
     /// The policy, of rules whose fields can have what they name, and of which none is named `default`.
     pub fn rules(&self) -> &RuleList
         ensures rules { result.now ≡ self.now.rules }
-        ensures configurable { IsTrue (list_all is_configurable self.now.rules) }
+        ensures configurable { IsTrue (list_all (is_configurable self.now.format) self.now.rules) }
     {
         self.parts.rules()
+    }
+
+    /// The note of each rule in their order, empty where it has none.
+    pub fn notes(&self) -> &[Text]
+        ensures notes { result.now ≡ self.now.notes }
+        ensures each { length self.now.notes ≡ length self.now.rules }
+    {
+        self.parts.notes()
+    }
+
+    /// The sets in order. In formats 1 and 2 there is none.
+    pub fn sets(&self) -> &[Set]
+        ensures { result.now ≡ self.now.sets }
+    {
+        self.parts.sets()
     }
 
     /// The policy, where the rest isn't wanted any more.

@@ -1,13 +1,11 @@
 //! What may stand only once in a configuration.
 ghost use Rattle.std.specs.Prelude.{◌≡◌, ◌++◌, ◌∷◌, codes, length, map, nat_eq, option_map, IfOk, OnOk};
 ghost use Rattle.std.specs.Cmp.Lexicographic.{pointwise};
-ghost use Rattle.gw_configuration.specs.Configuration.{Configuration};
-ghost use Rattle.gw_configuration.specs.declared.format.Format.{Format};
 ghost use Rattle.gw_configuration.specs.Duplicates as spec;
 ghost use Rattle.gw_configuration.specs.Located.{located_view};
-ghost use Rattle.gw_configuration.specs.Duplicates.{identifier, identifiers, names, peer_addresses, peers_twice, port_addresses, repetition, rule_names, second, twice, type_number};
+ghost use Rattle.gw_configuration.specs.Duplicates.{identifier, identifiers, names, peer_addresses, peers_twice, port_addresses, repetition, rule_names, second, set_names, twice, type_number};
 
-use crate::{ConfigFault, Device, Located, Object, ObjectValue, Place, Port, Route};
+use crate::{ConfigFault, Device, Located, Object, ObjectValue, Parts, Place, Port, Route, Set};
 use gw_addr::BdtEntry;
 use gw_rules::Rule;
 use std::alloc::{AllocError, Global};
@@ -18,22 +16,12 @@ use std::collections::BTreeSet;
 #[tactic(auto, unfolding(crate::specs::Duplicates::repetition))]
 pub(crate) fn repetition<'a>(
     alloc: Global,
-    device: &Device,
-    ports: &[Port],
-    routes: &[Route],
-    objects: &[Object],
-    rules: &[Rule],
+    parts: &Parts,
 ) -> Result<Option<Located<'a>>, AllocError>
-    ensures { (format : Format) → let parts : Configuration = record {
-      format = format;
-      device = device.now;
-      ports = ports.now;
-      routes = routes.now;
-      objects = objects.now;
-      rules = rules.now;
-    } in IfOk result (λ l. option_map located_view l ≡ repetition parts) }
+    ensures { IfOk result (λ l. option_map located_view l ≡ repetition parts.now) }
 {
-    if let Some(located) = network_twice(alloc, device, ports, routes)? {
+    let (device, ports, objects) = (parts.device(), parts.ports(), parts.objects());
+    if let Some(located) = network_twice(alloc, device, ports, parts.routes())? {
         return Ok(Some(located));
     }
     if let Some(located) = address_twice(alloc, ports)? {
@@ -48,7 +36,10 @@ pub(crate) fn repetition<'a>(
     if let Some(located) = name_twice(alloc, device, objects)? {
         return Ok(Some(located));
     }
-    rule_twice(alloc, rules)
+    if let Some(located) = set_twice(alloc, parts.sets())? {
+        return Ok(Some(located));
+    }
+    rule_twice(alloc, parts.rules().rules())
 }
 
 /// This key stands there for the second time.
@@ -232,6 +223,26 @@ fn name_twice<'a>(
     match second_name(alloc, device, objects)? {
         Some(0) => Ok(Some(twice(Place::Device, "name"))),
         Some(index) => Ok(Some(twice(Place::Object(index - 1), "name"))),
+        None => Ok(None),
+    }
+}
+
+fn second_set(alloc: Global, sets: &[Set]) -> Result<Option<usize>, AllocError>
+    ensures { IfOk result (λ p. p ≡ second (pointwise nat_eq) (set_names sets.now)) }
+{
+    let mut all = Vec::new(alloc);
+    for set in sets {
+        all.push(set.name.as_str())?;
+    }
+    second_text(alloc, &all)
+}
+
+fn set_twice<'a>(alloc: Global, sets: &[Set]) -> Result<Option<Located<'a>>, AllocError>
+    ensures { let found = option_map spec.set_twice (second (pointwise nat_eq) (set_names sets.now)) in
+        IfOk result (λ l. option_map located_view l ≡ found) }
+{
+    match second_set(alloc, sets)? {
+        Some(index) => Ok(Some(twice(Place::Set(index), "name"))),
         None => Ok(None),
     }
 }

@@ -2,22 +2,30 @@
 //! nothing: its contract is the laws.
 
 ghost use Rattle.std.specs.Prelude.{◌≡◌};
+ghost use Rattle.gw_addr.specs.declared.bip.BipAddr.{BipAddr};
+ghost use Rattle.gw_addr.specs.Address.{IsAddress, big_endian, octets_of};
+ghost use Rattle.gw_rules.specs.Range.{holds};
 ghost use Rattle.gw_configuration.specs.Configuration.{format_of};
+ghost use Rattle.gw_configuration.specs.Subnet as spec;
+ghost use Rattle.gw_configuration.specs.Subnet.{IsSubnet, keys_of, subnet_holds};
 ghost use Rattle.gw_configuration.specs.Duplicates.{RepetitionsAreTold};
-ghost use Rattle.gw_configuration.specs.declared.format.Format.TheVariants.{One, Two};
+ghost use Rattle.gw_rules.specs.declared.format.Format.TheVariants.{One, Three, Two};
 
+use crate::Subnet;
 use crate::instance::MAX_INSTANCE;
 use crate::object::MAX_STATES;
 use crate::parts::{MAX_OBJECTS, MAX_ROUTES};
 use crate::port::MAX_PEERS;
+use crate::stations::MAX_STATIONS;
 use crate::text::MAX_TEXT;
 use gw_addr::MAX_PORTS;
 
-/// The limits are 8 ports, 64 peers of each, 512 routes, 256 objects, 64 states of each, 255 octets of a
+/// The limits are 8 ports, 64 peers of each, 16 subnets of each, 512 routes, 256 objects, 64 states of each, 255 octets of a
 /// text, and the last instance, 4194302.
 pub fn limits()
     ensures ports { MAX_PORTS ≡ 8 }
     ensures peers { MAX_PEERS ≡ 64 }
+    ensures stations { MAX_STATIONS ≡ 16 }
     ensures routes { MAX_ROUTES ≡ 512 }
     ensures objects { MAX_OBJECTS ≡ 256 }
     ensures states { MAX_STATES ≡ 64 }
@@ -25,10 +33,23 @@ pub fn limits()
     ensures instance { MAX_INSTANCE ≡ 4194302 }
 {}
 
-/// The number 1 is the first format, 2 the second.
+/// The number 1 is the first format, 2 the second, 3 the third.
 pub fn formats()
     ensures one { format_of 1 ≡ One }
     ensures two { format_of 2 ≡ Two }
+    ensures three { format_of 3 ≡ Three }
+{}
+
+/// Each value of the type keeps so many bits of its network and has zeros behind them.
+pub fn fits(subnet: Subnet)
+    ensures { IsSubnet subnet }
+{}
+
+/// A subnet has an address exactly where the address's key is one of its keys.
+#[tactic(auto, using(crate::proofs::Keys::holds_key))]
+pub fn subnets()
+    ensures { (s : spec.Subnet) (a : BipAddr) → IsSubnet s → IsAddress a →
+        subnet_holds s a ≡ holds (big_endian (octets_of a)) (keys_of s) }
 {}
 
 /// A place where something stands for the second time is told exactly where something stands twice that

@@ -23,6 +23,8 @@ pub enum Place {
     Route(usize),
     /// An object.
     Object(usize),
+    /// A set.
+    Set(usize),
     /// A rule.
     Rule(usize),
 }

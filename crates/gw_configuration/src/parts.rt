@@ -1,12 +1,15 @@
 //! The parts of a configuration, before it is judged what stands twice.
-ghost use Rattle.std.specs.Prelude.{◌≡◌, ◌≤◌, Some, None, length, if◌then◌else◌, IsTrue};
+ghost use Rattle.std.specs.Prelude.{◌≡◌, ◌≤◌, ◌==◌, ◌&&◌, ◌||◌, Some, None, length, if◌then◌else◌, IsTrue};
 ghost use Rattle.std.specs.List.{list_all};
 ghost use Rattle.gw_addr.specs.declared.TheConstants.{MAX_PORTS};
-ghost use Rattle.gw_configuration.specs.Configuration.{Configuration, are_named, is_by, is_configurable, is_named, keeps_limits};
+ghost use Rattle.gw_rules.specs.Format.{names_stations};
+ghost use Rattle.gw_rules.specs.Rule.{has_few_ranges};
+ghost use Rattle.gw_rules.specs.RuleList.{keeps_counts as has_short_fields};
+ghost use Rattle.gw_configuration.specs.Configuration.{Configuration, are_named, is_by, is_configurable, is_named, is_plain, keeps_limits, keeps_rules};
 
-use crate::{Device, Format, Object, Port, Route};
+use crate::{Device, Object, Policing, Port, Route, Set, Text};
 use gw_addr::{MAX_PORTS, Sequence};
-use gw_rules::{Rule, RuleList, RuleName};
+use gw_rules::{FieldName, Format, MAX_RANGES, Rule, RuleList, RuleName};
 use std::marker::Model;
 
 /// How many routes it starts with at most.
@@ -21,7 +24,7 @@ pub struct Parts {
     ports: Sequence<Port>,
     routes: Sequence<Route>,
     objects: Sequence<Object>,
-    rules: RuleList,
+    policy: Policing,
 }
 
 // By hand: a derived one is proved part by part wherever one is dropped (docs/GATE.md).
@@ -33,16 +36,17 @@ impl Drop for Parts {
             ports: _,
             routes: _,
             objects: _,
-            rules: _,
+            policy: _,
         } = self;
     }
 }
 
 impl Model for Parts {
-    ghost use Rattle.std.specs.Prelude.{◌≤◌, length, IsTrue};
+    ghost use Rattle.std.specs.Prelude.{◌≡◌, ◌≤◌, ◌||◌, length, IsTrue};
     ghost use Rattle.std.specs.List.{list_all};
+    ghost use Rattle.gw_rules.specs.Format.{names_stations};
     ghost use Rattle.gw_addr.specs.declared.TheConstants.{MAX_PORTS};
-    ghost use Rattle.gw_configuration.specs.Configuration.{Configuration, are_named, is_by, is_configurable};
+    ghost use Rattle.gw_configuration.specs.Configuration.{Configuration, are_named, is_by, is_plain, keeps_rules};
 
     ghost Value = { Configuration };
 
@@ -52,25 +56,31 @@ impl Model for Parts {
       ports = c.ports;
       routes = c.routes;
       objects = c.objects;
-      rules = c.rules;
+      rules = c.policy.rules;
+      notes = c.policy.notes;
+      sets = c.policy.sets;
     } };
 
     ghost invariant = { λ c. (1 ≤ length c.ports) × ((length c.ports ≤ MAX_PORTS) × ((length c.routes ≤ 512)
         × ((length c.objects ≤ 256) × (IsTrue (list_all (is_by (length c.ports)) c.routes)
-        × (IsTrue (are_named c.device c.objects) × IsTrue (list_all is_configurable c.rules)))))) };
+        × (IsTrue (are_named c.device c.objects) × (IsTrue (keeps_rules c.format c.policy.rules c.policy.notes)
+        × IsTrue (names_stations c.format
+        || is_plain c.ports c.policy.rules c.policy.notes c.policy.sets))))))) };
 }
 
 impl Parts {
     /// These parts, or `None` if a limit isn't kept: there is no port or more than 8, there are more
     /// than 512 routes or 256 objects, a route is by a port that isn't there, the device or an object has
-    /// an empty name, or a rule is named `default` or names what its field can't have.
+    /// an empty name, there isn't a note for each rule, or a rule is named `default` or names what its
+    /// field can't have; or if the format is 1 or 2, and a port has stations, there is a set or a note that
+    /// isn't empty, or a rule has more than four ranges for a field.
     pub fn new(
         format: Format,
         device: Device,
         ports: Sequence<Port>,
         routes: Sequence<Route>,
         objects: Sequence<Object>,
-        rules: RuleList,
+        policy: Policing,
     ) -> Option<Self>
         ensures { let parts : Configuration = record {
           format = format;
@@ -78,18 +88,20 @@ impl Parts {
           ports = ports;
           routes = routes;
           objects = objects;
-          rules = rules;
+          rules = policy.rules;
+          notes = policy.notes;
+          sets = policy.sets;
         } in result ≡ (if keeps_limits parts then Some parts else None) }
     {
         let few = !ports.is_empty()
             && ports.len() <= MAX_PORTS
             && routes.len() <= MAX_ROUTES
             && objects.len() <= MAX_OBJECTS;
-        let named = are_named(&device, objects.as_slice());
         if few
             && are_by(ports.len(), routes.as_slice())
-            && named
-            && are_configurable(rules.rules())
+            && are_named(&device, objects.as_slice())
+            && keeps_rules(format, &policy)
+            && (format.names_stations() || is_plain(ports.as_slice(), &policy))
         {
             Some(Parts {
                 format,
@@ -97,7 +109,7 @@ impl Parts {
                 ports,
                 routes,
                 objects,
-                rules,
+                policy,
             })
         } else {
             None
@@ -106,7 +118,11 @@ impl Parts {
 
     /// The format of the policy.
     pub fn format(&self) -> Format
-        ensures { result ≡ self.now.format }
+        ensures format { result ≡ self.now.format }
+        // In formats 1 and 2 no port has stations, there is no set and no note, and no rule has more than
+        // four ranges for a field.
+        ensures plain { IsTrue (names_stations self.now.format
+            || is_plain self.now.ports self.now.rules self.now.notes self.now.sets) }
     {
         self.format
     }
@@ -149,9 +165,24 @@ impl Parts {
     /// The policy, of rules whose fields can have what they name, and of which none is named `default`.
     pub fn rules(&self) -> &RuleList
         ensures rules { result.now ≡ self.now.rules }
-        ensures configurable { IsTrue (list_all is_configurable self.now.rules) }
+        ensures configurable { IsTrue (list_all (is_configurable self.now.format) self.now.rules) }
     {
-        &self.rules
+        &self.policy.rules
+    }
+
+    /// The note of each rule in their order, empty where it has none.
+    pub fn notes(&self) -> &[Text]
+        ensures notes { result.now ≡ self.now.notes }
+        ensures each { length self.now.notes ≡ length self.now.rules }
+    {
+        self.policy.notes.as_slice()
+    }
+
+    /// The sets in order.
+    pub fn sets(&self) -> &[Set]
+        ensures { result.now ≡ self.now.sets }
+    {
+        self.policy.sets.as_slice()
     }
 
     /// The policy, where the rest isn't wanted any more.
@@ -164,9 +195,9 @@ impl Parts {
             ports: _,
             routes: _,
             objects: _,
-            rules,
+            policy,
         } = self;
-        rules
+        policy.into_rules()
     }
 }
 
@@ -192,9 +223,60 @@ fn have_names(objects: &[Object]) -> bool
         .all(|object| !object.name.as_str().is_empty())
 }
 
-/// Whether a configuration can have each of these rules.
-fn are_configurable(rules: &[Rule]) -> bool
-    ensures { result ≡ list_all is_configurable rules.now }
+/// Whether there is a note for each rule, and a configuration of the format can have each of them.
+fn keeps_rules(format: Format, policy: &Policing) -> bool
+    ensures { result ≡ keeps_rules format policy.now.rules policy.now.notes }
 {
-    rules.iter().all(|rule| !RuleName::is_no_rule(rule.name.as_str()) && rule.is_bounded())
+    let rules = policy.rules.rules();
+    policy.notes.len() == rules.len() && are_configurable(format, rules)
+}
+
+/// Whether a configuration of the format can have each of these rules.
+fn are_configurable(format: Format, rules: &[Rule]) -> bool
+    ensures { result ≡ list_all (is_configurable format) rules.now }
+{
+    rules.iter().all(|rule| !RuleName::is_no_rule(rule.name.as_str()) && rule.is_bounded(format))
+}
+
+/// Whether these parts have nothing that a configuration of format 1 or 2 doesn't have.
+fn is_plain(ports: &[Port], policy: &Policing) -> bool
+    ensures { result ≡ is_plain ports.now policy.now.rules policy.now.notes policy.now.sets }
+{
+    name_no_stations(ports)
+        && have_short_fields(&policy.rules)
+        && are_empty(policy.notes.as_slice())
+        && policy.sets.is_empty()
+}
+
+fn name_no_stations(ports: &[Port]) -> bool
+    ensures { result ≡ list_all (λ port. length port.stations == 0) ports.now }
+{
+    ports.iter().all(|port| port.stations.as_slice().is_empty())
+}
+
+fn are_empty(notes: &[Text]) -> bool
+    ensures { result ≡ list_all (λ note. length note == 0) notes.now }
+{
+    notes.iter().all(|note| note.as_str().is_empty())
+}
+
+/// Whether each rule of the list has at most four ranges for each field.
+fn have_short_fields(list: &RuleList) -> bool
+    ensures { result ≡ has_short_fields list.now }
+{
+    have_few_ranges(list.rules())
+}
+
+fn have_few_ranges(rules: &[Rule]) -> bool
+    ensures { result ≡ list_all has_few_ranges rules.now }
+{
+    rules.iter().all(|rule| has_few_ranges(rule))
+}
+
+fn has_few_ranges(rule: &Rule) -> bool
+    ensures { result ≡ has_few_ranges rule.now }
+{
+    FieldName::ALL
+        .iter()
+        .all(|field| rule.ranges(*field).len() <= MAX_RANGES)
 }

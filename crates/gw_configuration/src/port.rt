@@ -1,6 +1,7 @@
 //! The ports of a gateway.
 ghost use Rattle.std.specs.Prelude.{◌≡◌, ◌≤◌, Some, None, length, nat_le, if◌then◌else◌};
 
+use crate::Stations;
 use gw_addr::{BdtEntry, BipAddr, NetNum, Sequence};
 use std::marker::Model;
 
@@ -15,6 +16,8 @@ pub struct Port {
     pub address: BipAddr,
     /// Where a broadcast on it goes (Annex J.1.2).
     pub broadcast: BipAddr,
+    /// The stations of the network, which any may be where there is none.
+    pub stations: Stations,
     /// The broadcast managers of the other subnets with which it starts, at most 64 of which no two
     /// have one address (Annex J.4).
     pub peers: Peers,
@@ -27,6 +30,7 @@ impl Drop for Port {
             network: _,
             address: _,
             broadcast: _,
+            stations: _,
             peers: _,
         } = self;
     }

@@ -1,5 +1,18 @@
 //! What the value at a key may be.
 
+use gw_rules::Format;
+
+/// The names that a configuration may have in the place of a number, as the log tells it.
+#[derive(Clone, Copy)]
+pub enum Names {
+    /// Those of services, messages, functions and types of PDUs.
+    Services,
+    /// Those of the types of objects.
+    ObjectTypes,
+    /// Those of properties.
+    Properties,
+}
+
 /// What a single value may be.
 #[derive(Clone, Copy)]
 pub enum Scalar {
@@ -13,8 +26,8 @@ pub enum Scalar {
     Text { least: usize },
     /// The name of a rule.
     RuleName,
-    /// An operation, by its name.
-    Operation,
+    /// An operation that a rule of this format can name, by its name.
+    Operation(Format),
     /// True or false.
     Boolean,
     /// An address, `a.b.c.d:port`.
@@ -23,6 +36,16 @@ pub enum Scalar {
     Mask,
     /// A table.
     Table,
+    /// A number of the field that has these names, or one of the names.
+    Named(Names),
+    /// Stations of BACnet/IP: one by its address, `a.b.c.d:port`; those at every UDP port of a node,
+    /// `a.b.c.d`, or of a subnet, `a.b.c.d/n`.
+    Stations,
+    /// A subnet, `a.b.c.d/n`.
+    Subnet,
+    /// An item of a set, whatever the field is in whose rule it is named: a text that doesn't begin with
+    /// `@`, a whole number, or a list of two.
+    Item,
 }
 
 /// What the value at a key may be.
@@ -39,4 +62,7 @@ pub enum Shape {
     /// A list of one to four items for a field of a rule, each of which is one value, or a list of
     /// two, low and high.
     Ranges(Scalar),
+    /// A list of one to 64 items for a field of a rule, each of which is one value, a list of two, low and
+    /// high, or `@` and the name of a set, whose items are meant; at most 256 in all.
+    Items(Scalar),
 }

@@ -1,4 +1,5 @@
 pub mod Explanation
+pub mod Near
 pub mod Place
 pub mod Told
 pub mod Wanted

@@ -3,7 +3,7 @@ use Rattle.std.specs.Prelude.{ℕ, List, [], ◌++◌, codes, Option, Some, None
 use Rattle.toml.specs.Data.{Data, Members, as_str, as_table, at, get_member}
 use Rattle.gw_configuration.specs.declared.located.Place.{Place}
 use Rattle.gw_configuration.specs.declared.located.Place.TheVariants.{Text, Top, Device, Port, Peer, Route}
-use Rattle.gw_configuration.specs.declared.located.Place.TheVariants.{Object, Rule}
+use Rattle.gw_configuration.specs.declared.located.Place.TheVariants.{Object, Set, Rule}
 use Rattle.gw_configuration.specs.Located.{Located, numbered}
 
 -- what stands at a place
@@ -22,15 +22,17 @@ table_at (Peer port peer) top =
     option_and_then (listed_table (codes "peer") peer) (listed_table (codes "port") port top)
 table_at (Route route) top = listed_table (codes "route") route top
 table_at (Object object) top = listed_table (codes "object") object top
+table_at (Set set) top = listed_table (codes "set") set top
 table_at (Rule rule) top = listed_table (codes "rule") rule top
 
 -- the text at the key `name`
 abbrev pub name_in : Option Members → Option (List ℕ)
 name_in found = option_and_then as_str (option_and_then (get_member (codes "name")) found)
 
--- the name of an object or a rule, where it is a text
+-- the name of an object, a set or a rule, where it is a text
 abbrev pub name_at : Place → Members → Option (List ℕ)
 name_at (Object object) top = name_in (table_at (Object object) top)
+name_at (Set set) top = name_in (table_at (Set set) top)
 name_at (Rule rule) top = name_in (table_at (Rule rule) top)
 name_at _ top = None
 
@@ -55,6 +57,7 @@ table_words (Port port) = numbered (codes "port ") port
 table_words (Peer port peer) = numbered (codes "port ") port ++ numbered (codes ": peer ") peer
 table_words (Route route) = numbered (codes "route ") route
 table_words (Object object) = numbered (codes "object ") object
+table_words (Set set) = numbered (codes "set ") set
 table_words (Rule rule) = numbered (codes "rule ") rule
 
 -- a name in quotes

@@ -4,6 +4,7 @@
 mod diagnosis;
 mod explanation;
 pub mod laws;
+mod near;
 mod reason;
 mod told;
 mod words;

@@ -1,21 +1,27 @@
 //! What is wanted at the place of a fault, in words.
 ghost use Rattle.std.specs.Prelude.{◌≡◌, ◌<◌, ◌++◌, length, map, option_map, MatchOption, OnOk};
-ghost use Rattle.std.specs.List.{after_first, before_first, position_or_len};
+ghost use Rattle.std.specs.List.{after_first, before_first, list_any, position_or_len};
 ghost use Rattle.toml.specs.View.{table_view, view};
 ghost use Rattle.gw_addr.specs.Address.{text_of};
 ghost use Rattle.gw_configuration.specs.Located.{located_view};
-ghost use Rattle.gw_explanation.specs.Wanted.{address_text, addresses_words, bits_in, bounds_words, due_words, every_port_words, first_address, first_octet, fixed_words, host_bits, is_reversed, is_slash, item_words, kind_at, kind_words, last_address, last_octet, length_range_words, length_words, list_kind_words, list_noun, list_words, missing_words, must_words, number_words, other_front, other_words, range_words, reversed_ends, scalar_words, shape_words, subnet_in, subnet_words, twice_words, two_front, two_words, type_words, wanted_words, within_32};
+ghost use Rattle.gw_config_tables.specs.Range.{bounds_of};
+ghost use Rattle.gw_explanation.specs.Place.{name_in};
+ghost use Rattle.toml.specs.Data.{as_table};
+ghost use Rattle.gw_explanation.specs.Wanted.{address_text, addresses_words, bits_in, bounds_words, due_words, end_of, every_port_words, first_address, first_octet, fixed_words, has_named, host_bits, is_reversed, is_slash, is_named, item_words, kind_at, kind_words, known, last_address, last_octet, length_range_words, length_words, list_kind_words, list_noun, list_words, long_item_words, long_length_words, mention_in, mention_words, missing_words, must_words, name_words, named_text, named_words, number_words, other_front, other_words, range_words, reversed_ends, scalar_words, shape_words, straight_words, subnet_in, subnet_words, twice_words, two_front, two_words, type_words, wanted_words, within_32};
 
+use crate::near::{noun_of, put_near};
 use crate::told::{put_value, value_at};
 use crate::words::table_at;
 use gw_addr::{BipAddr, Mask, put_decimal};
 use gw_config_tables::range::between;
 use gw_config_tables::value::{self, mask_of, member, string};
-use gw_configuration::{ConfigFault, Located, MAX_TEXT, Scalar, Shape};
-use gw_rules::MAX_RANGES;
+use gw_configuration::{ConfigFault, Format, Located, MAX_TEXT, Names, Scalar, Shape};
+use gw_rules::{FieldName, MAX_RANGES, Range};
 use std::alloc::AllocError;
 use toml::{Table, Value};
 
+/// How many items a list for a field of a rule of format 3 may have.
+const MAX_ITEMS: usize = 64;
 /// How many bits an octet has.
 const OCTET_BITS: u8 = 8;
 /// How many bits an address has.
@@ -26,6 +32,9 @@ const TYPES: &str =
 /// The operations, each by its name.
 const OPERATIONS: &str =
     "cast, route, register, delete, read-table, write-table, learn, network, read, write, list";
+/// Those of format 3.
+const LONG_OPERATIONS: &str =
+    "cast, route, register, delete, read-table, write-table, learn, network, read, write, list, enter, claim";
 
 /// Puts what is wanted at the place of a fault, behind what is told of it. `AllocError` where memory was
 /// refused.
@@ -42,24 +51,24 @@ pub(crate) fn put_wanted(
     match located.fault {
         ConfigFault::UnknownKey => Ok(()),
         ConfigFault::Duplicate => put_twice(line, kind),
-        fault => put_shape(line, fault, located.wanted, located.item, value),
+        _ => put_shape(line, located, top, value),
     }
 }
 
 /// Puts what is wanted of a value, by the shape of its field.
 fn put_shape(
     line: &mut Vec<u8>,
-    fault: ConfigFault,
-    wanted: Option<Shape>,
-    item: Option<usize>,
+    located: &Located<'_>,
+    top: &Table,
     value: Option<&Value>,
 ) -> Result<(), AllocError>
-    ensures { let words = shape_words fault wanted item (option_map (λ v. view v.now) value.entry) in
+    ensures { let found = located.now in let words =
+        shape_words (table_view top.now) found.fault found.wanted found.item (option_map (λ v. view v.now) value.entry) in
         OnOk result (line.new.items ≡ line.old.items ++ words) }
 {
-    match (wanted, value) {
+    match (located.wanted, value) {
         (Some(shape), None) => put_missing(line, shape),
-        (Some(shape), Some(value)) => put_must(line, fault, shape, item, value),
+        (Some(shape), Some(value)) => put_must(line, located, shape, value, top),
         (None, _) => line.extend_from_slice(b"is at fault"),
     }
 }
@@ -111,7 +120,7 @@ fn put_due(line: &mut Vec<u8>, shape: Shape) -> Result<(), AllocError>
     match shape {
         Shape::One(of) => put_range(line, of),
         Shape::List { of, least, most } => put_list(line, of, least, most),
-        Shape::Ranges(of) => put_range(line, of),
+        Shape::Ranges(of) | Shape::Items(of) => put_range(line, of),
     }
 }
 
@@ -129,6 +138,7 @@ fn list_noun(of: Scalar) -> &'static str
 {
     match of {
         Scalar::Table => " tables in double brackets",
+        Scalar::Item => " items in a list",
         _ => " texts in a list",
     }
 }
@@ -136,20 +146,111 @@ fn list_noun(of: Scalar) -> &'static str
 /// Puts what a value must be.
 fn put_must(
     line: &mut Vec<u8>,
-    fault: ConfigFault,
+    located: &Located<'_>,
     shape: Shape,
-    item: Option<usize>,
     value: &Value,
+    top: &Table,
 ) -> Result<(), AllocError>
-    ensures { let words = must_words fault shape item (view value.now) in
+    ensures { let words = must_words (table_view top.now) located.now.fault shape located.now.item (view value.now) in
         OnOk result (line.new.items ≡ line.old.items ++ words) }
 {
-    match (shape, item) {
+    let fault = located.fault;
+    match (shape, located.item) {
         (Shape::One(of), _) => put_scalar(line, fault, of),
         (Shape::List { of, .. }, Some(_)) => put_scalar(line, fault, of),
         (Shape::List { of, least, most }, None) => put_length(line, fault, of, least, most),
         (Shape::Ranges(of), Some(_)) => put_item(line, fault, of, value),
         (Shape::Ranges(of), None) => put_length(line, fault, of, 1, MAX_RANGES),
+        (Shape::Items(of), Some(_)) => put_long_item(line, fault, of, value, top),
+        (Shape::Items(of), None) => put_long_length(line, fault, of),
+    }
+}
+
+/// Puts what an item for a field of a rule of format 3 must be.
+fn put_long_item(
+    line: &mut Vec<u8>,
+    fault: ConfigFault,
+    of: Scalar,
+    item: &Value,
+    top: &Table,
+) -> Result<(), AllocError>
+    ensures { let words = long_item_words (table_view top.now) fault of (view item.now) (mention_in (view item.now)) in
+        OnOk result (line.new.items ≡ line.old.items ++ words) }
+{
+    match mention_in(item) {
+        Some(name) => put_mention(line, is_known(top, name), fault, of),
+        None => put_item(line, fault, of, item),
+    }
+}
+
+/// The name of the set that an item names.
+fn mention_in(item: &Value) -> Option<&str>
+    ensures { option_map (λ name. name.now) result ≡ mention_in (view item.now) }
+{
+    string(item)?.strip_prefix('@')
+}
+
+/// Whether there is a set of this name.
+fn is_known(top: &Table, name: &str) -> bool
+    ensures { result ≡ known (table_view top.now) name.now }
+{
+    match member(top, "set") {
+        Some(sets) => match value::list(sets) {
+            Ok(tables) => has_named(tables, name),
+            Err(_) => false,
+        },
+        None => false,
+    }
+}
+
+fn has_named(tables: &[Value], name: &str) -> bool
+    ensures { result ≡ list_any (λ table. is_named name.now (view table)) tables.now }
+{
+    tables.iter().any(|table| is_named(name, table))
+}
+
+fn is_named(name: &str, table: &Value) -> bool
+    ensures { result ≡ is_named name.now (view table.now) }
+{
+    match name_in(table) {
+        Some(other) => name == other,
+        None => false,
+    }
+}
+
+/// The text at the key `name`.
+fn name_in(table: &Value) -> Option<&str>
+    ensures { option_map (λ n. n.now) result ≡ name_in (as_table (view table.now)) }
+{
+    string(member(table.as_table()?, "name")?)
+}
+
+/// Puts, of an item that names a set, that there is none, or that the field can't have one of its items.
+fn put_mention(
+    line: &mut Vec<u8>,
+    known: bool,
+    fault: ConfigFault,
+    of: Scalar,
+) -> Result<(), AllocError>
+    ensures { OnOk result (line.new.items ≡ line.old.items ++ mention_words known fault of) }
+{
+    if !known {
+        return line.extend_from_slice(b" is no set");
+    }
+    line.extend_from_slice(b" has an item that")?;
+    put_scalar(line, fault, of)?;
+    line.extend_from_slice(two_front(of).as_bytes())
+}
+
+/// Puts how many items there may be.
+fn put_long_length(line: &mut Vec<u8>, fault: ConfigFault, of: Scalar) -> Result<(), AllocError>
+    ensures { OnOk result (line.new.items ≡ line.old.items ++ long_length_words fault of) }
+{
+    match fault {
+        ConfigFault::TooMany => line.extend_from_slice(
+            b" must have 1 to 64, at most 256 with the items of its sets, and 2048 with those of all rules",
+        ),
+        _ => put_length(line, fault, of, 1, MAX_ITEMS),
     }
 }
 
@@ -178,7 +279,7 @@ fn other_front(of: Scalar) -> &'static str
     ensures { result.now ≡ other_front of }
 {
     match of {
-        Scalar::ObjectType | Scalar::Operation => " is none of ",
+        Scalar::ObjectType | Scalar::Operation(_) => " is none of ",
         _ => " must be ",
     }
 }
@@ -196,8 +297,45 @@ fn put_item(
     if is_reversed(of, item) {
         return line.extend_from_slice(b" is reversed: the low end comes before the high one");
     }
-    put_scalar(line, fault, of)?;
-    put_two(line, of, item)
+    put_straight(line, fault, of, item)
+}
+
+/// Puts what an item must be that isn't the other way round.
+fn put_straight(
+    line: &mut Vec<u8>,
+    fault: ConfigFault,
+    of: Scalar,
+    item: &Value,
+) -> Result<(), AllocError>
+    ensures { let words = straight_words fault of (view item.now) (named_text of (view item.now)) in
+        OnOk result (line.new.items ≡ line.old.items ++ words) }
+{
+    match named_text(of, item) {
+        Some((names, text)) => put_name(line, names, text),
+        None => {
+            put_scalar(line, fault, of)?;
+            put_two(line, of, item)
+        }
+    }
+}
+
+/// The text where a number or a name is due.
+fn named_text(of: Scalar, item: &Value) -> Option<(Names, &str)>
+    ensures { option_map (λ x. (x.0, x.1.now)) result ≡ named_text of (view item.now) }
+{
+    match of {
+        Scalar::Named(names) => Some((names, string(item)?)),
+        _ => None,
+    }
+}
+
+/// Puts that a text is no such name, and the one that it may be meant as.
+fn put_name(line: &mut Vec<u8>, names: Names, text: &str) -> Result<(), AllocError>
+    ensures { OnOk result (line.new.items ≡ line.old.items ++ name_words names text.now) }
+{
+    line.extend_from_slice(b" is no ")?;
+    line.extend_from_slice(noun_of(names).as_bytes())?;
+    put_near(line, names, text)
 }
 
 /// Puts that an item may be two values.
@@ -212,7 +350,7 @@ fn two_front(of: Scalar) -> &'static str
     ensures { result.now ≡ two_front of }
 {
     match of {
-        Scalar::Operation => "",
+        Scalar::Operation(_) => "",
         _ => ", or a list of two such, low and high",
     }
 }
@@ -237,11 +375,27 @@ fn is_reversed(of: Scalar, item: &Value) -> bool
     }
 }
 
+/// What the ends of a list of two are: numbers, where a number or a name is due.
+fn end_of(of: Scalar) -> Scalar
+    ensures { result ≡ end_of of }
+{
+    match of {
+        Scalar::Named(names) => {
+            let bounds = bounds_of(names);
+            Scalar::Number {
+                low: bounds.low,
+                high: bounds.high,
+            }
+        }
+        _ => of,
+    }
+}
+
 fn are_reversed(of: Scalar, ends: &[Value]) -> bool
     ensures { result ≡ reversed_ends of (map view ends.now) }
 {
     match ends {
-        [low, high] => match between(of, high, low) {
+        [low, high] => match between(end_of(of), high, low) {
             Ok(_) => true,
             Err(_) => false,
         },
@@ -429,11 +583,15 @@ fn kind_words(of: Scalar) -> &'static str
 {
     match of {
         Scalar::Number { .. } | Scalar::Signed | Scalar::ObjectType => "a whole number",
-        Scalar::Text { .. } | Scalar::RuleName | Scalar::Operation => "a text in quotes",
+        Scalar::Text { .. } | Scalar::RuleName | Scalar::Operation(_) => "a text in quotes",
         Scalar::Address => "an address in quotes",
         Scalar::Mask => "a mask in quotes",
         Scalar::Boolean => "true or false",
         Scalar::Table => "a table",
+        Scalar::Named(_) => "a whole number or a name in quotes",
+        Scalar::Stations => "an address or a subnet in quotes",
+        Scalar::Subnet => "a subnet in quotes",
+        Scalar::Item => "a text in quotes, a whole number or a list of two",
     }
 }
 
@@ -444,14 +602,18 @@ fn put_range(line: &mut Vec<u8>, of: Scalar) -> Result<(), AllocError>
     match of {
         Scalar::Number { low, high } => put_number(line, low, high),
         Scalar::Text { least } => put_length_range(line, least),
+        Scalar::Named(names) => put_named(line, names),
         Scalar::Signed
         | Scalar::ObjectType
         | Scalar::RuleName
-        | Scalar::Operation
+        | Scalar::Operation(_)
         | Scalar::Address
         | Scalar::Mask
         | Scalar::Boolean
-        | Scalar::Table => line.extend_from_slice(fixed_words(of).as_bytes()),
+        | Scalar::Table
+        | Scalar::Stations
+        | Scalar::Subnet
+        | Scalar::Item => line.extend_from_slice(fixed_words(of).as_bytes()),
     }
 }
 
@@ -469,16 +631,40 @@ fn fixed_words(of: Scalar) -> &'static str
     ensures { result.now ≡ fixed_words of }
 {
     match of {
-        Scalar::Number { .. } | Scalar::Text { .. } => "",
+        Scalar::Number { .. } | Scalar::Text { .. } | Scalar::Named(_) => "",
         Scalar::Signed => "-2147483648 to 2147483647",
         Scalar::ObjectType => TYPES,
         Scalar::RuleName => "1 to 32 of a to z, 0 to 9 and -, and not default",
-        Scalar::Operation => OPERATIONS,
+        Scalar::Operation(Format::Three) => LONG_OPERATIONS,
+        Scalar::Operation(_) => OPERATIONS,
         Scalar::Address => "an address and its UDP port, as 10.0.1.255:47808",
         Scalar::Mask => "a mask as 255.255.255.0",
         Scalar::Boolean => "true or false",
         Scalar::Table => "a table",
+        Scalar::Stations => "an address as 10.0.1.5:47808 or 10.0.1.5, or a subnet as 10.0.1.0/24",
+        Scalar::Subnet => "a subnet as 10.0.1.0/24",
+        Scalar::Item => "a whole number, a list of two, or a text that doesn't begin with @",
     }
+}
+
+/// Puts the range of a number that has a name.
+fn put_named(line: &mut Vec<u8>, names: Names) -> Result<(), AllocError>
+    ensures { OnOk result (line.new.items ≡ line.old.items ++ named_words names) }
+{
+    let bounds = bounds_of(names);
+    put_bounds(line, bounds.low, bounds.high)?;
+    line.extend_from_slice(b" or a name")
+}
+
+fn bounds_of(names: Names) -> Range
+    ensures { result ≡ bounds_of (Scalar.Named names) }
+{
+    let field = match names {
+        Names::Services => FieldName::Service,
+        Names::ObjectTypes => FieldName::ObjectType,
+        Names::Properties => FieldName::Property,
+    };
+    field.bounds(Format::Three)
 }
 
 /// Puts the range of a number. Where there are no states, a default is none of them.

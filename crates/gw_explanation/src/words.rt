@@ -52,6 +52,7 @@ fn put_part(line: &mut Vec<u8>, place: Place) -> Result<(), AllocError>
         }
         Place::Route(route) => put_numbered(line, "route ", route),
         Place::Object(object) => put_numbered(line, "object ", object),
+        Place::Set(set) => put_numbered(line, "set ", set),
         Place::Rule(rule) => put_numbered(line, "rule ", rule),
     }
 }
@@ -104,12 +105,12 @@ fn put_item(line: &mut Vec<u8>, item: Option<usize>) -> Result<(), AllocError>
     }
 }
 
-/// The name of a rule or an object, where it is a text.
+/// The name of an object, a set or a rule, where it is a text.
 fn name_at(place: Place, top: &Table) -> Option<&str>
     ensures { option_map (λ n. n.now) result ≡ name_at place (table_view top.now) }
 {
     match place {
-        Place::Object(_) | Place::Rule(_) => string(member(table_at(place, top)?, "name")?),
+        Place::Object(_) | Place::Set(_) | Place::Rule(_) => string(member(table_at(place, top)?, "name")?),
         _ => None,
     }
 }
@@ -126,6 +127,7 @@ pub(crate) fn table_at(place: Place, top: &Table) -> Option<&Table>
         Place::Peer { port, peer } => table_in(table_in(top, "port", port)?, "peer", peer),
         Place::Route(route) => table_in(top, "route", route),
         Place::Object(object) => table_in(top, "object", object),
+        Place::Set(set) => table_in(top, "set", set),
         Place::Rule(rule) => table_in(top, "rule", rule),
     }
 }

@@ -1,3 +1,4 @@
+pub mod Behind
 pub mod Documents
 pub mod Each
 pub mod EachAt

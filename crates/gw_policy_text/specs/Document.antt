@@ -1,5 +1,6 @@
 -- A configuration as it is read from its text.
-use Rattle.std.specs.Prelude.{ℕ, List, length, nat_lt, if◌then◌else◌, Err}
+use Rattle.std.specs.Prelude.{ℕ, List, length, codes, nat_lt, if◌then◌else◌, Ok, Err}
+use Rattle.gw_rules.specs.declared.format.Format.{Format}
 use Rattle.std.specs.Option.{ok_or}
 use Rattle.std.specs.Str.{is_utf8}
 use Rattle.toml.specs.Data.{Members}
@@ -11,12 +12,37 @@ use Rattle.gw_configuration.specs.Configuration.{Configuration}
 use Rattle.gw_configuration.specs.Duplicates.{unique}
 use Rattle.gw_configuration.specs.Located.{Find, Read, of_text, unless, whole, without_place}
 use Rattle.gw_config_tables.specs.Field.{located_in}
-use Rattle.gw_config_tables.specs.Tables.{top_fields}
-use Rattle.gw_policy_text.specs.Parts.{parts_of}
+use Rattle.gw_config_tables.specs.Tables.{format_in, top_fields}
+use Rattle.gw_policy_text.specs.Parts.{device_at, format_at, objects_at, ports_at, routes_at}
+use Rattle.gw_policy_text.specs.Policy.{policy_at}
+
+-- the tables in their order, behind the format
+abbrev pub parts_of_format : Format → Members → Find Configuration
+parts_of_format format top = do
+  device ← device_at (codes "device") top
+  ports ← ports_at format (codes "port") top
+  routes ← routes_at (length ports) (codes "route") top
+  objects ← objects_at (codes "object") top
+  policy ← policy_at format top
+  Ok (record {
+    format = format;
+    device = device;
+    ports = ports;
+    routes = routes;
+    objects = objects;
+    rules = policy.rules;
+    notes = policy.notes;
+    sets = policy.sets;
+  })
+
+-- the format, and then the tables
+abbrev pub parts_of : Members → Find Configuration
+parts_of top = whole (format_at (codes "format") top) >>= λ format. parts_of_format format top
 
 -- the configuration of a document: its tables in their order, and last of all what may not stand twice
 unfoldable pub configuration_of : Members → Find Configuration
-configuration_of top = unless (located_in Top top_fields top) (parts_of top >>= unique)
+configuration_of top =
+    unless (located_in Top (top_fields (format_in top)) top) (parts_of top >>= unique)
 
 -- the TOML document that a text is
 abbrev pub document : List ℕ → Read Members

@@ -1,2 +1,3 @@
 pub mod Document
 pub mod Parts
+pub mod Policy

@@ -1,5 +1,5 @@
 -- How what a gateway is configured with is read from the tables of its text.
-use Rattle.std.specs.Prelude.{ℕ, ◌+◌, ℤ, List, [], ◌∷◌, length, Bool, codes, ◌==◌, nat_lt, not}
+use Rattle.std.specs.Prelude.{ℕ, ◌+◌, ℤ, List, [], ◌∷◌, length, Bool, codes, ◌==◌, ◌||◌, nat_lt}
 use Rattle.std.specs.Prelude.{if◌then◌else◌, Option, Some, None, Ok, Err}
 use Rattle.std.specs.Option.{ok_or, option_map}
 use Rattle.toml.specs.Data.{Data, Members, get_member}
@@ -10,13 +10,10 @@ use Rattle.gw_addr.specs.declared.mask.Mask.{Mask}
 use Rattle.gw_addr.specs.declared.entry.BdtEntry.{BdtEntry}
 use Rattle.gw_rules.specs.declared.field.FieldName.{FieldName}
 use Rattle.gw_rules.specs.declared.field.FieldName.TheVariants as fields
-use Rattle.gw_rules.specs.declared.fields.Fields.{Fields}
-use Rattle.gw_rules.specs.declared.range.Range.{Range as RuleRange}
-use Rattle.gw_rules.specs.declared.rule.Rule.{Rule}
-use Rattle.gw_rules.specs.RuleList.{keeps_counts, keeps_order}
+use Rattle.gw_rules.specs.declared.format.Format.{Format}
+use Rattle.gw_rules.specs.Format.{names_stations}
 use Rattle.gw_configuration.specs.declared.device.Device.{Device}
 use Rattle.gw_configuration.specs.declared.fault.ConfigFault.TheVariants.{Missing, Range, TooMany}
-use Rattle.gw_configuration.specs.declared.format.Format.{Format}
 use Rattle.gw_configuration.specs.declared.located.Place.TheVariants as places
 use Rattle.gw_configuration.specs.declared.object.Object.{Object}
 use Rattle.gw_configuration.specs.declared.object.ObjectKind.{ObjectKind}
@@ -25,15 +22,17 @@ use Rattle.gw_configuration.specs.declared.object.ObjectValue.{ObjectValue}
 use Rattle.gw_configuration.specs.declared.object.ObjectValue.TheVariants as values
 use Rattle.gw_configuration.specs.declared.port.Port.{Port}
 use Rattle.gw_configuration.specs.declared.route.Route.{Route}
-use Rattle.gw_configuration.specs.Configuration.{Configuration, format_of}
+use Rattle.gw_configuration.specs.Configuration.{format_of}
 use Rattle.gw_configuration.specs.Located.{Find, Located, Read, unless, whole}
 use Rattle.gw_configuration.specs.States.{States}
+use Rattle.gw_configuration.specs.Subnet.{Subnet}
 use Rattle.gw_configuration.specs.Text.{text_within}
-use Rattle.gw_config_tables.specs.Field.{at_field, field_fault, located_in, range_in}
+use Rattle.gw_config_tables.specs.Field.{at_field, field_fault, located_in}
+use Rattle.gw_config_tables.specs.Items.{each}
 use Rattle.gw_config_tables.specs.Tables.{device_fields, object_fields, peer_fields, port_fields, route_fields}
-use Rattle.gw_config_tables.specs.Tables.{rule_fields, scalar_of, type_field}
-use Rattle.gw_config_tables.specs.Value.{address_in, boolean_in, kind_in, list_in, mask_in, number_in, rule_name_in}
-use Rattle.gw_config_tables.specs.Value.{signed_in, table_in, text_in}
+use Rattle.gw_config_tables.specs.Tables.{type_field}
+use Rattle.gw_config_tables.specs.Value.{address_in, kind_in, list_in, mask_in, number_in}
+use Rattle.gw_config_tables.specs.Value.{signed_in, subnet_in, table_in, text_in}
 
 -- the value at a key
 abbrev pub at : List ℕ → Members → Read Data
@@ -74,16 +73,26 @@ list_or (Some value) = list_in value
 abbrev pub list_at : ℕ → ℕ → List ℕ → Members → Read (List Data)
 list_at least most key table = list_or (get_member key table) >>= within least most
 
--- each value of a list, in order, up to the first fault
-abbrev pub each : {A : Type 0} → (Data → Read A) → List Data → Read (List A)
-each read [] = Ok []
-each read (value ∷ later) = read value >>= λ first. each read later >>= λ others. Ok (first ∷ others)
-
--- the same of tables, each with its position, from the first on
+-- each table of a list with its position, in order, up to the first fault
 abbrev pub each_at : {A : Type 0} → (ℕ → Data → Find A) → ℕ → List Data → Find (List A)
 each_at read place [] = Ok []
 each_at read place (value ∷ later) =
     read place value >>= λ first. each_at read (place + 1) later >>= λ others. Ok (first ∷ others)
+
+-- the key of a field in the table of a rule
+abbrev pub key_of : FieldName → List ℕ
+key_of fields.Operation = codes "operation"
+key_of fields.Port = codes "port"
+key_of fields.SourceNetwork = codes "source_network"
+key_of fields.SourceKey = codes "source"
+key_of fields.DestinationNetwork = codes "destination"
+key_of fields.Service = codes "service"
+key_of fields.ObjectType = codes "object_type"
+key_of fields.Instance = codes "instance"
+key_of fields.Property = codes "property"
+key_of fields.Priority = codes "priority"
+key_of fields.Sender = codes "sender"
+key_of fields.Station = codes "station"
 
 -- the device
 
@@ -135,19 +144,30 @@ peer_in port peer value = whole (table_in value) >>= peer_of port peer
 abbrev pub peers_at : ℕ → List ℕ → Members → Find (List BdtEntry)
 peers_at port key table = whole (list_at 0 64 key table) >>= each_at (peer_in port) 0
 
-abbrev pub port_parts : ℕ → Members → Find Port
-port_parts port table = do
+-- the subnets of its stations, in format 3
+abbrev pub stations_at : Format → List ℕ → Members → Read (List Subnet)
+stations_at format key table =
+    if names_stations format then (list_at 0 16 key table >>= each subnet_in) else Ok []
+
+-- no port of format 1 or 2 has any
+abbrev pub has_no_stations : Format → Port → Bool
+has_no_stations format port = names_stations format || (length port.stations == 0)
+
+abbrev pub port_parts : Format → ℕ → Members → Find Port
+port_parts format port table = do
   network ← whole (number_at 1 65534 (codes "network") table)
   address ← whole (address_at (codes "address") table)
   broadcast ← whole (address_at (codes "broadcast") table)
+  stations ← whole (stations_at format (codes "stations") table)
   peers ← peers_at port (codes "peer") table
-  Ok (record { network = network; address = address; broadcast = broadcast; peers = peers })
+  Ok (record { network = network; address = address; broadcast = broadcast; stations = stations; peers = peers })
 
-abbrev pub port_of : ℕ → Members → Find Port
-port_of port table = unless (located_in (places.Port port) port_fields table) (port_parts port table)
+abbrev pub port_of : Format → ℕ → Members → Find Port
+port_of format port table =
+    unless (located_in (places.Port port) (port_fields format) table) (port_parts format port table)
 
-abbrev pub port_in : ℕ → Data → Find Port
-port_in port value = whole (table_in value) >>= port_of port
+abbrev pub port_in : Format → ℕ → Data → Find Port
+port_in format port value = whole (table_in value) >>= port_of format port
 
 -- a route by one of so many ports
 
@@ -242,7 +262,7 @@ object_of_kind object kind table =
 -- the fault of its type, which is judged first
 abbrev pub type_located : ℕ → Members → Option Located
 type_located object table =
-    option_map (λ fault. at_field (places.Object object) fault table (Some type_field)) (field_fault table type_field)
+    option_map (λ fault. at_field [] (places.Object object) fault table (Some type_field)) (field_fault [] table type_field)
 
 abbrev pub object_of : ℕ → Members → Find Object
 object_of object table =
@@ -252,91 +272,19 @@ object_of object table =
 abbrev pub object_in : ℕ → Data → Find Object
 object_in object value = whole (table_in value) >>= object_of object
 
--- a rule
-
-abbrev pub ranges_at : FieldName → List ℕ → Members → Read (List RuleRange)
-ranges_at field key table = list_at 0 4 key table >>= each (range_in (scalar_of field))
-
-abbrev pub rule_name_at : List ℕ → Members → Read (List ℕ)
-rule_name_at key table = at key table >>= rule_name_in
-
-abbrev pub boolean_at : List ℕ → Members → Read Bool
-boolean_at key table = at key table >>= boolean_in
-
-abbrev pub fields_of : Members → Read (Fields (List RuleRange))
-fields_of table = do
-  operation ← ranges_at fields.Operation (codes "operation") table
-  port ← ranges_at fields.Port (codes "port") table
-  source_network ← ranges_at fields.SourceNetwork (codes "source_network") table
-  source_key ← ranges_at fields.SourceKey (codes "source") table
-  destination_network ← ranges_at fields.DestinationNetwork (codes "destination") table
-  service ← ranges_at fields.Service (codes "service") table
-  object_type ← ranges_at fields.ObjectType (codes "object_type") table
-  instance ← ranges_at fields.Instance (codes "instance") table
-  property ← ranges_at fields.Property (codes "property") table
-  priority ← ranges_at fields.Priority (codes "priority") table
-  Ok (record {
-    operation = operation;
-    port = port;
-    source_network = source_network;
-    source_key = source_key;
-    destination_network = destination_network;
-    service = service;
-    object_type = object_type;
-    instance = instance;
-    property = property;
-    priority = priority;
-  })
-
-abbrev pub rule_parts : Members → Read Rule
-rule_parts table = do
-  name ← rule_name_at (codes "name") table
-  allow ← boolean_at (codes "allow") table
-  ranges ← fields_of table
-  Ok (record { name = name; allow = allow; ranges = ranges })
-
-unfoldable pub rule_of : ℕ → Members → Find Rule
-rule_of rule table = unless (located_in (places.Rule rule) rule_fields table) (whole (rule_parts table))
-
-abbrev pub rule_in : ℕ → Data → Find Rule
-rule_in rule value = whole (table_in value) >>= rule_of rule
-
 -- the whole
 
 abbrev pub format_at : List ℕ → Members → Read Format
-format_at key table = number_at 1 2 key table >>= λ number. Ok (format_of number)
+format_at key table = number_at 1 3 key table >>= λ number. Ok (format_of number)
 
 abbrev pub device_at : List ℕ → Members → Find Device
 device_at key table = whole (at key table >>= table_in) >>= device_of
 
-abbrev pub ports_at : List ℕ → Members → Find (List Port)
-ports_at key table = whole (list_at 1 MAX_PORTS key table) >>= each_at port_in 0
+abbrev pub ports_at : Format → List ℕ → Members → Find (List Port)
+ports_at format key table = whole (list_at 1 MAX_PORTS key table) >>= each_at (port_in format) 0
 
 abbrev pub routes_at : ℕ → List ℕ → Members → Find (List Route)
 routes_at ports key table = whole (list_at 0 512 key table) >>= each_at (route_in ports) 0
 
 abbrev pub objects_at : List ℕ → Members → Find (List Object)
 objects_at key table = whole (list_at 0 256 key table) >>= each_at object_in 0
-
-abbrev pub rules_at : List ℕ → Members → Find (List Rule)
-rules_at key table = whole (list_at 0 512 key table) >>= each_at rule_in 0
-
--- the rules as a policy
-abbrev pub policy_of : List Rule → Read (List Rule)
-policy_of rules =
-    if not (keeps_counts rules) then Err TooMany else if not (keeps_order rules) then Err Range else Ok rules
-
--- the tables in their order, behind the format
-abbrev pub parts_of_format : Format → Members → Find Configuration
-parts_of_format format top = do
-  device ← device_at (codes "device") top
-  ports ← ports_at (codes "port") top
-  routes ← routes_at (length ports) (codes "route") top
-  objects ← objects_at (codes "object") top
-  rules ← rules_at (codes "rule") top
-  policy ← whole (policy_of rules)
-  Ok (record { format = format; device = device; ports = ports; routes = routes; objects = objects; rules = policy })
-
--- the format, and then the tables
-abbrev pub parts_of : Members → Find Configuration
-parts_of top = whole (format_at (codes "format") top) >>= λ format. parts_of_format format top

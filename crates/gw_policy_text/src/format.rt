@@ -5,6 +5,7 @@ ghost use Rattle.gw_configuration.specs.Reading.{Gives};
 ghost use Rattle.toml.specs.View.{table_view};
 
 use crate::reading::number_at;
+use gw_config_tables::tables::format_numbered;
 use gw_configuration::{ConfigFault, Format};
 use toml::Table;
 
@@ -12,8 +13,5 @@ use toml::Table;
 pub(crate) fn format_at(key: &str, table: &Table) -> Result<Format, ConfigFault>
     ensures { Gives (λ f. f) result (format_at key.now (table_view table.now)) }
 {
-    match number_at(1, 2, key, table)? {
-        1 => Ok(Format::One),
-        _ => Ok(Format::Two),
-    }
+    Ok(format_numbered(number_at(1, 3, key, table)?))
 }

@@ -6,11 +6,13 @@ mod format;
 pub mod laws;
 mod objects;
 mod parts;
+mod policy;
 mod port;
 mod read;
 mod reading;
 mod route;
 mod rules;
+mod sets;
 mod setting;
 
 pub use gw_configuration::{

@@ -3,8 +3,9 @@ ghost use Rattle.std.specs.Prelude.{◌≡◌, ◌≤◌, codes, length, map, op
 ghost use Rattle.std.specs.List.{list_all};
 ghost use Rattle.gw_addr.specs.Reading as plain;
 ghost use Rattle.toml.specs.View.{table_view, view};
-ghost use Rattle.gw_policy_text.specs.Parts.{binary_value, character_string_value, count_at, each, each_at, integer_value, kind_at, multi_state_value, object_in, object_of, object_of_kind, object_parts, positive_integer_value, signed_at, states_with, type_located, value_of};
+ghost use Rattle.gw_policy_text.specs.Parts.{binary_value, character_string_value, count_at, each_at, integer_value, kind_at, multi_state_value, object_in, object_of, object_of_kind, object_parts, positive_integer_value, signed_at, states_with, type_located, value_of};
 ghost use Rattle.gw_config_tables.specs.Field.{located_in};
+ghost use Rattle.gw_config_tables.specs.Items.{each};
 ghost use Rattle.gw_configuration.specs.Configuration.{is_named};
 ghost use Rattle.gw_configuration.specs.Located.{located_view};
 ghost use Rattle.gw_configuration.specs.Reading.{Finds, Gives, Tells, TellsFault};
@@ -72,8 +73,8 @@ fn type_located<'a>(object: usize, table: &'a Table) -> Option<Located<'a>>
     ensures { option_map located_view result ≡ type_located object (table_view table.now) }
 {
     let field = type_field();
-    match field.fault(table) {
-        Some(fault) => Some(field.located(Place::Object(object), fault, table)),
+    match field.fault(&[], table) {
+        Some(fault) => Some(field.located(&[], Place::Object(object), fault, table)),
         None => None,
     }
 }

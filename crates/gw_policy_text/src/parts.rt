@@ -3,19 +3,20 @@ ghost use Rattle.std.specs.Prelude.{◌≡◌, ◌≤◌, codes, length, IfOk, I
 ghost use Rattle.std.specs.List.{list_all};
 ghost use Rattle.toml.specs.View.{table_view};
 ghost use Rattle.gw_addr.specs.declared.TheConstants.{MAX_PORTS};
-ghost use Rattle.gw_policy_text.specs.Parts.{device_at, objects_at, parts_of, parts_of_format, policy_of, ports_at, routes_at, rules_at};
-ghost use Rattle.gw_configuration.specs.Configuration.{is_by, is_configurable, is_named};
+ghost use Rattle.gw_policy_text.specs.Document.{parts_of, parts_of_format};
+ghost use Rattle.gw_policy_text.specs.Parts.{device_at, has_no_stations, objects_at, ports_at, routes_at};
+ghost use Rattle.gw_configuration.specs.Configuration.{is_by, is_named};
 ghost use Rattle.gw_configuration.specs.Reading.{Finds, Gives};
 
 use crate::format::format_at;
 use crate::reading::{at, list_at};
-use crate::{device, objects, port, route, rules};
+use crate::policy::policy_at;
+use crate::{device, objects, port, route};
 use gw_addr::{MAX_PORTS, Sequence};
 use gw_config_tables::value;
 use gw_configuration::{
     ConfigFault, Device, Format, Located, MAX_OBJECTS, MAX_ROUTES, Object, Parts, Port, Route,
 };
-use gw_rules::{MAX_RULES, Rule, RuleList};
 use std::alloc::Global;
 use toml::Table;
 
@@ -31,11 +32,11 @@ fn parts_of_format<'a>(alloc: Global, format: Format, top: &'a Table) -> Result<
     ensures { Finds (λ c. c) result (parts_of_format format (table_view top.now)) }
 {
     let device = device_at(alloc, top)?;
-    let ports = ports_at(alloc, top)?;
+    let ports = ports_at(alloc, format, top)?;
     let routes = routes_at(alloc, ports.len() as u8, top)?;
     let objects = objects_at(alloc, top)?;
-    let rules = policy_of(rules_at(alloc, top)?)?;
-    Ok(Parts::new(format, device, ports, routes, objects, rules).ok_or(ConfigFault::Range)?)
+    let policy = policy_at(alloc, format, top)?;
+    Ok(Parts::new(format, device, ports, routes, objects, policy).ok_or(ConfigFault::Range)?)
 }
 
 fn device_at<'a>(alloc: Global, top: &'a Table) -> Result<Device, Located<'a>>
@@ -45,12 +46,17 @@ fn device_at<'a>(alloc: Global, top: &'a Table) -> Result<Device, Located<'a>>
     device::device(alloc, value::table(at("device", top)?)?)
 }
 
-fn ports_at<'a>(alloc: Global, top: &'a Table) -> Result<Sequence<Port>, Located<'a>>
-    ensures ports { Finds (λ ps. ps) result (ports_at (codes "port") (table_view top.now)) }
+fn ports_at<'a>(
+    alloc: Global,
+    format: Format,
+    top: &'a Table,
+) -> Result<Sequence<Port>, Located<'a>>
+    ensures ports { Finds (λ ps. ps) result (ports_at format (codes "port") (table_view top.now)) }
     ensures some { IfOk result (λ ps. 1 ≤ length ps) }
     ensures most { IfOk result (λ ps. length ps ≤ MAX_PORTS) }
+    ensures plain { IfOk result (λ ps. IsTrue (list_all (has_no_stations format) ps)) }
 {
-    port::ports(alloc, list_at(1, MAX_PORTS, "port", top)?)
+    port::ports(alloc, format, list_at(1, MAX_PORTS, "port", top)?)
 }
 
 fn routes_at<'a>(alloc: Global, ports: u8, top: &'a Table) -> Result<Sequence<Route>, Located<'a>>
@@ -67,20 +73,4 @@ fn objects_at<'a>(alloc: Global, top: &'a Table) -> Result<Sequence<Object>, Loc
     ensures named { IfOk result (λ os. IsTrue (list_all (λ o. is_named o.name) os)) }
 {
     objects::objects(alloc, list_at(0, MAX_OBJECTS, "object", top)?)
-}
-
-fn rules_at<'a>(alloc: Global, top: &'a Table) -> Result<Vec<Rule>, Located<'a>>
-    ensures rules { Finds (λ rs. rs.items) result (rules_at (codes "rule") (table_view top.now)) }
-    ensures configurable { IfOk result (λ rs. IsTrue (list_all is_configurable rs.items)) }
-{
-    rules::rules(alloc, list_at(0, MAX_RULES, "rule", top)?)
-}
-
-/// The rules as a policy.
-fn policy_of(rules: Vec<Rule>) -> Result<RuleList, ConfigFault>
-    ensures policy { Gives (λ rs. rs) result (policy_of rules.items) }
-    ensures same { IfOk result (λ rs. rs ≡ rules.items) }
-{
-    let list = RuleList::new(rules)?;
-    Ok(list)
 }

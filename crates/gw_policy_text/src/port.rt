@@ -1,10 +1,14 @@
 //! What the ports of a configuration are read to.
 
-ghost use Rattle.std.specs.Prelude.{◌≡◌, ◌≤◌, codes, length, map, IfOk};
+ghost use Rattle.std.specs.Prelude.{◌≡◌, ◌≤◌, ◌||◌, codes, length, map, IfOk, IsTrue};
+ghost use Rattle.std.specs.List.{list_all};
 ghost use Rattle.toml.specs.View.{table_view, view};
-ghost use Rattle.gw_policy_text.specs.Parts.{each_at, peer_in, peer_of, peer_parts, peers_at, port_in, port_of, port_parts};
+ghost use Rattle.gw_policy_text.specs.Parts.{each_at, has_no_stations, peer_in, peer_of, peer_parts, peers_at, port_in, port_of, port_parts, stations_at};
+ghost use Rattle.gw_config_tables.specs.Items.{each};
+ghost use Rattle.gw_config_tables.specs.Value.{subnet_in};
+ghost use Rattle.gw_rules.specs.Format.{names_stations};
 ghost use Rattle.gw_config_tables.specs.Field.{located_in};
-ghost use Rattle.gw_configuration.specs.Reading.{Finds, TellsFault};
+ghost use Rattle.gw_configuration.specs.Reading.{Finds, Gives, TellsFault};
 ghost use Rattle.gw_configuration.specs.declared.located.Place.TheVariants as places;
 ghost use Rattle.gw_config_tables.specs.Tables.{port_fields};
 ghost use Rattle.gw_addr.specs.Reading as plain;
@@ -12,51 +16,101 @@ ghost use Rattle.gw_addr.specs.Reading as plain;
 use crate::reading::{address_at, list_at, mask_at, network_at};
 use gw_addr::{BdtEntry, Sequence};
 use gw_config_tables::located_in;
-use gw_config_tables::tables::{peer_fields, port_fields};
-use gw_config_tables::value::table;
-use gw_configuration::{ConfigFault, Located, MAX_PEERS, Peers, Place, Port};
+use gw_config_tables::tables::{peer_fields, port_located};
+use gw_config_tables::value::{self, table};
+use gw_configuration::{
+    ConfigFault, Format, Located, MAX_PEERS, MAX_STATIONS, Peers, Place, Port, Stations, Subnet,
+};
 use std::alloc::Global;
 use toml::{Table, Value};
 
 /// The ports that some values say, in order, or the first fault with its place.
-pub(crate) fn ports<'a>(alloc: Global, values: &'a [Value]) -> Result<Sequence<Port>, Located<'a>>
+pub(crate) fn ports<'a>(
+    alloc: Global,
+    format: Format,
+    values: &'a [Value],
+) -> Result<Sequence<Port>, Located<'a>>
     ensures count { IfOk result (λ ps. length ps ≡ length values.now) }
-    ensures ports { Finds (λ ps. ps) result (each_at port_in 0 (map view values.now)) }
+    ensures ports { Finds (λ ps. ps) result (each_at (port_in format) 0 (map view values.now)) }
+    ensures plain { IfOk result (λ ps. IsTrue (list_all (has_no_stations format) ps)) }
 {
     let mut all = Sequence::new(alloc);
     for (place, value) in values.iter().enumerate() {
-        all.push(port(alloc, place, value)?)?;
+        all.push(port(alloc, format, place, value)?)?;
     }
     Ok(all)
 }
 
 /// The port that a value says, at this position.
-fn port<'a>(alloc: Global, port: usize, value: &'a Value) -> Result<Port, Located<'a>>
-    ensures { Finds (λ p. p) result (port_in port (view value.now)) }
+fn port<'a>(
+    alloc: Global,
+    format: Format,
+    port: usize,
+    value: &'a Value,
+) -> Result<Port, Located<'a>>
+    ensures port { Finds (λ p. p) result (port_in format port (view value.now)) }
+    ensures plain { IfOk result (λ p. IsTrue (has_no_stations format p)) }
 {
-    port_of_table(alloc, port, table(value)?)
+    port_of_table(alloc, format, port, table(value)?)
 }
 
-fn port_of_table<'a>(alloc: Global, port: usize, table: &'a Table) -> Result<Port, Located<'a>>
-    ensures port { Finds (λ p. p) result (port_of port (table_view table.now)) }
-    ensures told { TellsFault result (located_in (places.Port port) port_fields (table_view table.now)) }
+fn port_of_table<'a>(
+    alloc: Global,
+    format: Format,
+    port: usize,
+    table: &'a Table,
+) -> Result<Port, Located<'a>>
+    ensures port { Finds (λ p. p) result (port_of format port (table_view table.now)) }
+    ensures told { TellsFault result
+        (located_in (places.Port port) (port_fields format) (table_view table.now)) }
+    ensures plain { IfOk result (λ p. IsTrue (has_no_stations format p)) }
 {
-    match located_in(Place::Port(port), &port_fields(), table) {
+    match port_located(format, port, table) {
         Some(located) => Err(located),
-        None => port_parts(alloc, port, table),
+        None => port_parts(alloc, format, port, table),
     }
 }
 
 /// The parts of a table without a fault of its own.
-fn port_parts<'a>(alloc: Global, port: usize, table: &'a Table) -> Result<Port, Located<'a>>
-    ensures { Finds (λ p. p) result (port_parts port (table_view table.now)) }
+fn port_parts<'a>(
+    alloc: Global,
+    format: Format,
+    port: usize,
+    table: &'a Table,
+) -> Result<Port, Located<'a>>
+    ensures port { Finds (λ p. p) result (port_parts format port (table_view table.now)) }
+    ensures plain { IfOk result (λ p. IsTrue (has_no_stations format p)) }
 {
     Ok(Port {
         network: network_at("network", table)?,
         address: address_at("address", table)?,
         broadcast: address_at("broadcast", table)?,
+        stations: stations_at(alloc, format, table)?,
         peers: peers_at(alloc, port, table)?,
     })
+}
+
+/// The stations in the table of a port, in format 3.
+fn stations_at(alloc: Global, format: Format, table: &Table) -> Result<Stations, ConfigFault>
+    ensures stations { Gives (λ s. s) result (stations_at format (codes "stations") (table_view table.now)) }
+    ensures plain { IfOk result (λ s. IsTrue (names_stations format || (length s == 0))) }
+{
+    if !format.names_stations() {
+        return Stations::new(Sequence::new(alloc)).ok_or(ConfigFault::TooMany);
+    }
+    let subnets = subnets(alloc, list_at(0, MAX_STATIONS, "stations", table)?)?;
+    Stations::new(subnets).ok_or(ConfigFault::TooMany)
+}
+
+fn subnets(alloc: Global, values: &[Value]) -> Result<Sequence<Subnet>, ConfigFault>
+    ensures count { IfOk result (λ ss. length ss ≡ length values.now) }
+    ensures subnets { Gives (λ ss. ss) result (each subnet_in (map view values.now)) }
+{
+    let mut all = Sequence::new(alloc);
+    for value in values {
+        all.push(value::subnet(value)?)?;
+    }
+    Ok(all)
 }
 
 /// The peers in the table of the port at this position.

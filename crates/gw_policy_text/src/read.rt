@@ -5,14 +5,13 @@ ghost use Rattle.toml.specs.View.{table_view};
 ghost use Rattle.gw_policy_text.specs.Document.{configuration, configuration_of, document};
 ghost use Rattle.gw_config_tables.specs.Field.{located_in};
 ghost use Rattle.gw_configuration.specs.Reading.{Finds, Gives, TellsFault};
-ghost use Rattle.gw_config_tables.specs.Tables.{top_fields};
+ghost use Rattle.gw_config_tables.specs.Tables.{format_in, top_fields};
 ghost use Rattle.gw_configuration.specs.declared.fault.ConfigFault.TheVariants.{NotToml, TooMany};
 ghost use Rattle.gw_configuration.specs.declared.located.Place.TheVariants as places;
 
 use crate::parts::parts;
-use gw_config_tables::located_in;
-use gw_config_tables::tables::top_fields;
-use gw_configuration::{Config, ConfigFault, Located, Place};
+use gw_config_tables::tables::{format_of, top_located};
+use gw_configuration::{Config, ConfigFault, Located};
 use std::alloc::Global;
 use toml::Table;
 
@@ -23,7 +22,7 @@ pub const MAX_OCTETS: usize = 1_048_576;
 ///
 /// The first fault on the way is told: `TooMany` where the text has more than 1,048,576 octets;
 /// `NotToml` where it isn't UTF-8 or no TOML document; then the tables are visited, the top one,
-/// the device, each port followed by its peers, each route, each object and each rule, and of each
+/// the device, each port followed by its peers, each route, each object, in format 3 each set, and each rule, and of each
 /// are judged in this order `UnknownKey`, `Missing`, `Kind`, `Range` and `TooMany`, each for the
 /// whole table; last of all `Duplicate`. `Memory` where there is none for what would be judged
 /// next: a text that is too long, or isn't UTF-8, takes none.
@@ -63,9 +62,9 @@ pub fn document(alloc: Global, text: &[u8]) -> Result<Table, ConfigFault>
 #[tactic(auto, unfolding(crate::specs::Document::configuration_of))]
 pub fn config_of<'a>(alloc: Global, top: &'a Table) -> Result<Config, Located<'a>>
     ensures configuration { Finds (λ c. c) result (configuration_of (table_view top.now)) }
-    ensures told { TellsFault result (located_in places.Top top_fields (table_view top.now)) }
+    ensures told { TellsFault result (located_in places.Top (top_fields (format_in (table_view top.now))) (table_view top.now)) }
 {
-    match located_in(Place::Top, &top_fields(), top) {
+    match top_located(format_of(top), top) {
         Some(located) => Err(located),
         None => Config::of_parts(alloc, parts(alloc, top)?),
     }

@@ -1,5 +1,5 @@
 -- The tests that code makes of a list's limits are the limits.
-use Rattle.std.proofs.Common.{◌≡◌, ◌+◌, ◌*◌, ◌≤◌, ◌&&◌, Bool, true, List, [], ◌∷◌, length, ◌↔◌, nat_le, arith}
+use Rattle.std.proofs.Common.{◌≡◌, ◌+◌, ◌*◌, ◌≤◌, ◌&&◌, Bool, true, List, [], ◌∷◌, length, ◌↔◌, nat_le, arith, suc}
 use Rattle.std.specs.List.{All, list_all}
 use Rattle.std.proofs.lemmas.Bool.{leb-true, le-leb, and_parts, and_from}
 use Rattle.std.proofs.lemmas.List.Elements.{All-weaker}
@@ -84,6 +84,7 @@ long_passes rule long =
 
 -- the counts of a long list are kept exactly if there are few rules, each with so many ranges, and in all so many
 pub long_counts_iff : (rules : List Rule) → (keeps_long_counts rules ≡ true) ↔ KeepsLongCounts rules
+unfolding keeps_long_counts
 long_counts_iff rules =
     let long = all_iff has_long_ranges HasLongRanges has_long long_passes rules in
     let test : FieldName → Bool = λ field. nat_le (ranges_in_all rules field) MAX_RANGES_IN_ALL in
@@ -108,7 +109,7 @@ four_in_all : (rules : List Rule) (field : FieldName) → All HasFewRanges rules
 four_in_all [] field few = omega arith
 four_in_all (rule ∷ rules) field few =
     let here : length (ranges_of field rule) ≤ 4 = few 0 rule (omega arith) field in
-    let rest : ranges_in_all rules field ≤ 4 * length rules = four_in_all rules field (λ k d within. few (k + 1) d (omega (arith, within))) in
+    let rest : ranges_in_all rules field ≤ 4 * length rules = four_in_all rules field (λ k d within. few (suc k) d (omega (arith, within))) in
     omega (arith, here, rest, sum_by-cons (λ r. length (ranges_of field r)) rule rules)
 
 -- a list that keeps the shorter limits keeps the longer ones
@@ -118,6 +119,10 @@ short_is_long rules keeps = record {
   each_rule = All-weaker HasFewRanges HasLongRanges (λ rule few field. let four : length (ranges_of field rule) ≤ 4 = few field in omega arith) rules keeps.1;
   in_all = λ field. let four = four_in_all rules field keeps.1 in let most : length rules ≤ 512 = keeps.0 in omega (arith, four, most);
 }
+
+-- so its test holds too
+pub short_passes : (rules : List Rule) → keeps_counts rules ≡ true → keeps_long_counts rules ≡ true
+short_passes rules t = (long_counts_iff rules).1 (short_is_long rules ((counts_iff rules).0 t))
 
 -- the order is kept exactly where each range of each rule is the right way round
 pub order_iff : (rules : List Rule) → (keeps_order rules ≡ true) ↔ KeepsOrder rules

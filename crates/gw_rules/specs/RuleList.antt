@@ -57,7 +57,7 @@ abbrev pub ranges_in_all : List Rule → FieldName → ℕ
 ranges_in_all rules field = sum_by (λ rule. length (ranges_of field rule)) rules
 
 -- at most 512 rules, each with at most 256 ranges for a field, and 2048 for a field in all
-abbrev pub keeps_long_counts : List Rule → Bool
+unfoldable pub keeps_long_counts : List Rule → Bool
 keeps_long_counts rules =
     nat_le (length rules) MAX_RULES
     && (list_all has_long_ranges rules && each_field (λ field. nat_le (ranges_in_all rules field) MAX_RANGES_IN_ALL))

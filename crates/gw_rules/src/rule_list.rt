@@ -126,8 +126,9 @@ impl RuleList {
         ensures allows { result.1 ≡ allows self.now ask.now }
         ensures no_rules { self.now ≡ [] → result.1 ≡ false }
     {
-        match place_of(&self.rules, ask) {
-            Some(place) => (Some(place as u16 + 1), self.rules[place].allow),
+        let rules = self.rules();
+        match place_of(rules, ask) {
+            Some(place) => (Some(place as u16 + 1), rules[place].allow),
             None => (None, false),
         }
     }
@@ -225,6 +226,7 @@ fn have_few_ranges(rules: &[Rule]) -> bool
 }
 
 /// Whether the rules keep the counts of a list that has many ranges for a field.
+#[tactic(auto, unfolding(crate::specs::RuleList::keeps_long_counts))]
 fn are_few_enough(rules: &[Rule]) -> bool
     ensures { result ≡ keeps_long_counts rules.now }
 {

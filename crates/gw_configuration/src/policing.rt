@@ -1,0 +1,41 @@
+//! The policy of a configuration.
+ghost use Rattle.std.specs.Prelude.{◌≡◌};
+
+use crate::{Set, Text};
+use gw_addr::Sequence;
+use gw_rules::RuleList;
+
+/// The policy of a configuration: its rules, and what is written with them.
+pub struct Policing {
+    /// The rules in order.
+    pub rules: RuleList,
+    /// The note of each rule in their order, empty where it has none.
+    pub notes: Sequence<Text>,
+    /// The sets in order.
+    pub sets: Sequence<Set>,
+}
+
+// By hand: a derived one is proved part by part wherever one is dropped (docs/GATE.md).
+impl Drop for Policing {
+    fn drop(self) {
+        let Policing {
+            rules: _,
+            notes: _,
+            sets: _,
+        } = self;
+    }
+}
+
+impl Policing {
+    /// The rules, where the rest isn't wanted any more.
+    pub fn into_rules(self) -> RuleList
+        ensures { result ≡ self.rules }
+    {
+        let Policing {
+            rules,
+            notes: _,
+            sets: _,
+        } = self;
+        rules
+    }
+}

@@ -1,0 +1,15 @@
+//! A configuration of format 1 or 2, written as a text of format 3 that says the same.
+#![tactic(auto)]
+
+mod advice;
+mod fault;
+mod lines;
+mod migration;
+mod objects;
+mod ports;
+mod rules;
+mod same;
+mod subnets;
+
+pub use fault::MigrationFault;
+pub use migration::migrate;
