@@ -397,12 +397,14 @@ agrees 'a lint' 0 "$here/lint.out" /dev/null
 status=$?
 agrees 'what cannot be meant' 0 "$here/warnings.out" /dev/null
 
-# unsuspected FILE [NOTE]: a lint finds nothing in a configuration, or this, and nothing in it can't be meant
+# unsuspected FILE [NOTES]: a lint finds nothing in a configuration, or this, and nothing in it can't be meant. Two notes don't count: what
+# formats 1 and 2 can't keep out of a network, and that a policy passes no broadcast on
 unsuspected() {
     { "$program" check --config "$1" && printf '%s' "${2:+$2
 }"; } < /dev/null > "$work/plain" 2> /dev/null
-    "$program" check --config "$1" --lint < /dev/null > "$work/out" 2> "$work/err"
+    "$program" check --config "$1" --lint < /dev/null 2> "$work/err" > "$work/noted"
     status=$?
+    sed '/: look at source_network: without source, /d; /^note: look at cast: /d' "$work/noted" > "$work/out"
     agrees "the lint of $1" 0 "$work/plain" /dev/null
     same "the warnings of $1" "$("$program" check --config "$1" --explain | grep -v '^ok \|^object .* is hidden from network ')" ''
 }
@@ -441,8 +443,14 @@ failed=$((failed + differing))
 same 'the status of the attempts' "$status" "$((differing > 0))"
 for file in "$work"/recipes/* "$here"/format2/recipes/*; do
     case ${file##*/} in
-        # how not to hide the door of another device, and a rule that means every service of one device
-        *', otherwise' | *_not.toml) unsuspected "$file" 'note: rule 2 all: look at object_type: without one, requests pass that name no object' ;;
+        # how not to hide the door of another device, a network that is learned, and a rule that means every service of one device
+        *', otherwise')
+            unsuspected "$file" 'note: rule 2 all: look at object_type: without one, requests pass that name no object
+note: rule 2 all: look at its fields: without any, it allows tables, registrations, routes, enter and claim too' ;;
+        *_not.toml)
+            unsuspected "$file" 'note: rule 2 all: look at object_type: without one, requests pass that name no object
+note: rule 2 all: look at its fields: without any, it allows tables, registrations and routes too' ;;
+        '14. '*) unsuspected "$file" "note: rule 2 read-all: look at source_network: 400 is of no port, no route and not the device's" ;;
         '16. '*) unsuspected "$file" 'note: rule 1 maintenance: look at object_type: without one, requests pass that name no object' ;;
         *) unsuspected "$file" ;;
     esac

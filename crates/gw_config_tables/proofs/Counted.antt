@@ -1,6 +1,6 @@
 -- Ranges are counted as they are put in.
-use Rattle.std.proofs.Common.{◌≡◌, ◌≤◌, ◌<◌, ℕ, suc, ◌+◌, ◌++◌, Bool, true, false, cond, List, [], ◌∷◌, length, Option, Some, None, Result, Ok, Err, refl, sym, ap, ◌∙◌, arith, nat_lt}
-use Rattle.std.specs.List.{list_any, sum_by}
+use Rattle.std.proofs.Common.{◌≡◌, ◌≤◌, ℕ, suc, ◌++◌, Bool, true, false, cond, List, [], ◌∷◌, length, Option, Some, None, Ok, Err, refl, sym, ap, ◌∙◌, arith, nat_lt}
+use Rattle.std.specs.List.{list_any}
 use Rattle.std.specs.Option.{option_map_or}
 use Rattle.std.specs.Result.{result_err}
 use Rattle.std.proofs.lemmas.Bool.{ltb-false}
@@ -11,12 +11,12 @@ use Rattle.gw_addr.specs.Reading.{◌>>=◌}
 use Rattle.gw_addr.proofs.Reading.{bind_ok}
 use Rattle.gw_rules.specs.declared.range.Range.{Range}
 use Rattle.gw_configuration.specs.declared.fault.ConfigFault.{ConfigFault}
-use Rattle.gw_configuration.specs.declared.fault.ConfigFault.TheVariants.{Kind, Range as OutOfRange}
+use Rattle.gw_configuration.specs.declared.fault.ConfigFault.TheVariants.{Kind}
 use Rattle.gw_configuration.specs.declared.shape.Scalar.{Scalar}
 use Rattle.gw_configuration.specs.Duplicates.{or_else}
 use Rattle.gw_configuration.specs.Located.{Read}
 use Rattle.gw_config_tables.specs.Field.{count_fault, has_too_many, items_fault}
-use Rattle.gw_config_tables.specs.Items.{behind, count_in, count_of, each, items_in, items_named, items_or, ranges_in, set_name_in, set_ranges, span_in, spans_in}
+use Rattle.gw_config_tables.specs.Items.{added_to, count_in, count_of, each, items_in, items_named, items_or, ranges_in, set_name_in, set_ranges, span_in, spans_in}
 use Rattle.gw_config_tables.specs.Range.{is_kind}
 
 fine : List Range → Read (List Range)
@@ -58,7 +58,7 @@ item_counted sets scalar item ranges e = on (set_name_in item) e
 pub are_counted : (sets : List Data) (scalar : Scalar) (items : List Data) (ranges : List Range) → ranges_in sets scalar items ≡ Ok ranges → length ranges ≡ count_in sets items
 are_counted sets scalar [] ranges e = let same : [] ≡ ranges = cc in ap length (sym same)
 are_counted sets scalar (item ∷ later) ranges e =
-    let first = bind_ok (items_in sets scalar item) (λ front. behind front (ranges_in sets scalar later)) ranges e in
+    let first = bind_ok (items_in sets scalar item) (λ front. added_to front (ranges_in sets scalar later)) ranges e in
     let second = bind_ok (ranges_in sets scalar later) (λ others. Ok (first.0 ++ others)) ranges first.2 in
     let same : first.0 ++ second.0 ≡ ranges = cc in
     let here = item_counted sets scalar item first.0 first.1 in

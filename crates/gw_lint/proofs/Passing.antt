@@ -1,6 +1,6 @@
 -- No ask of a shape that no rule opens is allowed.
-use Rattle.std.proofs.Common.{◌≡◌, ◌∙◌, inl, inr, ℕ, ◌+◌, ◌-◌, ◌<◌, ◌≤◌, Bool, true, false, cond, ◌&&◌, ◌||◌, List, [], ◌∷◌, Option, Some, None, ap, arith, get_or, length, nat_le, nat_lt, refl, slice_get, subst, sym}
-use Rattle.std.specs.List.{list_any, position, position_or_len}
+use Rattle.std.proofs.Common.{◌≡◌, ◌∙◌, inl, inr, ℕ, ◌+◌, ◌-◌, ◌<◌, ◌≤◌, Bool, true, false, ◌&&◌, List, [], ◌∷◌, Option, Some, None, ap, arith, get_or, length, nat_le, nat_lt, refl, slice_get, subst, sym}
+use Rattle.std.specs.List.{position, position_or_len}
 use Rattle.std.specs.Option.{is_some, option_map_or}
 use Rattle.std.proofs.lemmas.Bool.{and_from, both_ways, cases_order, le-leb, lt-ltb, ltb-false, ltb-true, or_parts}
 use Rattle.std.proofs.lemmas.List.Quantifiers.{position-Some}
@@ -21,8 +21,7 @@ use Rattle.gw_rules.proofs.EachField.{each_field_at}
 use Rattle.gw_rules.proofs.First.{allows_iff}
 use Rattle.gw_shapes.specs.Cover.{takes_side}
 use Rattle.gw_shapes.specs.Meeting.{meets}
-use Rattle.gw_shapes.specs.Shape.{IsWithin, LiesIn, LiesInOne, Shape}
-use Rattle.gw_shapes.specs.declared.side.Side.{Side}
+use Rattle.gw_shapes.specs.Shape.{IsWithin, LiesIn, Shape}
 use Rattle.gw_shapes.proofs.Covering.{sided}
 use Rattle.gw_shapes.proofs.Narrowing.{met}
 use Rattle.gw_lint.specs.Laws.{NoBroadcastIsAllowed}

@@ -22,7 +22,7 @@ pub left : (values : List Value) (place : ℕ) (value : Value) → place < lengt
 left values place value h is =
     ap (map view) (drop-cons values place value h) ∙ rw (add-one, ← is) refl
 
-regroup : {A : Type 0} (front : List A) (x : A) (reading : Find (List A)) → with_front front (reading >>= λ others. Ok (x ∷ others)) ≡ with_front (front ++ x ∷ []) reading
+pub regroup : {A : Type 0} (front : List A) (x : A) (reading : Find (List A)) → with_front front (reading >>= λ others. Ok (x ∷ others)) ≡ with_front (front ++ x ∷ []) reading
 regroup front x (Ok others) = ap (λ xs. Ok xs) (simp append_assoc)
 regroup front x (Err e) = refl
 

@@ -1,3 +1,4 @@
 pub mod Document
 pub mod Parts
 pub mod Policy
+pub mod TwoFormats

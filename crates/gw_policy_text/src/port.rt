@@ -1,6 +1,6 @@
 //! What the ports of a configuration are read to.
 
-ghost use Rattle.std.specs.Prelude.{◌≡◌, ◌≤◌, ◌||◌, codes, length, map, IfOk, IsTrue};
+ghost use Rattle.std.specs.Prelude.{◌≡◌, ◌≤◌, ◌||◌, ◌==◌, codes, length, map, IfOk, IsTrue};
 ghost use Rattle.std.specs.List.{list_all};
 ghost use Rattle.toml.specs.View.{table_view, view};
 ghost use Rattle.gw_policy_text.specs.Parts.{each_at, has_no_stations, peer_in, peer_of, peer_parts, peers_at, port_in, port_of, port_parts, stations_at};

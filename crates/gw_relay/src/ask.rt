@@ -40,7 +40,7 @@ fn station_key(format: Format, address: BipAddr) -> Option<u64>
 
 /// Who sent a datagram, in a format that names stations.
 #[inline(always)]
-pub(crate) fn sender_of(format: Format, from: BipAddr) -> Option<u64>
+pub fn sender_of(format: Format, from: BipAddr) -> Option<u64>
     ensures { result ≡ sender_of format from }
 {
     station_key(format, from)

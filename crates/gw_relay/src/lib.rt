@@ -27,6 +27,7 @@ mod sends;
 mod stations;
 mod turn;
 
+pub use ask::sender_of;
 pub use change::Change;
 pub use message::{Message, TableMessage, local_source};
 pub use port::{Port, PortState, link_at};

@@ -169,7 +169,7 @@ impl Relay {
     }
 
     /// The format of the policy, by which asks are put.
-    pub(crate) fn format(&self) -> Format
+    pub fn format(&self) -> Format
         ensures { result ≡ self.now.format }
     {
         self.format

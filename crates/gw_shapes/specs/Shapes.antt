@@ -122,8 +122,7 @@ shapes_from format device from = message_shapes format device from ++ request_sh
 
 -- a station that enters by a port, under the third format
 abbrev pub enter_shapes : Format → Origin → List Shape
-enter_shapes format from =
-    if names_stations format then record (plain from operations.Enter nothing) { source_key = some } ∷ [] else []
+enter_shapes format from = if names_stations format then plain from operations.Enter nothing ∷ [] else []
 
 -- one that speaks for another network, under the third format
 abbrev pub claim_shapes : Format → Origin → List Shape

@@ -246,10 +246,7 @@ fn push_enter(out: &mut Vec<Shape>, format: Format, from: &Origin) -> Result<(),
     if !format.names_stations() {
         return Ok(());
     }
-    out.push(Fields {
-        source_key: SOME,
-        ..plain(from, Operation::Enter, NOTHING)
-    })?;
+    out.push(plain(from, Operation::Enter, NOTHING))?;
     Ok(())
 }
 
