@@ -1,12 +1,12 @@
 -- What is wanted at the place of a fault, in words: the last ones of the line.
 use Rattle.std.specs.Prelude.{◌≡◌, ℕ, ◌+◌, ◌-◌, ◌*◌, ◌/◌, ◌^◌, ◌==◌, ◌&&◌, Bool, false, nat_le, nat_lt, nat_eq, bit_or}
 use Rattle.std.specs.Prelude.{if◌then◌else◌, List, [], ◌∷◌, ◌++◌, length, slice_index, take, codes, decimal, Option, Some, None}
-use Rattle.std.specs.Prelude.{option_and_then, option_map, Ok, Err}
+use Rattle.std.specs.Prelude.{is_some, option_and_then, option_map, Ok, Err}
 use Rattle.std.specs.Cmp.Lexicographic.{pointwise}
-use Rattle.std.specs.List.{after_first, before_first, flat_map, list_any, position_or_len}
+use Rattle.std.specs.List.{after_first, before_first, flat_map, position_or_len}
 use Rattle.std.specs.Option.{option_map_or}
 use Rattle.std.specs.Result.{is_ok}
-use Rattle.toml.specs.Data.{Data, Members, as_str, as_table, get_member}
+use Rattle.toml.specs.Data.{Data, Members, as_str, get_member}
 use Rattle.gw_addr.specs.Address.{text_of}
 use Rattle.gw_addr.specs.declared.bip.BipAddr.{BipAddr}
 use Rattle.gw_addr.specs.declared.mask.Mask.{Mask as Four}
@@ -25,12 +25,12 @@ use Rattle.gw_configuration.specs.declared.shape.Names.{Names}
 use Rattle.gw_configuration.specs.declared.shape.Shape.{Shape}
 use Rattle.gw_configuration.specs.declared.shape.Shape.TheVariants.{One, List as Listing, Ranges, Items}
 use Rattle.gw_configuration.specs.Located.{Located, Read}
-use Rattle.gw_config_tables.specs.Items.{number_named}
+use Rattle.gw_config_tables.specs.Items.{items_named, number_named, set_name_in}
 use Rattle.gw_config_tables.specs.Range.{between, bounds_of}
 use Rattle.gw_config_tables.specs.Value.{list_in}
 use Rattle.gw_config_tables.specs.Written.{mask_written}
 use Rattle.gw_explanation.specs.Near.{near_words, noun_of}
-use Rattle.gw_explanation.specs.Place.{name_in, table_at, value_at}
+use Rattle.gw_explanation.specs.Place.{table_at, value_at}
 use Rattle.gw_explanation.specs.Told.{value_words}
 
 -- what a single value must be
@@ -265,33 +265,25 @@ item_words fault of item =
     else straight_words fault of item (named_text of item)
 
 -- of an item that names a set: there is none of that name, or it has an item that the field can't have
+abbrev pub single_words : ConfigFault → Scalar → List ℕ
+single_words fault of = scalar_words fault of ++ two_front of
+
 abbrev pub mention_words : Bool → ConfigFault → Scalar → List ℕ
 mention_words known fault of =
-    if known then codes " has an item that" ++ scalar_words fault of ++ two_front of else codes " is no set"
+    if known then codes " has an item that" ++ single_words fault of else codes " is no set"
 
--- whether a list of tables has one with this name
-abbrev pub is_named : List ℕ → Data → Bool
-is_named name table = option_map_or (pointwise nat_eq name) (name_in (as_table table)) false
+-- whether there is a set of this name
+abbrev pub is_known_in : List ℕ → Read (List Data) → Bool
+is_known_in name (Ok tables) = is_some (items_named name tables)
+is_known_in name (Err fault) = false
 
-abbrev pub has_named : List ℕ → Read (List Data) → Bool
-has_named name (Ok tables) = list_any (is_named name) tables
-has_named name (Err fault) = false
-
--- the set that an item names: what stands behind an @
-abbrev pub mention : List ℕ → Option (List ℕ)
-mention (64 ∷ name) = Some name
-mention text = None
-
-abbrev pub known : Members → List ℕ → Bool
-known top name = option_map_or (λ sets. has_named name (list_in sets)) (get_member (codes "set") top) false
+abbrev pub is_known : Members → List ℕ → Bool
+is_known top name = option_map_or (λ sets. is_known_in name (list_in sets)) (get_member (codes "set") top) false
 
 -- of an item for a field of a rule of format 3
 abbrev pub long_item_words : Members → ConfigFault → Scalar → Data → Option (List ℕ) → List ℕ
 long_item_words top fault of item None = item_words fault of item
-long_item_words top fault of item (Some name) = mention_words (known top name) fault of
-
-abbrev pub mention_in : Data → Option (List ℕ)
-mention_in item = option_and_then mention (as_str item)
+long_item_words top fault of item (Some name) = mention_words (is_known top name) fault of
 
 -- how many items there may be, and how many they may become
 abbrev pub long_length_words : ConfigFault → Scalar → List ℕ
@@ -318,7 +310,7 @@ must_words top fault (Listing of least most) (Some item) value = scalar_words fa
 must_words top fault (Listing of least most) None value = length_words fault of least most
 must_words top fault (Ranges of) (Some item) value = item_words fault of value
 must_words top fault (Ranges of) None value = length_words fault of 1 4
-must_words top fault (Items of) (Some item) value = long_item_words top fault of value (mention_in value)
+must_words top fault (Items of) (Some item) value = long_item_words top fault of value (set_name_in value)
 must_words top fault (Items of) None value = long_length_words fault of
 
 -- what stands twice, of an instance with its type

@@ -1,18 +1,19 @@
 //! What is wanted at the place of a fault, in words.
-ghost use Rattle.std.specs.Prelude.{◌≡◌, ◌<◌, ◌++◌, length, map, option_map, MatchOption, OnOk};
-ghost use Rattle.std.specs.List.{after_first, before_first, list_any, position_or_len};
+ghost use Rattle.std.specs.Prelude.{◌≡◌, ◌<◌, ◌++◌, codes, length, map, option_map, MatchOption, OnOk};
+ghost use Rattle.std.specs.List.{after_first, before_first, position_or_len};
 ghost use Rattle.toml.specs.View.{table_view, view};
 ghost use Rattle.gw_addr.specs.Address.{text_of};
 ghost use Rattle.gw_configuration.specs.Located.{located_view};
 ghost use Rattle.gw_config_tables.specs.Range.{bounds_of};
-ghost use Rattle.gw_explanation.specs.Place.{name_in};
-ghost use Rattle.toml.specs.Data.{as_table};
-ghost use Rattle.gw_explanation.specs.Wanted.{address_text, addresses_words, bits_in, bounds_words, due_words, end_of, every_port_words, first_address, first_octet, fixed_words, has_named, host_bits, is_reversed, is_slash, is_named, item_words, kind_at, kind_words, known, last_address, last_octet, length_range_words, length_words, list_kind_words, list_noun, list_words, long_item_words, long_length_words, mention_in, mention_words, missing_words, must_words, name_words, named_text, named_words, number_words, other_front, other_words, range_words, reversed_ends, scalar_words, shape_words, straight_words, subnet_in, subnet_words, twice_words, two_front, two_words, type_words, wanted_words, within_32};
+ghost use Rattle.gw_config_tables.specs.Items.{set_name_in};
+ghost use Rattle.gw_config_tables.specs.Value.{list_in};
+ghost use Rattle.gw_explanation.specs.Wanted.{address_text, addresses_words, bits_in, bounds_words, due_words, end_of, every_port_words, first_address, first_octet, fixed_words, host_bits, is_reversed, is_slash, is_known, is_known_in, item_words, kind_at, kind_words, last_address, last_octet, length_range_words, length_words, list_kind_words, list_noun, list_words, long_item_words, long_length_words, mention_words, missing_words, must_words, name_words, named_text, named_words, number_words, other_front, other_words, range_words, reversed_ends, scalar_words, shape_words, single_words, straight_words, subnet_in, subnet_words, twice_words, two_front, two_words, type_words, wanted_words, within_32};
 
 use crate::near::{noun_of, put_near};
 use crate::told::{put_value, value_at};
 use crate::words::table_at;
 use gw_addr::{BipAddr, Mask, put_decimal};
+use gw_config_tables::items::{items_named, set_name};
 use gw_config_tables::range::between;
 use gw_config_tables::value::{self, mask_of, member, string};
 use gw_configuration::{ConfigFault, Format, Located, MAX_TEXT, Names, Scalar, Shape};
@@ -174,55 +175,32 @@ fn put_long_item(
     item: &Value,
     top: &Table,
 ) -> Result<(), AllocError>
-    ensures { let words = long_item_words (table_view top.now) fault of (view item.now) (mention_in (view item.now)) in
+    ensures { let words = long_item_words (table_view top.now) fault of (view item.now) (set_name_in (view item.now)) in
         OnOk result (line.new.items ≡ line.old.items ++ words) }
 {
-    match mention_in(item) {
+    match set_name(item) {
         Some(name) => put_mention(line, is_known(top, name), fault, of),
         None => put_item(line, fault, of, item),
     }
 }
 
-/// The name of the set that an item names.
-fn mention_in(item: &Value) -> Option<&str>
-    ensures { option_map (λ name. name.now) result ≡ mention_in (view item.now) }
-{
-    string(item)?.strip_prefix('@')
-}
-
 /// Whether there is a set of this name.
 fn is_known(top: &Table, name: &str) -> bool
-    ensures { result ≡ known (table_view top.now) name.now }
+    ensures { result ≡ is_known (table_view top.now) name.now }
 {
     match member(top, "set") {
-        Some(sets) => match value::list(sets) {
-            Ok(tables) => has_named(tables, name),
-            Err(_) => false,
-        },
+        Some(sets) => is_known_in(sets, name),
         None => false,
     }
 }
 
-fn has_named(tables: &[Value], name: &str) -> bool
-    ensures { result ≡ list_any (λ table. is_named name.now (view table)) tables.now }
+fn is_known_in(sets: &Value, name: &str) -> bool
+    ensures { result ≡ is_known_in name.now (list_in (view sets.now)) }
 {
-    tables.iter().any(|table| is_named(name, table))
-}
-
-fn is_named(name: &str, table: &Value) -> bool
-    ensures { result ≡ is_named name.now (view table.now) }
-{
-    match name_in(table) {
-        Some(other) => name == other,
-        None => false,
+    match value::list(sets) {
+        Ok(tables) => items_named(tables, name).is_some(),
+        Err(_) => false,
     }
-}
-
-/// The text at the key `name`.
-fn name_in(table: &Value) -> Option<&str>
-    ensures { option_map (λ n. n.now) result ≡ name_in (as_table (view table.now)) }
-{
-    string(member(table.as_table()?, "name")?)
 }
 
 /// Puts, of an item that names a set, that there is none, or that the field can't have one of its items.
@@ -234,10 +212,24 @@ fn put_mention(
 ) -> Result<(), AllocError>
     ensures { OnOk result (line.new.items ≡ line.old.items ++ mention_words known fault of) }
 {
-    if !known {
-        return line.extend_from_slice(b" is no set");
+    if known {
+        put_foreign(line, fault, of)
+    } else {
+        line.extend_from_slice(b" is no set")
     }
+}
+
+/// Puts that a set has an item that the field can't have.
+fn put_foreign(line: &mut Vec<u8>, fault: ConfigFault, of: Scalar) -> Result<(), AllocError>
+    ensures { OnOk result (line.new.items ≡ line.old.items ++ (codes " has an item that" ++ single_words fault of)) }
+{
     line.extend_from_slice(b" has an item that")?;
+    put_single(line, fault, of)
+}
+
+fn put_single(line: &mut Vec<u8>, fault: ConfigFault, of: Scalar) -> Result<(), AllocError>
+    ensures { OnOk result (line.new.items ≡ line.old.items ++ single_words fault of) }
+{
     put_scalar(line, fault, of)?;
     line.extend_from_slice(two_front(of).as_bytes())
 }

@@ -1,6 +1,6 @@
 //! A configuration of format 1 or 2 as a text of format 3.
-ghost use Rattle.std.specs.Prelude.{◌≡◌, ◌↔◌, IfOk, IsErrOf};
-ghost use Rattle.gw_migration.specs.Migration.{Migrates};
+ghost use Rattle.std.specs.Prelude.{◌≡◌, IfOk, IsErrOf, IsTrue};
+ghost use Rattle.gw_migration.specs.Migration.{Migrates, in_format_three};
 ghost use Rattle.gw_rules.specs.declared.format.Format.TheVariants as formats;
 
 use crate::MigrationFault;
@@ -9,7 +9,7 @@ use crate::objects::{put_device, put_objects};
 use crate::ports::{put_ports, put_routes};
 use crate::rules::put_rules;
 use crate::same::{Same, are_same};
-use gw_configuration::{Config, ConfigFault, Format};
+use gw_configuration::{Config, ConfigFault};
 use gw_policy_text::read_config;
 use std::alloc::{AllocError, Global};
 

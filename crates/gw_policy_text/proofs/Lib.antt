@@ -3,3 +3,4 @@ pub mod Documents
 pub mod Each
 pub mod EachAt
 pub mod Limits
+pub mod TwoFormats

@@ -1,0 +1,282 @@
+-- Texts of formats 1 and 2 are read as where there is no third.
+use Rattle.std.proofs.Common.{◌≡◌, ◌≢◌, ◌≤◌, ◌<◌, ◌+◌, ◌++◌, ◌&&◌, ◌||◌, ◌∷◌, ◌∙◌, ℕ, zero, suc, [], Bool, true, false, List, Option, Some, None, Result, Ok, Err, ap, arith, codes, if◌then◌else◌, length, map, nat_le, nat_lt, refl, sym}
+use Rattle.std.specs.Prelude.{ℤ, pos, negsuc, is_some}
+use Rattle.std.specs.Option.{ok_or, option_map}
+use Rattle.std.specs.Result.{result_err}
+use Rattle.std.proofs.lemmas.Bool.{lt-leb}
+use Rattle.std.proofs.lemmas.List.{append-nil}
+use Rattle.toml.specs.Data.{Data, Members, no_members, member, as_integer, get_member}
+use Rattle.gw_addr.specs.Reading.{◌>>=◌}
+use Rattle.gw_addr.specs.declared.TheConstants.{MAX_PORTS}
+use Rattle.gw_rules.specs.declared.format.Format.{Format}
+use Rattle.gw_rules.specs.declared.format.Format.TheVariants as formats
+use Rattle.gw_rules.specs.declared.rule.Rule.{Rule}
+use Rattle.gw_rules.specs.Format.{names_stations}
+use Rattle.gw_configuration.specs.declared.fault.ConfigFault.{ConfigFault}
+use Rattle.gw_configuration.specs.declared.fault.ConfigFault.TheVariants.{Kind, Missing, Range, TooMany, UnknownKey}
+use Rattle.gw_configuration.specs.declared.fault.ConfigFault.TheVariants as faults
+use Rattle.gw_configuration.specs.declared.located.Place.TheVariants.{Top}
+use Rattle.gw_configuration.specs.declared.shape.Scalar.TheVariants.{Table}
+use Rattle.gw_configuration.specs.declared.shape.Shape.TheVariants.{One}
+use Rattle.gw_configuration.specs.Configuration.{Configuration, format_of}
+use Rattle.gw_configuration.specs.Duplicates.{unique}
+use Rattle.gw_configuration.specs.Located.{Find, Located, Read, at_key, of_text, unless, whole}
+use Rattle.gw_config_tables.specs.Field.{Field, at_field, fault_of, fault_where, field_fault, field_with, has, is_key, is_this, item_of, item_with, located_as, located_beside, located_in, position_in, stranger}
+use Rattle.gw_config_tables.specs.Items.{each}
+use Rattle.gw_config_tables.specs.Range.{is_kind, is_missing, is_range, is_too_many}
+use Rattle.gw_config_tables.specs.Tables.{common_top_fields, format_in, format_read, may, needs, number, tables, top_fields}
+use Rattle.gw_config_tables.specs.Value.{list_in, natural_within, number_in, reading}
+use Rattle.gw_policy_text.specs.Document.{configuration_of, document, located_configuration, parts_of, parts_of_format}
+use Rattle.gw_policy_text.specs.Parts.{each_at, list_at, number_at, port_in, ports_at}
+use Rattle.gw_policy_text.specs.Policy.{Policy, crowd, note_in, policy_at, policy_of, rule_in, rule_of, rules_behind}
+use Rattle.gw_policy_text.specs.TwoFormats as two
+use Rattle.gw_policy_text.proofs.EachAt.{regroup, with_front}
+
+-- steps that come to the same
+bind_same : {A B F : Type 0} (r : Result A F) (f g : A → Result B F) → ((x : A) → f x ≡ g x) → (r >>= f) ≡ (r >>= g)
+bind_same (Ok x) f g same = same x
+bind_same (Err e) f g same = refl
+
+each_at_same : {A : Type 0} (f g : ℕ → Data → Find A) → ((k : ℕ) (v : Data) → f k v ≡ g k v) → (k : ℕ) (vs : List Data) → each_at f k vs ≡ each_at g k vs
+each_at_same f g same k [] = refl
+each_at_same f g same k (v ∷ vs) = rw (same k v, each_at_same f g same (k + 1) vs) refl
+
+-- a port
+
+same_port : (format : Format) → names_stations format ≡ false → (k : ℕ) (v : Data) → port_in format k v ≡ two.port_in k v
+same_port formats.One other k v = refl
+same_port formats.Two other k v = refl
+same_port formats.Three other k v = absurd (cc)
+
+-- a rule
+
+same_rule : (format : Format) → names_stations format ≡ false → (k : ℕ) (v : Data) → rule_in format [] k v ≡ two.rule_in format k v
+unfolding rule_of
+same_rule formats.One other k v = refl
+same_rule formats.Two other k v = refl
+same_rule formats.Three other k v = absurd (cc)
+
+no_crowd : (format : Format) → names_stations format ≡ false → (k : ℕ) (rules : List Rule) → crowd format k rules ≡ None
+no_crowd format other k rules = rw other refl
+
+same_rules : (format : Format) → names_stations format ≡ false → (before : List Rule) (k : ℕ) (vs : List Data) → rules_behind format [] before k vs ≡ with_front before (each_at (two.rule_in format) k vs)
+same_rules format other before k [] = ap (λ rules. Ok rules) (sym (append-nil before))
+same_rules format other before k (v ∷ vs) =
+    ap (λ (r : Find Rule). r >>= next) (same_rule format other k v) ∙ step (λ (b : List Rule). same_rules format other b (k + 1) vs) (two.rule_in format k v)
+  where
+    next : Rule → Find (List Rule)
+    next r = unless (crowd format k (before ++ r ∷ [])) (rules_behind format [] (before ++ r ∷ []) (k + 1) vs)
+
+    step : ((b : List Rule) → rules_behind format [] b (k + 1) vs ≡ with_front b (each_at (two.rule_in format) (k + 1) vs))
+        → (read : Find Rule) → (read >>= next) ≡ with_front before (read >>= λ first. each_at (two.rule_in format) (k + 1) vs >>= λ others. Ok (first ∷ others))
+    step later (Err e) = refl
+    step later (Ok r) =
+        ap (λ (c : Option Located). unless c (rules_behind format [] (before ++ r ∷ []) (k + 1) vs)) (no_crowd format other k (before ++ r ∷ []))
+        ∙ later (before ++ r ∷ []) ∙ sym (regroup before r (each_at (two.rule_in format) (k + 1) vs))
+
+no_front : {A : Type 0} (reading : Find (List A)) → with_front [] reading ≡ reading
+no_front (Ok xs) = refl
+no_front (Err e) = refl
+
+same_notes : (format : Format) → names_stations format ≡ false → (vs : List Data) → each (note_in format) vs ≡ Ok (two.no_notes vs)
+same_notes format other [] = refl
+same_notes format other (v ∷ vs) = rw (other, same_notes format other vs) refl
+
+-- the policy
+
+-- of format 1 or 2 there are no sets
+abbrev policy_without_sets : Format → Members → Find Policy
+policy_without_sets format top =
+    whole (list_at 0 512 (codes "rule") top) >>= λ tables.
+    rules_behind format [] [] 0 tables >>= λ read.
+    whole (policy_of format read) >>= λ rules.
+    whole (each (note_in format) tables) >>= λ notes.
+    Ok (record { rules = rules; notes = notes; sets = [] })
+
+without_sets : (format : Format) → names_stations format ≡ false → (top : Members) → policy_at format top ≡ policy_without_sets format top
+without_sets formats.One other top = refl
+without_sets formats.Two other top = refl
+without_sets formats.Three other top = absurd (cc)
+
+same_policy_of : (format : Format) → names_stations format ≡ false → (rules : List Rule) → policy_of format rules ≡ two.policy_of rules
+same_policy_of formats.One other rules = refl
+same_policy_of formats.Two other rules = refl
+same_policy_of formats.Three other rules = absurd (cc)
+
+same_policy : (format : Format) → names_stations format ≡ false → (top : Members) → policy_at format top ≡ two.policy_at format top
+same_policy format other top =
+    without_sets format other top
+    ∙ bind_same (whole (list_at 0 512 (codes "rule") top)) _ _ (λ tables.
+      ap (λ (r : Find (List Rule)). r >>= λ read. whole (policy_of format read) >>= λ rules. whole (each (note_in format) tables) >>= λ notes. Ok (record { rules = rules; notes = notes; sets = [] }))
+      (same_rules format other [] 0 tables ∙ no_front (each_at (two.rule_in format) 0 tables))
+      ∙ bind_same (each_at (two.rule_in format) 0 tables) _ _ (λ read.
+        ap (λ (r : Read (List Rule)). whole r >>= λ rules. whole (each (note_in format) tables) >>= λ notes. Ok (record { rules = rules; notes = notes; sets = [] }))
+        (same_policy_of format other read)
+        ∙ ap (λ (n : Read (List (List ℕ))). whole (two.policy_of read) >>= λ rules. whole n >>= λ notes. Ok (record { rules = rules; notes = notes; sets = [] }))
+        (same_notes format other tables)))
+
+same_ports : (format : Format) → names_stations format ≡ false → (top : Members) → ports_at format (codes "port") top ≡ two.ports_at top
+same_ports format other top =
+    bind_same (whole (list_at 1 MAX_PORTS (codes "port") top)) _ _ (λ vs. each_at_same (port_in format) two.port_in (same_port format other) 0 vs)
+
+same_parts : (format : Format) → names_stations format ≡ false → (top : Members) → parts_of_format format top ≡ two.parts_of_format format top
+same_parts format other top = rw (same_ports format other top, same_policy format other top) refl
+
+-- the format
+
+above : (n limit : ℕ) → limit ≤ 3 → nat_le (suc (suc (suc (suc n)))) limit ≡ false
+above n limit few = lt-leb (suc (suc (suc (suc n)))) limit (omega (arith, few))
+
+-- the number of another format than the third is 1 or 2
+within : (n : ℕ) → names_stations (format_read (ok_or (natural_within 1 3 (pos n)) Range)) ≡ false → natural_within 1 3 (pos n) ≡ natural_within 1 2 (pos n)
+within zero other = refl
+within (suc zero) other = refl
+within (suc (suc zero)) other = refl
+within (suc (suc (suc zero))) other = absurd (cc)
+within (suc (suc (suc (suc n)))) other = rw (above n 3 (omega arith), above n 2 (omega arith)) refl
+
+read_within : (found : Option ℤ) → names_stations (format_read (reading (natural_within 1 3) found)) ≡ false → reading (natural_within 1 3) found ≡ reading (natural_within 1 2) found
+read_within None other = refl
+read_within (Some (pos n)) other = ap (λ (m : Option ℕ). ok_or m Range) (within n other)
+read_within (Some (negsuc n)) other = refl
+
+-- what is read at the key of the format
+read_at : (value : Option Data) → names_stations (format_read (ok_or value Kind >>= number_in 1 3)) ≡ false → (ok_or value Missing >>= number_in 1 3) ≡ (ok_or value Missing >>= number_in 1 2)
+read_at None other = refl
+read_at (Some v) other = read_within (as_integer v) other
+
+fault_at : (value : Option Data) → names_stations (format_read (ok_or value Kind >>= number_in 1 3)) ≡ false
+    → fault_where [] (needs (codes "format") (number 1 3)) value ≡ fault_where [] (needs (codes "format") (number 1 2)) value
+fault_at None other = refl
+fault_at (Some v) other = ap (λ (r : Read ℕ). result_err r) (read_within (as_integer v) other)
+
+-- the format that is read isn't the third
+read_other : (value : Option Data) → names_stations (format_read (ok_or value Kind >>= number_in 1 3)) ≡ false → (number : ℕ) → (ok_or value Missing >>= number_in 1 3) ≡ Ok number → names_stations (format_of number) ≡ false
+read_other None other n is = absurd (cc)
+read_other (Some v) other n is = ap (λ (r : Read ℕ). names_stations (format_read r)) (sym is) ∙ other
+
+-- the tables behind the format
+parts_of_read : (top : Members) (read : Read ℕ) → ((number : ℕ) → read ≡ Ok number → names_stations (format_of number) ≡ false)
+    → (whole (read >>= λ number. Ok (format_of number)) >>= λ format. parts_of_format format top) ≡ (whole read >>= λ number. two.parts_of_format (format_of number) top)
+parts_of_read top (Ok n) other = same_parts (format_of n) (other n refl) top
+parts_of_read top (Err e) other = refl
+
+same_parts_of : (top : Members) → names_stations (format_in top) ≡ false → parts_of top ≡ two.parts_of top
+same_parts_of top other =
+    parts_of_read top (number_at 1 3 (codes "format") top) (read_other (get_member (codes "format") top) other)
+    ∙ ap (λ (r : Read ℕ). whole r >>= λ number. two.parts_of_format (format_of number) top) (read_at (get_member (codes "format") top) other)
+
+-- the top table
+
+same_stranger : (top : Members) → stranger common_top_fields top ≡ stranger two.top_fields top
+same_stranger no_members = refl
+same_stranger (member key value members) = ap (λ (s : Option (List ℕ)). if is_key two.top_fields key then s else Some key) (same_stranger members)
+
+-- the other fields
+abbrev others : List Field
+others =
+    needs (codes "device") (One Table)
+    ∷ needs (codes "port") (tables 1 MAX_PORTS)
+    ∷ may (codes "route") (tables 0 512)
+    ∷ may (codes "object") (tables 0 256)
+    ∷ may (codes "rule") (tables 0 512)
+    ∷ []
+
+-- the fault of the table by that of its first field
+abbrev fault_by : Members → Option (List ℕ) → Option ConfigFault → Option ConfigFault
+fault_by top strange first =
+    if is_some strange then Some UnknownKey
+    else if is_missing first || has [] is_missing others top then Some Missing
+    else if is_kind first || has [] is_kind others top then Some Kind
+    else if is_range first || has [] is_range others top then Some Range
+    else if is_too_many first || has [] is_too_many others top then Some TooMany
+    else None
+
+same_fault : (top : Members) → names_stations (format_in top) ≡ false → fault_of [] common_top_fields top ≡ fault_of [] two.top_fields top
+same_fault top other =
+    ap (λ (s : Option (List ℕ)). fault_by top s (field_fault [] top (needs (codes "format") (number 1 3)))) (same_stranger top)
+    ∙ ap (fault_by top (stranger two.top_fields top)) (fault_at (get_member (codes "format") top) other)
+
+-- where it is
+abbrev blind : Located → Located
+blind located = record located { wanted = None }
+
+abbrev with_first : ConfigFault → Members → Field → Option ConfigFault → Located
+with_first fault top field first = at_field [] Top fault top (if is_this fault first then Some field else field_with [] fault others top)
+
+-- the format is no list, so no item of it is at fault
+same_item : (fault : ConfigFault) (value : Option Data) → item_of [] fault (number 1 3) value ≡ item_of [] fault (number 1 2) value
+same_item fault None = refl
+same_item fault (Some v) = of_list (list_in v)
+  where
+    of_items : (f : ConfigFault) (items : List Data) → item_with [] f (number 1 3) items ≡ item_with [] f (number 1 2) items
+    of_items faults.Kind items = refl
+    of_items faults.Range items = refl
+    of_items faults.NotToml items = refl
+    of_items faults.UnknownKey items = refl
+    of_items faults.Missing items = refl
+    of_items faults.TooMany items = refl
+    of_items faults.Duplicate items = refl
+    of_items faults.Memory items = refl
+
+    of_list : (r : Read (List Data)) → position_in [] fault (number 1 3) r ≡ position_in [] fault (number 1 2) r
+    of_list (Ok items) = of_items fault items
+    of_list (Err e) = refl
+
+same_first : (fault : ConfigFault) (top : Members) (first : Option ConfigFault)
+    → blind (with_first fault top (needs (codes "format") (number 1 3)) first) ≡ blind (with_first fault top (needs (codes "format") (number 1 2)) first)
+same_first fault top first = at (is_this fault first)
+  where
+    at : (here : Bool)
+        → blind (at_field [] Top fault top (if here then Some (needs (codes "format") (number 1 3)) else field_with [] fault others top))
+        ≡ blind (at_field [] Top fault top (if here then Some (needs (codes "format") (number 1 2)) else field_with [] fault others top))
+    at true =
+        ap (λ (item : Option ℕ). record { fault = fault; place = Top; key = codes "format"; item = item; wanted = None }) (same_item fault (get_member (codes "format") top))
+    at false = refl
+
+same_at : (fault : ConfigFault) (top : Members) → names_stations (format_in top) ≡ false
+    → blind (at_field [] Top fault top (field_with [] fault common_top_fields top)) ≡ blind (at_field [] Top fault top (field_with [] fault two.top_fields top))
+same_at fault top other =
+    same_first fault top (field_fault [] top (needs (codes "format") (number 1 3)))
+    ∙ ap (λ (first : Option ConfigFault). blind (with_first fault top (needs (codes "format") (number 1 2)) first)) (fault_at (get_member (codes "format") top) other)
+
+same_located : (fault : ConfigFault) (top : Members) → names_stations (format_in top) ≡ false
+    → blind (located_as [] Top common_top_fields top fault) ≡ blind (located_as [] Top two.top_fields top fault)
+same_located faults.UnknownKey top other = ap (λ (s : Option (List ℕ)). blind (at_key Top UnknownKey s)) (same_stranger top)
+same_located faults.Kind top other = same_at Kind top other
+same_located faults.Range top other = same_at Range top other
+same_located faults.NotToml top other = same_at faults.NotToml top other
+same_located faults.Missing top other = same_at Missing top other
+same_located faults.TooMany top other = same_at TooMany top other
+same_located faults.Duplicate top other = same_at faults.Duplicate top other
+same_located faults.Memory top other = same_at faults.Memory top other
+
+-- the whole
+
+same_keys : (format : Format) → names_stations format ≡ false → top_fields format ≡ common_top_fields
+same_keys formats.One other = refl
+same_keys formats.Two other = refl
+same_keys formats.Three other = absurd (cc)
+
+by_fault : (top : Members) → names_stations (format_in top) ≡ false → (found : Option ConfigFault)
+    → two.without_wanted (unless (option_map (located_as [] Top common_top_fields top) found) (parts_of top >>= unique))
+    ≡ two.without_wanted (unless (option_map (located_as [] Top two.top_fields top) found) (two.parts_of top >>= unique))
+by_fault top other None = ap (λ (r : Find Configuration). two.without_wanted (r >>= unique)) (same_parts_of top other)
+by_fault top other (Some fault) = ap (λ (l : Located). Err l) (same_located fault top other)
+
+kept_in : (top : Members) → names_stations (format_in top) ≡ false → two.without_wanted (configuration_of top) ≡ two.without_wanted (two.configuration_of top)
+unfolding configuration_of two.configuration_of located_beside
+kept_in top other =
+    ap (λ (fields : List Field). two.without_wanted (unless (located_beside [] Top fields top) (parts_of top >>= unique))) (same_keys (format_in top) other)
+    ∙ by_fault top other (fault_of [] common_top_fields top)
+    ∙ ap (λ (found : Option ConfigFault). two.without_wanted (unless (option_map (located_as [] Top two.top_fields top) found) (two.parts_of top >>= unique))) (same_fault top other)
+
+by_document : (long : Bool) (read : Read Members) → two.is_third_in read ≡ false
+    → two.without_wanted (if long then Err (of_text TooMany) else (whole read >>= configuration_of))
+    ≡ two.without_wanted (if long then Err (of_text TooMany) else (whole read >>= two.configuration_of))
+by_document true read other = refl
+by_document false (Ok top) other = kept_in top other
+by_document false (Err e) other = refl
+
+pub kept : two.TwoFormatsAreKept
+kept text other = by_document (nat_lt 1048576 (length text)) (document text) other
