@@ -1,10 +1,11 @@
 -- Every ask that a gateway raises lies in a shape of its configuration, so a rule that no ask of
 -- the shapes comes to never decides, nor does one of which a lint finds so. And what the log shows of
 -- a denied ask is enough to tell which rule denied it.
-use Rattle.std.specs.Prelude.{◌≡◌, ◌⊎◌, ℕ, ◌≤◌, Bool, true, false, List, [], ◌∷◌, ◌++◌, None, Some, IfSome, codes, ⊤}
+use Rattle.std.specs.Prelude.{◌≡◌, ◌⊎◌, ℕ, ◌+◌, ◌≤◌, Bool, true, false, List, [], ◌∷◌, ◌++◌, None, Some, IfSome, codes, ⊤}
 use Rattle.std.specs.Fmt.{decimal}
 use Rattle.std.specs.List.{AllByRecursion}
 use Rattle.gw_addr.specs.Address.{IsAddress}
+use Rattle.gw_addr.specs.declared.bip.BipAddr.{BipAddr}
 use Rattle.gw_audit.specs.Entry.{IsLineOf, IsShowable, TellsAsk}
 use Rattle.gw_audit.specs.declared.denial.Denial.{Denial}
 use Rattle.gw_audit.specs.declared.entry.ShownAsk.{ShownAsk}
@@ -12,8 +13,13 @@ use Rattle.gw_rules.specs.Ask.{Ask}
 use Rattle.gw_rules.specs.Fields.{value_of}
 use Rattle.gw_rules.specs.RuleList.{HasNumber, first}
 use Rattle.gw_rules.specs.declared.field.FieldName.{FieldName}
+use Rattle.gw_bvll.specs.Bvll.{register}
 use Rattle.gw_configuration.specs.Configuration.{Configuration}
+use Rattle.gw_configuration.specs.declared.port.Port.{Port}
+use Rattle.gw_relay.specs.Asks.{link_asks}
+use Rattle.gw_relay.specs.Initial.{port_of}
 use Rattle.gw_script.specs.Event.{Event, Datagram, Tick}
+use Rattle.gw_rules.specs.declared.format.Format.{Format}
 use Rattle.gw_rules.specs.declared.rule.Rule.{Rule}
 use Rattle.gw_core.specs.Asks.{asks}
 use Rattle.gw_core.specs.Denials.{default_name}
@@ -27,6 +33,7 @@ use Rattle.gw_shapes.specs.Search.{IsNeverFirst}
 use Rattle.gw_shapes.specs.Shape.{LiesInOne}
 use Rattle.gw_shapes.specs.Shapes.{shapes}
 use Rattle.gw_verdicts.specs.Why.{answer_to}
+use Rattle.gw_warnings.specs.Warnings.{register_ask}
 
 -- Its numbers have 64 bits, as those of each ask of the code have by their type.
 abbrev pub IsOfNumbers : Ask → Type 0
@@ -61,6 +68,14 @@ says_never finding.Unknown = false
 abbrev pub FoundNeverDecides : Type 0
 FoundNeverDecides = (c : Configuration) (number : ℕ) (rule : Rule) (found : Finding) → HasNumber c.rules number rule →
     says_never found ≡ true → Tells (shapes c) c.rules number rule found → NeverDecides c number
+
+-- ---- a peer that registers
+
+-- The ask of which a warning says that the policy allows it is the one that the peer raises by registering at its port,
+-- for whatever time.
+abbrev pub PeersRaiseTheAsk : Type 0
+PeersRaiseTheAsk = (format : Format) (place : ℕ) (port : Port) (peer : BipAddr) (time_to_live : ℕ) →
+    link_asks format (port_of (place + 1) port) peer (register time_to_live) ≡ register_ask format place port peer ∷ []
 
 -- ---- the rule of a line
 

@@ -1,6 +1,6 @@
 //! The theorems by which what a lint says is true of the gateway, and that of the answers. The
 //! functions do nothing: their contracts are the laws.
-ghost use Rattle.gw_verdicts.specs.Laws.{AsksLieInShapes, FoundNeverDecides, NeverFirstNeverDecides, WhyNamesTheRule};
+ghost use Rattle.gw_verdicts.specs.Laws.{AsksLieInShapes, FoundNeverDecides, NeverFirstNeverDecides, PeersRaiseTheAsk, WhyNamesTheRule};
 
 /// What a lint says of a rule is true of the gateway: a rule that matches nothing or is taken, as it
 /// finds over the shapes, decides no ask of any event.
@@ -13,6 +13,11 @@ pub fn findings()
 pub fn shapes()
     ensures lie { AsksLieInShapes }
     ensures never { NeverFirstNeverDecides }
+{}
+
+/// A peer that a warning says may register raises exactly the ask that the warning judges.
+pub fn registrations()
+    ensures { PeersRaiseTheAsk }
 {}
 
 /// A line of the log tells which rule denied it: under the configuration that it was written under,
