@@ -1,6 +1,6 @@
 #!/usr/bin/env bash
-# How long `bacgw check --lint` takes over policies of 512 rules, each with four ranges in each of the ten fields, at eight ports and
-# under the second format, where there are most shapes of asks: the row of docs/PERFORMANCE.md. The texts come from a fixed seed:
+# How long `bacgw check --lint` takes over policies of 512 rules, each with four ranges in each of the ten fields of format 2, at eight
+# ports and under that format: the row of docs/PERFORMANCE.md. The texts come from a fixed seed:
 #
 #     narrow    random narrow ranges
 #     wide      random wide ranges, which overlap often
@@ -81,7 +81,7 @@ def random_ranges(dice, key, share):
 
 
 def random_rules(share):
-    """Rules that name all ten fields, so writes alone can meet them."""
+    """Rules that name all ten fields of format 2, so writes alone can meet them."""
     dice = random.Random(45)
     out = []
     for number in range(1, RULES + 1):

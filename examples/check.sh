@@ -44,7 +44,7 @@ same() {
     fi
 }
 
-for script in "$here"/*.script; do
+for script in "$here"/*.script "$here"/format2/*.script; do
     name=${script%.script}
     words=(replay)
     [ -e "$name.toml" ] && words+=(--config "$name.toml")
@@ -78,35 +78,38 @@ if command -v tshark > /dev/null; then
     agrees 'a capture under a configuration without a port' 1 /dev/null "$work/told"
 fi
 
-# The asks of the refusals, each with its rule; and what the rules say of the lines of their log, of the middle words of these, and of
-# a line that is none.
-"$program" replay --config "$here/refusals.toml" --explain < "$here/refusals.script" > "$work/out" 2> "$work/err"
-status=$?
-agrees 'a replay that explains' 0 "$here/refusals.explained.out" /dev/null
-sed -n 's/^deny //p' "$here/refusals.out" > "$work/denials"
-"$program" why --config "$here/refusals.toml" < "$work/denials" > "$work/out" 2> "$work/err"
-status=$?
-agrees 'the rules of a log' 0 "$here/refusals.why.out" /dev/null
-cut -d' ' -f3-10 "$work/denials" | "$program" why --config "$here/refusals.toml" > "$work/out" 2> "$work/err"
-status=$?
-agrees 'the rules of the middle words of a log' 0 "$here/refusals.why.out" /dev/null
-{ head -2 "$work/denials"; echo 'no line of a log'; } | "$program" why --config "$here/refusals.toml" > "$work/out" 2> "$work/err"
-status=$?
-head -2 "$here/refusals.why.out" > "$work/line"
-echo 'bacgw: line 3' > "$work/told"
-agrees 'a line that is no ask' 2 "$work/line" "$work/told"
+# refusals NAME: the asks of the refusals of this name, each with its rule; and what the rules say of the lines of their log, of the
+# middle words of these, and of a line that is none
+refusals() {
+    "$program" replay --config "$1.toml" --explain < "$1.script" > "$work/out" 2> "$work/err"
+    status=$?
+    agrees "a replay that explains: $1" 0 "$1.explained.out" /dev/null
+    sed -n 's/^deny //p' "$1.out" > "$work/denials"
+    "$program" why --config "$1.toml" < "$work/denials" > "$work/out" 2> "$work/err"
+    status=$?
+    agrees "the rules of a log: $1" 0 "$1.why.out" /dev/null
+    cut -d' ' -f3-10,12- "$work/denials" | "$program" why --config "$1.toml" > "$work/out" 2> "$work/err"
+    status=$?
+    agrees "the rules of the middle words of a log: $1" 0 "$1.why.out" /dev/null
+    { head -2 "$work/denials"; echo 'no line of a log'; } | "$program" why --config "$1.toml" > "$work/out" 2> "$work/err"
+    status=$?
+    head -2 "$1.why.out" > "$work/line"
+    echo 'bacgw: line 3' > "$work/told"
+    agrees "a line that is no ask: $1" 2 "$work/line" "$work/told"
 
+    # The same log in words, with a line that is none among its lines.
+    sed '2a no line of a log' "$work/denials" > "$work/lines"
+    "$program" log < "$work/lines" > "$work/out" 2> "$work/err"
+    status=$?
+    agrees "a log in words: $1" 0 "$1.log.out" /dev/null
 
-# The same log in words, with a line that is none among its lines.
-{ head -2 "$work/denials"; echo 'no line of a log'; tail -3 "$work/denials"; } | "$program" log > "$work/out" 2> "$work/err"
-status=$?
-agrees 'a log in words' 0 "$here/refusals.log.out" /dev/null
-
-# And with the moments, where the run began at eight.
-{ head -2 "$work/denials"; echo 'no line of a log'; tail -3 "$work/denials"; } | "$program" log --start 2026-11-25T08:00:00+01:00 \
-    > "$work/out" 2> "$work/err"
-status=$?
-agrees 'a log in words with its moments' 0 "$here/refusals.since.out" /dev/null
+    # And with the moments, for a run that began at eight.
+    "$program" log --start 2026-11-25T08:00:00+01:00 < "$work/lines" > "$work/out" 2> "$work/err"
+    status=$?
+    agrees "a log in words with its moments: $1" 0 "$1.since.out" /dev/null
+}
+refusals "$here/refusals"
+refusals "$here/format2/refusals"
 
 echo 'bacgw: bad command line' > "$work/refusal"
 
@@ -203,10 +206,15 @@ accepts() {
     printf '%s\n' "$2" > "$work/line"
     agrees "$1" 0 "$work/line" /dev/null
 }
-accepts two_subnets.toml 'ok 2 ports 1 objects 6 rules'
+accepts two_subnets.toml 'ok 2 ports 1 objects 4 rules'
 accepts workstation.toml 'ok 1 ports 1 objects 7 rules'
 accepts plant_room.toml 'ok 1 ports 4 objects 3 rules'
-accepts routed.toml 'ok 2 ports 0 objects 11 rules'
+accepts routed.toml 'ok 2 ports 0 objects 9 rules'
+accepts recipes.toml 'ok 2 ports 2 objects 0 rules'
+accepts format2/two_subnets.toml 'ok 2 ports 1 objects 6 rules'
+accepts format2/workstation.toml 'ok 1 ports 1 objects 7 rules'
+accepts format2/plant_room.toml 'ok 1 ports 4 objects 3 rules'
+accepts format2/routed.toml 'ok 2 ports 0 objects 11 rules'
 
 # faulty TEXT NAME: `check` tells this fault of a text, and `replay` tells it before the script
 faulty() {
@@ -242,7 +250,7 @@ bacgw: configuration: NotToml' --config "$work/faulty.toml" --log "$work/log" --
 sed 's/10\.1\.0/127.1.0/; s/10\.2\.0/127.2.0/' "$here/two_subnets.toml" > "$work/loopback.toml"
 echo 'a line of before' > "$work/log"
 ran 0 "bacgw: serving port 1 at 127.1.0.2:47808, broadcast 127.1.0.255:47808; port 2 at 127.2.0.2:47808, broadcast \
-127.2.0.255:47808; device 1234 on network 100 with 1 objects; 6 rules; log to $work/log" --config "$work/loopback.toml" --log "$work/log" \
+127.2.0.255:47808; device 1234 on network 100 with 1 objects; 4 rules; log to $work/log" --config "$work/loopback.toml" --log "$work/log" \
     --turns 2 --verbose
 
 same 'what stood in the log before a run' "$(cat "$work/log"; echo .)" 'a line of before
@@ -349,7 +357,7 @@ same 'each socket of eight ports is heard' "$(cat "$work/out")" '48 of 48 reads 
 for octets in 4000 900000; do
     { cat "$here/two_subnets.toml"; head -c "$octets" /dev/zero | tr '\0' '#'; printf '\n[[rule]]\nname = "last"\nallow = true\n'; } > "$work/long.toml"
     checked "$work/long.toml"
-    echo 'ok 2 ports 1 objects 7 rules' > "$work/line"
+    echo 'ok 2 ports 1 objects 5 rules' > "$work/line"
     agrees "a configuration behind $octets octets" 0 "$work/line" /dev/null
 done
 # The most rules in the most octets, one rule more, and one octet more.
@@ -389,17 +397,22 @@ agrees 'a lint' 0 "$here/lint.out" /dev/null
 status=$?
 agrees 'what cannot be meant' 0 "$here/warnings.out" /dev/null
 
-# unsuspected FILE [NOTE]: a lint finds nothing in a configuration, or this, and nothing in it can't be meant
+# unsuspected FILE [NOTES]: a lint finds nothing in a configuration, or this, and nothing in it can't be meant. Two notes don't count: what
+# formats 1 and 2 can't keep out of a network, and that a policy passes no broadcast on
 unsuspected() {
     { "$program" check --config "$1" && printf '%s' "${2:+$2
 }"; } < /dev/null > "$work/plain" 2> /dev/null
-    "$program" check --config "$1" --lint < /dev/null > "$work/out" 2> "$work/err"
+    "$program" check --config "$1" --lint < /dev/null 2> "$work/err" > "$work/noted"
     status=$?
+    sed '/: look at source_network: without source, /d; /^note: look at cast: /d' "$work/noted" > "$work/out"
     agrees "the lint of $1" 0 "$work/plain" /dev/null
     same "the warnings of $1" "$("$program" check --config "$1" --explain | grep -v '^ok \|^object .* is hidden from network ')" ''
 }
-for file in "$here"/*.toml "$here/site/site.toml" "$here/../dist/site.toml"; do
+for file in "$here"/*.toml "$here"/format2/*.toml "$here/site/site.toml" "$here/../dist/site.toml"; do
     case ${file##*/} in
+        base.toml | recipes.toml) # they have no rules
+            same "the warnings of $file" "$("$program" check --config "$file" --explain | grep '^warning: ')" \
+                'warning: there is no rule, so every ask is denied' ;;
         lint.toml | warnings.toml | wrong_texts.toml) ;;
         *) unsuspected "$file" ;;
     esac
@@ -414,61 +427,43 @@ explained() {
     printf 'bacgw: configuration: %s\n' "$2" > "$work/told"
     agrees "an explanation: $3" 2 "$work/line" "$work/told"
 }
-explained '' Missing 'format: is missing; it must be 1 to 2'
+explained '' Missing 'format: is missing; it must be 1 to 3'
 explained 'format = 1\nformat = ' NotToml 'the text: is no TOML document, line 2, column 10: invalid value, expected a string, number, boolean, date-time, array or inline table'
 explained '\xff' NotToml "the text: is no TOML document, since it isn't UTF-8"
 explained 'colour = 1' UnknownKey 'colour: is no key of this table'
 explained 'format = 1\nport = []\n[device]\n' Range 'port: a list of 0 must have 1 to 8'
 
-# Each recipe of the cookbook: its rules behind base.toml, of another format where they begin with one, are accepted, and its lines,
-# marked by `> `, print what stands under them.
-recipe() {
-    format=$(grep '^format = ' "$work/rules" || echo 'format = 1')
-    { sed "s/^format = .*/$format/" "$here/base.toml"; grep -v '^format = ' "$work/rules"; } > "$work/recipe.toml"
-    [ -e "$work/recipes/$wish" ] || cp "$work/recipe.toml" "$work/recipes/$wish"
-    checked "$work/recipe.toml"
-    agrees "recipe: $(head -1 "$work/lines")" 0 "$work/out" /dev/null
-    note=
-    # of the one that shows how not to hide the door of another device
-    if [ "$format" = 'format = 2' ] && grep -q '^name = "all"' "$work/rules"; then
-        note='note: rule 2 all: look at object_type: without one, requests pass that name no object'
-    fi
-    unsuspected "$work/recipe.toml" "$note"
-    sed -n 's/^> //p' "$work/lines" > "$work/script"
-    sed '/^> /d' "$work/lines" > "$work/shown"
-    "$program" replay --config "$work/recipe.toml" < "$work/script" > "$work/out" 2> "$work/err"
-    status=$?
-    agrees "recipe: $(head -1 "$work/lines")" 0 "$work/shown" /dev/null
-}
-mkdir "$work/recipes"
-while IFS= read -r line; do
-    case $line in
-        '## '[0-9]*'. '*) wish=${line#\#\# } ;;
-        '```toml') to=rules; : > "$work/rules" ;;
-        '```text') to=lines; : > "$work/lines" ;;
-        '```') [ "$to" = lines ] && recipe; to= ;;
-        *) [ -n "${to:-}" ] && printf '%s\n' "$line" >> "$work/$to" ;;
+# The recipes of the cookbook, and what each policy lets through and refuses.
+"$here/attempts.sh" "$program" "$work/recipes" > "$work/out" 2>&1
+status=$?
+sed '$d' "$work/out"
+read -r agreed _ differing _ < <(tail -1 "$work/out")
+passed=$((passed + agreed))
+failed=$((failed + differing))
+same 'the status of the attempts' "$status" "$((differing > 0))"
+for file in "$work"/recipes/* "$here"/format2/recipes/*; do
+    case ${file##*/} in
+        # how not to hide the door of another device, a network that is learned, and a rule that means every service of one device
+        *', otherwise')
+            unsuspected "$file" 'note: rule 2 all: look at object_type: without one, requests pass that name no object
+note: rule 2 all: look at its fields: without any, it allows tables, registrations, routes, enter and claim too' ;;
+        *_not.toml)
+            unsuspected "$file" 'note: rule 2 all: look at object_type: without one, requests pass that name no object
+note: rule 2 all: look at its fields: without any, it allows tables, registrations and routes too' ;;
+        '14. '*) unsuspected "$file" "note: rule 2 read-all: look at source_network: 400 is of no port, no route and not the device's" ;;
+        '16. '*) unsuspected "$file" 'note: rule 1 maintenance: look at object_type: without one, requests pass that name no object' ;;
+        *) unsuspected "$file" ;;
     esac
-done < "$here/../docs/policy.md"
-
-# What the policies let through and what they refuse, each by a gateway of its own: a row of attempts.tsv has the policy (a file, or the
-# heading of a recipe), what is tried, the line of a script, and what is printed for it, with ` | ` between its lines.
-while IFS=$'\t' read -r policy what event shown; do
-    file=$here/../$policy
-    [ -e "$file" ] || file=$work/recipes/$policy
-    echo "$event" | "$program" replay --config "$file" > "$work/out" 2> "$work/err"
-    status=$?
-    printf '%s\n' "${shown// | /$'\n'}" > "$work/shown"
-    agrees "$policy: $what" 0 "$work/shown" /dev/null
-    case $shown in
-        'deny '* | end) echo "$policy" >> "$work/refused" ;;
-    esac
-done < "$here/attempts.tsv"
-# Each recipe and each policy that is shipped refuses three attempts at least.
-for policy in "$work"/recipes/* dist/site.toml examples/{two_subnets,workstation,plant_room,routed,refusals,site/site}.toml; do
-    [ "$(grep -cxF "${policy#"$work/recipes/"}" "$work/refused")" -ge 3 ]
-    same "three attempts that $policy refuses" "$?" 0
 done
+
+# Each attack, under a policy of format 3, which stops it, and under one of format 2, which doesn't.
+"$here/attacks.sh" "$program" > "$work/out" 2>&1
+status=$?
+sed '$d' "$work/out"
+read -r agreed _ differing _ < <(tail -1 "$work/out")
+passed=$((passed + agreed))
+failed=$((failed + differing))
+same 'the status of the attacks' "$status" "$((differing > 0))"
 
 checked /dev/zero
 tells "a file without an end" 2 'bacgw: configuration: TooMany'

@@ -1,7 +1,7 @@
 #!/usr/bin/env bash
 # Makes the section CONFIGURATION KEYS of man/bacgw.1 from the tables by which the program reads a configuration
-# (crates/gw_config_tables/src/tables.rt) and the bounds of a rule's fields (crates/gw_rules/src/field.rt), and compares it with what stands there; with --print it prints it. It wants python3 and no
-# built program. The last line says whether they agree.
+# (crates/gw_config_tables/src/tables.rt) and the bounds of a rule's fields (crates/gw_rules/src/field.rt), and compares it with the page;
+# with --print it prints it. It wants python3 and no built program. The last line says whether they agree.
 set -euo pipefail
 exec python3 - "$(cd "$(dirname "$0")/.." && pwd)" "${1:-}" <<'END'
 import difflib, glob, os, re, sys
@@ -9,19 +9,47 @@ import difflib, glob, os, re, sys
 os.chdir(sys.argv[1])
 PAGE, SECTION = "man/bacgw.1", ".SH CONFIGURATION KEYS"
 TABLES = open("crates/gw_config_tables/src/tables.rt").read()
-READING = open("crates/gw_policy_text/specs/Parts.antt").read()
+READING = "".join(open(file).read() for file in sorted(glob.glob("crates/gw_policy_text/specs/*.antt")))
 LIMITS = {}
 LIMITED = ("gw_configuration", "gw_config_tables", "gw_rules")
 for file in [file for crate in LIMITED for file in glob.glob(f"crates/{crate}/src/*.rt")] + ["crates/gw_addr/src/lib.rt"]:
-    for name, value in re.findall(r"const (MAX_\w+): \w+ = ([\d_]+);", open(file).read()):
-        LIMITS[name] = value
+    for name, value, shift in re.findall(r"const (MAX_\w+): \w+ = ([\d_]+)(?: << (\d+))?;", open(file).read()):
+        LIMITS[name] = str(int(value) << int(shift or 0))
 SHAPES = dict(re.findall(r"const (\w+): (?:Shape|Scalar) = (.*?);", TABLES, re.S))
-# What a rule may name for a field.
-NAMED = {"Operation": "Scalar::Operation", "SourceKey": "Scalar::Address"}
-BOUNDS = re.search(r"fn bounds\(.*?\n    \}\n", open("crates/gw_rules/src/field.rt").read(), re.S)[0]
-for names, low, high in re.findall(r"(FieldName::[\w |:]+) => \((\w+), ([\w ]+)\),", BOUNDS):
-    for name in re.findall(r"FieldName::(\w+)", names):
-        NAMED.setdefault(name, f"Scalar::Number {{ low: {low}, high: {high} }}")
+# What a rule may name for a field: a number within its bounds, which may end later in format 3, or what the words of a field say.
+FIELDS = open("crates/gw_rules/src/field.rt").read()
+BOUNDS = re.search(r"fn bounds\(.*?\n    \}\n", FIELDS, re.S)[0]
+SCALARS = re.search(r"fn scalar_of\(.*?\n\}\n", TABLES, re.S)[0]
+NAMED = {"Services": "a service", "ObjectTypes": "a type", "Properties": "a property"}
+
+
+def ends(high):
+    """The greatest number of a field in formats 1 and 2, and in format 3."""
+    if not high.endswith("(format)"):
+        return high, high
+    body = re.search(rf"fn {high[:-8]}\(.*?\n\}}\n", FIELDS, re.S)[0]
+    return re.search(r"Format::Two => (\d+)", body)[1], re.search(r"Format::Three => (\d+)", body)[1]
+
+
+def item(name):
+    """The words of an item of a field of a rule."""
+    if name == "Operation":
+        return "the name of an operation; enter and claim in format 3 alone"
+    if name in ("SourceKey", "Sender", "Station"):
+        always = "an address and its UDP port, as 10.0.1.255:47808"
+        also = "an address, as 10.0.1.255, or a subnet, as 10.0.1.0/24"
+        return f"{always}; in format 3 also {also}" if name == "SourceKey" else f"{always}, {also}"
+    low, high = re.search(rf"FieldName::{name}\b[^=]*=> \((\w+), ([\w ()]+)\),", BOUNDS).groups()
+    short, long = ends(re.sub(r" as u64$", "", high))
+    words = f"{low} to {number(short)}" + (f"; in format 3 to {number(long)}" if long != short else "")
+    table = re.search(rf"FieldName::{name}\) => Scalar::Named\(Names::(\w+)\)", SCALARS)
+    return words + (f"; in format 3 also the name of {NAMED[table[1]]}" if table else "")
+
+
+def number(text):
+    return LIMITS.get(text, text).replace("_", "")
+
+
 # What a text that may be missing is then.
 DEFAULTS = {key: default for default, key in re.findall(r'optional_text (?:\[\]|\(codes "(\w+)"\)) \(codes "(\w+)"\)', READING)}
 TYPES = re.findall(r"(\d+) ([A-Z][\w -]+?)(?:,|\")", re.search(r"const TYPES: &str =(.*?);", open("crates/gw_explanation/src/reason.rt").read(), re.S)[1])
@@ -57,7 +85,8 @@ def scalar(of, counted):
         "Scalar::Boolean": "true or false",
         "Scalar::Address": "an address and its UDP port, as 10.0.1.255:47808",
         "Scalar::Mask": "a mask, as 255.255.255.0",
-        "Scalar::Operation": "names of operations",
+        "Scalar::Subnet": "a subnet, as 10.0.1.0/24",
+        "Scalar::Item": "a text, a whole number or a list of two",
         "Scalar::Table": "a table",
     }[of]
 
@@ -66,31 +95,43 @@ def words(shape, counted):
     one = re.fullmatch(r"Shape::One\((.*)\)", shape)
     if one:
         return scalar(one[1], counted)
-    ranges = re.fullmatch(r"Shape::Ranges\((.*)\)", shape)
+    ranges = re.fullmatch(r"ranges\((\w+)\)", shape)
     if ranges:
-        return "items, each " + scalar(ranges[1], counted).replace("names of operations", "the name of an operation")
+        return "items, each " + item(ranges[1])
     tables = re.fullmatch(r"tables\((\d+), (\d+)\)", shape)
     if tables:
-        return bounds(*tables.groups()) + " tables"
+        # More tables than a text has room for are as many as it has.
+        return "tables" if int(tables[2]) > 65536 else bounds(*tables.groups()) + " tables"
     listed = re.fullmatch(r"Shape::List\{of: (.*), least: (\d+), most: (\d+)\}", shape)
     return "a list of " + bounds(listed[2], listed[3]) + ", each " + scalar(listed[1], counted)
 
 
 def default(key, shape):
-    if "Ranges" in shape:
+    if "ranges(" in shape:
         return "any"
     return (DEFAULTS[key] or "empty") if "Text" in shape else "none"
 
 
-def fields(table):
-    """The keys of a table in their order, each with its words."""
-    body = re.search(rf"fn {table}_fields\(.*?\n\}}\n", TABLES, re.S)[0]
-    body = re.sub(r'ranges\("(\w+)", FieldName::(\w+)\)', lambda found: f'Field::may("{found[1]}", Shape::Ranges({NAMED[found[2]]}))', body)
-    counted = {"route": "ports", "multi_state": "states"}.get(table, "")
+def fields_of(function, counted=""):
+    """The keys of the fields of a function in their order, each with its words."""
+    body = re.search(rf"fn {function}\(.*?\n\}}\n", TABLES, re.S)[0]
+    body = re.sub(r'ranges\(format, "(\w+)", FieldName::(\w+)\)', r'Field::may("\1", ranges(\2))', body)
     found = re.findall(r'Field::(needs|may)\(\s*"(\w+)",\s*(.*?),?\s*\),?\n(?=\s+Field|\s+\])', body, re.S)
-    assert len(found) == body.count("Field::") and found, table
+    assert len(found) == body.count("Field::") and found, function
     shapes = [(need, key, plain(shape)) for need, key, shape in found]
     return [(key, words(shape, counted) + ("" if need == "needs" else f"; else {default(key, shape)}")) for need, key, shape in shapes]
+
+
+def fields(table):
+    """The keys of a table in their order, those of format 3 too, each with its words."""
+    counted = {"route": "ports", "multi_state": "states"}.get(table, "")
+    plain_keys = fields_of(f"{table}_fields", counted)
+    longer = re.search(rf"fn ({table}_fields_with_\w+)\(", TABLES)
+    if not longer:
+        return plain_keys
+    keys = fields_of(longer[1], counted)
+    assert keys[: len(plain_keys)] == plain_keys, table
+    return plain_keys + [(key, said + ". Format 3 alone") for key, said in keys[len(plain_keys) :]]
 
 
 def entries(title, keys):
@@ -104,10 +145,11 @@ def section():
     lines = [
         SECTION,
         "The configuration is a text in TOML with these tables.",
-        r"A key with \(lqelse\(rq behind what it may be can be missing;",
-        "each other key must be there, and there is no further one.",
+        r"A key with \(lqelse\(rq after what it may be can be left out;",
+        "all others are required, and an unknown key is a fault.",
         f"Items are a list of 1 to {LIMITS['MAX_RANGES']}, each one value or a list of two, low and high,",
-        "of operations one name.",
+        "of operations one name;",
+        f"in format 3 a list of 1 to {LIMITS['MAX_ITEMS']}, each also @ and the name of a set.",
     ]
     lines += entries("The text", fields("top"))
     for table, title in (("device", "[device]"), ("port", "[[port]]"), ("peer", "[[port.peer]]"), ("route", "[[route]]")):
@@ -117,17 +159,17 @@ def section():
     lines += entries("[[object]]", shared)
     for kind, (number, name) in OBJECTS.items():
         lines += entries(f"[[object]] of type {number}, {name}", [field for field in objects[kind] if field not in shared])
-    return lines + entries("[[rule]]", fields("rule"))
+    return lines + entries("[[set]], in format 3 alone", fields("set")) + entries("[[rule]]", fields("rule"))
 
 
 wanted = section()
 if sys.argv[2] == "--print":
     print("\n".join(wanted))
     sys.exit()
-stands = open(PAGE).read().split("\n")
-start = stands.index(SECTION) if SECTION in stands else len(stands)
-end = next((line for line in range(start + 1, len(stands)) if stands[line].startswith(".SH ")), len(stands))
-differing = list(difflib.unified_diff(stands[start:end], wanted, PAGE, "the tables", lineterm=""))
+page = open(PAGE).read().split("\n")
+start = page.index(SECTION) if SECTION in page else len(page)
+end = next((line for line in range(start + 1, len(page)) if page[line].startswith(".SH ")), len(page))
+differing = list(difflib.unified_diff(page[start:end], wanted, PAGE, "the tables", lineterm=""))
 print("\n".join(differing) if differing else f"{PAGE}: the keys are those of the tables")
 sys.exit(bool(differing))
 END

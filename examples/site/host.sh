@@ -82,7 +82,7 @@ stop() {
 serve() {
     stop
     : > "$work/told"
-    ip netns exec "${names[0]}" env LD_PRELOAD="${1:-}" "$program" run --config "$here/site.toml" --log "$work/log" --verbose --stats 1 2> "$work/told" &
+    ip netns exec "${names[0]}" env LD_PRELOAD="${1:-}" "$program" run --config "$here/../format2/site.toml" --log "$work/log" --verbose --stats 1 2> "$work/told" &
     gateway=$!
     for _ in $(seq 50); do
         ! grep -q '^bacgw: ' "$work/told" || break

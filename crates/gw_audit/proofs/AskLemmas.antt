@@ -1,13 +1,15 @@
 -- Lines: what is read of one stands there, and what stands there is read.
-use Rattle.std.proofs.Common.{◌≡◌, ◌≢◌, ◌⊎◌, inl, inr, ℕ, suc, ◌^◌, ◌<◌, Bool, true, false, List, [], ◌∷◌, ◌++◌, length, take, drop, Option, Some, None, refl, sym, ap, ap₂, subst, ◌∙◌, append-nil, arith}
-use Rattle.std.specs.Prelude.{◌==◌, nat_lt, if◌then◌else◌, codes, position, nat_eq}
+use Rattle.std.proofs.Common.{◌≡◌, ◌≢◌, ◌⊎◌, inl, inr, ℕ, suc, ◌^◌, ◌<◌, Bool, true, false, List, [], ◌∷◌, ◌++◌, length, take, drop, get_or, Option, Some, None, refl, sym, ap, ap₂, subst, ◌∙◌, append-nil, arith}
+use Rattle.std.specs.Prelude.{◌==◌, nat_lt, if◌then◌else◌, codes, is_some, position, nat_eq}
+use Rattle.std.specs.Option.{option_map, option_map_or}
 use Rattle.std.specs.Char.{IsAsciiDigit}
 use Rattle.std.specs.Cmp.Lexicographic.{pointwise, same_text}
 use Rattle.std.specs.Fmt.{decimal}
 use Rattle.std.specs.List.{flat_map, position_or_len}
-use Rattle.std.proofs.lemmas.Bool.{lt-ltb, ltb-true, le-ltb}
+use Rattle.std.proofs.lemmas.Bool.{eq-eqb, eqb-true, lt-ltb, ltb-false, ltb-true, le-ltb}
 use Rattle.std.proofs.lemmas.Bool.Decides.{nat_tests}
-use Rattle.std.proofs.lemmas.List.{drop_at, take-append-drop, take_at}
+use Rattle.std.proofs.lemmas.List.{drop_at, get_or-take, length-take, take-append-drop, take_at}
+use Rattle.std.proofs.lemmas.List.Sums.{fails_before_first}
 use Rattle.gw_addr.specs.declared.station.Source.{Source}
 use Rattle.gw_addr.specs.Reading.{AreOctets}
 use Rattle.gw_addr.specs.Station.{is_network, is_station, two_digits}
@@ -16,25 +18,16 @@ use Rattle.gw_addr.proofs.Lacking.{not_in_decimal}
 use Rattle.gw_audit.specs.declared.entry.ShownAsk.{ShownAsk}
 use Rattle.gw_audit.specs.declared.reading.Request.{Request}
 use Rattle.gw_audit.specs.declared.reading.Target.{Target}
-use Rattle.gw_audit.specs.Line.{field_text, operation_text}
-use Rattle.gw_audit.specs.Entry.{IsShownAsk, ask_text}
-use Rattle.gw_audit.specs.internal.Reading.{◌>>=◌, ask_at, ask_of_parts, behind, field_in, field_to, labelled_to, mac_in, mac_to, net_of, number_in, number_to, operation_in, operation_to, parted_at, port_at, port_of, priority_at, priority_of, request_at, source_at, target_at, up_to, word_at, word_len}
-use Rattle.gw_audit.proofs.Fields.{IsSmall, colon, comma, digits_lack, field_lacks, operation_spaceless, space}
-use Rattle.gw_audit.proofs.LineLemmas.{step}
+use Rattle.gw_audit.specs.Line.{field_text, key_text, operation_word, stations_text}
+use Rattle.gw_audit.specs.Entry.{AreShownStations, IsShownAsk, ask_text}
+use Rattle.gw_audit.specs.declared.entry.Stations.{Stations}
+use Rattle.gw_audit.specs.internal.Parts.{station_text}
+use Rattle.gw_audit.specs.internal.Reading.{◌>>=◌, key_in, key_to, named_stations, station_key, stations_in, whole_ask, with_both, ask_at, ask_of_parts, behind, field_in, field_to, labelled_to, mac_in, mac_to, net_of, number_in, number_to, operation_in, parted_at, port_at, port_of, priority_at, priority_of, request_at, source_at, target_at, up_to, word_at, word_len}
+use Rattle.gw_audit.proofs.Fields.{IsSmall, colon, comma, digits_lack, field_lacks, space}
+use Rattle.gw_audit.proofs.LineLemmas.{AreSmall, stations_on, stations_right, stations_whole, step}
+use Rattle.gw_audit.proofs.KeyLemmas.{key_again, key_lacks, key_takes, station_again, station_takes}
 use Rattle.gw_audit.proofs.MacLemmas.{mac_again, mac_takes}
-use Rattle.gw_audit.proofs.ReadingLemmas.{pair, field_again, field_takes, first_is, number_again, number_takes, operation_again, other_character, operation_takes, parted_again, parted_takes, place_first, same_as_itself, second_is, some_is}
-
--- ---- steps
-
--- what came of a step that gave something
-pub record Step {A B : Type 0} (r : Option A) (f : A → Option B) (y : B) : Type 0 where
-  pub value : A
-  pub gave : r ≡ Some value
-  pub goes_on : f value ≡ Some y
-
-pub step_of : {A B : Type 0} (r : Option A) (f : A → Option B) (y : B) → (r >>= f) ≡ Some y → Step r f y
-step_of (Some x) f y e = record { value = x; gave = refl; goes_on = e }
-step_of None f y e = absurd cc
+use Rattle.gw_audit.proofs.ReadingLemmas.{pair, field_again, field_takes, first_is, number_again, number_takes, operation_again, other_character, operation_takes, step_of, parted_again, parted_takes, place_first, same_as_itself, second_is, some_is}
 
 -- ---- a word up to a character
 
@@ -93,16 +86,14 @@ at_space = record { digit = space; other = λ e. absurd (omega arith) }
 at_comma : EndsField 44
 at_comma = record { digit = comma; other = λ e. absurd (omega arith) }
 
-operation_to_takes : (text : List ℕ) (value : Option ℕ) (rest : List ℕ) → operation_to 32 text ≡ Some (value, rest)
-    → (text ≡ operation_text value ++ 32 ∷ rest) × IsSmall value
-operation_to_takes text value rest e =
-    let took = up_to_takes operation_in 32 text value rest e in
-    let operation = operation_takes took.word value took.reads in
-    (took.parts ∙ ap (λ (t : List ℕ). t ++ 32 ∷ rest) operation.0, operation.1)
+key_to_takes : (text : List ℕ) (n : ℕ) (rest : List ℕ) → key_to 32 text ≡ Some (n, rest) → (text ≡ key_text n ++ 32 ∷ rest) × (n < 2 ^ 64)
+key_to_takes text n rest e =
+    let took = up_to_takes key_in 32 text n rest e in
+    let key = key_takes took.word n took.reads in
+    (took.parts ∙ ap (λ (t : List ℕ). t ++ 32 ∷ rest) key.0, key.1)
 
-operation_to_again : (value : Option ℕ) (rest : List ℕ) → IsSmall value → operation_to 32 (operation_text value ++ 32 ∷ rest) ≡ Some (value, rest)
-operation_to_again value rest small =
-    up_to_again operation_in 32 (operation_text value) value rest (operation_spaceless value small) (operation_again value small)
+key_to_again : (n : ℕ) (rest : List ℕ) → n < 2 ^ 64 → key_to 32 (key_text n ++ 32 ∷ rest) ≡ Some (n, rest)
+key_to_again n rest small = up_to_again key_in 32 (key_text n) n rest (key_lacks 32 n (omega arith)) (key_again n small)
 
 -- ---- a label
 
@@ -140,8 +131,7 @@ source_on s rest = decimal s.net ++ 58 ∷ (flat_map two_digits s.mac ++ 32 ∷ 
 
 unfoldable pub request_on : Request → List ℕ → List ℕ
 request_on r rest =
-    operation_text r.operation ++ 32 ∷ (codes "dst=" ++ (field_text r.destination_network
-    ++ 32 ∷ (codes "svc=" ++ (field_text r.service ++ 32 ∷ rest))))
+    codes "dst=" ++ (field_text r.destination_network ++ 32 ∷ (codes "svc=" ++ (field_text r.service ++ 32 ∷ rest)))
 
 unfoldable pub target_on : Target → List ℕ → List ℕ
 target_on t rest =
@@ -233,43 +223,41 @@ source_again s rest is =
     rw (number_to_again 58 s.net (flat_map two_digits s.mac ++ 32 ∷ rest) colon (omega (arith, small)), net_again s.net is.network, mac_to_again s.mac rest is.station is.octets) refl
 
 record IsRequest (r : Request) : Type 0 where
-  operation : IsSmall r.operation
   destination_network : IsSmall r.destination_network
   service : IsSmall r.service
 
-abbrev pub request : Option ℕ → Option ℕ → Option ℕ → Request
-request operation destination service = record { operation = operation; destination_network = destination; service = service }
+abbrev pub request : Option ℕ → Option ℕ → Request
+request destination service = record { destination_network = destination; service = service }
+
+abbrev with_service : Option ℕ → Option ℕ × List ℕ → Option (Request × List ℕ)
+with_service destination service = Some (pair (request destination service.0) service.1)
+
+abbrev with_destination : Option ℕ × List ℕ → Option (Request × List ℕ)
+with_destination destination = labelled_to (codes "svc=") 32 destination.1 >>= with_service destination.0
 
 request_takes : (text : List ℕ) (r : Request) (rest : List ℕ) → request_at text ≡ Some (r, rest) → (text ≡ request_on r rest) × IsRequest r
 unfolding request_on
 request_takes text r rest e =
-    let operation = step_of (operation_to 32 text) (λ operation. labelled_to (codes "dst=") 32 operation.1 >>= (λ destination. labelled_to (codes "svc=") 32 destination.1 >>= (λ service. Some (pair (request operation.0 destination.0 service.0) service.1)))) (pair r rest) e in
-    let destination = step_of (labelled_to (codes "dst=") 32 operation.value.1) (λ destination. labelled_to (codes "svc=") 32 destination.1 >>= (λ service. Some (pair (request operation.value.0 destination.0 service.0) service.1))) (pair r rest) operation.goes_on in
-    let service = step_of (labelled_to (codes "svc=") 32 destination.value.1) (λ service. Some (pair (request operation.value.0 destination.value.0 service.0) service.1)) (pair r rest) destination.goes_on in
-    let made : Request = request operation.value.0 destination.value.0 service.value.0 in
+    let destination = step_of (labelled_to (codes "dst=") 32 text) with_destination (pair r rest) e in
+    let service = step_of (labelled_to (codes "svc=") 32 destination.value.1) (with_service destination.value.0) (pair r rest) destination.goes_on in
+    let made : Request = request destination.value.0 service.value.0 in
     let is : pair made service.value.1 ≡ pair r rest = some_is (pair made service.value.1) (pair r rest) service.goes_on in
     let same : made ≡ r = first_is made r service.value.1 rest is in
     let behind : service.value.1 ≡ rest = second_is made r service.value.1 rest is in
-    let a = operation_to_takes text operation.value.0 operation.value.1 operation.gave in
-    let b = labelled_takes (codes "dst=") 32 operation.value.1 destination.value.0 destination.value.1 destination.gave in
+    let b = labelled_takes (codes "dst=") 32 text destination.value.0 destination.value.1 destination.gave in
     let c = labelled_takes (codes "svc=") 32 destination.value.1 service.value.0 service.value.1 service.gave in
     let parts : text ≡ request_on made service.value.1 =
-    a.0 ∙ ap (λ (t : List ℕ). operation_text operation.value.0 ++ 32 ∷ t) b.0
-    ∙ ap (λ (t : List ℕ). operation_text operation.value.0 ++ 32 ∷ (codes "dst=" ++ (field_text destination.value.0 ++ 32 ∷ t))) c.0 in
-    let fits : IsRequest made = record { operation = a.1; destination_network = b.1; service = c.1 } in
+    b.0 ∙ ap (λ (t : List ℕ). codes "dst=" ++ (field_text destination.value.0 ++ 32 ∷ t)) c.0 in
+    let fits : IsRequest made = record { destination_network = b.1; service = c.1 } in
     (parts ∙ ap₂ request_on same behind, subst IsRequest same fits)
 
 request_again : (r : Request) (rest : List ℕ) → IsRequest r → request_at (request_on r rest) ≡ Some (r, rest)
 unfolding request_on
 request_again r rest is =
     let svc = codes "svc=" ++ (field_text r.service ++ 32 ∷ rest) in
-    let dst = codes "dst=" ++ (field_text r.destination_network ++ 32 ∷ svc) in
-    let a = operation_to_again r.operation dst is.operation in
     let b = labelled_again (codes "dst=") 32 r.destination_network svc at_space is.destination_network in
     let c = labelled_again (codes "svc=") 32 r.service rest at_space is.service in
-    ap (λ r. r >>= (λ operation. labelled_to (codes "dst=") 32 operation.1 >>= (λ destination. labelled_to (codes "svc=") 32 destination.1 >>= (λ service. Some (pair (request operation.0 destination.0 service.0) service.1))))) a
-    ∙ ap (λ x. x >>= (λ destination. labelled_to (codes "svc=") 32 destination.1 >>= (λ service. Some (pair (request r.operation destination.0 service.0) service.1)))) b
-    ∙ ap (λ x. x >>= (λ service. Some (pair (request r.operation r.destination_network service.0) service.1))) c
+    ap (λ x. x >>= with_destination) b ∙ ap (λ x. x >>= with_service r.destination_network) c
 
 record IsTarget (t : Target) : Type 0 where
   object_type : IsSmall t.object_type
@@ -335,13 +323,32 @@ word_len_is word rest lacks (inl none) =
 word_len_is word rest lacks (inr space) =
     ap (λ (t : List ℕ). word_len (word ++ t)) space.1 ∙ rw (place_first 32 word space.0 lacks) refl
 
-word_again : (word rest : List ℕ) → Lacks 32 word → EndsWord rest → word_at (word ++ rest) ≡ (word, rest)
+pub word_again : (word rest : List ℕ) → Lacks 32 word → EndsWord rest → word_at (word ++ rest) ≡ (word, rest)
 word_again word rest lacks ends =
     let len = word_len_is word rest lacks ends in
     rw (len, take_at word rest (length word) refl, drop_at word rest (length word) refl) refl
 
-word_takes : (text : List ℕ) → text ≡ (word_at text).0 ++ (word_at text).1
+pub word_takes : (text : List ℕ) → text ≡ (word_at text).0 ++ (word_at text).1
 word_takes text = sym (take-append-drop (word_len text) text)
+
+-- no space comes before the first
+no_space_before : (text : List ℕ) (k : ℕ) → k < word_len text → k < length text → get_or text k 0 ≢ 32
+no_space_before text k before within e =
+    let passes : (get_or text k 0 == 32) ≡ true = eq-eqb (get_or text k 0) 32 e in
+    let fails : k < position_or_len (λ x. x == 32) text → ⊥ =
+    λ early. let none = fails_before_first (λ x. x == 32) text k 0 early in absurd (let both = sym none ∙ passes in cc) in
+    by (nat_lt (position_or_len (λ x. x == 32) text) (length text)) refl fails before
+  where
+    by : (b : Bool) → nat_lt (position_or_len (λ x. x == 32) text) (length text) ≡ b → (k < position_or_len (λ x. x == 32) text → ⊥)
+        → k < option_map_or (λ place. place) (if b then Some (position_or_len (λ x. x == 32) text) else None) (length text) → ⊥
+    by true f fails early = fails early
+    by false f fails early = fails (omega (arith, within, ltb-false (position_or_len (λ x. x == 32) text) (length text) f))
+
+pub word_lacks : (text : List ℕ) → Lacks 32 (word_at text).0
+word_lacks text k lt e =
+    let len = length-take (word_len text) text in
+    let before : k < word_len text = omega (arith, len, lt) in
+    no_space_before text k before (omega (arith, len, lt)) (sym (get_or-take (word_len text) text k 0 before) ∙ e)
 
 priority_takes : (text : List ℕ) (p : Option ℕ) (rest : List ℕ) → priority_at text ≡ Some (p, rest) → (text ≡ priority_on p rest) × IsSmall p
 unfolding priority_on
@@ -365,95 +372,232 @@ priority_again p rest small ends =
     ap (λ x. x >>= (λ rest. priority_of (word_at rest))) label ∙ ap priority_of word
     ∙ ap (λ x. x >>= (λ value. Some (pair value rest))) (field_again p small)
 
--- ---- an ask
+-- ---- an ask but for its operation and its stations
 
 abbrev pub request_of : ShownAsk → Request
-request_of s = request s.operation s.destination_network s.service
+request_of s = request s.destination_network s.service
 
 abbrev pub target_of : ShownAsk → Target
 target_of s = target s.object_type s.instance s.property
 
-unfoldable pub ask_on : ShownAsk → List ℕ → List ℕ
-ask_on s rest =
-    decimal s.port ++ 32 ∷ source_on s.source (request_on (request_of s) (target_on (target_of s) (priority_on s.priority rest)))
+unfoldable pub ask_on : ShownAsk → List ℕ → List ℕ → List ℕ
+ask_on s word rest =
+    decimal s.port ++ 32 ∷ source_on s.source (word ++ 32 ∷ request_on (request_of s) (target_on (target_of s) (priority_on s.priority rest)))
 
-abbrev with_priority : ℕ → Source → Request → Target → Option ℕ × List ℕ → Option (ShownAsk × List ℕ)
-with_priority port source request target priority = Some (pair (ask_of_parts port source request target priority.0) priority.1)
+abbrev triple : ShownAsk → List ℕ → List ℕ → ShownAsk × List ℕ × List ℕ
+triple s word rest = (s, word, rest)
 
-abbrev with_target : ℕ → Source → Request → Target × List ℕ → Option (ShownAsk × List ℕ)
-with_target port source request target = priority_at target.1 >>= with_priority port source request target.0
+abbrev with_priority : ℕ → Source → List ℕ → Request → Target → Option ℕ × List ℕ → Option (ShownAsk × List ℕ × List ℕ)
+with_priority port source word request target priority = Some (triple (ask_of_parts port source request target priority.0) word priority.1)
 
-abbrev with_request : ℕ → Source → Request × List ℕ → Option (ShownAsk × List ℕ)
-with_request port source request = target_at request.1 >>= with_target port source request.0
+abbrev with_target : ℕ → Source → List ℕ → Request → Target × List ℕ → Option (ShownAsk × List ℕ × List ℕ)
+with_target port source word request target = priority_at target.1 >>= with_priority port source word request target.0
 
-abbrev with_source : ℕ → Source × List ℕ → Option (ShownAsk × List ℕ)
-with_source port source = request_at source.1 >>= with_request port source.0
+abbrev with_request : ℕ → Source → List ℕ → Request × List ℕ → Option (ShownAsk × List ℕ × List ℕ)
+with_request port source word request = target_at request.1 >>= with_target port source word request.0
 
-abbrev with_port : ℕ × List ℕ → Option (ShownAsk × List ℕ)
+abbrev with_word : ℕ → Source → List ℕ × List ℕ → Option (ShownAsk × List ℕ × List ℕ)
+with_word port source word = request_at word.1 >>= with_request port source word.0
+
+abbrev with_source : ℕ → Source × List ℕ → Option (ShownAsk × List ℕ × List ℕ)
+with_source port source = parted_at 32 source.1 >>= with_word port source.0
+
+abbrev with_port : ℕ × List ℕ → Option (ShownAsk × List ℕ × List ℕ)
 with_port port = source_at port.1 >>= with_source port.0
 
-pub ask_takes : (text : List ℕ) (s : ShownAsk) (rest : List ℕ) → ask_at text ≡ Some (s, rest) → (text ≡ ask_on s rest) × IsShownAsk s
+-- what is read of the eight words
+pub record AskRead (text : List ℕ) (asked : ShownAsk × List ℕ × List ℕ) : Type 0 where
+  pub spelled : text ≡ ask_on asked.0 asked.1 asked.2
+  pub fits : IsShownAsk asked.0
+
+pub ask_takes : (text : List ℕ) (asked : ShownAsk × List ℕ × List ℕ) → ask_at text ≡ Some asked → AskRead text asked
 unfolding ask_on
-ask_takes text s rest e =
-    let port = step_of (port_at text) with_port (pair s rest) e in
-    let source = step_of (source_at port.value.1) (with_source port.value.0) (pair s rest) port.goes_on in
-    let request = step_of (request_at source.value.1) (with_request port.value.0 source.value.0) (pair s rest) source.goes_on in
-    let target = step_of (target_at request.value.1) (with_target port.value.0 source.value.0 request.value.0) (pair s rest) request.goes_on in
-    let priority = step_of (priority_at target.value.1) (with_priority port.value.0 source.value.0 request.value.0 target.value.0) (pair s rest) target.goes_on in
-    let made : ShownAsk = ask_of_parts port.value.0 source.value.0 request.value.0 target.value.0 priority.value.0 in
-    let is : pair made priority.value.1 ≡ pair s rest = some_is (pair made priority.value.1) (pair s rest) priority.goes_on in
-    let same : made ≡ s = first_is made s priority.value.1 rest is in
-    let behind : priority.value.1 ≡ rest = second_is made s priority.value.1 rest is in
+ask_takes text asked e =
+    let port = step_of (port_at text) with_port asked e in
+    let source = step_of (source_at port.value.1) (with_source port.value.0) asked port.goes_on in
+    let word = step_of (parted_at 32 source.value.1) (with_word port.value.0 source.value.0) asked source.goes_on in
+    let request = step_of (request_at word.value.1) (with_request port.value.0 source.value.0 word.value.0) asked word.goes_on in
+    let target = step_of (target_at request.value.1) (with_target port.value.0 source.value.0 word.value.0 request.value.0) asked request.goes_on in
+    let priority = step_of (priority_at target.value.1) (with_priority port.value.0 source.value.0 word.value.0 request.value.0 target.value.0) asked target.goes_on in
+    let ask : ShownAsk = ask_of_parts port.value.0 source.value.0 request.value.0 target.value.0 priority.value.0 in
+    let made = triple ask word.value.0 priority.value.1 in
+    let same : made ≡ asked = some_is made asked priority.goes_on in
     let a = port_takes text port.value.0 port.value.1 port.gave in
     let b = source_takes port.value.1 source.value.0 source.value.1 source.gave in
-    let c = request_takes source.value.1 request.value.0 request.value.1 request.gave in
+    let w = parted_takes 32 source.value.1 word.value.0 word.value.1 word.gave in
+    let c = request_takes word.value.1 request.value.0 request.value.1 request.gave in
     let d = target_takes request.value.1 target.value.0 target.value.1 target.gave in
     let f = priority_takes target.value.1 priority.value.0 priority.value.1 priority.gave in
-    let parts : text ≡ ask_on made priority.value.1 =
+    let front : List ℕ → List ℕ = λ t. decimal port.value.0 ++ 32 ∷ source_on source.value.0 t in
+    let parts : text ≡ ask_on ask word.value.0 priority.value.1 =
     a.0 ∙ ap (λ (t : List ℕ). decimal port.value.0 ++ 32 ∷ t) b.0
-    ∙ ap (λ (t : List ℕ). decimal port.value.0 ++ 32 ∷ source_on source.value.0 t) c.0
-    ∙ ap (λ (t : List ℕ). decimal port.value.0 ++ 32 ∷ source_on source.value.0 (request_on request.value.0 t)) d.0
-    ∙ ap (λ (t : List ℕ). decimal port.value.0 ++ 32 ∷ source_on source.value.0 (request_on request.value.0 (target_on target.value.0 t))) f.0 in
-    let fits : IsShownAsk made = record {
+    ∙ ap front w
+    ∙ ap (λ (t : List ℕ). front (word.value.0 ++ 32 ∷ t)) c.0
+    ∙ ap (λ (t : List ℕ). front (word.value.0 ++ 32 ∷ request_on request.value.0 t)) d.0
+    ∙ ap (λ (t : List ℕ). front (word.value.0 ++ 32 ∷ request_on request.value.0 (target_on target.value.0 t))) f.0 in
+    let fits : IsShownAsk ask = record {
       port = a.1;
       network = b.1.network;
       station = b.1.station;
       mac = b.1.octets;
-      operation = c.1.operation;
+      operation = tt;
       destination_network = c.1.destination_network;
       service = c.1.service;
       object_type = d.1.object_type;
       instance = d.1.instance;
       property = d.1.property;
       priority = f.1;
+      stations = tt;
     } in
-    (parts ∙ ap₂ ask_on same behind, subst IsShownAsk same fits)
+    let read : AskRead text made = record { spelled = parts; fits = fits } in
+    subst (AskRead text) same read
 
-pub ask_again : (s : ShownAsk) (rest : List ℕ) → IsShownAsk s → EndsWord rest → ask_at (ask_on s rest) ≡ Some (s, rest)
+pub ask_again : (s : ShownAsk) (word rest : List ℕ) → IsShownAsk s → Lacks 32 word → EndsWord rest
+    → ask_at (ask_on s word rest) ≡ Some (ask_of_parts s.port s.source (request_of s) (target_of s) s.priority, word, rest)
 unfolding ask_on
-ask_again s rest is ends =
+ask_again s word rest is lacks ends =
     let prio = priority_on s.priority rest in
     let object = target_on (target_of s) prio in
     let asked = request_on (request_of s) object in
-    let a = port_again s.port (source_on s.source asked) is.port in
-    let b = source_again s.source asked (record { network = is.network; station = is.station; octets = is.mac }) in
-    let c = request_again (request_of s) object (record { operation = is.operation; destination_network = is.destination_network; service = is.service }) in
+    let a = port_again s.port (source_on s.source (word ++ 32 ∷ asked)) is.port in
+    let b = source_again s.source (word ++ 32 ∷ asked) (record { network = is.network; station = is.station; octets = is.mac }) in
+    let w = parted_again 32 word asked lacks in
+    let c = request_again (request_of s) object (record { destination_network = is.destination_network; service = is.service }) in
     let d = target_again (target_of s) prio (record { object_type = is.object_type; instance = is.instance; property = is.property }) in
     let f = priority_again s.priority rest is.priority ends in
-    ap (λ x. x >>= with_port) a ∙ ap (λ x. x >>= with_source s.port) b ∙ ap (λ x. x >>= with_request s.port s.source) c
-    ∙ ap (λ x. x >>= with_target s.port s.source (request_of s)) d
-    ∙ ap (λ x. x >>= with_priority s.port s.source (request_of s) (target_of s)) f
+    ap (λ x. x >>= with_port) a ∙ ap (λ x. x >>= with_source s.port) b ∙ ap (λ x. x >>= with_word s.port s.source) w
+    ∙ ap (λ x. x >>= with_request s.port s.source word) c
+    ∙ ap (λ x. x >>= with_target s.port s.source word (request_of s)) d
+    ∙ ap (λ x. x >>= with_priority s.port s.source word (request_of s) (target_of s)) f
 
--- the words, and what stands behind them
-pub ask_whole : (s : ShownAsk) (rest : List ℕ) → ask_text s ++ rest ≡ ask_on s rest
+-- ---- the stations at the end
+
+abbrev named_by : ℕ → Option ℕ → Stations
+named_by sender other = record { sender = sender; station = other }
+
+abbrev with_station : ℕ → Option ℕ → Option Stations
+with_station sender other = Some (named_by sender other)
+
+abbrev with_station_label : ℕ → List ℕ → Option Stations
+with_station_label sender word = station_key word >>= with_station sender
+
+abbrev with_sender : ℕ × List ℕ → Option Stations
+with_sender sender = behind (codes "station=") sender.1 >>= with_station_label sender.0
+
+abbrev with_sender_label : List ℕ → Option Stations
+with_sender_label rest = key_to 32 rest >>= with_sender
+
+named_takes : (text : List ℕ) (s : Stations) → named_stations text ≡ Some s → (text ≡ stations_text (Some s)) × AreShownStations s
+named_takes text s e =
+    let label = step_of (behind (codes " sender=") text) with_sender_label s e in
+    let sender = step_of (key_to 32 label.value) with_sender s label.goes_on in
+    let word = step_of (behind (codes "station=") sender.value.1) (with_station_label sender.value.0) s sender.goes_on in
+    let other = step_of (station_key word.value) (with_station sender.value.0) s word.goes_on in
+    let made = named_by sender.value.0 other.value in
+    let same : made ≡ s = some_is made s other.goes_on in
+    let a = behind_takes (codes " sender=") text label.value label.gave in
+    let b = key_to_takes label.value sender.value.0 sender.value.1 sender.gave in
+    let c = behind_takes (codes "station=") sender.value.1 word.value word.gave in
+    let d = station_takes word.value other.value other.gave in
+    let parts : text ≡ codes " sender=" ++ (key_text sender.value.0 ++ (codes " station=" ++ station_text other.value)) =
+    a ∙ ap (λ (t : List ℕ). codes " sender=" ++ t) b.0
+    ∙ ap (λ (t : List ℕ). codes " sender=" ++ (key_text sender.value.0 ++ 32 ∷ t)) c
+    ∙ ap (λ (t : List ℕ). codes " sender=" ++ (key_text sender.value.0 ++ (codes " station=" ++ t))) d.0 in
+    let whole : text ≡ stations_text (Some made) = parts ∙ sym (stations_right made) in
+    let fits : AreShownStations made = record { sender = b.1; station = d.1 } in
+    (whole ∙ ap (λ (x : Stations). stations_text (Some x)) same, subst AreShownStations same fits)
+
+named_again : (s : Stations) → AreShownStations s → named_stations (stations_text (Some s)) ≡ Some s
+named_again s fits =
+    let last = station_text s.station in
+    let a = behind_again (codes " sender=") (key_text s.sender ++ (codes " station=" ++ last)) in
+    let b = key_to_again s.sender (codes "station=" ++ last) fits.sender in
+    let c = behind_again (codes "station=") last in
+    let d = station_again s.station fits.station in
+    ap named_stations (stations_right s)
+    ∙ ap (λ x. x >>= with_sender_label) a ∙ ap (λ x. x >>= with_sender) b ∙ ap (λ x. x >>= with_station_label s.sender) c
+    ∙ ap (λ x. x >>= with_station s.sender) d
+
+pub stations_take : (text : List ℕ) (stations : Option Stations) → stations_in text ≡ Some stations → (text ≡ stations_text stations) × AreSmall stations
+stations_take text stations e = by (length text == 0) (named_stations text) refl refl e
+  where
+    empty : (rest : List ℕ) → length rest ≡ 0 → rest ≡ []
+    empty [] len = refl
+    empty (x ∷ rest) len = absurd (omega (arith, len))
+
+    by : (b : Bool) (found : Option Stations) → (length text == 0) ≡ b → named_stations text ≡ found
+        → (if b then Some None else option_map (λ s. Some s) found) ≡ Some stations
+        → (text ≡ stations_text stations) × AreSmall stations
+    by true found f g h =
+        let is : None ≡ stations = some_is None stations h in
+        subst (λ (x : Option Stations). (text ≡ stations_text x) × AreSmall x) is (empty text (eqb-true (length text) 0 f), tt)
+    by false None f g h = absurd cc
+    by false (Some s) f g h =
+        let is : Some s ≡ stations = some_is (Some s) stations h in
+        subst (λ (x : Option Stations). (text ≡ stations_text x) × AreSmall x) is (named_takes text s g)
+
+pub stations_again : (stations : Option Stations) → AreSmall stations → stations_in (stations_text stations) ≡ Some stations
+stations_again None fits = refl
+stations_again (Some s) fits =
+    let text = stations_text (Some s) in
+    let some : (length text == 0) ≡ false = other_character (length text) 0 (λ e. absurd (omega (arith, e))) in
+    ap (λ (b : Bool). if b then Some None else option_map (λ s. Some s) (named_stations text)) some
+    ∙ ap (λ x. option_map (λ s. Some s) x) (named_again s fits)
+
+pub stations_end : (stations : Option Stations) → EndsWord (stations_text stations)
+stations_end None = inl refl
+stations_end (Some s) = inr (stations_on s [], sym (append-nil (stations_text (Some s))) ∙ stations_whole s [])
+
+-- ---- an ask with both
+
+abbrev with_operation : ShownAsk → Option Stations → Option ℕ → Option ShownAsk
+with_operation ask stations operation = Some (with_both ask operation stations)
+
+abbrev with_stations : ShownAsk → List ℕ → Option Stations → Option ShownAsk
+with_stations ask word stations = operation_in (is_some stations) word >>= with_operation ask stations
+
+-- what is read of an ask and its end
+pub record WholeRead (ask : ShownAsk) (word end : List ℕ) (s : ShownAsk) : Type 0 where
+  pub same : with_both ask s.operation s.stations ≡ s
+  pub named : word ≡ operation_word (is_some s.stations) s.operation
+  pub ends : end ≡ stations_text s.stations
+  pub operation : IsSmall s.operation
+  pub stations : AreSmall s.stations
+
+pub whole_takes : (ask : ShownAsk) (word end : List ℕ) (s : ShownAsk) → whole_ask ask word end ≡ Some s → WholeRead ask word end s
+whole_takes ask word end s e =
+    let stations = step_of (stations_in end) (with_stations ask word) s e in
+    let operation = step_of (operation_in (is_some stations.value) word) (with_operation ask stations.value) s stations.goes_on in
+    let made = with_both ask operation.value stations.value in
+    let same : made ≡ s = some_is made s operation.goes_on in
+    let a = stations_take end stations.value stations.gave in
+    let b = operation_takes (is_some stations.value) word operation.value operation.gave in
+    let read : WholeRead ask word end made = record { same = refl; named = b.0; ends = a.0; operation = b.1; stations = a.1 } in
+    subst (WholeRead ask word end) same read
+
+pub whole_again : (s : ShownAsk) → IsShownAsk s
+    → whole_ask (ask_of_parts s.port s.source (request_of s) (target_of s) s.priority) (operation_word (is_some s.stations) s.operation) (stations_text s.stations) ≡ Some s
+whole_again s is =
+    let ask = ask_of_parts s.port s.source (request_of s) (target_of s) s.priority in
+    ap (λ x. x >>= with_stations ask (operation_word (is_some s.stations) s.operation)) (stations_again s.stations is.stations)
+    ∙ ap (λ x. x >>= with_operation ask s.stations) (operation_again (is_some s.stations) s.operation is.operation)
+
+-- the words of an ask
+pub ask_whole : (s : ShownAsk) → ask_text s ≡ ask_on s (operation_word (is_some s.stations) s.operation) (stations_text s.stations)
 unfolding ask_text ask_on source_on request_on target_on priority_on
-ask_whole s rest =
+ask_whole s =
+    let rest = stations_text s.stations in
+    let prio = priority_on s.priority rest in
+    let prop = codes "prop=" ++ (field_text s.property ++ 32 ∷ prio) in
+    let object = target_on (target_of s) prio in
+    let asked = request_on (request_of s) object in
+    let word = operation_word (is_some s.stations) s.operation in
     step _ (codes " prio=") (field_text s.priority) rest
-    ∙ step _ (codes " prop=") (field_text s.property) (32 ∷ priority_on s.priority rest)
-    ∙ step _ (codes ",") (field_text s.instance) (32 ∷ (codes "prop=" ++ (field_text s.property ++ 32 ∷ priority_on s.priority rest)))
-    ∙ step _ (codes " obj=") (field_text s.object_type) (44 ∷ (field_text s.instance ++ 32 ∷ (codes "prop=" ++ (field_text s.property ++ 32 ∷ priority_on s.priority rest))))
-    ∙ step _ (codes " svc=") (field_text s.service) (32 ∷ target_on (target_of s) (priority_on s.priority rest))
-    ∙ step _ (codes " dst=") (field_text s.destination_network) (32 ∷ (codes "svc=" ++ (field_text s.service ++ 32 ∷ target_on (target_of s) (priority_on s.priority rest))))
-    ∙ step _ (codes " ") (operation_text s.operation) (32 ∷ (codes "dst=" ++ (field_text s.destination_network ++ 32 ∷ (codes "svc=" ++ (field_text s.service ++ 32 ∷ target_on (target_of s) (priority_on s.priority rest))))))
-    ∙ step _ (codes ":") (flat_map two_digits s.source.mac) (32 ∷ request_on (request_of s) (target_on (target_of s) (priority_on s.priority rest)))
-    ∙ step (decimal s.port) (codes " ") (decimal s.source.net) (58 ∷ (flat_map two_digits s.source.mac ++ 32 ∷ request_on (request_of s) (target_on (target_of s) (priority_on s.priority rest))))
+    ∙ step _ (codes " prop=") (field_text s.property) (32 ∷ prio)
+    ∙ step _ (codes ",") (field_text s.instance) (32 ∷ prop)
+    ∙ step _ (codes " obj=") (field_text s.object_type) (44 ∷ (field_text s.instance ++ 32 ∷ prop))
+    ∙ step _ (codes " svc=") (field_text s.service) (32 ∷ object)
+    ∙ step _ (codes " dst=") (field_text s.destination_network) (32 ∷ (codes "svc=" ++ (field_text s.service ++ 32 ∷ object)))
+    ∙ step _ (codes " ") word (32 ∷ asked)
+    ∙ step _ (codes ":") (flat_map two_digits s.source.mac) (32 ∷ (word ++ 32 ∷ asked))
+    ∙ step (decimal s.port) (codes " ") (decimal s.source.net) (58 ∷ (flat_map two_digits s.source.mac ++ 32 ∷ (word ++ 32 ∷ asked)))

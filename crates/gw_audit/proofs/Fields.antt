@@ -1,6 +1,6 @@
 -- The texts of the fields: what they lack, and that each is of one value.
 use Rattle.std.proofs.Common.{◌≡◌, ◌≢◌, ℕ, suc, ◌/◌, ◌%◌, ◌^◌, ◌<◌, Bool, true, false, cond, List, [], ◌∷◌, get_or, Option, Some, None, refl, sym, ap, ap₂, ◌∙◌, arith, nat_eq}
-use Rattle.std.specs.Prelude.{IfSome}
+use Rattle.std.specs.Prelude.{IfSome, ◌||◌, if◌then◌else◌, nat_lt}
 use Rattle.std.specs.Char.{IsAsciiDigit}
 use Rattle.std.specs.Fmt.{decimal}
 use Rattle.std.specs.List.{flat_map}
@@ -14,10 +14,10 @@ use Rattle.gw_addr.specs.Station.{digit_of, two_digits}
 use Rattle.gw_addr.specs.Text.{Lacks}
 use Rattle.gw_addr.proofs.Lacking.{lacks_cons, not_in_decimal}
 use Rattle.gw_rules.specs.declared.operation.Operation.{Operation}
-use Rattle.gw_rules.specs.declared.operation.Operation.TheVariants.{Cast, Route, Register, Delete, ReadTable, WriteTable, Learn, Network, Read, Write, List as Listing}
+use Rattle.gw_rules.specs.declared.operation.Operation.TheVariants.{Cast, Route, Register, Delete, ReadTable, WriteTable, Learn, Network, Read, Write, List as Listing, Enter, Claim}
 use Rattle.gw_rules.specs.Operation.{operation_name, operation_number}
 use Rattle.gw_rules.proofs.Operations.{number_found, one_name}
-use Rattle.gw_audit.specs.Line.{field_text, operation_of, operation_text}
+use Rattle.gw_audit.specs.Line.{field_text, operation_named, operation_of, operation_word}
 
 -- ---- which characters a text lacks
 
@@ -80,15 +80,15 @@ field_same (Some m) (Some n) sa sb e = ap (λ (x : ℕ). Some x) (decimal_inject
 
 -- a name begins with a letter, and has neither a space nor a line feed
 pub letter : (o : Operation) → 57 < get_or (operation_name o) 0 0
-letter o = elim o as (λ o. 57 < get_or (operation_name o) 0 0) [ Cast ↦ omega arith | Route ↦ omega arith | Register ↦ omega arith | Delete ↦ omega arith | ReadTable ↦ omega arith | WriteTable ↦ omega arith | Learn ↦ omega arith | Network ↦ omega arith | Read ↦ omega arith | Write ↦ omega arith | Listing ↦ omega arith ]
+letter o = elim o as (λ o. 57 < get_or (operation_name o) 0 0) [ Cast ↦ omega arith | Route ↦ omega arith | Register ↦ omega arith | Delete ↦ omega arith | ReadTable ↦ omega arith | WriteTable ↦ omega arith | Learn ↦ omega arith | Network ↦ omega arith | Read ↦ omega arith | Write ↦ omega arith | Listing ↦ omega arith | Enter ↦ omega arith | Claim ↦ omega arith ]
 
 has_no_space : (o : Operation) → has_none 32 (operation_name o) ≡ true
 unfolding has_none
-has_no_space o = elim o as (λ o. has_none 32 (operation_name o) ≡ true) [ Cast ↦ refl | Route ↦ refl | Register ↦ refl | Delete ↦ refl | ReadTable ↦ refl | WriteTable ↦ refl | Learn ↦ refl | Network ↦ refl | Read ↦ refl | Write ↦ refl | Listing ↦ refl ]
+has_no_space o = elim o as (λ o. has_none 32 (operation_name o) ≡ true) [ Cast ↦ refl | Route ↦ refl | Register ↦ refl | Delete ↦ refl | ReadTable ↦ refl | WriteTable ↦ refl | Learn ↦ refl | Network ↦ refl | Read ↦ refl | Write ↦ refl | Listing ↦ refl | Enter ↦ refl | Claim ↦ refl ]
 
 has_no_feed : (o : Operation) → has_none 10 (operation_name o) ≡ true
 unfolding has_none
-has_no_feed o = elim o as (λ o. has_none 10 (operation_name o) ≡ true) [ Cast ↦ refl | Route ↦ refl | Register ↦ refl | Delete ↦ refl | ReadTable ↦ refl | WriteTable ↦ refl | Learn ↦ refl | Network ↦ refl | Read ↦ refl | Write ↦ refl | Listing ↦ refl ]
+has_no_feed o = elim o as (λ o. has_none 10 (operation_name o) ≡ true) [ Cast ↦ refl | Route ↦ refl | Register ↦ refl | Delete ↦ refl | ReadTable ↦ refl | WriteTable ↦ refl | Learn ↦ refl | Network ↦ refl | Read ↦ refl | Write ↦ refl | Listing ↦ refl | Enter ↦ refl | Claim ↦ refl ]
 
 -- it is no number
 pub no_number : (o : Operation) (n : ℕ) → n < 2 ^ 64 → operation_name o ≡ decimal n → ⊥
@@ -107,33 +107,40 @@ of_number_lacks : (c : ℕ) → ¬ (IsAsciiDigit c) → ((o : Operation) → has
 of_number_lacks c digit names None n small = not_in_decimal n c small digit
 of_number_lacks c digit names (Some o) n small = lacks_by_test c (operation_name o) (names o)
 
-operation_lacks : (c : ℕ) → ¬ (IsAsciiDigit c) → 45 ≢ c → ((o : Operation) → has_none c (operation_name o) ≡ true) → (value : Option ℕ) → IsSmall value → Lacks c (operation_text value)
-operation_lacks c digit other names None small = lacks_cons c 45 [] other (lacks_in_none c)
-operation_lacks c digit other names (Some n) small = of_number_lacks c digit names (operation_of n) n small
+operation_lacks : (c : ℕ) → ¬ (IsAsciiDigit c) → 45 ≢ c → ((o : Operation) → has_none c (operation_name o) ≡ true) → (b : Bool) (value : Option ℕ) → IsSmall value → Lacks c (operation_word b value)
+operation_lacks c digit other names b None small = lacks_cons c 45 [] other (lacks_in_none c)
+operation_lacks c digit other names b (Some n) small = of_number_lacks c digit names (operation_named b n) n small
 
-pub operation_spaceless : (value : Option ℕ) → IsSmall value → Lacks 32 (operation_text value)
+pub operation_spaceless : (b : Bool) (value : Option ℕ) → IsSmall value → Lacks 32 (operation_word b value)
 operation_spaceless = operation_lacks 32 space (λ e. absurd (omega arith)) has_no_space
 
-pub operation_feedless : (value : Option ℕ) → IsSmall value → Lacks 10 (operation_text value)
+pub operation_feedless : (b : Bool) (value : Option ℕ) → IsSmall value → Lacks 10 (operation_word b value)
 operation_feedless = operation_lacks 10 feed (λ e. absurd (omega arith)) has_no_feed
+
+-- an operation that is named has that number
+pub named_found : (b : Bool) (n : ℕ) (o : Operation) → operation_named b n ≡ Some o → n ≡ operation_number o
+named_found b n o e = by (b || nat_lt n 12) e
+  where
+    by : (t : Bool) → (if t then operation_of n else None) ≡ Some o → n ≡ operation_number o
+    by true f = (number_found (operation_of n) n refl o).0 f
+    by false f = absurd cc
 
 no_absent_number : (found : Option Operation) (n : ℕ) → n < 2 ^ 64 → of_number found n ≡ 45 ∷ [] → ⊥
 no_absent_number None n small e = no_dash n small e
 no_absent_number (Some o) n small e = no_absent o e
 
-same_number : (m n : ℕ) → m < 2 ^ 64 → n < 2 ^ 64 → (f g : Option Operation) → operation_of m ≡ f → operation_of n ≡ g → of_number f m ≡ of_number g n → m ≡ n
-same_number m n sm sn None None ef eg e = decimal_injective m n sm sn e
-same_number m n sm sn None (Some p) ef eg e = absurd (no_number p m sm (sym e))
-same_number m n sm sn (Some o) None ef eg e = absurd (no_number o n sn e)
-same_number m n sm sn (Some o) (Some p) ef eg e =
-    (number_found (operation_of m) m refl o).0 ef ∙ ap operation_number (one_name o p e) ∙ sym ((number_found (operation_of n) n refl p).0 eg)
+same_number : (b : Bool) (m n : ℕ) → m < 2 ^ 64 → n < 2 ^ 64 → (f g : Option Operation) → operation_named b m ≡ f → operation_named b n ≡ g → of_number f m ≡ of_number g n → m ≡ n
+same_number b m n sm sn None None ef eg e = decimal_injective m n sm sn e
+same_number b m n sm sn None (Some p) ef eg e = absurd (no_number p m sm (sym e))
+same_number b m n sm sn (Some o) None ef eg e = absurd (no_number o n sn e)
+same_number b m n sm sn (Some o) (Some p) ef eg e = named_found b m o ef ∙ ap operation_number (one_name o p e) ∙ sym (named_found b n p eg)
 
-pub operation_same : (a b : Option ℕ) → IsSmall a → IsSmall b → operation_text a ≡ operation_text b → a ≡ b
-operation_same None None sa sb e = refl
-operation_same None (Some n) sa sb e = absurd (no_absent_number (operation_of n) n sb (sym e))
-operation_same (Some m) None sa sb e = absurd (no_absent_number (operation_of m) m sa e)
-operation_same (Some m) (Some n) sa sb e =
-    ap (λ (x : ℕ). Some x) (same_number m n sa sb (operation_of m) (operation_of n) refl refl e)
+pub operation_same : (b : Bool) (x y : Option ℕ) → IsSmall x → IsSmall y → operation_word b x ≡ operation_word b y → x ≡ y
+operation_same b None None sx sy e = refl
+operation_same b None (Some n) sx sy e = absurd (no_absent_number (operation_named b n) n sy (sym e))
+operation_same b (Some m) None sx sy e = absurd (no_absent_number (operation_named b m) m sx e)
+operation_same b (Some m) (Some n) sx sy e =
+    ap (λ (x : ℕ). Some x) (same_number b m n sx sy (operation_named b m) (operation_named b n) refl refl e)
 
 -- ---- the octets of a station
 

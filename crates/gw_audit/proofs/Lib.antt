@@ -5,6 +5,7 @@ pub mod Fields
 pub mod LineLemmas
 pub mod ReadingLemmas
 pub mod MacLemmas
+pub mod KeyLemmas
 pub mod AskLemmas
 pub mod TellingLemmas
 pub mod MomentExamples

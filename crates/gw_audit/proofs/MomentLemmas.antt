@@ -12,6 +12,8 @@ use Rattle.jiff_core.proofs.DateTimeLemmas.{civil_nanos-lt, civil_nanos_injectiv
 use Rattle.gw_audit.specs.Moment.{ComesLater, IsLater, IsMomentOf, IsTextOf, day_of, fraction_of, front_text, moment_text, time_with, written_with}
 use Rattle.gw_audit.specs.Entry.{IsLineOf, IsShowable, denial_of}
 use Rattle.gw_audit.specs.Told.{IsToldAs}
+use Rattle.gw_audit.specs.declared.entry.ShownAsk.{ShownAsk}
+use Rattle.gw_audit.proofs.TellingLemmas.{shown_again}
 use Rattle.gw_audit.specs.Words.{words_of}
 use Rattle.gw_audit.specs.declared.entry.Shown.{Shown}
 use Rattle.gw_audit.specs.internal.Written.{IsClock}
@@ -108,7 +110,8 @@ tells_shown (Ok x) start line shown at a b text spelled is moment none front the
     at = at;
     moment = moment;
     told = then ∙ ap (λ (t : List ℕ). t ++ (words_of shown.ask shown.rule.now ++ 10 ∷ [])) (front ∙ ap (λ (t : List ℕ). t ++ front_text at) none)
-        ∙ sym (append_assoc (front_text at) (words_of shown.ask shown.rule.now) (10 ∷ []));
+        ∙ sym (append_assoc (front_text at) (words_of shown.ask shown.rule.now) (10 ∷ []))
+        ∙ ap (λ (ask : ShownAsk). front_text at ++ words_of ask shown.rule.now ++ 10 ∷ []) (sym (shown_again shown.number shown.tick shown.rule.now shown.ask));
   };
 })
 tells_shown (Err e) start line shown at a b text spelled is moment none front then = then

@@ -1,5 +1,5 @@
 -- A line has one telling.
-use Rattle.std.proofs.Common.{◌≡◌, inl, inr, ℕ, List, [], ◌∷◌, ◌++◌, Option, refl, sym, ap, subst, ◌∙◌}
+use Rattle.std.proofs.Common.{◌≡◌, inl, inr, ℕ, List, [], ◌∷◌, ◌++◌, Option, sym, ap, subst, ◌∙◌}
 use Rattle.gw_audit.specs.Entry.{IsLineOf, IsShowable, shown_ask}
 use Rattle.gw_audit.specs.Laws.{AreShownAlike}
 use Rattle.gw_audit.specs.Moment.{IsMomentOf, front_text}
@@ -8,13 +8,14 @@ use Rattle.gw_audit.specs.declared.moment.Moment.{Moment}
 use Rattle.gw_audit.proofs.MomentLemmas.{one_front}
 use Rattle.gw_audit.proofs.LineLemmas.{names_one_denial}
 use Rattle.gw_audit.specs.Told.{IsTelling, TellsEach, TellsOnce, TellsWords}
+use Rattle.gw_audit.specs.internal.Reading.{with_both}
 use Rattle.gw_audit.specs.Words.{words, words_of}
 
 -- what is shown of two denials that are shown alike is the same
 same_ask : (a b : Denial) → AreShownAlike a b → shown_ask a ≡ shown_ask b
 same_ask a b same =
     rw (same.port, same.source, same.operation, same.destination_network, same.service, same.object_type, same.instance, same.property, same.priority)
-    refl
+    (ap (with_both (shown_ask b) b.ask.operation) same.stations)
 
 -- so are their words
 same_words : (a b : Denial) (line : List ℕ) → IsShowable a → IsShowable b → IsLineOf line a → IsLineOf line b → words a ≡ words b

@@ -17,13 +17,13 @@ use Rattle.std.proofs.lemmas.Str.{IsUtf8-from_ascii, IsUtf8-from_is_utf8, is_utf
 use Rattle.gw_addr.specs.Text.{Lacks}
 use Rattle.gw_addr.proofs.Decimal.{own}
 use Rattle.gw_rules.specs.declared.operation.Operation.{Operation}
-use Rattle.gw_rules.specs.declared.operation.Operation.TheVariants.{Cast, Route, Register, Delete, ReadTable, WriteTable, Learn, Network, Read, Write, List as Listing}
+use Rattle.gw_rules.specs.declared.operation.Operation.TheVariants.{Cast, Route, Register, Delete, ReadTable, WriteTable, Learn, Network, Read, Write, List as Listing, Enter, Claim}
 use Rattle.gw_rules.specs.declared.operation.TheConstants.Operation.{ALL}
 use Rattle.gw_rules.specs.Operation.{operation_name, operation_number}
-use Rattle.gw_rules.proofs.Operations.{name_found, number_found}
-use Rattle.gw_audit.specs.Line.{absent, field_text, operation_of, operation_text}
-use Rattle.gw_audit.specs.internal.Reading.{field_in, name_of, number_in, operation_in, operation_or, other_number, parted_at}
-use Rattle.gw_audit.proofs.Fields.{IsSmall, no_absent, no_dash}
+use Rattle.gw_rules.proofs.Operations.{name_found, one_number}
+use Rattle.gw_audit.specs.Line.{absent, field_text, operation_named, operation_word}
+use Rattle.gw_audit.specs.internal.Reading.{◌>>=◌, field_in, name_of, number_in, operation_in, operation_or, other_number, parted_at}
+use Rattle.gw_audit.proofs.Fields.{IsSmall, named_found, no_absent, no_dash}
 use Rattle.gw_audit.proofs.Fields as fields
 
 -- ---- texts
@@ -50,6 +50,18 @@ some x = Some x
 
 pub some_is : {A : Type 0} (x y : A) → some x ≡ some y → x ≡ y
 some_is x y e = cc
+
+-- ---- steps
+
+-- what came of a step that gave something
+pub record Step {A B : Type 0} (r : Option A) (f : A → Option B) (y : B) : Type 0 where
+  pub value : A
+  pub gave : r ≡ Some value
+  pub goes_on : f value ≡ Some y
+
+pub step_of : {A B : Type 0} (r : Option A) (f : A → Option B) (y : B) → (r >>= f) ≡ Some y → Step r f y
+step_of (Some x) f y e = record { value = x; gave = refl; goes_on = e }
+step_of None f y e = absurd cc
 
 -- ---- a name
 
@@ -157,57 +169,63 @@ not_named n small None e = refl
 not_named n small (Some o) e =
     absurd (fields.no_number o n small (sym ((name_found (named (decimal n)) (decimal n) refl o).0 e)))
 
-other_takes : (found : Option ℕ) (value : Option ℕ) (text : List ℕ) → number_in text ≡ found → option_and_then other_number found ≡ Some value
-    → (text ≡ operation_text value) × IsSmall value
-other_takes None value text e h = absurd cc
-other_takes (Some n) value text e h = by (operation_of n) refl h
+other_takes : (b : Bool) (found : Option ℕ) (value : Option ℕ) (text : List ℕ) → number_in text ≡ found → option_and_then (other_number b) found ≡ Some value
+    → (text ≡ operation_word b value) × IsSmall value
+other_takes b None value text e h = absurd cc
+other_takes b (Some n) value text e h = by (operation_named b n) refl h
   where
     number : IsNumberIn text n
     number = number_takes text n e
 
-    by : (by_number : Option Operation) → operation_of n ≡ by_number
+    by : (by_number : Option Operation) → operation_named b n ≡ by_number
         → (if is_some by_number then None else Some (Some n)) ≡ Some value
-        → (text ≡ operation_text value) × IsSmall value
+        → (text ≡ operation_word b value) × IsSmall value
     by None g k =
         let is : Some n ≡ value = some_is (Some n) value k in
-        let shown : text ≡ operation_text (Some n) = rw g number.spelled in
-        subst (λ (v : Option ℕ). (text ≡ operation_text v) × IsSmall v) is (shown, number.small)
+        let shown : text ≡ operation_word b (Some n) = rw g number.spelled in
+        subst (λ (v : Option ℕ). (text ≡ operation_word b v) × IsSmall v) is (shown, number.small)
     by (Some o) g k = absurd cc
 
 number_small : (o : Operation) → operation_number o < 2 ^ 64
-number_small o = elim o as (λ o. operation_number o < 2 ^ 64) [ Cast ↦ omega arith | Route ↦ omega arith | Register ↦ omega arith | Delete ↦ omega arith | ReadTable ↦ omega arith | WriteTable ↦ omega arith | Learn ↦ omega arith | Network ↦ omega arith | Read ↦ omega arith | Write ↦ omega arith | Listing ↦ omega arith ]
+number_small o = elim o as (λ o. operation_number o < 2 ^ 64) [ Cast ↦ omega arith | Route ↦ omega arith | Register ↦ omega arith | Delete ↦ omega arith | ReadTable ↦ omega arith | WriteTable ↦ omega arith | Learn ↦ omega arith | Network ↦ omega arith | Read ↦ omega arith | Write ↦ omega arith | Listing ↦ omega arith | Enter ↦ omega arith | Claim ↦ omega arith ]
 
-pub operation_takes : (text : List ℕ) (value : Option ℕ) → operation_in text ≡ Some value → (text ≡ operation_text value) × IsSmall value
-operation_takes text value e = by (pointwise nat_eq text absent) (named text) refl refl e
+name_takes_number : (b : Bool) (o : Operation) (value : Option ℕ) (text : List ℕ) → text ≡ operation_name o → (found : Option Operation) → operation_named b (operation_number o) ≡ found
+    → (if is_some found then Some (Some (operation_number o)) else None) ≡ Some value → (text ≡ operation_word b value) × IsSmall value
+name_takes_number b o value text name None g e = absurd cc
+name_takes_number b o value text name (Some p) g e =
+    let is : Some (operation_number o) ≡ value = some_is (Some (operation_number o)) value e in
+    let same : o ≡ p = one_number o p (named_found b (operation_number o) p g) in
+    let shown : text ≡ operation_word b (Some (operation_number o)) = rw g (name ∙ ap operation_name same) in
+    subst (λ (v : Option ℕ). (text ≡ operation_word b v) × IsSmall v) is (shown, number_small o)
+
+pub operation_takes : (b : Bool) (text : List ℕ) (value : Option ℕ) → operation_in b text ≡ Some value → (text ≡ operation_word b value) × IsSmall value
+operation_takes b text value e = by (pointwise nat_eq text absent) (named text) refl refl e
   where
-    by : (b : Bool) (found : Option Operation) → pointwise nat_eq text absent ≡ b → named text ≡ found
-        → (if b then Some None else operation_or found text) ≡ Some value
-        → (text ≡ operation_text value) × IsSmall value
+    by : (is_absent : Bool) (found : Option Operation) → pointwise nat_eq text absent ≡ is_absent → named text ≡ found
+        → (if is_absent then Some None else operation_or b found text) ≡ Some value
+        → (text ≡ operation_word b value) × IsSmall value
     by true found f g e =
         let is : None ≡ value = some_is None value e in
-        subst (λ (v : Option ℕ). (text ≡ operation_text v) × IsSmall v) is (same_text text absent (sym f), tt)
-    by false None f g e = other_takes (number_in text) value text refl e
+        subst (λ (v : Option ℕ). (text ≡ operation_word b v) × IsSmall v) is (same_text text absent (sym f), tt)
+    by false None f g e = other_takes b (number_in text) value text refl e
     by false (Some o) f g e =
-        let is : Some (operation_number o) ≡ value = some_is (Some (operation_number o)) value e in
-        let name = (name_found (named text) text refl o).0 g in
-        let number = (number_found (operation_of (operation_number o)) (operation_number o) refl o).1 refl in
-        let shown : text ≡ operation_text (Some (operation_number o)) = rw number name in
-        subst (λ (v : Option ℕ). (text ≡ operation_text v) × IsSmall v) is (shown, number_small o)
+        name_takes_number b o value text ((name_found (named text) text refl o).0 g) (operation_named b (operation_number o)) refl e
 
-operation_again_by : (n : ℕ) → n < 2 ^ 64 → (found : Option Operation) → operation_of n ≡ found
-    → operation_in (fields.of_number found n) ≡ Some (Some n)
-operation_again_by n small None e =
+operation_again_by : (b : Bool) (n : ℕ) → n < 2 ^ 64 → (found : Option Operation) → operation_named b n ≡ found
+    → operation_in b (fields.of_number found n) ≡ Some (Some n)
+operation_again_by b n small None e =
     let other : pointwise nat_eq (decimal n) absent ≡ false = not_same (decimal n) absent (no_dash n small) in
     let unnamed : named (decimal n) ≡ None = not_named n small (named (decimal n)) refl in
     rw (other, unnamed, number_again (decimal n) n small refl, e) refl
-operation_again_by n small (Some o) e =
+operation_again_by b n small (Some o) e =
     let other : pointwise nat_eq (operation_name o) absent ≡ false = not_same (operation_name o) absent (no_absent o) in
-    let number : n ≡ operation_number o = (number_found (operation_of n) n refl o).0 e in
-    rw (other, name_again o, number) refl
+    let number : n ≡ operation_number o = named_found b n o e in
+    let there : operation_named b (operation_number o) ≡ Some o = ap (operation_named b) (sym number) ∙ e in
+    rw (other, name_again o, number, there) refl
 
-pub operation_again : (value : Option ℕ) → IsSmall value → operation_in (operation_text value) ≡ Some value
-operation_again None small = refl
-operation_again (Some n) small = operation_again_by n small (operation_of n) refl
+pub operation_again : (b : Bool) (value : Option ℕ) → IsSmall value → operation_in b (operation_word b value) ≡ Some value
+operation_again b None small = refl
+operation_again b (Some n) small = operation_again_by b n small (operation_named b n) refl
 
 -- ---- a word
 

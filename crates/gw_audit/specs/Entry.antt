@@ -1,7 +1,8 @@
 -- What a line shows of a denial, and the ask that it tells.
-use Rattle.std.specs.Prelude.{◌≡◌, ◌⊎◌, ℕ, ◌^◌, ◌<◌, true, List, [], ◌∷◌, ◌++◌, Some, IfSome, codes}
+use Rattle.std.specs.Prelude.{◌≡◌, ◌⊎◌, ℕ, ◌^◌, ◌<◌, true, is_some, List, [], ◌∷◌, ◌++◌, Some, IfSome, codes}
 use Rattle.std.specs.Fmt.{decimal}
 use Rattle.std.specs.List.{flat_map}
+use Rattle.std.specs.Option.{option_and_then, option_map}
 use Rattle.std.specs.Str.{IsUtf8}
 use Rattle.gw_addr.specs.Reading.{AreOctets}
 use Rattle.gw_addr.specs.Station.{is_network, is_station, key_of, two_digits}
@@ -9,8 +10,9 @@ use Rattle.gw_rules.specs.Ask.{Ask}
 use Rattle.gw_audit.specs.declared.denial.Denial.{Denial}
 use Rattle.gw_audit.specs.declared.entry.Shown.{Shown}
 use Rattle.gw_audit.specs.declared.entry.ShownAsk.{ShownAsk}
+use Rattle.gw_audit.specs.declared.entry.Stations.{Stations}
 use Rattle.gw_audit.specs.Laws.{IsDenial}
-use Rattle.gw_audit.specs.Line.{field_text, line_text, operation_text}
+use Rattle.gw_audit.specs.Line.{field_text, line_text, operation_word, stations_of, stations_text}
 
 -- a denial as each value of the type is one: its numbers fit, and its network, its station and its rule's name are such
 pub record IsShowable (d : Denial) : Type 0 where
@@ -35,6 +37,7 @@ shown_ask d = record {
   instance = d.ask.instance;
   property = d.ask.property;
   priority = d.ask.priority;
+  stations = stations_of d.ask;
 }
 
 -- the ask that is shown so: its port and its source are those of the line
@@ -50,6 +53,8 @@ ask_shown s = record {
   instance = s.instance;
   property = s.property;
   priority = s.priority;
+  sender = option_map (λ stations. stations.sender) s.stations;
+  station = option_and_then (λ stations. stations.station) s.stations;
 }
 
 -- the denial that a line shows, of that ask
@@ -65,6 +70,11 @@ denial_of s = record {
 
 -- ---- an ask by itself
 
+-- stations whose keys fit 64 bits
+pub record AreShownStations (s : Stations) : Type 0 where
+  pub sender : s.sender < 2 ^ 64
+  pub station : IfSome s.station (λ n. n < 2 ^ 64)
+
 -- an ask whose numbers fit their types, and whose network and station are such
 pub record IsShownAsk (s : ShownAsk) : Type 0 where
   pub port : s.port < 2 ^ 8
@@ -78,18 +88,20 @@ pub record IsShownAsk (s : ShownAsk) : Type 0 where
   pub instance : IfSome s.instance (λ n. n < 2 ^ 64)
   pub property : IfSome s.property (λ n. n < 2 ^ 64)
   pub priority : IfSome s.priority (λ n. n < 2 ^ 64)
+  pub stations : IfSome s.stations AreShownStations
 
--- the eight words in the middle of a line:
--- `<port> <net>:<MAC> <operation> dst=<n> svc=<n> obj=<type>,<instance> prop=<n> prio=<n>`
+-- the words in the middle of a line, and the stations at its end:
+-- `<port> <net>:<MAC> <operation> dst=<n> svc=<n> obj=<type>,<instance> prop=<n> prio=<n> sender=<MAC> station=<MAC>`
 unfoldable pub ask_text : ShownAsk → List ℕ
 ask_text s =
     decimal s.port ++ codes " " ++ decimal s.source.net ++ codes ":" ++ flat_map two_digits s.source.mac
-    ++ codes " " ++ operation_text s.operation
+    ++ codes " " ++ operation_word (is_some s.stations) s.operation
     ++ codes " dst=" ++ field_text s.destination_network
     ++ codes " svc=" ++ field_text s.service
     ++ codes " obj=" ++ field_text s.object_type ++ codes "," ++ field_text s.instance
     ++ codes " prop=" ++ field_text s.property
     ++ codes " prio=" ++ field_text s.priority
+    ++ stations_text s.stations
 
 -- the line of a denial of this ask
 pub record IsLineOfAsk (line : List ℕ) (s : ShownAsk) : Type 0 where
@@ -98,11 +110,11 @@ pub record IsLineOfAsk (line : List ℕ) (s : ShownAsk) : Type 0 where
   pub spelled : IsLineOf line denial
   pub ask : shown_ask denial ≡ s
 
--- these eight words
+-- these words
 pub record IsAskInWords (line : List ℕ) (s : ShownAsk) : Type 0 where
   pub numbers : IsShownAsk s
   pub spelled : line ≡ ask_text s
 
--- a line that tells an ask: that of a denial, or its eight words alone
+-- a line that tells an ask: that of a denial, or its words alone
 abbrev pub TellsAsk : List ℕ → ShownAsk → Type 0
 TellsAsk line s = IsLineOfAsk line s ⊎ IsAskInWords line s

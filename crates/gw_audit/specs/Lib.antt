@@ -3,5 +3,6 @@ pub mod Laws
 pub mod Entry
 pub mod internal
 pub mod Moment
+pub mod Short
 pub mod Told
 pub mod Words

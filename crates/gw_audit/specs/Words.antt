@@ -1,19 +1,21 @@
 -- The words that tell what a line of the log shows. They are this project's own, the names in them the standard's.
-use Rattle.std.specs.Prelude.{ℕ, ◌==◌, Bool, false, if◌then◌else◌, List, [], ◌++◌, length, codes, Option, None}
+use Rattle.std.specs.Prelude.{ℕ, ◌==◌, Bool, false, nat_lt, is_some, if◌then◌else◌, List, [], ◌++◌, length, drop, codes}
+use Rattle.std.specs.Prelude.{Option, None}
 use Rattle.std.specs.Fmt.{decimal}
+use Rattle.std.specs.Int.{w64, to_be_bytes}
 use Rattle.std.specs.List.{flat_map}
-use Rattle.std.specs.Option.{option_map_or}
+use Rattle.std.specs.Option.{option_and_then, option_map_or}
 use Rattle.gw_addr.specs.Address.{address_in, text_of}
-use Rattle.gw_addr.specs.Station.{two_digits}
+use Rattle.gw_addr.specs.Station.{key_of, two_digits}
 use Rattle.gw_addr.specs.declared.station.Source.{Source}
 use Rattle.gw_rules.specs.declared.operation.Operation.{Operation}
 use Rattle.gw_rules.specs.declared.operation.Operation.TheVariants.{Cast, Route, Register, Delete, ReadTable}
 use Rattle.gw_rules.specs.declared.operation.Operation.TheVariants.{WriteTable, Learn, Network, Read, Write}
-use Rattle.gw_rules.specs.declared.operation.Operation.TheVariants.{List as Listing}
+use Rattle.gw_rules.specs.declared.operation.Operation.TheVariants.{List as Listing, Enter, Claim}
 use Rattle.gw_audit.specs.declared.denial.Denial.{Denial}
 use Rattle.gw_audit.specs.declared.entry.ShownAsk.{ShownAsk}
 use Rattle.gw_audit.specs.Entry.{shown_ask}
-use Rattle.gw_audit.specs.Line.{field_text, operation_of}
+use Rattle.gw_audit.specs.Line.{field_text, key_text, operation_named}
 use Rattle.gw_names.specs.Names.{object_type_name, property_name, service_name}
 
 -- ---- who asks
@@ -26,6 +28,30 @@ station_text mac =
 -- `<station> on network <net>`
 abbrev pub source_text : Source → List ℕ
 source_text source = station_text source.mac ++ codes " on network " ++ decimal source.net
+
+-- a station by its key: 48 bits as an address of BACnet/IP, more as digits
+abbrev pub key_name : ℕ → List ℕ
+key_name key =
+    if nat_lt key 281474976710656 then text_of (address_in (drop 2 (to_be_bytes w64 key)))
+    else codes "station " ++ key_text key
+
+abbrev pub is_one : ℕ → Option ℕ → Bool
+is_one number value = option_map_or (λ n. n == number) value false
+
+-- `<station>, claiming <station> on network <net>,` if the sender isn't the station that it claims to be
+abbrev pub claim_text : ℕ → Source → List ℕ
+claim_text sender source =
+    if is_one sender (key_of source.mac) then source_text source
+    else key_name sender ++ codes ", claiming " ++ source_text source ++ codes ","
+
+-- the sender of a `claim`, 13, alone, since what it is asked for is the claim
+abbrev pub sender_text : ℕ → ShownAsk → List ℕ
+sender_text sender ask =
+    if is_one 13 ask.operation then key_name sender else claim_text sender ask.source
+
+-- who asks: if the line has no sender, the station that it claims to be
+abbrev pub asker_text : ShownAsk → List ℕ
+asker_text ask = option_map_or (λ s. sender_text s.sender ask) ask.stations (source_text ask.source)
 
 -- ---- what is asked for
 
@@ -42,9 +68,6 @@ abbrev pub by_text : Option ℕ → List ℕ
 by_text service = codes " by " ++ service_text service
 
 -- and nothing where it is the one that is meant
-abbrev pub is_one : ℕ → Option ℕ → Bool
-is_one number value = option_map_or (λ n. n == number) value false
-
 abbrev pub by_other_text : ℕ → Option ℕ → List ℕ
 by_other_text own service = if is_one own service then [] else by_text service
 
@@ -75,29 +98,59 @@ target_text ask = property_text ask.property ++ object_text ask.object_type ask.
 abbrev pub priority_text : Option ℕ → List ℕ
 priority_text priority = option_map_or (λ p. codes " at priority " ++ decimal p) priority []
 
+-- ---- where it goes to
+
+-- the one station that the message is for
+abbrev pub station_of : ShownAsk → Option ℕ
+station_of ask = option_and_then (λ s. s.station) ask.stations
+
+-- a station after a word, if there is one, and its network; else the network after that word
+abbrev pub goal_text : List ℕ → ShownAsk → List ℕ
+goal_text word ask =
+    option_map_or
+    (λ key. word ++ key_name key ++ network_text (codes " on ") ask.destination_network)
+    (station_of ask) (network_text word ask.destination_network)
+
+-- the device that is asked: by its address if the line has that, and its network
+abbrev pub device_name : ShownAsk → List ℕ
+device_name ask = option_map_or key_name (station_of ask) (codes "the device")
+
+abbrev pub device_text : ShownAsk → List ℕ
+device_text ask =
+    codes " of " ++ device_name ask
+    ++ network_text (codes " on ") ask.destination_network
+
+-- `a foreign device`, or which
+abbrev pub foreign_text : ShownAsk → List ℕ
+foreign_text ask =
+    option_map_or (λ key. codes "the foreign device " ++ key_name key) (station_of ask) (codes "a foreign device")
+
 -- ---- what is done
 
 abbrev pub deed_of : Operation → ShownAsk → List ℕ
-deed_of Cast ask = codes "casts " ++ service_text ask.service ++ network_text (codes " to ") ask.destination_network
-deed_of Route ask = codes "sends " ++ service_text ask.service ++ network_text (codes " on to ") ask.destination_network
+deed_of Cast ask = codes "casts " ++ service_text ask.service ++ goal_text (codes " to ") ask
+deed_of Route ask = codes "sends " ++ service_text ask.service ++ goal_text (codes " on to ") ask
 deed_of Register ask = codes "registers as a foreign device" ++ by_other_text 773 ask.service
-deed_of Delete ask = codes "deletes a foreign device" ++ by_other_text 776 ask.service
+deed_of Delete ask = codes "deletes " ++ foreign_text ask ++ by_other_text 776 ask.service
 deed_of ReadTable ask = codes "reads a table" ++ by_text ask.service
 deed_of WriteTable ask = codes "writes a table" ++ by_text ask.service
 deed_of Learn ask = codes "tells the way" ++ network_text (codes " to ") ask.destination_network ++ by_text ask.service
 deed_of Network ask =
     codes "asks the gateway" ++ network_text (codes " about ") ask.destination_network ++ by_text ask.service
-deed_of Read ask = codes "reads " ++ target_text ask ++ codes " of the device" ++ by_other_text 12 ask.service
+deed_of Read ask = codes "reads " ++ target_text ask ++ device_text ask ++ by_other_text 12 ask.service
 deed_of Write ask =
-    codes "writes " ++ target_text ask ++ codes " of the device" ++ priority_text ask.priority
-    ++ by_other_text 15 ask.service
-deed_of Listing ask = codes "looks for " ++ object_text ask.object_type ask.instance ++ by_text ask.service
+    codes "writes " ++ target_text ask ++ device_text ask ++ priority_text ask.priority ++ by_other_text 15 ask.service
+deed_of Listing ask =
+    codes "looks for " ++ object_text ask.object_type ask.instance
+    ++ network_text (codes " on ") ask.destination_network ++ by_text ask.service
+deed_of Enter ask = codes "enters by port " ++ decimal ask.port
+deed_of Claim ask = codes "speaks for " ++ source_text ask.source
 
--- an operation that the project has no name for
+-- an operation that the line has no name for
 abbrev pub deed_text : ShownAsk → List ℕ
 deed_text ask =
     option_map_or
-    (λ number. option_map_or (λ operation. deed_of operation ask) (operation_of number)
+    (λ number. option_map_or (λ operation. deed_of operation ask) (operation_named (is_some ask.stations) number)
     (codes "does operation " ++ decimal number))
     ask.operation (codes "does something")
 
@@ -105,7 +158,7 @@ deed_text ask =
 
 -- `<station> on network <net> <deed>: denied by <rule>`
 abbrev pub words_of : ShownAsk → List ℕ → List ℕ
-words_of ask rule = source_text ask.source ++ codes " " ++ deed_text ask ++ codes ": denied by " ++ rule
+words_of ask rule = asker_text ask ++ codes " " ++ deed_text ask ++ codes ": denied by " ++ rule
 
 -- the words that tell a denial
 abbrev pub words : Denial → List ℕ

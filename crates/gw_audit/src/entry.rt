@@ -1,6 +1,7 @@
 //! What a line of the log shows.
 
 ghost use Rattle.std.specs.Prelude.{◌≡◌};
+ghost use Rattle.std.specs.Option.{option_map};
 ghost use Rattle.gw_audit.specs.Entry.{ask_shown};
 
 use gw_addr::Source;
@@ -19,9 +20,19 @@ pub struct Shown<'a> {
     pub rule: &'a str,
 }
 
-/// What a line shows of an ask: the port, the station that it comes from, and its seven other
-/// fields. The ask's own port, source network and source key aren't shown; in the gateway's asks
-/// they are those of the line.
+/// The two stations that a line names besides the one that is claimed, each by the number of 48 bits
+/// that its BACnet/IP address is (Annex J.1.2). Formats 1 and 2 of a policy have none.
+#[derive(Clone, Copy)]
+pub struct Stations {
+    /// The station whose datagram it was.
+    pub sender: u64,
+    /// The one station that the message is for.
+    pub station: Option<u64>,
+}
+
+/// What a line shows of an ask: the port, the station that it claims to come from, its seven other
+/// fields, and two stations if the ask has a sender. The ask's own port, source network and source
+/// key aren't shown; in the gateway's asks they are those of the line.
 #[derive(Clone, Copy)]
 pub struct ShownAsk {
     /// The number of the port that the datagram came on.
@@ -42,6 +53,8 @@ pub struct ShownAsk {
     pub property: Option<u64>,
     /// The priority of a write.
     pub priority: Option<u64>,
+    /// The sender, and the station that the message is for.
+    pub stations: Option<Stations>,
 }
 
 impl ShownAsk {
@@ -61,6 +74,15 @@ impl ShownAsk {
             instance: self.instance,
             property: self.property,
             priority: self.priority,
+            sender: self.sender(),
+            station: self.stations.and_then(|stations| stations.station),
         }
+    }
+
+    /// The station whose datagram it was, in format 3 of a policy.
+    pub fn sender(&self) -> Option<u64>
+        ensures { result ≡ option_map (λ stations. stations.sender) self.now.stations }
+    {
+        self.stations.map(|stations| stations.sender)
     }
 }

@@ -1,18 +1,24 @@
 //! Laws of the lines. The functions change nothing and answer nothing: their contracts are the laws.
 
-ghost use Rattle.std.specs.Prelude.{◌<◌, ◌^◌, IfSome};
+ghost use Rattle.std.specs.Prelude.{◌<◌, ◌^◌, IfSome, IsTrue};
+ghost use Rattle.std.specs.Str.{IsUtf8};
 ghost use Rattle.gw_addr.specs.Reading.{AreOctets};
+ghost use Rattle.gw_addr.specs.Text.{Lacks};
+ghost use Rattle.gw_rules.specs.Name.{is_name};
 ghost use Rattle.gw_audit.specs.Entry.{IsShowable};
-ghost use Rattle.gw_audit.specs.Laws.{EndsOnce, IsDenial, IsKept, NamesOneDenial};
+ghost use Rattle.gw_audit.specs.Laws.{EndsOnce, IsDenial, IsKept, NamesOneDenial, StaysShort};
 ghost use Rattle.gw_audit.specs.Told.{TellsEach, TellsOnce, TellsWords};
 
 use crate::denial::Denial;
+use gw_rules::RuleName;
 
 /// A line names one denial, so a log can be searched: two denials with one line are the same in each
-/// field that it shows. And a line ends with its line feed, of which it has one.
+/// field that it shows. And a line ends with its line feed, of which it has one. The line of an ask
+/// without a sender is the one that the formats 1 and 2 of a policy have.
 pub fn lines()
     ensures one { NamesOneDenial }
     ensures ended { EndsOnce }
+    ensures short { StaysShort }
 {}
 
 /// Nothing is lost, and nothing is made up: a line has one telling; and what a denial's line is told as
@@ -36,7 +42,7 @@ pub fn fits(denial: &Denial)
     port(denial.port);
     let _network = denial.source.net.get();
     octets(denial.source.mac.as_slice());
-    let _name = denial.rule.as_str();
+    name(&denial.rule);
     field(ask.operation);
     field(ask.port);
     field(ask.source_network);
@@ -47,6 +53,8 @@ pub fn fits(denial: &Denial)
     field(ask.instance);
     field(ask.property);
     field(ask.priority);
+    field(ask.sender);
+    field(ask.station);
 }
 
 /// A number fits 64 bits.
@@ -64,6 +72,15 @@ fn octets(octets: &[u8])
     ensures { AreOctets octets.now }
 {
     let _len = octets.len();
+}
+
+/// The name of a rule has the shape of one, and so no space.
+fn name(rule: &RuleName)
+    ensures shape { IsTrue (is_name rule.now) }
+    ensures spaceless { Lacks 32 rule.now }
+    ensures text { IsUtf8 rule.now }
+{
+    let _text = rule.as_str();
 }
 
 /// A field that is there fits 64 bits.

@@ -14,7 +14,7 @@ mod text;
 mod words;
 
 pub use denial::{Denial, Denials};
-pub use entry::{Shown, ShownAsk};
+pub use entry::{Shown, ShownAsk, Stations};
 pub use moment::Moment;
 pub use reading::{read_ask, read_line};
 pub use telling::tell_log;

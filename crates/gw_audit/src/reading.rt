@@ -9,10 +9,10 @@ ghost use Rattle.gw_rules.specs.Operation.{operation_name};
 ghost use Rattle.gw_audit.specs.declared.denial.Denial.{Denial};
 ghost use Rattle.gw_audit.specs.Entry.{IsLineOf, IsShowable, TellsAsk, denial_of};
 ghost use Rattle.gw_audit.specs.Laws.{AreShownAlike};
-ghost use Rattle.gw_audit.specs.internal.Reading.{Gives, ask_at, ask_in, behind, field_in, field_to, is_lower, labelled_to, line_in, mac_in, mac_to, name_of, net_of, number_in, number_to, operation_in, operation_to, other_number, parted_at, port_at, port_of, priority_at, request_at, rule_in, source_at, station_in, target_at, told_by, word_at};
+ghost use Rattle.gw_audit.specs.internal.Reading.{Gives, ask_at, ask_in, behind, field_in, field_to, is_lower, key_in, key_to, labelled_to, line_in, long_key, long_key_in, mac_in, mac_to, name_of, named_number, named_stations, net_of, number_in, number_to, operation_in, other_number, parted_at, port_at, port_of, priority_at, request_at, rule_at, source_at, station_in, station_key, stations_in, target_at, told_by, whole_ask, word_at};
 
-use crate::entry::{Shown, ShownAsk};
-use crate::text::operation_of;
+use crate::entry::{Shown, ShownAsk, Stations};
+use crate::text::{KEYS, operation_named};
 use gw_addr::{Mac, NetNum, Source};
 use gw_rules::Operation;
 use itoa::Buffer;
@@ -27,6 +27,7 @@ const MAX_STATION: usize = 255;
 ///
 /// ```text
 /// 1 0 1 1:C0A80105BAC0 read dst=100 svc=12 obj=5,2 prop=85 prio=- rule=hide
+/// 1 0 1 1:C0A80105BAC0 read dst=100 svc=12 obj=5,2 prop=85 prio=- rule=hide sender=C0A80105BAC0 station=-
 /// ```
 pub fn read_line(line: &[u8]) -> Option<Shown<'_>>
     ensures found { IfSome result (λ shown. IsLineOf line.now (denial_of shown)) }
@@ -38,10 +39,12 @@ pub fn read_line(line: &[u8]) -> Option<Shown<'_>>
 }
 
 /// The ask that a line tells, or `None` where it tells none. It is the line of a denial without its
-/// line feed, or the eight words in the middle of one.
+/// line feed, or the eight words in the middle of one, with the stations after them if it names
+/// them.
 ///
 /// ```text
 /// 1 1:C0A80105BAC0 read dst=100 svc=12 obj=5,2 prop=85 prio=-
+/// 1 1:C0A80105BAC0 read dst=100 svc=12 obj=5,2 prop=85 prio=- sender=C0A80105BAC0 station=-
 /// ```
 pub fn read_ask(line: &[u8]) -> Option<ShownAsk>
     ensures found { IfSome result (TellsAsk line.now) }
@@ -50,7 +53,7 @@ pub fn read_ask(line: &[u8]) -> Option<ShownAsk>
     ask_told(line)
 }
 
-/// The ask of a whole line, or else of its eight words.
+/// The ask of a whole line, or else of its words alone.
 fn ask_told(line: &[u8]) -> Option<ShownAsk>
     ensures { result ≡ told_by (line_in line.now) line.now }
 {
@@ -66,10 +69,11 @@ fn line_in(text: &[u8]) -> Option<Shown<'_>>
 {
     let (number, rest) = number_to(b' ', text)?;
     let (tick, rest) = number_to(b' ', rest)?;
-    let Some((ask, rest)) = ask_at(rest) else {
+    let Some((ask, operation, rest)) = ask_at(rest) else {
         return None;
     };
-    let rule = rule_in(rest)?;
+    let (rule, rest) = rule_at(rest)?;
+    let ask = whole_ask(ask, operation, rest)?;
     Some(Shown {
         number,
         tick,
@@ -78,12 +82,104 @@ fn line_in(text: &[u8]) -> Option<Shown<'_>>
     })
 }
 
-/// The name of a rule behind its label, to the line's end.
-fn rule_in(text: &[u8]) -> Option<&str>
-    ensures { Gives (λ x. x.now) result (rule_in text.now) }
+/// The ask with its operation and the stations at the line's end. Which operations have names hangs on
+/// whether there are stations.
+fn whole_ask(ask: ShownAsk, operation: &[u8], end: &[u8]) -> Option<ShownAsk>
+    ensures { result ≡ whole_ask ask operation.now end.now }
 {
-    let name = behind(b" rule=", text)?;
-    name_of(name)
+    let stations = stations_in(end)?;
+    let operation = operation_in(stations.is_some(), operation)?;
+    Some(ShownAsk {
+        operation,
+        stations,
+        ..ask
+    })
+}
+
+/// The name of a rule after its label, up to the next space, and what follows.
+fn rule_at(text: &[u8]) -> Option<(&str, &[u8])>
+    ensures { Gives (λ x. (x.0.now, x.1.now)) result (rule_at text.now) }
+{
+    let rest = behind(b" rule=", text)?;
+    let (word, rest) = word_at(rest);
+    let name = name_of(word)?;
+    Some((name, rest))
+}
+
+/// The stations at the end of a line, which may name none.
+fn stations_in(text: &[u8]) -> Option<Option<Stations>>
+    ensures { result ≡ stations_in text.now }
+{
+    if text.is_empty() {
+        return Some(None);
+    }
+    match named_stations(text) {
+        Some(stations) => Some(Some(stations)),
+        None => None,
+    }
+}
+
+/// The sender, and the station that the message is for, to the end of the line.
+fn named_stations(text: &[u8]) -> Option<Stations>
+    ensures { result ≡ named_stations text.now }
+{
+    let rest = behind(b" sender=", text)?;
+    let (sender, rest) = key_to(b' ', rest)?;
+    let word = behind(b"station=", rest)?;
+    let station = station_key(word)?;
+    Some(Stations { sender, station })
+}
+
+/// The key of a station, or none.
+fn station_key(text: &[u8]) -> Option<Option<u64>>
+    ensures { result ≡ station_key text.now }
+{
+    if text == ABSENT {
+        return Some(None);
+    }
+    match key_in(text) {
+        Some(key) => Some(Some(key)),
+        None => None,
+    }
+}
+
+/// The key of a station, and what comes after the character at its end.
+fn key_to(end: u8, text: &[u8]) -> Option<(u64, &[u8])>
+    ensures { Gives (λ x. (x.0, x.1.now)) result (key_to end text.now) }
+{
+    let (word, rest) = parted_at(end, text)?;
+    let key = key_in(word)?;
+    Some((key, rest))
+}
+
+/// The key of the station whose octets a text is in upper-case digits.
+fn key_in(text: &[u8]) -> Option<u64>
+    ensures { result ≡ key_in text.now }
+{
+    let mac = mac_in(text)?;
+    match mac.key48() {
+        Some(key) => Some(key),
+        None => long_key_in(mac.as_slice()),
+    }
+}
+
+/// The key of eight octets if it has more than 48 bits.
+fn long_key_in(octets: &[u8]) -> Option<u64>
+    ensures { result ≡ long_key_in octets.now }
+{
+    match octets {
+        [a, b, c, d, e, f, high, low] => long_key(u64::from_be_bytes([
+            *a, *b, *c, *d, *e, *f, *high, *low,
+        ])),
+        _ => None,
+    }
+}
+
+/// A key of more than 48 bits.
+fn long_key(key: u64) -> Option<u64>
+    ensures { result ≡ long_key key }
+{
+    if key < KEYS { None } else { Some(key) }
 }
 
 /// A name of UTF-8.
@@ -96,39 +192,41 @@ fn name_of(text: &[u8]) -> Option<&str>
     }
 }
 
-/// The ask of eight words, with nothing behind them.
+/// The ask of eight words and of the stations after them, with nothing more.
 fn ask_in(text: &[u8]) -> Option<ShownAsk>
     ensures { result ≡ ask_in text.now }
 {
-    let Some((ask, rest)) = ask_at(text) else {
+    let Some((ask, operation, rest)) = ask_at(text) else {
         return None;
     };
-    if rest.is_empty() { Some(ask) } else { None }
+    whole_ask(ask, operation, rest)
 }
 
-/// The ask of eight words, and what stands behind them.
-fn ask_at(text: &[u8]) -> Option<(ShownAsk, &[u8])>
-    ensures { Gives (λ x. (x.0, x.1.now)) result (ask_at text.now) }
+/// The ask of eight words but for its operation, the word of that, and what comes after the eight.
+fn ask_at(text: &[u8]) -> Option<(ShownAsk, &[u8], &[u8])>
+    ensures { Gives (λ x. (x.0, x.1.now, x.2.now)) result (ask_at text.now) }
 {
     let (port, rest) = port_at(text)?;
     let Some((source, rest)) = source_at(rest) else {
         return None;
     };
+    let (operation, rest) = parted_at(b' ', rest)?;
     let (request, rest) = request_at(rest)?;
     let (target, rest) = target_at(rest)?;
     let (priority, rest) = priority_at(rest)?;
     let ask = ShownAsk {
         port,
         source,
-        operation: request.operation,
+        operation: None,
         destination_network: request.destination_network,
         service: request.service,
         object_type: target.object_type,
         instance: target.instance,
         property: target.property,
         priority,
+        stations: None,
     };
-    Some((ask, rest))
+    Some((ask, operation, rest))
 }
 
 /// A port, and what stands behind its space.
@@ -167,23 +265,20 @@ fn net_of(number: u64) -> Option<NetNum>
     NetNum::new(number)
 }
 
-/// What is asked for, and to which network.
+/// By which service it is asked, and to which network.
 #[derive(Clone, Copy)]
 struct Request {
-    operation: Option<u64>,
     destination_network: Option<u64>,
     service: Option<u64>,
 }
 
-/// What is asked for, and what stands behind its space.
+/// By which service it is asked and to which network, and what comes after its space.
 fn request_at(text: &[u8]) -> Option<(Request, &[u8])>
     ensures { Gives (λ x. (x.0, x.1.now)) result (request_at text.now) }
 {
-    let (operation, rest) = operation_to(b' ', text)?;
-    let (destination_network, rest) = labelled_to(b"dst=", b' ', rest)?;
+    let (destination_network, rest) = labelled_to(b"dst=", b' ', text)?;
     let (service, rest) = labelled_to(b"svc=", b' ', rest)?;
     let request = Request {
-        operation,
         destination_network,
         service,
     };
@@ -259,15 +354,6 @@ fn number_to(end: u8, text: &[u8]) -> Option<(u64, &[u8])>
     Some((number, rest))
 }
 
-/// An operation, and what stands behind the character at its end.
-fn operation_to(end: u8, text: &[u8]) -> Option<(Option<u64>, &[u8])>
-    ensures { Gives (λ x. (x.0, x.1.now)) result (operation_to end text.now) }
-{
-    let (word, rest) = parted_at(end, text)?;
-    let operation = operation_in(word)?;
-    Some((operation, rest))
-}
-
 /// A station's octets, and what stands behind the character at their end.
 fn mac_to(end: u8, text: &[u8]) -> Option<(Mac, &[u8])>
     ensures { Gives (λ x. (x.0, x.1.now)) result (mac_to end text.now) }
@@ -315,21 +401,31 @@ fn field_in(text: &[u8]) -> Option<Option<u64>>
     }
 }
 
-/// The name of an operation, a number that no operation has, or none.
-fn operation_in(text: &[u8]) -> Option<Option<u64>>
-    ensures { result ≡ operation_in text.now }
+/// The name of an operation, a number that isn't named, or none.
+fn operation_in(has_sender: bool, text: &[u8]) -> Option<Option<u64>>
+    ensures { result ≡ operation_in has_sender text.now }
 {
     if text == ABSENT {
         return Some(None);
     }
-    match operation_named(text) {
-        Some(operation) => Some(Some(operation.number())),
-        None => other_number(text),
+    match operation_by_name(text) {
+        Some(operation) => named_number(has_sender, operation.number()),
+        None => other_number(has_sender, text),
+    }
+}
+
+/// The number of an operation that a line of this form names.
+fn named_number(has_sender: bool, number: u64) -> Option<Option<u64>>
+    ensures { result ≡ named_number has_sender number }
+{
+    match operation_named(number, has_sender) {
+        Some(_) => Some(Some(number)),
+        None => None,
     }
 }
 
 /// The operation of this name.
-fn operation_named(text: &[u8]) -> Option<Operation>
+fn operation_by_name(text: &[u8]) -> Option<Operation>
     ensures { result ≡ find (λ o. pointwise nat_eq (operation_name o) text.now) Operation.ALL }
 {
     Operation::ALL
@@ -338,12 +434,12 @@ fn operation_named(text: &[u8]) -> Option<Operation>
         .find(|operation| operation.name().as_bytes() == text)
 }
 
-/// A number that no operation has.
-fn other_number(text: &[u8]) -> Option<Option<u64>>
-    ensures { result ≡ option_and_then other_number (number_in text.now) }
+/// A number that a line of this form has no name for.
+fn other_number(has_sender: bool, text: &[u8]) -> Option<Option<u64>>
+    ensures { result ≡ option_and_then (other_number has_sender) (number_in text.now) }
 {
     let number = number_in(text)?;
-    match operation_of(number) {
+    match operation_named(number, has_sender) {
         Some(_) => None,
         None => Some(Some(number)),
     }

@@ -24,7 +24,7 @@ use std::alloc::{AllocError, Global};
 /// A line feed ends each that is told.
 ///
 /// ```text
-/// 192.168.1.5:47808 on network 1 reads 85 present-value of 5,2 binary-value of the device: denied by hide
+/// 192.168.1.5:47808 on network 1 reads 85 present-value of 5,2 binary-value of the device on network 100: denied by hide
 /// bacgw: write failed
 /// ```
 pub fn tell_log<R: OctetSource, W: OctetSink>(

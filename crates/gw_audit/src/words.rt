@@ -2,15 +2,16 @@
 
 ghost use Rattle.std.specs.Prelude.{◌≡◌, ◌++◌, ◌∷◌, [], decimal, option_map, OnOk};
 ghost use Rattle.gw_addr.specs.Appending.{IsAppended};
-ghost use Rattle.gw_audit.specs.Line.{field_text, operation_of};
+ghost use Rattle.gw_audit.specs.Line.{field_text};
 ghost use Rattle.gw_audit.specs.Moment.{IsMomentOf, front_text};
 ghost use Rattle.gw_audit.specs.Told.{IsToldAs};
-ghost use Rattle.gw_audit.specs.Words.{by_other_text, by_text, deed_of, deed_text, is_one, kind_text, name_text, network_name, network_text, object_text, priority_text, property_text, service_text, source_text, station_text, target_text, words_of};
+ghost use Rattle.gw_audit.specs.Words.{asker_text, by_other_text, by_text, claim_text, deed_of, deed_text, device_name, device_text, foreign_text, goal_text, is_one, key_name, kind_text, name_text, network_name, network_text, object_text, priority_text, property_text, sender_text, service_text, source_text, station_of, station_text, target_text, words_of};
 
 use crate::entry::{Shown, ShownAsk};
 use crate::moment::Moment;
 use crate::reading::read_line;
-use gw_addr::{Mac, Source, bip_from_slice, put_decimal, put_octet, put_slice};
+use crate::text::{KEYS, operation_named, put_key};
+use gw_addr::{BipAddr, Mac, Source, bip_from_slice, put_decimal, put_octet, put_slice};
 use gw_names::{object_type_name, property_name, service_name};
 use gw_rules::Operation;
 use std::alloc::{AllocError, Global};
@@ -27,13 +28,16 @@ const READ_PROPERTY: u64 = 12;
 
 const WRITE_PROPERTY: u64 = 15;
 
+/// The number of [`Operation::Claim`].
+const CLAIM: u64 = 13;
+
 /// Makes what a line of a log is told as, with a line feed behind it, in the place of what the buffer
 /// holds: the words of the denial whose line it is, or the line itself where it is none. The line is
 /// taken without its line feed. Where it is known when the log began, the moment of its tick stands in
 /// front of a denial's words, in a year up to 9999.
 ///
 /// ```text
-/// 192.168.1.5:47808 on network 1 reads 85 present-value of 5,2 binary-value of the device: denied by hide
+/// 192.168.1.5:47808 on network 1 reads 85 present-value of 5,2 binary-value of the device on network 100: denied by hide
 /// ```
 ///
 /// 1 Memory: a growth of the buffer was refused; it then holds no more than a front of the text.
@@ -98,7 +102,7 @@ fn put_words_line(out: &mut Vec<u8>, shown: &Shown<'_>) -> Result<(), AllocError
 fn put_words(out: &mut Vec<u8>, shown: &Shown<'_>) -> Result<(), AllocError>
     ensures { IsAppended (words_of shown.now.ask shown.now.rule.now) out.old out.new result }
 {
-    put_source(out, &shown.ask.source)?;
+    put_asker(out, &shown.ask)?;
     put_octet(out, b' ')?;
     put_deed(out, &shown.ask)?;
     put_slice(out, b": denied by ")?;
@@ -110,6 +114,52 @@ fn put_text(out: &mut Vec<u8>, text: &str) -> Result<(), AllocError>
     ensures { IsAppended text.now out.old out.new result }
 {
     put_slice(out, text.as_bytes())
+}
+
+/// Appends who asks: the sender and the station that it claims to be if that is another.
+fn put_asker(out: &mut Vec<u8>, ask: &ShownAsk) -> Result<(), AllocError>
+    ensures { IsAppended (asker_text ask.now) out.old out.new result }
+{
+    match ask.stations {
+        Some(stations) => put_sender(out, stations.sender, ask),
+        None => put_source(out, &ask.source),
+    }
+}
+
+/// Appends the sender. What it claims to be comes in front of what it asks for, unless that is the claim.
+fn put_sender(out: &mut Vec<u8>, sender: u64, ask: &ShownAsk) -> Result<(), AllocError>
+    ensures { IsAppended (sender_text sender ask.now) out.old out.new result }
+{
+    if is_one(CLAIM, ask.operation) {
+        put_key_name(out, sender)
+    } else {
+        put_claim(out, sender, &ask.source)
+    }
+}
+
+/// Appends the sender and the station that it claims to be, or the station alone if it is the sender.
+fn put_claim(out: &mut Vec<u8>, sender: u64, source: &Source) -> Result<(), AllocError>
+    ensures { IsAppended (claim_text sender source.now) out.old out.new result }
+{
+    if is_one(sender, source.mac.key48()) {
+        return put_source(out, source);
+    }
+    put_key_name(out, sender)?;
+    put_slice(out, b", claiming ")?;
+    put_source(out, source)?;
+    put_octet(out, b',')
+}
+
+/// Appends a station by its key: 48 bits as an address of BACnet/IP, more as digits.
+fn put_key_name(out: &mut Vec<u8>, key: u64) -> Result<(), AllocError>
+    ensures { IsAppended (key_name key) out.old out.new result }
+{
+    if key < KEYS {
+        let [_, _, a, b, c, d, high, low] = key.to_be_bytes();
+        return BipAddr::from_octets(&[a, b, c, d, high, low]).put_text(out);
+    }
+    put_slice(out, b"station ")?;
+    put_key(out, key)
 }
 
 /// Appends a station, and the network that it is on.
@@ -139,17 +189,10 @@ fn put_deed(out: &mut Vec<u8>, ask: &ShownAsk) -> Result<(), AllocError>
     let Some(number) = ask.operation else {
         return put_slice(out, b"does something");
     };
-    match operation_of(number) {
+    match operation_named(number, ask.stations.is_some()) {
         Some(operation) => put_deed_of(out, operation, ask),
         None => put_number(out, b"does operation ", number),
     }
-}
-
-/// The operation of a number, or `None` where none has it.
-fn operation_of(number: u64) -> Option<Operation>
-    ensures { result ≡ operation_of number }
-{
-    Operation::from_number(number)
 }
 
 /// Appends a number behind a word.
@@ -168,12 +211,12 @@ fn put_deed_of(out: &mut Vec<u8>, operation: Operation, ask: &ShownAsk) -> Resul
         Operation::Cast => {
             put_slice(out, b"casts ")?;
             put_service(out, ask.service)?;
-            put_network(out, b" to ", ask.destination_network)
+            put_goal(out, b" to ", ask)
         }
         Operation::Route => {
             put_slice(out, b"sends ")?;
             put_service(out, ask.service)?;
-            put_network(out, b" on to ", ask.destination_network)
+            put_goal(out, b" on to ", ask)
         }
         Operation::Register => {
             put_slice(out, b"registers as a foreign device")?;
@@ -192,11 +235,9 @@ fn put_deed_of(out: &mut Vec<u8>, operation: Operation, ask: &ShownAsk) -> Resul
         Operation::Network => put_question(out, ask),
         Operation::Read => put_read(out, ask),
         Operation::Write => put_write(out, ask),
-        Operation::List => {
-            put_slice(out, b"looks for ")?;
-            put_object(out, ask.object_type, ask.instance)?;
-            put_by(out, ask.service)
-        }
+        Operation::List => put_search(out, ask),
+        Operation::Enter => put_number(out, b"enters by port ", u64::from(ask.port)),
+        Operation::Claim => put_speaking(out, ask),
     }
 }
 
@@ -204,8 +245,82 @@ fn put_deed_of(out: &mut Vec<u8>, operation: Operation, ask: &ShownAsk) -> Resul
 fn put_delete(out: &mut Vec<u8>, ask: &ShownAsk) -> Result<(), AllocError>
     ensures { IsAppended (deed_of Operation.Delete ask.now) out.old out.new result }
 {
-    put_slice(out, b"deletes a foreign device")?;
+    put_slice(out, b"deletes ")?;
+    put_foreign(out, ask)?;
     put_by_other(out, DELETE, ask.service)
+}
+
+/// Appends which foreign device it is, if that is known.
+fn put_foreign(out: &mut Vec<u8>, ask: &ShownAsk) -> Result<(), AllocError>
+    ensures { IsAppended (foreign_text ask.now) out.old out.new result }
+{
+    match station_of(ask) {
+        Some(key) => put_named(out, b"the foreign device ", key),
+        None => put_slice(out, b"a foreign device"),
+    }
+}
+
+/// Appends a word and a station by its key.
+fn put_named(out: &mut Vec<u8>, word: &[u8], key: u64) -> Result<(), AllocError>
+    ensures { IsAppended (word.now ++ key_name key) out.old out.new result }
+{
+    put_slice(out, word)?;
+    put_key_name(out, key)
+}
+
+/// The one station that a message is for, if that is known.
+fn station_of(ask: &ShownAsk) -> Option<u64>
+    ensures { result ≡ station_of ask.now }
+{
+    ask.stations.and_then(|stations| stations.station)
+}
+
+/// Appends a word and where a message goes to: a station and its network, or a network.
+fn put_goal(out: &mut Vec<u8>, word: &[u8], ask: &ShownAsk) -> Result<(), AllocError>
+    ensures { IsAppended (goal_text word.now ask.now) out.old out.new result }
+{
+    let Some(key) = station_of(ask) else {
+        return put_network(out, word, ask.destination_network);
+    };
+    put_named(out, word, key)?;
+    put_network(out, b" on ", ask.destination_network)
+}
+
+/// Appends the device that is asked, and its network.
+fn put_device(out: &mut Vec<u8>, ask: &ShownAsk) -> Result<(), AllocError>
+    ensures { IsAppended (device_text ask.now) out.old out.new result }
+{
+    put_slice(out, b" of ")?;
+    put_device_name(out, ask)?;
+    put_network(out, b" on ", ask.destination_network)
+}
+
+/// Appends a device by its address, if that is known.
+fn put_device_name(out: &mut Vec<u8>, ask: &ShownAsk) -> Result<(), AllocError>
+    ensures { IsAppended (device_name ask.now) out.old out.new result }
+{
+    match station_of(ask) {
+        Some(key) => put_key_name(out, key),
+        None => put_slice(out, b"the device"),
+    }
+}
+
+/// Appends what is looked for.
+fn put_search(out: &mut Vec<u8>, ask: &ShownAsk) -> Result<(), AllocError>
+    ensures { IsAppended (deed_of Operation.List ask.now) out.old out.new result }
+{
+    put_slice(out, b"looks for ")?;
+    put_object(out, ask.object_type, ask.instance)?;
+    put_network(out, b" on ", ask.destination_network)?;
+    put_by(out, ask.service)
+}
+
+/// Appends for which station the sender speaks.
+fn put_speaking(out: &mut Vec<u8>, ask: &ShownAsk) -> Result<(), AllocError>
+    ensures { IsAppended (deed_of Operation.Claim ask.now) out.old out.new result }
+{
+    put_slice(out, b"speaks for ")?;
+    put_source(out, &ask.source)
 }
 
 /// Appends that the way to a network is told.
@@ -232,7 +347,7 @@ fn put_read(out: &mut Vec<u8>, ask: &ShownAsk) -> Result<(), AllocError>
 {
     put_slice(out, b"reads ")?;
     put_target(out, ask)?;
-    put_slice(out, b" of the device")?;
+    put_device(out, ask)?;
     put_by_other(out, READ_PROPERTY, ask.service)
 }
 
@@ -242,7 +357,7 @@ fn put_write(out: &mut Vec<u8>, ask: &ShownAsk) -> Result<(), AllocError>
 {
     put_slice(out, b"writes ")?;
     put_target(out, ask)?;
-    put_slice(out, b" of the device")?;
+    put_device(out, ask)?;
     put_priority(out, ask.priority)?;
     put_by_other(out, WRITE_PROPERTY, ask.service)
 }

@@ -5,14 +5,26 @@ use std::alloc::Global;
 use std::io;
 use std::io::ErrorKind;
 
-/// The text of a section `config`: the built-in one if it is empty, or an edit of that after the word `edit`.
+/// The text of a section `config`: the built-in one if it is empty, or edits of that, each in a line after the word `edit`.
 pub fn config_text(alloc: Global, built_in: &str, body: &str) -> io::Result<String> {
     let body = body.trim();
-    match body.strip_prefix("edit ") {
-        Some(line) => edited(alloc, built_in, line),
-        None if body.is_empty() => Ok(String::from_str(alloc, built_in)?),
-        None => Ok(String::from_str(alloc, body)?),
+    if body.is_empty() {
+        return Ok(String::from_str(alloc, built_in)?);
     }
+    if body.starts_with("edit ") {
+        return all_edited(alloc, built_in, body);
+    }
+    Ok(String::from_str(alloc, body)?)
+}
+
+/// The text with each of these edits made, one after the other.
+fn all_edited(alloc: Global, text: &str, lines: &str) -> io::Result<String> {
+    let mut text = String::from_str(alloc, text)?;
+    for line in lines.lines() {
+        let line = wanted(line.strip_prefix("edit "))?;
+        text = edited(alloc, text.as_str(), line)?;
+    }
+    Ok(text)
 }
 
 /// The text edited by a line, `old | new`.

@@ -1,3 +1,5 @@
+pub mod Before
+pub mod Counted
 pub mod Each
 pub mod Bounds
 pub mod Named

@@ -9,7 +9,7 @@ use Rattle.gw_rules.specs.declared.operation.Operation.{Operation}
 use Rattle.gw_rules.specs.declared.operation.Operation.TheVariants.{Cast, Route, Register, Delete, ReadTable, WriteTable, Learn, Network, Read, Write, List as Listing, Enter, Claim}
 use Rattle.gw_rules.specs.declared.operation.TheConstants.Operation.{ALL}
 use Rattle.gw_rules.specs.Operation.{operation_name}
-use Rattle.gw_config_tables.specs.Items.{name_behind}
+use Rattle.gw_config_tables.specs.Items.{name_after_at}
 use Rattle.gw_config_tables.specs.Value.{operation_named}
 
 -- what a search finds passes its test
@@ -46,16 +46,16 @@ named_same text o is = on o refl (operation_named text) refl
         let passes = found_passes (λ operation. pointwise nat_eq (operation_name operation) text) ALL x f in
         (is x).1 (sym (same_text (operation_name x) text (sym passes))) ∙ sym f
 
--- the text behind `@`, by what a search for it says
-pub name_behind_from : (text : List ℕ) (r : Option (Bor (List ℕ))) → MatchOption r ((rest : List ℕ) → text ≢ 64 ∷ rest) (λ x. text ≡ 64 ∷ x.now) → option_map (λ t. t.now) r ≡ name_behind text
-name_behind_from [] None h = refl
-name_behind_from [] (Some x) h = absurd cc
-name_behind_from (c ∷ cs) None h = on (eqb c 64) refl
+-- the text after `@`, by what a search for it says
+pub name_after_from : (text : List ℕ) (r : Option (Bor (List ℕ))) → MatchOption r ((rest : List ℕ) → text ≢ 64 ∷ rest) (λ x. text ≡ 64 ∷ x.now) → option_map (λ t. t.now) r ≡ name_after_at text
+name_after_from [] None h = refl
+name_after_from [] (Some x) h = absurd cc
+name_after_from (c ∷ cs) None h = on (eqb c 64) refl
   where
     on : (b : Bool) → eqb c 64 ≡ b → None ≡ cond b (Some cs) None
     on true e = absurd (h cs (ap (λ n. n ∷ cs) (eqb-true c 64 e)))
     on false e = refl
-name_behind_from (c ∷ cs) (Some x) h =
+name_after_from (c ∷ cs) (Some x) h =
     let first : c ≡ 64 = cc in
     let rest : cs ≡ x.now = cc in
     rw (eq-eqb c 64 first, rest) refl

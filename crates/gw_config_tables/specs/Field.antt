@@ -1,5 +1,5 @@
 -- The fields of a table, and the fault of a table.
-use Rattle.std.specs.Prelude.{ℕ, Bool, false, ◌||◌, nat_lt, nat_eq, if◌then◌else◌, List, [], ◌∷◌, length}
+use Rattle.std.specs.Prelude.{ℕ, Bool, false, ◌||◌, nat_lt, nat_eq, if◌then◌else◌, List, [], length}
 use Rattle.std.specs.Prelude.{find, position, Option, Some, None, is_some, Ok, Err}
 use Rattle.std.specs.Cmp.Lexicographic.{pointwise}
 use Rattle.std.specs.List.{list_any}
@@ -187,6 +187,6 @@ unfoldable pub located_beside : List Data → Place → List Field → Members �
 located_beside sets place fields table =
     option_map (located_as sets place fields table) (fault_of sets fields table)
 
--- the same where there are no sets
+-- the same if there are no sets
 abbrev pub located_in : Place → List Field → Members → Option Located
 located_in place fields table = located_beside [] place fields table

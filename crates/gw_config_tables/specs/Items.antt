@@ -1,12 +1,11 @@
 -- Items for a field of a rule, as format 3 has them besides: names, stations, and sets.
-use Rattle.std.specs.Prelude.{ℕ, ◌+◌, ◌++◌, ◌==◌, Bool, false, nat_eq, if◌then◌else◌, List, [], ◌∷◌, length, codes, find}
+use Rattle.std.specs.Prelude.{ℕ, ◌++◌, ◌==◌, Bool, false, nat_eq, if◌then◌else◌, List, [], ◌∷◌, length, codes, find}
 use Rattle.std.specs.Prelude.{Option, Some, None, is_some, Ok, Err}
 use Rattle.std.specs.Cmp.Lexicographic.{pointwise}
 use Rattle.std.specs.List.{list_any, sum_by}
 use Rattle.std.specs.Option.{ok_or, option_and_then, option_map, option_map_or}
 use Rattle.std.specs.Result.{result_err}
 use Rattle.toml.specs.Data.{Data, as_array, as_integer, as_str, as_table, get_member}
-use Rattle.gw_addr.specs.declared.bip.BipAddr.{BipAddr}
 use Rattle.gw_addr.specs.declared.mask.Mask.{Mask}
 use Rattle.gw_addr.specs.Reading.{◌>>=◌}
 use Rattle.gw_names.specs.Names.{object_type_number, property_number, service_number}
@@ -110,13 +109,13 @@ spans_in scalar items =
 -- sets, by the tables that a text has of them, in order
 
 -- `@` and a name: the name
-abbrev pub name_behind : List ℕ → Option (List ℕ)
-name_behind [] = None
-name_behind (character ∷ name) = if character == 64 then Some name else None
+abbrev pub name_after_at : List ℕ → Option (List ℕ)
+name_after_at [] = None
+name_after_at (character ∷ name) = if character == 64 then Some name else None
 
 -- the name of the set that an item names
 abbrev pub set_name_in : Data → Option (List ℕ)
-set_name_in item = option_and_then name_behind (as_str item)
+set_name_in item = option_and_then name_after_at (as_str item)
 
 -- the name of a set, and its items
 abbrev pub name_of_set : Data → Option (List ℕ)
@@ -149,15 +148,15 @@ items_or sets scalar item (Some name) = set_ranges scalar (items_named name sets
 abbrev pub items_in : List Data → Scalar → Data → Read (List RuleRange)
 items_in sets scalar item = items_or sets scalar item (set_name_in item)
 
--- ranges behind others
-abbrev pub behind : List RuleRange → Read (List RuleRange) → Read (List RuleRange)
-behind front reading = reading >>= λ ranges. Ok (front ++ ranges)
+-- ranges, and others after them
+abbrev pub added_to : List RuleRange → Read (List RuleRange) → Read (List RuleRange)
+added_to front reading = reading >>= λ ranges. Ok (front ++ ranges)
 
 -- what a list of items names, in order
 abbrev pub ranges_in : List Data → Scalar → List Data → Read (List RuleRange)
 ranges_in sets scalar [] = Ok []
 ranges_in sets scalar (item ∷ later) =
-    items_in sets scalar item >>= λ first. behind first (ranges_in sets scalar later)
+    items_in sets scalar item >>= λ first. added_to first (ranges_in sets scalar later)
 
 -- how many ranges an item names
 abbrev pub count_of : List Data → Data → ℕ
@@ -169,7 +168,7 @@ count_in sets items = sum_by (count_of sets) items
 
 -- an item of a set: a list of two, a text that names no set, or a whole number
 abbrev pub single_fault : Data → Option (List ℕ) → Option ConfigFault
-single_fault item (Some text) = if is_some (name_behind text) then Some Range else None
+single_fault item (Some text) = if is_some (name_after_at text) then Some Range else None
 single_fault item None = if is_some (as_integer item) then None else Some Kind
 
 abbrev pub ends_fault : Data → Option (List Data) → Option ConfigFault

@@ -70,7 +70,7 @@ abbrev pub top_fields : Format → List Field
 top_fields formats.Three = common_top_fields ++ may (codes "set") (tables 0 1048576) ∷ []
 top_fields _ = common_top_fields
 
--- the format by which a text's keys are judged: 3 exactly where its `format` is the whole number 3
+-- the format by which a text's keys are judged: 3 exactly if its `format` is the whole number 3
 abbrev pub format_read : Read ℕ → Format
 format_read (Ok number) = format_of number
 format_read (Err _) = formats.One

@@ -385,7 +385,7 @@ pub fn located_beside<'a>(
     }
 }
 
-/// The fault of a table with these fields, with its place, where no sets matter.
+/// The fault of a table with these fields, with its place, if no sets matter.
 pub fn located_in<'a>(place: Place, fields: &[Field], table: &'a Table) -> Option<Located<'a>>
     ensures { option_map located_view result ≡ located_in place fields.now (table_view table.now) }
 {

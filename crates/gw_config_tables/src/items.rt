@@ -10,7 +10,7 @@ ghost use Rattle.toml.specs.View.{table_view, view};
 ghost use Rattle.gw_configuration.specs.Subnet.{keys_of};
 ghost use Rattle.gw_configuration.specs.Reading.{Gives};
 ghost use Rattle.gw_config_tables.specs.Field.{has_too_many};
-ghost use Rattle.gw_config_tables.specs.Items.{behind, count_of, end_in, end_written, is_set_named, items_in, items_named, items_of_set, key_with, keys_of_host, name_behind, name_of_set, named_in, number_named, number_of, only, ranges_in, set_item_fault, set_name_in, span_in, spans_in, station_ends, stations_between, stations_from, stations_in, stations_written};
+ghost use Rattle.gw_config_tables.specs.Items.{added_to, count_of, end_in, end_written, is_set_named, items_in, items_named, items_of_set, key_with, keys_of_host, name_after_at, name_of_set, named_in, number_named, number_of, only, ranges_in, set_item_fault, set_name_in, span_in, spans_in, station_ends, stations_between, stations_from, stations_in, stations_written};
 ghost use Rattle.gw_config_tables.specs.Range.{bounds_of, field_named, is_kind};
 ghost use Rattle.gw_config_tables.specs.Value.{reading};
 ghost use Rattle.gw_config_tables.specs.Written.{subnet_written};
@@ -220,13 +220,13 @@ pub fn set_name(item: &Value) -> Option<&str>
     ensures { option_map (λ t. t.now) result ≡ set_name_in (view item.now) }
 {
     match string(item) {
-        Some(text) => name_behind(text),
+        Some(text) => name_after_at(text),
         None => None,
     }
 }
 
-fn name_behind(text: &str) -> Option<&str>
-    ensures { option_map (λ t. t.now) result ≡ name_behind text.now }
+fn name_after_at(text: &str) -> Option<&str>
+    ensures { option_map (λ t. t.now) result ≡ name_after_at text.now }
 {
     text.strip_prefix('@')
 }
@@ -344,7 +344,7 @@ pub(crate) fn has_too_many(sets: &[Value], items: &[Value]) -> bool
 }
 
 /// The ranges that items name, in order, each within the bounds of such values. `Kind` or `Range` of the
-/// first that has a fault; `Memory` where there is none for them.
+/// first that has a fault; `Memory` if there is none for them.
 pub fn ranges(
     alloc: Global,
     sets: &[Value],
@@ -361,10 +361,10 @@ pub fn ranges(
     Ok(all)
 }
 
-/// Puts the ranges that an item names behind those that are there.
+/// Puts the ranges that an item names after those that are there.
 fn put_item(all: &mut Ranges, sets: &[Value], of: Scalar, item: &Value) -> Result<(), ConfigFault>
     ensures ranges { Gives (λ _. all.new) result
-        (behind all.old (items_in (map view sets.now) of (view item.now))) }
+        (added_to all.old (items_in (map view sets.now) of (view item.now))) }
     ensures within { OnOk result (IsTrue (list_all (is_within (bounds_of of)) all.old)
         → IsTrue (list_all (is_within (bounds_of of)) all.new)) }
 {
@@ -380,10 +380,10 @@ fn put_item(all: &mut Ranges, sets: &[Value], of: Scalar, item: &Value) -> Resul
     }
 }
 
-/// Puts the ranges of the items of a set behind those that are there.
+/// Puts the ranges of the items of a set after those that are there.
 #[tactic(auto, using(crate::proofs::Values::any_view))]
 fn put_spans(all: &mut Ranges, of: Scalar, items: &[Value]) -> Result<(), ConfigFault>
-    ensures ranges { Gives (λ _. all.new) result (behind all.old (spans_in of (map view items.now))) }
+    ensures ranges { Gives (λ _. all.new) result (added_to all.old (spans_in of (map view items.now))) }
     ensures within { OnOk result (IsTrue (list_all (is_within (bounds_of of)) all.old)
         → IsTrue (list_all (is_within (bounds_of of)) all.new)) }
 {
@@ -396,8 +396,8 @@ fn put_spans(all: &mut Ranges, of: Scalar, items: &[Value]) -> Result<(), Config
     Ok(())
 }
 
-/// The fault of an item of a set as it is written: `Kind` where it is neither a text, a whole number nor
-/// a list; `Range` where it is a list that isn't of two, or a text that begins with `@`.
+/// The fault of an item of a set as it is written: `Kind` if it is neither a text, a whole number nor a
+/// list; `Range` if it is a list that isn't of two, or a text that begins with `@`.
 pub fn set_item_fault(item: &Value) -> Option<ConfigFault>
     ensures { result ≡ set_item_fault (view item.now) }
 {
@@ -409,7 +409,7 @@ pub fn set_item_fault(item: &Value) -> Option<ConfigFault>
         };
     }
     match string(item) {
-        Some(text) if name_behind(text).is_some() => Some(ConfigFault::Range),
+        Some(text) if name_after_at(text).is_some() => Some(ConfigFault::Range),
         Some(_) => None,
         None if item.as_integer().is_some() => None,
         None => Some(ConfigFault::Kind),

@@ -4,6 +4,7 @@
 
 mod field;
 pub mod items;
+pub mod laws;
 pub mod range;
 pub mod tables;
 pub mod value;

@@ -52,7 +52,7 @@ const NAME: Shape = Shape::One(Scalar::Text { least: 1 });
 
 const ADDRESS: Shape = Shape::One(Scalar::Address);
 
-/// The format by which the keys of a text are judged: 3 exactly where its `format` is the whole number 3.
+/// The format by which the keys of a text are judged: 3 exactly if its `format` is the whole number 3.
 pub fn format_of(top: &Table) -> Format
     ensures { result ≡ spec.format_in (table_view top.now) }
 {

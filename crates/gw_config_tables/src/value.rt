@@ -129,14 +129,14 @@ pub fn list(value: &Value) -> Result<&[Value], ConfigFault>
     }
 }
 
-/// The values of a list, or `None` where it is none.
+/// The values of a list, or `None` if it is none.
 pub fn values(value: &Value) -> Option<&[Value]>
     ensures { option_map (λ vs. map view vs.now) result ≡ list_of (view value.now) }
 {
     list(value).ok()
 }
 
-/// The value at a key of a table, or `None` where the value is no table or has no such key.
+/// The value at a key of a table, or `None` if the value is no table or has no such key.
 pub(crate) fn member_of<'a>(value: &'a Value, key: &str) -> Option<&'a Value>
     ensures { option_map (λ v. view v.now) result
         ≡ option_and_then (get_member key.now) (as_table (view value.now)) }
@@ -168,8 +168,8 @@ fn is_rule_name(text: &str) -> bool
     RuleName::is_name(text) && !RuleName::is_no_rule(text)
 }
 
-/// An operation that a rule of the format can name, by its name. `Kind` where it is no text, `Range`
-/// where it names none.
+/// An operation that a rule of the format can name, by its name. `Kind` if it is no text, `Range` if it
+/// names none.
 pub fn operation(format: Format, value: &Value) -> Result<Operation, ConfigFault>
     ensures operation { Gives (λ o. o) result (operation_in format (view value.now)) }
     ensures held { IfOk result (λ o. IsTrue (is_of_format format o)) }
@@ -266,7 +266,7 @@ fn whole_mask(mask: Mask) -> Mask
     mask
 }
 
-/// A subnet, `a.b.c.d/n`. `Kind` where it is no text, `Range` where it is another.
+/// A subnet, `a.b.c.d/n`. `Kind` if it is no text, `Range` if it is another.
 pub fn subnet(value: &Value) -> Result<Subnet, ConfigFault>
     ensures { Gives (λ s. s) result (subnet_in (view value.now)) }
 {
@@ -286,7 +286,7 @@ pub(crate) fn subnet_of(text: &str) -> Option<Subnet>
     }
 }
 
-/// The subnet, which has zeros behind the bits that count.
+/// The subnet, which has zeros after the bits that count.
 fn whole_subnet(subnet: Subnet) -> Subnet
     ensures same { result ≡ subnet }
     ensures whole { IsSubnet subnet }

@@ -1,5 +1,5 @@
 -- The keys of a subnet's addresses.
-use Rattle.std.proofs.Common.{◌≡◌, ℕ, zero, suc, ◌+◌, ◌-◌, ◌*◌, ◌/◌, ◌%◌, ◌^◌, ◌<◌, ◌≤◌, ◌&&◌, Bool, true, false, List, [], ◌∷◌, ◌++◌, length, refl, sym, ap, subst, ◌∙◌, arith, nat_eq}
+use Rattle.std.proofs.Common.{◌≡◌, ℕ, ◌+◌, ◌-◌, ◌*◌, ◌/◌, ◌%◌, ◌^◌, ◌<◌, ◌≤◌, ◌&&◌, Bool, true, false, List, [], ◌∷◌, ◌++◌, length, refl, sym, ap, subst, ◌∙◌, arith, nat_eq}
 use Rattle.std.specs.Prelude.{nat_le}
 use Rattle.std.specs.Int.{from_be_bytes, to_be_bytes, w16, w32}
 use Rattle.std.proofs.Math.Nat.{lt_of_mul-lt-mul_left, mod-lt, mul_comm}
@@ -8,7 +8,7 @@ use Rattle.std.proofs.lemmas.Nat.{div-add-mod', div-mul-add, mul-le, pow-add, po
 use Rattle.gw_addr.specs.Address.{IsAddress, big_endian, octets_of}
 use Rattle.gw_addr.specs.declared.bip.BipAddr.{BipAddr}
 use Rattle.gw_rules.specs.Range.{holds}
-use Rattle.gw_configuration.specs.Subnet.{IsSubnet, Subnet, first_bits, keys_of, size_of, subnet_holds}
+use Rattle.gw_configuration.specs.Subnet.{IsSubnet, Subnet, keys_of, size_of, subnet_holds}
 
 same : (a b : Bool) → (a ≡ true → b ≡ true) → (b ≡ true → a ≡ true) → a ≡ b
 same true b there back = sym (there refl)

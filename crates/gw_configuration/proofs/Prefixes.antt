@@ -1,6 +1,6 @@
--- Subnets that are read exactly where they are written.
-use Rattle.std.proofs.Common.{◌≡◌, ◌≢◌, ℕ, zero, suc, ◌+◌, ◌-◌, ◌*◌, ◌/◌, ◌%◌, ◌^◌, ◌<◌, ◌≤◌, ◌&&◌, Bool, true, false, cond, List, [], ◌∷◌, ◌++◌, length, get_or, Option, Some, None, Bor, refl, sym, ap, subst, ◌∙◌, arith, nat_eq}
-use Rattle.std.specs.Prelude.{nat_le, MatchOption, IfSome}
+-- Subnets are read exactly as they are written.
+use Rattle.std.proofs.Common.{◌≡◌, ℕ, ◌+◌, ◌-◌, ◌*◌, ◌/◌, ◌%◌, ◌^◌, ◌<◌, ◌≤◌, ◌&&◌, Bool, true, false, cond, List, [], ◌∷◌, ◌++◌, length, get_or, Option, Some, None, Bor, refl, sym, ap, ◌∙◌, arith, nat_eq}
+use Rattle.std.specs.Prelude.{nat_le, MatchOption}
 use Rattle.std.specs.Char.{IsAsciiDigit}
 use Rattle.std.specs.Fmt.{decimal}
 use Rattle.std.specs.Int.{from_be_bytes, to_be_bytes, w32}
@@ -96,7 +96,7 @@ mask_lacks m is =
     let second = part_lacks (get_or m.octets 1 0) (decimal (get_or m.octets 2 0) ++ 46 ∷ decimal (get_or m.octets 3 0)) (small 1) third in
     part_lacks (get_or m.octets 0 0) (decimal (get_or m.octets 1 0) ++ 46 ∷ (decimal (get_or m.octets 2 0) ++ 46 ∷ decimal (get_or m.octets 3 0))) (small 0) second
 
--- what stands before the first slash of a subnet's text, and behind it
+-- what comes before the first slash of a subnet's text, and after it
 pub halves : (text : List ℕ) (r : Option (Bor (List ℕ) × Bor (List ℕ))) → IsSplitOnceResult 47 text r → (m : Mask) (n : ℕ) → IsMask m → text ≡ mask_text m ++ 47 ∷ decimal n
     → MatchOption r ⊥ (λ x. (x.0.now ≡ mask_text m) × (x.1.now ≡ decimal n))
 halves text r split m n is e = split_after 47 text (mask_text m) (decimal n) r split (omega arith) e (mask_lacks m is)

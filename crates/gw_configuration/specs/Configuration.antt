@@ -15,7 +15,7 @@ use Rattle.gw_configuration.specs.declared.port.Port.{Port}
 use Rattle.gw_configuration.specs.declared.route.Route.{Route}
 use Rattle.gw_configuration.specs.declared.set.Set.{Set}
 
--- what contracts see of a configuration: of the rules' notes there is one for each rule in order, empty where it has none
+-- what contracts see of a configuration: of the rules' notes there is one for each rule in order, empty if it has none
 pub record Configuration : Type 0 where
   pub format : Format
   pub device : Device

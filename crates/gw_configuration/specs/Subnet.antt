@@ -6,7 +6,7 @@ use Rattle.gw_addr.specs.declared.bip.BipAddr.{BipAddr}
 use Rattle.gw_addr.specs.Text.{four_text}
 use Rattle.gw_rules.specs.declared.range.Range.{Range}
 
--- the IPv4 addresses whose first bits, so many, are those of the network, which has no bits behind them
+-- the IPv4 addresses whose first bits, so many, are those of the network, which has no bits after them
 pub record Subnet : Type 0 where
   pub network : ℕ
   pub prefix : ℕ
@@ -25,13 +25,13 @@ pub record IsSubnet (s : Subnet) : Type 0 where
   pub network : s.network < 2 ^ 32
   pub zeros : s.network % size_of s.prefix ≡ 0
 
--- the subnet of four octets of which the first bits count, so many; none where a bit behind them is set
+-- the subnet of four octets of which the first bits count, so many; none if a bit after them is set
 abbrev pub subnet_of : List ℕ → ℕ → Option Subnet
 subnet_of ip prefix =
     if nat_le prefix 32 && (from_be_bytes w32 ip % size_of prefix == 0)
     then Some (record { network = from_be_bytes w32 ip; prefix = prefix }) else None
 
--- a subnet has an address where the first bits of its IPv4 address are those of the network
+-- a subnet has an address if the first bits of its IPv4 address are those of the network
 unfoldable pub subnet_holds : Subnet → BipAddr → Bool
 subnet_holds s address = first_bits s.prefix (from_be_bytes w32 address.ip) == first_bits s.prefix s.network
 

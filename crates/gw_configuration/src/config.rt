@@ -109,7 +109,7 @@ impl Config {
         self.parts.rules()
     }
 
-    /// The note of each rule in their order, empty where it has none.
+    /// The note of each rule in their order, empty if it has none.
     pub fn notes(&self) -> &[Text]
         ensures notes { result.now ≡ self.now.notes }
         ensures each { length self.now.notes ≡ length self.now.rules }

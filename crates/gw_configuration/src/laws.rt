@@ -40,12 +40,12 @@ pub fn formats()
     ensures three { format_of 3 ≡ Three }
 {}
 
-/// Each value of the type keeps so many bits of its network and has zeros behind them.
+/// Each value of the type has a prefix of at most 32 bits, and zeros after them in its network.
 pub fn fits(subnet: Subnet)
     ensures { IsSubnet subnet }
 {}
 
-/// A subnet has an address exactly where the address's key is one of its keys.
+/// A subnet has an address exactly if the address's key is one of its keys.
 #[tactic(auto, using(crate::proofs::Keys::holds_key))]
 pub fn subnets()
     ensures { (s : spec.Subnet) (a : BipAddr) → IsSubnet s → IsAddress a →

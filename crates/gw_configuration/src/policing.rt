@@ -9,7 +9,7 @@ use gw_rules::RuleList;
 pub struct Policing {
     /// The rules in order.
     pub rules: RuleList,
-    /// The note of each rule in their order, empty where it has none.
+    /// The note of each rule in their order, empty if it has none.
     pub notes: Sequence<Text>,
     /// The sets in order.
     pub sets: Sequence<Set>,
@@ -27,7 +27,7 @@ impl Drop for Policing {
 }
 
 impl Policing {
-    /// The rules, where the rest isn't wanted any more.
+    /// The rules, if the rest isn't wanted any more.
     pub fn into_rules(self) -> RuleList
         ensures { result ≡ self.rules }
     {

@@ -16,7 +16,7 @@ pub struct Port {
     pub address: BipAddr,
     /// Where a broadcast on it goes (Annex J.1.2).
     pub broadcast: BipAddr,
-    /// The stations of the network, which any may be where there is none.
+    /// The stations of the network. If there is none, any address may be one.
     pub stations: Stations,
     /// The broadcast managers of the other subnets with which it starts, at most 64 of which no two
     /// have one address (Annex J.4).

@@ -34,7 +34,7 @@ impl Model for Stations {
 }
 
 impl Stations {
-    /// The stations of these subnets, or `None` where there are more than 16.
+    /// The stations of these subnets, or `None` if there are more than 16.
     pub fn new(subnets: Sequence<Subnet>) -> Option<Self>
         ensures { result ≡ (if nat_le (length subnets) 16 then Some subnets else None) }
     {

@@ -40,8 +40,8 @@ impl Model for Subnet {
 }
 
 impl Subnet {
-    /// The subnet of this IPv4 address and of all that have the same first bits, so many. `None` where
-    /// there are more than 32, or a bit behind them is set.
+    /// The subnet of this IPv4 address and of all that have the same first bits, so many. `None` if
+    /// there are more than 32, or a bit after them is set.
     pub fn new(ip: [u8; 4], prefix: u8) -> Option<Self>
         ensures { result ≡ subnet_of ip prefix }
     {
@@ -53,8 +53,8 @@ impl Subnet {
         }
     }
 
-    /// Reads a subnet as it is written, `a.b.c.d/n`, in decimal digits without leading zeros. `None` where
-    /// the text is anything else, or no subnet.
+    /// Reads a subnet as it is written, `a.b.c.d/n`, in decimal digits without leading zeros. `None` if the
+    /// text is anything else, or no subnet.
     pub fn parse(text: &str) -> Option<Self>
         ensures found { IfSome result (λ s. text.now ≡ subnet_text s) }
         ensures only { (s : spec.Subnet) → IsSubnet s → text.now ≡ subnet_text s → result ≡ Some s }
@@ -106,7 +106,7 @@ fn size_of(prefix: u8) -> u64
     1 << (ADDRESS_BITS - prefix)
 }
 
-/// The IPv4 address that is written before a slash, and the number of one or two digits behind it.
+/// The IPv4 address that is written before a slash, and the number of one or two digits after it.
 fn divided(text: &str) -> Option<(Mask, u8)>
     ensures found { IfSome result (λ x. text.now ≡ mask_text x.0 ++ 47 ∷ decimal x.1) }
     ensures only { (m : Mask) (n : ℕ) → IsMask m → n < 100 → text.now ≡ mask_text m ++ 47 ∷ decimal n →

@@ -13,14 +13,17 @@ use Rattle.gw_core.specs.Asks.{apdu_asks, asks, asks_for, message_asks}
 use Rattle.gw_core.specs.Effects.{apdu_answer, apdu_change}
 use Rattle.gw_core.specs.Denials.{denials_at, denials_from, denials_of, denials_for}
 use Rattle.gw_relay.specs.Message.{Message}
-use Rattle.gw_core.specs.Receive.{Origin, Received, dropped, managed, unregistered, message, message_origin, node_origin, origin, receive}
+use Rattle.gw_core.specs.Receive.{Origin, Received, admit, barred, dropped, managed, unregistered, message, message_origin, node_origin, origin, receive}
 use Rattle.gw_core.specs.Reply.{apdu_for, context_of}
 use Rattle.gw_core.specs.State.{State, device_network}
 use Rattle.gw_relay.specs.Message.{message_view}
-use Rattle.gw_core.specs.View.{judged, origin_of, received_view}
+use Rattle.gw_core.specs.View.{admitted_view, judged, origin_of, received_view}
 use Rattle.gw_core.specs.declared.receive.Received.{Received as LentReceived}
 use Rattle.gw_core.specs.declared.receive.Received.TheVariants as lent
+use Rattle.std.specs.Prelude.{if◌then◌else◌}
 use Rattle.gw_relay.specs.Cast.{accepts, is_unregistered}
+use Rattle.gw_relay.specs.Entry.{admits}
+use Rattle.gw_rules.specs.declared.format.Format.{Format}
 use Rattle.gw_relay.specs.State.{Relay}
 
 -- a denial for each refusal
@@ -48,36 +51,36 @@ denials_more rules number tick from refusals i r denial so_far whole lt is one t
     ∙ told
 
 -- what is asked for the APDU that a message has for the device
-pub asks_put : (rules : List Rule) (d : Database) (m : Message) (network : ℕ) (context : Context) (octets : List ℕ)
-    → network ≡ device_network d → Some octets ≡ apdu_for network m.npdu → context ≡ context_of network m
-    → message_asks rules d m ≡ device_asks rules d context octets
-asks_put rules d m network context octets its apdu told =
-    ap (λ (n : ℕ). apdu_asks rules d (context_of n m) (apdu_for n m.npdu)) (sym its)
-    ∙ ap (apdu_asks rules d (context_of network m)) (sym apdu)
+pub asks_put : (rules : List Rule) (format : Format) (d : Database) (m : Message) (network : ℕ) (context : Context) (octets : List ℕ)
+    → network ≡ device_network d → Some octets ≡ apdu_for network m.npdu → context ≡ context_of format network m
+    → message_asks rules format d m ≡ device_asks rules d context octets
+asks_put rules format d m network context octets its apdu told =
+    ap (λ (n : ℕ). apdu_asks rules d (context_of format n m) (apdu_for n m.npdu)) (sym its)
+    ∙ ap (apdu_asks rules d (context_of format network m)) (sym apdu)
     ∙ ap (λ (x : Context). device_asks rules d x octets) (sym told)
 
 -- its answer and its write
-pub answer_put : (rules : List Rule) (d : Database) (m : Message) (network : ℕ) (context : Context) (octets : List ℕ)
-    → network ≡ device_network d → Some octets ≡ apdu_for network m.npdu → context ≡ context_of network m
-    → apdu_answer rules d (context_of (device_network d) m) (apdu_for (device_network d) m.npdu) ≡ device_answer rules d context octets
-answer_put rules d m network context octets its apdu told =
-    ap (λ (n : ℕ). apdu_answer rules d (context_of n m) (apdu_for n m.npdu)) (sym its)
-    ∙ ap (apdu_answer rules d (context_of network m)) (sym apdu)
+pub answer_put : (rules : List Rule) (format : Format) (d : Database) (m : Message) (network : ℕ) (context : Context) (octets : List ℕ)
+    → network ≡ device_network d → Some octets ≡ apdu_for network m.npdu → context ≡ context_of format network m
+    → apdu_answer rules d (context_of format (device_network d) m) (apdu_for (device_network d) m.npdu) ≡ device_answer rules d context octets
+answer_put rules format d m network context octets its apdu told =
+    ap (λ (n : ℕ). apdu_answer rules d (context_of format n m) (apdu_for n m.npdu)) (sym its)
+    ∙ ap (apdu_answer rules d (context_of format network m)) (sym apdu)
     ∙ ap (λ (x : Context). device_answer rules d x octets) (sym told)
 
-pub change_put : (rules : List Rule) (d : Database) (m : Message) (network : ℕ) (context : Context) (octets : List ℕ)
-    → network ≡ device_network d → Some octets ≡ apdu_for network m.npdu → context ≡ context_of network m
-    → apdu_change rules d (context_of (device_network d) m) (apdu_for (device_network d) m.npdu) ≡ device_change rules d context octets
-change_put rules d m network context octets its apdu told =
-    ap (λ (n : ℕ). apdu_change rules d (context_of n m) (apdu_for n m.npdu)) (sym its)
-    ∙ ap (apdu_change rules d (context_of network m)) (sym apdu)
+pub change_put : (rules : List Rule) (format : Format) (d : Database) (m : Message) (network : ℕ) (context : Context) (octets : List ℕ)
+    → network ≡ device_network d → Some octets ≡ apdu_for network m.npdu → context ≡ context_of format network m
+    → apdu_change rules d (context_of format (device_network d) m) (apdu_for (device_network d) m.npdu) ≡ device_change rules d context octets
+change_put rules format d m network context octets its apdu told =
+    ap (λ (n : ℕ). apdu_change rules d (context_of format n m) (apdu_for n m.npdu)) (sym its)
+    ∙ ap (apdu_change rules d (context_of format network m)) (sym apdu)
     ∙ ap (λ (x : Context). device_change rules d x octets) (sym told)
 
-pub no_asks_put : (rules : List Rule) (d : Database) (m : Message) (network : ℕ) → network ≡ device_network d
-    → None ≡ apdu_for network m.npdu → message_asks rules d m ≡ []
-no_asks_put rules d m network its apdu =
-    ap (λ (n : ℕ). apdu_asks rules d (context_of n m) (apdu_for n m.npdu)) (sym its)
-    ∙ ap (apdu_asks rules d (context_of network m)) (sym apdu)
+pub no_asks_put : (rules : List Rule) (format : Format) (d : Database) (m : Message) (network : ℕ) → network ≡ device_network d
+    → None ≡ apdu_for network m.npdu → message_asks rules format d m ≡ []
+no_asks_put rules format d m network its apdu =
+    ap (λ (n : ℕ). apdu_asks rules d (context_of format n m) (apdu_for n m.npdu)) (sym its)
+    ∙ ap (apdu_asks rules d (context_of format network m)) (sym apdu)
 
 -- what has no refusals has no denials
 pub none_of : (rules : List Rule) (number tick : ℕ) (from : Option Origin) (refusals : List Refusal) → refusals ≡ []
@@ -92,30 +95,45 @@ counted_for w dropped = refl
 counted_for w (managed on from frame) = length_denials w.rules (w.denials + 1) w.ticks (node_origin on from)
     (denied_of w.rules (asks_for w.rules w.relay w.device (managed on from frame)))
 counted_for w (unregistered m) = refl
+counted_for w (barred m) = length_denials w.rules (w.denials + 1) w.ticks (message_origin m)
+    (denied_of w.rules (asks_for w.rules w.relay w.device (barred m)))
 counted_for w (message m) = length_denials w.rules (w.denials + 1) w.ticks (message_origin m)
     (denied_of w.rules (asks_for w.rules w.relay w.device (message m)))
+
+-- whether or not a message is kept out, it comes from who it claims to come from
+pub origin_admitted : (rules : List Rule) (relay : Relay) (m : Message) → origin (admit rules relay (message m)) ≡ Some (message_origin m)
+origin_admitted rules relay m = by (admits rules relay m)
+  where
+    by : (b : Bool) → origin (if b then message m else barred m) ≡ Some (message_origin m)
+    by true = refl
+    by false = refl
 
 -- the record of what the code takes unjudged is that of what it is received as
 judged_denials : (rules : List Rule) (number tick : ℕ) (relay : Relay) (d : Database) (m : Message) (refusals : List Refusal)
     (heard strange : Bool)
     → heard ≡ accepts m.here m.from m.frame → strange ≡ is_unregistered m.here m.from m.frame
-    → refusals ≡ denied_of rules (asks_for rules relay d (judged m))
-    → denials_of rules number tick (Some (message_origin m)) refusals ≡ denials_of rules number tick (origin (judged m)) refusals
+    → refusals ≡ denied_of rules (asks_for rules relay d (admit rules relay (judged m)))
+    → denials_of rules number tick (Some (message_origin m)) refusals
+    ≡ denials_of rules number tick (origin (admit rules relay (judged m))) refusals
 judged_denials rules number tick relay d m refusals false strange h s are =
     let out : judged m ≡ dropped = rw (← h) refl in
-    let none : refusals ≡ [] = are ∙ ap (λ (r : Received). denied_of rules (asks_for rules relay d r)) out in
-    none_of rules number tick (Some (message_origin m)) refusals none ∙ sym (none_of rules number tick (origin (judged m)) refusals none)
+    let none : refusals ≡ [] = are ∙ ap (λ (r : Received). denied_of rules (asks_for rules relay d (admit rules relay r))) out in
+    none_of rules number tick (Some (message_origin m)) refusals none
+    ∙ sym (none_of rules number tick (origin (admit rules relay (judged m))) refusals none)
 judged_denials rules number tick relay d m refusals true true h s are =
     let out : judged m ≡ unregistered m = rw (← h, ← s) refl in
-    let none : refusals ≡ [] = are ∙ ap (λ (r : Received). denied_of rules (asks_for rules relay d r)) out in
-    none_of rules number tick (Some (message_origin m)) refusals none ∙ sym (none_of rules number tick (origin (judged m)) refusals none)
+    let none : refusals ≡ [] = are ∙ ap (λ (r : Received). denied_of rules (asks_for rules relay d (admit rules relay r))) out in
+    none_of rules number tick (Some (message_origin m)) refusals none
+    ∙ sym (none_of rules number tick (origin (admit rules relay (judged m))) refusals none)
 judged_denials rules number tick relay d m refusals true false h s are =
     let out : judged m ≡ message m = rw (← h, ← s) refl in
-    ap (λ (r : Received). denials_of rules number tick (origin r) refusals) (sym out)
+    ap (λ (from : Option Origin). denials_of rules number tick from refusals)
+    (sym (ap (λ (r : Received). origin (admit rules relay r)) out ∙ origin_admitted rules relay m))
 
 pub lent_denials : (rules : List Rule) (number tick : ℕ) (relay : Relay) (d : Database) (received : LentReceived) (refusals : List Refusal)
-    → refusals ≡ denied_of rules (asks_for rules relay d (received_view received))
-    → denials_of rules number tick (origin_of received) refusals ≡ denials_of rules number tick (origin (received_view received)) refusals
+    → refusals ≡ denied_of rules (asks_for rules relay d (admit rules relay (received_view received)))
+    → denials_of rules number tick (origin_of received) refusals
+    ≡ denials_of rules number tick (origin (admit rules relay (received_view received))) refusals
 lent_denials rules number tick relay d lent.Dropped refusals are = refl
 lent_denials rules number tick relay d (lent.Managed m) refusals are = refl
 lent_denials rules number tick relay d (lent.Message m) refusals are =
@@ -144,11 +162,11 @@ denials_received w e received is = ap (λ (r : Received). length (denials_for w 
 
 -- the record of what the code was refused is that of the denials
 pub recorded : (w : State) (received : LentReceived) (rules : List Rule) (slice refusals : List Refusal) (denials : List Denial)
-    → rules ≡ w.rules → slice ≡ refusals → refusals ≡ denied_of w.rules (asks_for w.rules w.relay w.device (received_view received))
-    → denials ≡ denials_of rules (w.denials + 1) w.ticks (origin_of received) slice → denials ≡ denials_for w (received_view received)
+    → rules ≡ w.rules → slice ≡ refusals → refusals ≡ denied_of w.rules (asks_for w.rules w.relay w.device (admitted_view w received))
+    → denials ≡ denials_of rules (w.denials + 1) w.ticks (origin_of received) slice → denials ≡ denials_for w (admitted_view w received)
 recorded w received rules slice refusals denials same lent are is =
     let number = w.denials + 1 in
     is ∙ ap (λ (r : List Rule). denials_of r number w.ticks (origin_of received) slice) same
     ∙ ap (denials_of w.rules number w.ticks (origin_of received)) lent
     ∙ lent_denials w.rules number w.ticks w.relay w.device received refusals are
-    ∙ ap (denials_of w.rules number w.ticks (origin (received_view received))) are
+    ∙ ap (denials_of w.rules number w.ticks (origin (admitted_view w received))) are

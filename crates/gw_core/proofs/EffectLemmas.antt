@@ -16,7 +16,7 @@ use Rattle.gw_script.specs.Event.{Datagram, Tick}
 use Rattle.gw_core.specs.Denials.{denials_at}
 use Rattle.gw_core.specs.Asks.{asks}
 use Rattle.gw_core.specs.Effects.{NeedsNoMemory, change_at, change_for, effects_at, effects_for, move_at, move_for, nothing, passes_end, relay_change_for, sends, sends_for, ticks_of}
-use Rattle.gw_core.specs.Receive.{Received, receive, receive_on}
+use Rattle.gw_core.specs.Receive.{Received, admit, receive, receive_on}
 use Rattle.gw_core.specs.State.{State, device_network}
 
 -- a tick does nothing
@@ -85,9 +85,10 @@ effects_received w e received is = ap (effects_for w) is
 
 -- what a datagram is received as on its port
 pub receive_datagram : (w : State) (port : ℕ) (from : BipAddr) (octets : List ℕ) (received : Received)
-    → received ≡ receive_on w.relay.links (device_network w.device) port from octets → received ≡ receive w (Datagram port from octets)
+    → received ≡ receive_on w.relay.links (device_network w.device) port from octets
+    → admit w.rules w.relay received ≡ receive w (Datagram port from octets)
 unfolding receive
-receive_datagram w port from octets received is = is
+receive_datagram w port from octets received is = ap (admit w.rules w.relay) is
 
 -- what isn't told to be past isn't past
 pub not_past : (told : Bool) (m n : ℕ) → told ≡ false → (m < n → IsTrue told) → n ≤ m
@@ -113,16 +114,16 @@ unfolding sends
 sends_received w e received is = ap (sends_for w.rules w.relay w.device) (sym is)
 
 pub change_received : (w : State) (e : Event) (received : Received) → received ≡ receive w e
-    → change_for w.rules w.device received ≡ change_at w e
+    → change_for w.rules w.relay.format w.device received ≡ change_at w e
 unfolding change_at
-change_received w e received is = ap (change_for w.rules w.device) is
+change_received w e received is = ap (change_for w.rules w.relay.format w.device) is
 
 pub move_received : (w : State) (port : ℕ) (from : BipAddr) (octets : List ℕ) (received : Received) (change : Option Change)
     → received ≡ receive w (Datagram port from octets)
-    → change ≡ relay_change_for w.rules received → option_map Commit change ≡ move_at w (Datagram port from octets)
+    → change ≡ relay_change_for w.rules w.relay received → option_map Commit change ≡ move_at w (Datagram port from octets)
 unfolding move_at
 move_received w port from octets received change is granted =
-    ap (option_map Commit) granted ∙ ap (move_for w.rules (Datagram port from octets)) is
+    ap (option_map Commit) granted ∙ ap (move_for w.rules w.relay (Datagram port from octets)) is
 
 -- what isn't at most a number is more
 pub more_than : (m n : ℕ) → (n ≤ m → ⊥) → m < n
@@ -135,7 +136,7 @@ more_than m n not =
 -- what the code receives a datagram as, where its links and its network are those of the state
 pub received_as : (w : State) (links : List PortState) (network port : ℕ) (from : BipAddr) (octets : List ℕ) (received : Received)
     → received ≡ receive_on links network port from octets → links ≡ w.relay.links → network ≡ device_network w.device
-    → received ≡ receive w (Datagram port from octets)
+    → admit w.rules w.relay received ≡ receive w (Datagram port from octets)
 received_as w links network port from octets received is same its =
     receive_datagram w port from octets received
     (is ∙ ap (λ (l : List PortState). receive_on l network port from octets) same

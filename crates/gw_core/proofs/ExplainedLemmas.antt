@@ -20,16 +20,17 @@ use Rattle.gw_core.specs.Denials.{denials_from, denials_of}
 use Rattle.gw_core.specs.Effects.{NeedsNoMemory, effects_at}
 use Rattle.gw_core.specs.Explained.{ask_line, ask_lines, asks_text}
 use Rattle.gw_core.specs.Laws.{DeniedLinesAreLogged}
-use Rattle.gw_core.specs.Receive.{Origin, Received, dropped, unregistered, message, message_origin, origin, receive}
+use Rattle.gw_core.specs.Receive.{Origin, Received, admit, dropped, unregistered, message, message_origin, origin, receive, source_of}
 use Rattle.gw_core.specs.State.{State}
 use Rattle.gw_core.specs.View.{judged, origin_of, received_view}
 use Rattle.gw_core.specs.declared.receive.Received.{Received as LentReceived}
 use Rattle.gw_core.specs.declared.receive.Received.TheVariants as lent
+use Rattle.gw_core.proofs.DenialLemmas.{origin_admitted}
 
 -- what asks nothing has no line
 pub lines_none : (rules : List Rule) (from : Option Origin) (asked : List Ask) → asked ≡ [] → ask_lines rules from asked ≡ []
 lines_none rules None asked none = refl
-lines_none rules (Some from) asked none = ap (flat_map (ask_line rules from.source)) none
+lines_none rules (Some from) asked none = ap (flat_map (λ ask. ask_line rules (source_of from ask) ask)) none
 
 pub no_asks_text : (w : State) (e : Event) → NeedsNoMemory w e → asks_text w e ≡ []
 unfolding asks_text
@@ -43,23 +44,24 @@ asks_text-tick w = refl
 -- the lines of what the code takes unjudged are those of what it is received as
 judged_lines : (rules : List Rule) (relay : Relay) (d : Database) (m : Message) (asked : List Ask) (heard strange : Bool)
     → heard ≡ accepts m.here m.from m.frame → strange ≡ is_unregistered m.here m.from m.frame
-    → asked ≡ asks_for rules relay d (judged m)
-    → ask_lines rules (Some (message_origin m)) asked ≡ ask_lines rules (origin (judged m)) asked
+    → asked ≡ asks_for rules relay d (admit rules relay (judged m))
+    → ask_lines rules (Some (message_origin m)) asked ≡ ask_lines rules (origin (admit rules relay (judged m))) asked
 judged_lines rules relay d m asked false strange h s are =
     let out : judged m ≡ dropped = rw (← h) refl in
-    let none : asked ≡ [] = are ∙ ap (asks_for rules relay d) out in
-    lines_none rules (Some (message_origin m)) asked none ∙ sym (lines_none rules (origin (judged m)) asked none)
+    let none : asked ≡ [] = are ∙ ap (λ (r : Received). asks_for rules relay d (admit rules relay r)) out in
+    lines_none rules (Some (message_origin m)) asked none ∙ sym (lines_none rules (origin (admit rules relay (judged m))) asked none)
 judged_lines rules relay d m asked true true h s are =
     let out : judged m ≡ unregistered m = rw (← h, ← s) refl in
-    let none : asked ≡ [] = are ∙ ap (asks_for rules relay d) out in
-    lines_none rules (Some (message_origin m)) asked none ∙ sym (lines_none rules (origin (judged m)) asked none)
+    let none : asked ≡ [] = are ∙ ap (λ (r : Received). asks_for rules relay d (admit rules relay r)) out in
+    lines_none rules (Some (message_origin m)) asked none ∙ sym (lines_none rules (origin (admit rules relay (judged m))) asked none)
 judged_lines rules relay d m asked true false h s are =
     let out : judged m ≡ message m = rw (← h, ← s) refl in
-    ap (λ (r : Received). ask_lines rules (origin r) asked) (sym out)
+    ap (λ (from : Option Origin). ask_lines rules from asked)
+    (sym (ap (λ (r : Received). origin (admit rules relay r)) out ∙ origin_admitted rules relay m))
 
 lent_lines : (rules : List Rule) (relay : Relay) (d : Database) (received : LentReceived) (asked : List Ask)
-    → asked ≡ asks_for rules relay d (received_view received)
-    → ask_lines rules (origin_of received) asked ≡ ask_lines rules (origin (received_view received)) asked
+    → asked ≡ asks_for rules relay d (admit rules relay (received_view received))
+    → ask_lines rules (origin_of received) asked ≡ ask_lines rules (origin (admit rules relay (received_view received))) asked
 lent_lines rules relay d lent.Dropped asked are = refl
 lent_lines rules relay d (lent.Managed m) asked are = refl
 lent_lines rules relay d (lent.Message m) asked are =
@@ -68,11 +70,11 @@ lent_lines rules relay d (lent.Message m) asked are =
 
 -- the lines of what the code finds asked are those of what is asked
 pub asked_lines : (rules : List Rule) (relay : Relay) (d : Database) (received : LentReceived) (asked : List Ask)
-    → asked ≡ asks_for rules relay d (received_view received)
+    → asked ≡ asks_for rules relay d (admit rules relay (received_view received))
     → ask_lines rules (origin_of received) asked
-    ≡ ask_lines rules (origin (received_view received)) (asks_for rules relay d (received_view received))
+    ≡ ask_lines rules (origin (admit rules relay (received_view received))) (asks_for rules relay d (admit rules relay (received_view received)))
 asked_lines rules relay d received asked are =
-    lent_lines rules relay d received asked are ∙ ap (ask_lines rules (origin (received_view received))) are
+    lent_lines rules relay d received asked are ∙ ap (ask_lines rules (origin (admit rules relay (received_view received)))) are
 
 -- what is asked about what is received is what the event asks
 pub text_received : (w : State) (e : Event) (received : Received) → received ≡ receive w e
@@ -84,17 +86,17 @@ text_received w e received is = ap (λ (r : Received). ask_lines w.rules (origin
 
 lines_from : (rules : List Rule) (number tick : ℕ) (from : Origin) (refusals : List Refusal)
     → flat_map (λ d. ask_line rules d.source d.ask) (denials_from rules number tick from refusals)
-    ≡ flat_map (ask_line rules from.source) (map (λ r. r.ask) refusals)
+    ≡ flat_map (λ ask. ask_line rules (source_of from ask) ask) (map (λ r. r.ask) refusals)
 lines_from rules number tick from [] = refl
 lines_from rules number tick from (r ∷ refusals) =
-    ap (λ (t : List ℕ). ask_line rules from.source r.ask ++ t) (lines_from rules (number + 1) tick from refusals)
+    ap (λ (t : List ℕ). ask_line rules (source_of from r.ask) r.ask ++ t) (lines_from rules (number + 1) tick from refusals)
 
 lines_of : (rules : List Rule) (number tick : ℕ) (from : Option Origin) (asked : List Ask)
     → ask_lines rules from (filter (λ ask. not (allows rules ask)) asked)
     ≡ flat_map (λ d. ask_line rules d.source d.ask) (denials_of rules number tick from (denied_of rules asked))
 lines_of rules number tick None asked = refl
 lines_of rules number tick (Some from) asked =
-    sym (lines_from rules number tick from (denied_of rules asked) ∙ ap (flat_map (ask_line rules from.source)) (refused_asks rules asked))
+    sym (lines_from rules number tick from (denied_of rules asked) ∙ ap (flat_map (λ ask. ask_line rules (source_of from ask) ask)) (refused_asks rules asked))
 
 pub denied_lines_are_logged : DeniedLinesAreLogged
 unfolding effects_at asks
@@ -108,15 +110,15 @@ verdicts_lines : (rules : List Rule) (from : Option Origin) (asked : List Ask)
 verdicts_lines rules None asked = refl
 verdicts_lines rules (Some from) [] = refl
 verdicts_lines rules (Some from) (ask ∷ asked) =
-    ap (λ (t : List ℕ). ask_line rules from.source ask ++ t) (verdicts_lines rules (Some from) asked)
+    ap (λ (t : List ℕ). ask_line rules (source_of from ask) ask ++ t) (verdicts_lines rules (Some from) asked)
 
 -- the lines of all verdicts on what is received are those of what is asked
 pub kept_lines : (policy : List Rule) (relay : Relay) (d : Database) (received : LentReceived) (kept begun : List Verdict) → begun ≡ []
-    → kept ≡ begun ++ verdicts_of policy (asks_for policy relay d (received_view received))
+    → kept ≡ begun ++ verdicts_of policy (asks_for policy relay d (admit policy relay (received_view received)))
     → verdict_lines policy (origin_of received) kept
-    ≡ ask_lines policy (origin (received_view received)) (asks_for policy relay d (received_view received))
+    ≡ ask_lines policy (origin (admit policy relay (received_view received))) (asks_for policy relay d (admit policy relay (received_view received)))
 kept_lines policy relay d received kept begun none are =
-    let asked = asks_for policy relay d (received_view received) in
+    let asked = asks_for policy relay d (admit policy relay (received_view received)) in
     ap (verdict_lines policy (origin_of received)) (are ∙ ap (λ (l : List Verdict). l ++ verdicts_of policy asked) none)
     ∙ verdicts_lines policy (origin_of received) asked
     ∙ asked_lines policy relay d received asked refl

@@ -264,7 +264,7 @@ ticks_moved c k (Datagram port from octets ∷ h) =
     let w = state_after c k h in
     let e = Datagram port from octets in
     ap (λ (r : Relay). r.ticks) (moved_more (move_at w e) (acts_of c k h).moves (initial c))
-    ∙ same_ticks (relay_change_for w.rules (receive w e)) w.relay ∙ ticks_moved c k h ∙ sym (add-zero (acts_of c k h).ticks)
+    ∙ same_ticks (relay_change_for w.rules w.relay (receive w e)) w.relay ∙ ticks_moved c k h ∙ sym (add-zero (acts_of c k h).ticks)
 ticks_moved c k (Tick ∷ h) = ap (λ (n : ℕ). n + 1) (ticks_moved c k h)
 
 pub relay_ticks : (c : Configuration) (k : Counts) (h : List Event) → (state_after c k h).relay.ticks ≡ (acts_of c k h).ticks

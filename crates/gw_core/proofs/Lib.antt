@@ -1,6 +1,7 @@
 pub mod DenialLemmas
 pub mod SilenceLemmas
 pub mod EffectLemmas
+pub mod EntryLemmas
 pub mod HistoryLemmas
 pub mod StandLemmas
 pub mod ExampleRuns
@@ -23,3 +24,4 @@ pub mod DeviceAskLemmas
 pub mod RelayAskLemmas
 pub mod RefusedLemmas
 pub mod ServedLemmas
+pub mod StationLemmas

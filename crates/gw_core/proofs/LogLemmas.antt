@@ -18,7 +18,7 @@ use Rattle.gw_core.specs.Denials.{denials_from, denials_of, denials_at, denials_
 use Rattle.gw_core.specs.Effects.{effects_at}
 use Rattle.gw_core.specs.History.{acts_of, state_after, run_after, history_after}
 use Rattle.gw_core.specs.Laws.{is_tick, log, numbers_from, entry, RelayTicksAreCounted, TicksAreCounted, DenialsAreCounted, LogIsNumbered, TicksOnlyCount, NothingAskedIsLogged, DeniedAsksAreLogged, DenialsHaveTheirTick, DeniedReadsAreRefused, DeniedWritesAreRefused}
-use Rattle.gw_core.specs.Receive.{Origin, Received, dropped, managed, unregistered, message, message_origin, node_origin, origin, receive}
+use Rattle.gw_core.specs.Receive.{Origin, Received, barred, dropped, managed, unregistered, message, message_origin, node_origin, origin, receive}
 use Rattle.gw_core.specs.State.{State}
 use Rattle.gw_core.proofs.DenialLemmas.{no_denials}
 use Rattle.gw_core.proofs.EffectLemmas.{effects_at-tick}
@@ -135,6 +135,9 @@ entries_of w (managed on from frame) =
     entries_from w.rules (w.denials + 1) w.ticks (node_origin on from)
     (filter (λ ask. not (allows w.rules ask)) (asks_for w.rules w.relay w.device (managed on from frame)))
 entries_of w (unregistered m) = refl
+entries_of w (barred m) =
+    entries_from w.rules (w.denials + 1) w.ticks (message_origin m)
+    (filter (λ ask. not (allows w.rules ask)) (asks_for w.rules w.relay w.device (barred m)))
 entries_of w (message m) =
     entries_from w.rules (w.denials + 1) w.ticks (message_origin m)
     (filter (λ ask. not (allows w.rules ask)) (asks_for w.rules w.relay w.device (message m)))

@@ -52,15 +52,15 @@ pub no_steps : (relay : Relay) (m : Message) → is_apdu m.npdu.payload ≡ true
 no_steps relay m is =
     rw (no_kind m.npdu.payload IAmRouterToNetwork is, no_kind m.npdu.payload WhoIsRouterToNetwork is, no_kind m.npdu.payload WhatIsNetworkNumber is) refl
 
-pub nothing_learned : (rules : List Rule) (m : Message) → is_apdu m.npdu.payload ≡ true → manage_change rules m ≡ None
-nothing_learned rules m is = rw (no_kind m.npdu.payload IAmRouterToNetwork is) refl
+pub nothing_learned : (rules : List Rule) (relay : Relay) (m : Message) → is_apdu m.npdu.payload ≡ true → manage_change rules relay m ≡ None
+nothing_learned rules relay m is = rw (no_kind m.npdu.payload IAmRouterToNetwork is) refl
 
 -- what is done about such a message but for the device is what routing does
 pub record PassesBy (rules : List Rule) (relay : Relay) (m : Message) : Type 0 where
   pub goes : goes_on m.here m.from m.frame ≡ true
   pub asks : passed_asks relay m ≡ route_asks relay m
   pub sends : passed_sends rules relay m ≡ route_sends rules relay m
-  pub change : passed_change rules m ≡ None
+  pub change : passed_change rules relay m ≡ None
 
 pub passes_by : (rules : List Rule) (relay : Relay) (m : Message) → is_plain m ≡ true → PassesBy rules relay m
 passes_by rules relay m plain =
@@ -73,10 +73,10 @@ passes_by rules relay m plain =
     let none = no_steps relay m parts.1 in
     record {
       goes = on;
-      asks = asks_on relay m on ∙ ap (λ (l : List Ask). l ++ (route_asks relay m ++ manage_asks relay m)) (quiet_asks m heard known quiet)
+      asks = asks_on relay m on ∙ ap (λ (l : List Ask). l ++ (route_asks relay m ++ manage_asks relay m)) (quiet_asks relay.format m heard known quiet)
           ∙ ap (λ (steps : List Step). route_asks relay m ++ asks_of steps) none ∙ append-nil (route_asks relay m);
       sends = sends_on rules relay m on
-          ∙ ap (λ (l : List Sending). l ++ (route_sends rules relay m ++ manage_sends rules relay m)) (quiet_sends rules m heard known quiet)
+          ∙ ap (λ (l : List Sending). l ++ (route_sends rules relay m ++ manage_sends rules relay m)) (quiet_sends rules relay.format m heard known quiet)
           ∙ ap (λ (steps : List Step). route_sends rules relay m ++ sends_of rules steps) none ∙ append-nil (route_sends rules relay m);
-      change = change_on rules m on ∙ nothing_learned rules m parts.1;
+      change = change_on rules relay m on ∙ nothing_learned rules relay m parts.1;
     }

@@ -18,12 +18,12 @@ use Rattle.gw_rules.specs.declared.rule.Rule.{Rule}
 use Rattle.gw_script.specs.Event.{Event, Datagram, Tick}
 use Rattle.gw_core.specs.declared.effects.Effects.{Effects}
 use Rattle.gw_core.specs.declared.event.Counts.{Counts}
-use Rattle.gw_core.specs.Asks.{apdu_asks, asks, asks_for, cast_asks_for, link_asks_for as received_asks, manage_asks_for as asks_managed, message_asks, route_asks_for}
+use Rattle.gw_core.specs.Asks.{apdu_asks, asks, asks_for, cast_asks_for, first_asks_for as received_asks, manage_asks_for as asks_managed, message_asks, route_asks_for}
 use Rattle.gw_core.specs.Denials.{denials_at, denials_from, denials_of, rule_name}
 use Rattle.gw_core.specs.Effects.{apdu_change, change_at, change_for, changed, effects_at, move_at, relay_change_for}
 use Rattle.gw_core.specs.History.{next, run_from, state_after}
 use Rattle.gw_core.specs.NoLeak.{IsQuiet, LeavesOut, QuietIsUnseen, kept, seen, unnumbered}
-use Rattle.gw_core.specs.Receive.{Origin, Received, dropped, managed, unregistered, message, origin, receive}
+use Rattle.gw_core.specs.Receive.{Origin, Received, barred, dropped, managed, unregistered, message, origin, receive, source_of}
 use Rattle.gw_core.specs.Reply.{apdu_for, context_of}
 use Rattle.gw_core.specs.State.{State, device_network}
 use Rattle.gw_core.proofs.HistoryLemmas.{run_from-after, state_next}
@@ -38,7 +38,7 @@ unnumbered_from rules m n tick from (r ∷ refusals) =
       number = 0;
       tick = tick;
       port = from.port;
-      source = from.source;
+      source = source_of from r.ask;
       ask = r.ask;
       rule = rule_name rules r.by;
     } ∷ ds)
@@ -86,28 +86,32 @@ quiet_apdu rules d context (Some octets) h = changes_are_allowed rules d context
 
 quiet_relay : (rules : List Rule) (relay : Relay) (d : Database) (received : Received)
     → NoChangeAllowed rules (asks_for rules relay d received)
-    → moved (option_map Commit (relay_change_for rules received)) relay ≡ relay
+    → moved (option_map Commit (relay_change_for rules relay received)) relay ≡ relay
 quiet_relay rules relay d dropped h = refl
 quiet_relay rules relay d (unregistered m) h = refl
+quiet_relay rules relay d (barred m) h = refl
 quiet_relay rules relay d (managed on from frame) h =
-    let asked = received_asks (managed on from frame) in
+    let asked = received_asks rules relay (managed on from frame) in
     ap (λ (change : Option Change). moved (option_map Commit change) relay)
-    (tables_are_kept rules on from frame
+    (tables_are_kept rules relay.format on from frame
     (front_quiet rules asked [] (front_quiet rules (asked ++ []) [] (front_quiet rules (asked ++ [] ++ []) []
     (front_quiet rules (asked ++ [] ++ [] ++ []) [] h)))))
 quiet_relay rules relay d (message m) h =
     routes_are_kept rules relay m
-    (part_quiet rules (cast_asks_for (message m) ++ route_asks_for relay (message m)) (asks_managed relay (message m)) (message_asks rules d m) h
+    (part_quiet rules (received_asks rules relay (message m) ++ cast_asks_for relay (message m) ++ route_asks_for relay (message m))
+    (asks_managed relay (message m)) (message_asks rules relay.format d m) h
     operations.Learn refl)
 
 quiet_device : (rules : List Rule) (relay : Relay) (d : Database) (received : Received)
-    → NoChangeAllowed rules (asks_for rules relay d received) → change_for rules d received ≡ None
+    → NoChangeAllowed rules (asks_for rules relay d received) → change_for rules relay.format d received ≡ None
 quiet_device rules relay d dropped h = refl
 quiet_device rules relay d (unregistered m) h = refl
+quiet_device rules relay d (barred m) h = refl
 quiet_device rules relay d (managed on from frame) h = refl
 quiet_device rules relay d (message m) h =
-    quiet_apdu rules d (context_of (device_network d) m) (apdu_for (device_network d) m.npdu)
-    (last_quiet rules (cast_asks_for (message m) ++ route_asks_for relay (message m) ++ asks_managed relay (message m)) (message_asks rules d m) h)
+    quiet_apdu rules d (context_of relay.format (device_network d) m) (apdu_for (device_network d) m.npdu)
+    (last_quiet rules (received_asks rules relay (message m) ++ cast_asks_for relay (message m) ++ route_asks_for relay (message m)
+    ++ asks_managed relay (message m)) (message_asks rules relay.format d m) h)
 
 abbrev standing_so : State → Relay → Database → ℕ → ℕ → State
 standing_so w relay device ticks denials = record w { relay = relay; device = device; ticks = ticks; denials = denials }

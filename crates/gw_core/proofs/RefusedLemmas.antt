@@ -26,6 +26,7 @@ use Rattle.gw_objects.specs.declared.property.Property.{Property}
 use Rattle.gw_objects.specs.declared.property.PropertySet.{PropertySet}
 use Rattle.gw_objects.specs.Objects.{Database, name_at, type_at}
 use Rattle.gw_objects.specs.Property.{properties, property_number}
+use Rattle.gw_relay.specs.Entry.{entry_asks}
 use Rattle.gw_relay.specs.Link.{link_answer, link_change}
 use Rattle.gw_relay.specs.Message.{Message}
 use Rattle.gw_relay.specs.Sends.{Sending, sending}
@@ -48,12 +49,12 @@ use Rattle.gw_tags.specs.Object.{Object}
 use Rattle.gw_core.specs.Asks.{apdu_asks, asks, asks_for, cast_asks_for, manage_asks_for, message_asks, route_asks_for}
 use Rattle.gw_core.specs.Effects.{answer_sends, apdu_answer, change_at, change_for, changed, effects_at, message_sends, move_at, relay_change_for, sends_for, serve_sends_for}
 use Rattle.gw_core.specs.History.{next}
-use Rattle.gw_core.specs.Receive.{Received, dropped, managed, message, receive, unregistered}
+use Rattle.gw_core.specs.Receive.{Received, barred, dropped, managed, message, receive, unregistered}
 use Rattle.gw_core.specs.Refused.{DeniedListingsAreSilent, DeniedManagementIsRefused, DeniedMembersAreRefused, DeniedPropertiesAreRefused, OthersAreAnswered, RepliesAreTheirParts, access_error, ask_for, negative, parts, refused_part}
 use Rattle.gw_core.specs.Reply.{apdu_for, context_of}
 use Rattle.gw_core.specs.State.{device_network}
 use Rattle.gw_core.proofs.DeviceAskLemmas.{each_service}
-use Rattle.gw_core.proofs.RelayAskLemmas.{Else, IsElse, cast_is_else, messages_are_else, routing_is_else}
+use Rattle.gw_core.proofs.RelayAskLemmas.{Else, IsElse, cast_is_else, entry_is_else, messages_are_else, routing_is_else}
 
 -- ---- ReadPropertyMultiple
 
@@ -239,24 +240,30 @@ none_sent rules [] = tt
 none_sent rules (x ∷ xs) = (λ lists denied. refl, none_sent rules xs)
 
 silent_received : (rules : List Rule) (relay : Relay) (d : Database) (received : Received)
-    → AllByRecursion (AreKept rules (serve_sends_for rules d received)) (asks_for rules relay d received)
+    → AllByRecursion (AreKept rules (serve_sends_for rules relay.format d received)) (asks_for rules relay d received)
 silent_received rules relay d dropped = tt
+silent_received rules relay d (barred m) = none_sent rules (asks_for rules relay d (barred m))
 silent_received rules relay d (managed on from frame) = none_sent rules (asks_for rules relay d (managed on from frame))
 silent_received rules relay d (unregistered m) = tt
 silent_received rules relay d (message m) =
     let network = device_network d in
-    let sends = message_sends rules d m in
-    each_both (AreKept rules sends) (cast_asks_for (message m) ++ route_asks_for relay (message m) ++ manage_asks_for relay (message m)) (message_asks rules d m)
+    let sends = message_sends rules relay.format d m in
+    let entered = entry_asks rules relay m in
+    let cast = cast_asks_for relay (message m) in
+    let routed = route_asks_for relay (message m) in
+    let managed = manage_asks_for relay (message m) in
+    each_both (AreKept rules sends) (entered ++ cast ++ routed ++ managed) (message_asks rules relay.format d m)
     (kept_else rules sends _
-    (each_both IsElse (cast_asks_for (message m) ++ route_asks_for relay (message m)) (manage_asks_for relay (message m))
-    (each_both IsElse (cast_asks_for (message m)) (route_asks_for relay (message m)) (cast_is_else m) (routing_is_else relay m))
+    (each_both IsElse (entered ++ cast ++ routed) managed
+    (each_both IsElse (entered ++ cast) routed
+    (each_both IsElse entered cast (entry_is_else rules relay m) (cast_is_else relay.format m)) (routing_is_else relay m))
     (messages_are_else relay m)))
-    (silent_octets rules d m (context_of network m) (apdu_for network m.npdu))
+    (silent_octets rules d m (context_of relay.format network m) (apdu_for network m.npdu))
 
 pub denied_listings_are_silent : DeniedListingsAreSilent
 unfolding asks
 denied_listings_are_silent w e ask held lists denied =
-    of_held (AreKept w.rules (serve_sends_for w.rules w.device (receive w e))) (asks w e) ask held
+    of_held (AreKept w.rules (serve_sends_for w.rules w.relay.format w.device (receive w e))) (asks w e) ask held
     (silent_received w.rules w.relay w.device (receive w e)) lists denied
 
 -- ---- tables
@@ -271,7 +278,7 @@ one_denied rules a denied = by (allows rules a) denied
 managed_refused : (rules : List Rule) (relay : Relay) (d : Database) (on : PortState) (from : BipAddr) (frame : Frame)
     → list_all (allows rules) (asks_for rules relay d (managed on from frame)) ≡ false
     → (sends_for rules relay d (managed on from frame) ≡ sending on.port.number (negative frame) from ∷ [])
-    × (relay_change_for rules (managed on from frame) ≡ None)
+    × (relay_change_for rules relay (managed on from frame) ≡ None)
 unfolding link_answer link_change
 managed_refused rules relay d on from (bvll.write_bdt entries) denied = rw denied (refl, refl)
 managed_refused rules relay d on from bvll.read_bdt denied = rw denied (refl, refl)
@@ -294,7 +301,7 @@ denied_management_is_refused w (Datagram port by octets) on from frame is denied
     let refused = managed_refused w.rules w.relay w.device on from frame
     (ap (λ (received : Received). list_all (allows w.rules) (asks_for w.rules w.relay w.device received)) (sym is) ∙ denied) in (
       ap (sends_for w.rules w.relay w.device) is ∙ refused.0,
-      ap (λ (received : Received). moved (option_map Commit (relay_change_for w.rules received)) w.relay) is
+      ap (λ (received : Received). moved (option_map Commit (relay_change_for w.rules w.relay received)) w.relay) is
           ∙ ap (λ (change : Option Change). moved (option_map Commit change) w.relay) refused.1,
-      ap (λ (received : Received). changed (change_for w.rules w.device received) w.device) is,
+      ap (λ (received : Received). changed (change_for w.rules w.relay.format w.device received) w.device) is,
     )

@@ -2,7 +2,7 @@
 use Rattle.std.proofs.Common.{ℕ, Bool, true, false, List, [], ◌∷◌, ◌++◌, map, Option, Some, None, Result, Ok, Err}
 use Rattle.std.specs.Prelude.{◌&&◌, ◌||◌, ◌==◌, is_some, if◌then◌else◌}
 use Rattle.std.specs.Int.{w16, from_be_bytes}
-use Rattle.std.specs.List.{AllByRecursion}
+use Rattle.std.specs.List.{AllByRecursion, list_all}
 use Rattle.std.specs.Option.{option_map_or}
 use Rattle.gw_addr.specs.Station.{network_of}
 use Rattle.gw_apdu.specs.Apdu.{Fields as Apdu}
@@ -11,14 +11,15 @@ use Rattle.gw_apdu.specs.declared.fault.ApduFault.{ApduFault}
 use Rattle.gw_apdu.specs.declared.header.ConfirmedRequest.{ConfirmedRequest as Request}
 use Rattle.gw_apdu.specs.declared.header.Header.{Header}
 use Rattle.gw_apdu.specs.declared.header.Header.TheVariants as header
-use Rattle.gw_configuration.specs.declared.format.Format.{Format}
-use Rattle.gw_configuration.specs.declared.format.Format.TheVariants.{One, Two}
+use Rattle.gw_rules.specs.declared.format.Format.{Format}
+use Rattle.gw_rules.specs.declared.format.Format.TheVariants.{One, Two, Three}
 use Rattle.gw_npdu.specs.Npdu.{Destination, Payload, apdu, message, payload_octets}
 use Rattle.gw_relay.specs.Asks.{bound_for}
-use Rattle.gw_relay.specs.Cast.{cast_asks, goes_on, is_broadcast}
+use Rattle.gw_relay.specs.Cast.{cast_ask, cast_asks, goes_on, is_broadcast}
+use Rattle.gw_relay.specs.Entry.{claim_asks, enter_asks, entry_asks, is_stranger, speaks_for_others}
 use Rattle.gw_relay.specs.Manage.{is_i_am_router, is_what_is_network_number, is_who_is_router, learn_ask, learn_steps, manage_asks, named_networks, question_of, question_steps}
 use Rattle.gw_relay.specs.Message.{Message}
-use Rattle.gw_relay.specs.Named.{apdu_asks, forward_asks, header_asks, multi_asks, named_asks, read_asks, reference_ask, request_asks, write_asks}
+use Rattle.gw_relay.specs.Named.{apdu_asks, forward_asks, header_asks, multi_asks, named_asks, payload_asks, read_asks, reference_ask, request_asks, write_asks}
 use Rattle.gw_relay.specs.Route.{copy, is_local, leaves, others, route_ask, route_asks, steps_by}
 use Rattle.gw_relay.specs.State.{Relay}
 use Rattle.gw_relay.specs.Steps.{Step, asks_of}
@@ -27,6 +28,9 @@ use Rattle.gw_routes.specs.Table.{way}
 use Rattle.gw_routes.specs.declared.route.Way.{Way}
 use Rattle.gw_routes.specs.declared.route.Way.TheVariants as ways
 use Rattle.gw_rules.specs.Ask.{Ask, IsFor}
+use Rattle.gw_rules.specs.Format.{names_stations}
+use Rattle.gw_rules.specs.RuleList.{allows}
+use Rattle.gw_rules.specs.declared.rule.Rule.{Rule}
 use Rattle.gw_rules.specs.declared.operation.Operation.TheVariants as operations
 use Rattle.gw_rules.proofs.EachAsk.{each_both}
 use Rattle.gw_services.specs.Choices.{read_property, read_property_multiple, write_property}
@@ -51,10 +55,6 @@ else_if false xs ys f g = g
 steps_if : (b : Bool) (xs ys : List Step) → Else (asks_of xs) → Else (asks_of ys) → Else (asks_of (if b then xs else ys))
 steps_if true xs ys f g = f
 steps_if false xs ys f g = g
-
-pub cast_is_else : (m : Message) → Else (cast_asks m)
-unfolding cast_asks
-cast_is_else m = else_if (goes_on m.here m.from m.frame && is_broadcast m.frame) _ [] (λ e. absurd cc, tt) tt
 
 -- ---- what is asked behind a `route` ask
 
@@ -97,23 +97,48 @@ else_apdu : (route : Ask) (read : Result Apdu ApduFault) → Else (apdu_asks rou
 else_apdu route (Ok a) = else_header route a.header a.rest
 else_apdu route (Err fault) = tt
 
+else_payload : (route : Ask) (payload : Payload) → Else (payload_asks route payload)
+else_payload route (message m) = tt
+else_payload route (apdu octets) = else_apdu route (apdu_at octets)
+
 else_behind : (format : Format) (route : Ask) (payload : Payload) → Else (named_asks format route payload)
 else_behind One route payload = tt
-else_behind Two route (message m) = tt
-else_behind Two route (apdu octets) = else_apdu route (apdu_at octets)
+else_behind Two route payload = else_payload route payload
+else_behind Three route payload = else_payload route payload
+
+-- ---- distribution
+
+pub cast_is_else : (format : Format) (m : Message) → Else (cast_asks format m)
+unfolding cast_asks
+cast_is_else format m =
+    else_if (goes_on m.here m.from m.frame && is_broadcast m.frame) _ []
+    (λ e. absurd cc, else_if (names_stations format) _ [] (else_behind format (cast_ask format m) m.npdu.payload) tt) tt
+
+-- ---- who enters and who claims
+
+else_enter : (format : Format) (m : Message) → Else (enter_asks format m)
+else_enter format m = else_if (is_stranger format m) _ [] (λ e. absurd cc, tt) tt
+
+else_claim : (relay : Relay) (m : Message) → Else (claim_asks relay m)
+else_claim relay m = else_if (speaks_for_others relay m) _ [] (λ e. absurd cc, tt) tt
+
+pub entry_is_else : (rules : List Rule) (relay : Relay) (m : Message) → Else (entry_asks rules relay m)
+entry_is_else rules relay m =
+    each_both IsElse (enter_asks relay.format m) _ (else_enter relay.format m)
+    (else_if (list_all (allows rules) (enter_asks relay.format m)) _ [] (else_claim relay m) tt)
 
 -- ---- routing
 
-else_forward : (format : Format) (m : Message) (network : Option ℕ) → Else (forward_asks format (route_ask m network) m.npdu.payload)
-else_forward format m network = (λ e. absurd cc, else_behind format (route_ask m network) m.npdu.payload)
+else_forward : (format : Format) (m : Message) (network : Option ℕ) → Else (forward_asks format (route_ask format m network) m.npdu.payload)
+else_forward format m network = (λ e. absurd cc, else_behind format (route_ask format m network) m.npdu.payload)
 
-else_one : (format : Format) (m : Message) (network : Option ℕ) → Else (forward_asks format (route_ask m network) m.npdu.payload ++ [])
-else_one format m network = each_both IsElse (forward_asks format (route_ask m network) m.npdu.payload) [] (else_forward format m network) tt
+else_one : (format : Format) (m : Message) (network : Option ℕ) → Else (forward_asks format (route_ask format m network) m.npdu.payload ++ [])
+else_one format m network = each_both IsElse (forward_asks format (route_ask format m network) m.npdu.payload) [] (else_forward format m network) tt
 
 else_copies : (format : Format) (m : Message) (d : Destination) (links : List PortState) → Else (asks_of (map (copy format m d) links))
 else_copies format m d [] = tt
 else_copies format m d (link ∷ links) =
-    each_both IsElse (forward_asks format (route_ask m (Some link.port.network)) m.npdu.payload) _
+    each_both IsElse (forward_asks format (route_ask format m (Some link.port.network)) m.npdu.payload) _
     (else_forward format m (Some link.port.network)) (else_copies format m d links)
 
 else_way : (relay : Relay) (m : Message) (d : Destination) (by : Way) → Else (asks_of (steps_by relay m d by))
@@ -134,9 +159,10 @@ routing_is_else relay m = steps_if (is_local m.npdu.payload) [] _ tt (by m.npdu.
 
 -- ---- network layer messages
 
-else_learning : (m : Message) (networks : List ℕ) → Else (asks_of (map (λ n. record { asks = learn_ask m n ∷ []; sends = [] }) networks))
-else_learning m [] = tt
-else_learning m (n ∷ networks) = (λ e. absurd cc, else_learning m networks)
+else_learning : (format : Format) (m : Message) (networks : List ℕ)
+    → Else (asks_of (map (λ n. record { asks = learn_ask format m n ∷ []; sends = [] }) networks))
+else_learning format m [] = tt
+else_learning format m (n ∷ networks) = (λ e. absurd cc, else_learning format m networks)
 
 else_question : (relay : Relay) (m : Message) (octets : List ℕ) → Else (asks_of (question_steps relay m octets))
 else_question relay m [] = (λ e. absurd cc, tt)
@@ -150,7 +176,7 @@ else_question relay m (a ∷ b ∷ c ∷ octets) = tt
 
 pub messages_are_else : (relay : Relay) (m : Message) → Else (manage_asks relay m)
 messages_are_else relay m =
-    steps_if (is_i_am_router m.npdu) (learn_steps m) _ (else_learning m (named_networks m))
+    steps_if (is_i_am_router m.npdu) (learn_steps relay.format m) _ (else_learning relay.format m (named_networks m))
     (steps_if (is_who_is_router m.npdu) (question_steps relay m (payload_octets m.npdu.payload)) _
     (else_question relay m (payload_octets m.npdu.payload))
     (steps_if (is_what_is_network_number m.npdu) _ [] (λ e. absurd cc, tt) tt))

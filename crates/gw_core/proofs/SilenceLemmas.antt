@@ -14,6 +14,7 @@ use Rattle.gw_npdu.specs.Npdu.{Fields}
 use Rattle.gw_npdu.specs.Npdu as npdu
 use Rattle.gw_objects.specs.declared.property.PropertySet.{PropertySet}
 use Rattle.gw_objects.specs.Objects.{Database}
+use Rattle.gw_rules.specs.declared.format.Format.{Format}
 use Rattle.gw_rules.specs.declared.rule.Rule.{Rule}
 use Rattle.gw_rules.specs.Ask.{Ask}
 use Rattle.gw_rules.specs.RuleList.{allows}
@@ -44,11 +45,11 @@ use Rattle.gw_relay.specs.Steps.{npdu_octets, unicast}
 use Rattle.gw_relay.proofs.Asking.{unasked_change}
 use Rattle.gw_relay.proofs.Learning.{unasked_learning}
 use Rattle.gw_script.specs.Event.{Datagram}
-use Rattle.gw_core.specs.Asks.{apdu_asks, asks, asks_for, cast_asks_for, link_asks_for, manage_asks_for, message_asks, route_asks_for}
+use Rattle.gw_core.specs.Asks.{apdu_asks, asks, asks_for, cast_asks_for, first_asks_for, manage_asks_for, message_asks, route_asks_for}
 use Rattle.gw_core.specs.Effects.{answer_sends, apdu_change, change_at, change_for, message_sends, move_at, relay_change_for, sends, sends_for}
 use Rattle.gw_core.specs.Laws.{DroppedNeedsNoMemory, NothingAskedIsChanged, NothingAskedIsWritten}
 use Rattle.gw_relay.specs.Message.{Message}
-use Rattle.gw_core.specs.Receive.{Received, dropped, managed, unregistered, message, receive}
+use Rattle.gw_core.specs.Receive.{Received, barred, dropped, managed, unregistered, message, receive}
 use Rattle.gw_core.specs.Reply.{apdu_for, context_of, reply_npdu, reply_sends, max_reply_apdu}
 use Rattle.gw_core.specs.State.{device_network}
 use Rattle.gw_core.proofs.DenialLemmas.{answer_put, asks_put}
@@ -210,13 +211,13 @@ none_answered network m None short room none = refl
 none_answered network m (Some a) short room none = absurd (short_sent network m a (short a refl) room none)
 
 -- a message for the device that asks and sends nothing is not answered
-pub silent_message : (rules : List Rule) (d : Database) (m : Message) (network : ℕ) (context : Context) (octets : List ℕ)
-    → network ≡ device_network d → Some octets ≡ apdu_for network m.npdu → context ≡ context_of network m → 1497 ≤ context.room + 522
-    → message_asks rules d m ≡ [] → message_sends rules d m ≡ []
+pub silent_message : (rules : List Rule) (format : Format) (d : Database) (m : Message) (network : ℕ) (context : Context) (octets : List ℕ)
+    → network ≡ device_network d → Some octets ≡ apdu_for network m.npdu → context ≡ context_of format network m → 1497 ≤ context.room + 522
+    → message_asks rules format d m ≡ [] → message_sends rules format d m ≡ []
     → (device_asks rules d context octets ≡ []) × (device_answer rules d context octets ≡ None)
-silent_message rules d m network context octets its apdu told least asks sends =
-    let put : device_asks rules d context octets ≡ [] = sym (asks_put rules d m network context octets its apdu told) ∙ asks in
-    let due = answer_put rules d m network context octets its apdu told in
+silent_message rules format d m network context octets its apdu told least asks sends =
+    let put : device_asks rules d context octets ≡ [] = sym (asks_put rules format d m network context octets its apdu told) ∙ asks in
+    let due = answer_put rules format d m network context octets its apdu told in
     let room : 1497 ≤ max_reply_apdu network m.npdu + 522 = subst (λ (x : Context). 1497 ≤ x.room + 522) told least in
     let header_fits : length (npdu.header (reply_npdu network m.npdu (alone_answer []))) ≤ 522 = omega (arith, room) in
     let sent : answer_sends network m (device_answer rules d context octets) ≡ [] =
@@ -251,14 +252,15 @@ unwritten_apdu rules d context None none = refl
 unwritten_apdu rules d context (Some octets) none = (brief_device rules d context octets none).1
 
 unwritten : (rules : List Rule) (relay : Relay) (d : Database) (received : Received) → asks_for rules relay d received ≡ []
-    → change_for rules d received ≡ None
+    → change_for rules relay.format d received ≡ None
 unwritten rules relay d dropped none = refl
 unwritten rules relay d (managed on from frame) none = refl
 unwritten rules relay d (unregistered m) none = refl
+unwritten rules relay d (barred m) none = refl
 unwritten rules relay d (message m) none =
-    let parts = five_empty [] (cast_asks_for (message m)) (route_asks_for relay (message m)) (manage_asks_for relay (message m))
-    (message_asks rules d m) none in
-    unwritten_apdu rules d (context_of (device_network d) m) (apdu_for (device_network d) m.npdu) parts.4
+    let parts = five_empty (first_asks_for rules relay (message m)) (cast_asks_for relay (message m)) (route_asks_for relay (message m))
+    (manage_asks_for relay (message m)) (message_asks rules relay.format d m) none in
+    unwritten_apdu rules d (context_of relay.format (device_network d) m) (apdu_for (device_network d) m.npdu) parts.4
 
 pub nothing_asked_is_written : NothingAskedIsWritten
 unfolding asks change_at
@@ -266,15 +268,16 @@ nothing_asked_is_written w e none = unwritten w.rules w.relay w.device (receive 
 
 -- what asks nothing changes no table and no route
 pub unchanged : (rules : List Rule) (relay : Relay) (d : Database) (received : Received) → asks_for rules relay d received ≡ []
-    → relay_change_for rules received ≡ None
+    → relay_change_for rules relay received ≡ None
 unchanged rules relay d dropped none = refl
 unchanged rules relay d (managed on from frame) none =
-    let parts = five_empty (link_asks_for (managed on from frame)) [] [] [] [] none in
-    unasked_change rules on from frame parts.0
+    let parts = five_empty (first_asks_for rules relay (managed on from frame)) [] [] [] [] none in
+    unasked_change rules relay.format on from frame parts.0
 unchanged rules relay d (unregistered m) none = refl
+unchanged rules relay d (barred m) none = refl
 unchanged rules relay d (message m) none =
-    let parts = five_empty [] (cast_asks_for (message m)) (route_asks_for relay (message m)) (manage_asks_for relay (message m))
-    (message_asks rules d m) none in
+    let parts = five_empty (first_asks_for rules relay (message m)) (cast_asks_for relay (message m)) (route_asks_for relay (message m))
+    (manage_asks_for relay (message m)) (message_asks rules relay.format d m) none in
     unasked_learning rules relay m parts.3
 
 pub nothing_asked_is_changed : NothingAskedIsChanged

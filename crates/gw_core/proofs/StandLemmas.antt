@@ -8,6 +8,7 @@ use Rattle.gw_objects.specs.Objects.{Database, default_of, defaults_of}
 use Rattle.gw_objects.specs.History.{IsStateAfter as SlotsStand}
 use Rattle.gw_objects.specs.Write.{CanAct, Write}
 use Rattle.gw_configuration.specs.declared.object.Object.{Object}
+use Rattle.gw_rules.specs.declared.format.Format.{Format}
 use Rattle.gw_rules.specs.declared.rule.Rule.{Rule}
 use Rattle.gw_configuration.specs.Configuration.{Configuration}
 use Rattle.gw_relay.proofs.Histories.{changes_extend, configured_stand, ticks_extend}
@@ -27,7 +28,7 @@ use Rattle.gw_script.specs.Event.{Event}
 use Rattle.gw_core.specs.Effects.{apdu_change, change_at, change_for, changed, move_at}
 use Rattle.gw_core.specs.History.{RoutesStand, TablesStand, WritesStand, acts_of, learnings, next, port_acts, state_after, with_granted, writes, written}
 use Rattle.gw_core.specs.Laws.{ActsLeaveTheTables, LearningsLeaveTheRoutes, WritesLeaveTheSlots}
-use Rattle.gw_core.specs.Receive.{Received, dropped, managed, message, receive, unregistered}
+use Rattle.gw_core.specs.Receive.{Received, barred, dropped, managed, message, receive, unregistered}
 use Rattle.gw_core.specs.Reply.{apdu_for, context_of}
 use Rattle.gw_core.specs.State.{State, device_network}
 use Rattle.gw_core.specs.declared.event.Counts.{Counts}
@@ -90,16 +91,18 @@ apdu_can : (rules : List Rule) (d : Database) (context : Context) (apdu : Option
 apdu_can rules d context None write e = absurd cc
 apdu_can rules d context (Some octets) write e = changes_can_be_made rules d context octets write e
 
-change_can : (rules : List Rule) (d : Database) (received : Received) (write : Write) → change_for rules d received ≡ Some write → CanAct write.act
-change_can rules d dropped write e = absurd cc
-change_can rules d (managed on from frame) write e = absurd cc
-change_can rules d (unregistered m) write e = absurd cc
-change_can rules d (message m) write e =
-    apdu_can rules d (context_of (device_network d) m) (apdu_for (device_network d) m.npdu) write e
+change_can : (rules : List Rule) (format : Format) (d : Database) (received : Received) (write : Write)
+    → change_for rules format d received ≡ Some write → CanAct write.act
+change_can rules format d dropped write e = absurd cc
+change_can rules format d (managed on from frame) write e = absurd cc
+change_can rules format d (unregistered m) write e = absurd cc
+change_can rules format d (barred m) write e = absurd cc
+change_can rules format d (message m) write e =
+    apdu_can rules d (context_of format (device_network d) m) (apdu_for (device_network d) m.npdu) write e
 
 granted_can : (w : State) (e : Event) (write : Write) → change_at w e ≡ Some write → CanAct write.act
 unfolding change_at
-granted_can w e write is = change_can w.rules w.device (receive w e) write is
+granted_can w e write is = change_can w.rules w.relay.format w.device (receive w e) write is
 
 slots_changed : (c : Configuration) (granted : Option Write) (before : List Write) (d : Database)
     → ((write : Write) → granted ≡ Some write → CanAct write.act) → SlotsStand (defaults_of c) before d.states

@@ -35,4 +35,4 @@ or_true false = refl
 
 pub denied_broadcasts_are_kept : DeniedBroadcastsAreKept
 unfolding cast_sends
-denied_broadcasts_are_kept rules m denied heard = rw (heard, denied, or_true (is_unregistered m.here m.from m.frame)) refl
+denied_broadcasts_are_kept rules relay m denied heard = rw (heard, denied, or_true (is_unregistered m.here m.from m.frame)) refl

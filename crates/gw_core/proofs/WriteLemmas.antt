@@ -23,17 +23,18 @@ use Rattle.gw_relay.specs.declared.change.Change.{Change}
 use Rattle.gw_rules.specs.Ask.{Ask}
 use Rattle.gw_rules.specs.Authorizer.{denied_of}
 use Rattle.gw_rules.proofs.EachAsk.{none_rest}
+use Rattle.gw_rules.specs.declared.format.Format.{Format}
 use Rattle.gw_rules.specs.declared.rule.Rule.{Rule}
 use Rattle.gw_script.specs.Event.{Event, Datagram, Tick}
 use Rattle.gw_tags.specs.Object.{Object}
 use Rattle.gw_core.specs.declared.effects.Effects.{Effects}
-use Rattle.gw_core.specs.Asks.{apdu_asks, asks, asks_for, cast_asks_for, manage_asks_for as asks_managed, message_asks, route_asks_for}
+use Rattle.gw_core.specs.Asks.{apdu_asks, asks, asks_for, cast_asks_for, first_asks_for, manage_asks_for as asks_managed, message_asks, route_asks_for}
 use Rattle.gw_core.specs.Denials.{denials_at, denials_of}
 use Rattle.gw_core.specs.Effects.{answer_sends, apdu_answer, apdu_change, cast_sends_for, change_at, change_for, changed, effects_at, effects_for, manage_sends_for, message_change, move_at, relay_change_for, route_sends_for, sends_for}
 use Rattle.gw_core.specs.History.{next, run_from, state_after, state_from}
 use Rattle.gw_core.specs.NoLeak.{AsksToReadOn, IsWriteOf, NoReadAllowedOn, WritesAreUnread, kept, object_of, seen, unnumbered}
 use Rattle.gw_relay.specs.Message.{Message}
-use Rattle.gw_core.specs.Receive.{Received, dropped, managed, unregistered, message, origin, receive}
+use Rattle.gw_core.specs.Receive.{Received, barred, dropped, managed, unregistered, message, origin, receive}
 use Rattle.gw_core.specs.Reply.{apdu_for, apdu_towards, context_of}
 use Rattle.gw_core.specs.State.{State}
 use Rattle.gw_core.proofs.DeviceAskLemmas.{own_network}
@@ -51,13 +52,14 @@ alike_change : (rules : List Rule) (c : Configured) (s t : List Slots) (context 
 alike_change rules c s t context None = refl
 alike_change rules c s t context (Some octets) = changes_rest_on_requests rules c s t context octets
 
-change_alike : (rules : List Rule) (c : Configured) (s t : List Slots) (received : Received)
-    → change_for rules (standing c s) received ≡ change_for rules (standing c t) received
-change_alike rules c s t dropped = refl
-change_alike rules c s t (managed on from frame) = refl
-change_alike rules c s t (unregistered m) = refl
-change_alike rules c s t (message m) =
-    alike_change rules c s t (context_of c.device.network m) (apdu_for c.device.network m.npdu)
+change_alike : (rules : List Rule) (format : Format) (c : Configured) (s t : List Slots) (received : Received)
+    → change_for rules format (standing c s) received ≡ change_for rules format (standing c t) received
+change_alike rules format c s t dropped = refl
+change_alike rules format c s t (managed on from frame) = refl
+change_alike rules format c s t (unregistered m) = refl
+change_alike rules format c s t (barred m) = refl
+change_alike rules format c s t (message m) =
+    alike_change rules c s t (context_of format c.device.network m) (apdu_for c.device.network m.npdu)
 
 -- where no read of the device's own object is allowed, the device allows none of it: its asks are for its network
 own_reads : (network : ℕ) (rules : List Rule) (o : Object) (xs : List Ask) → AllByRecursion (λ ask. ask.destination_network ≡ Some network) xs
@@ -84,12 +86,14 @@ received_alike : (rules : List Rule) (o : Object) (relay : Relay) (c : Configure
 received_alike rules o relay c s t dropped agree h = (refl, refl)
 received_alike rules o relay c s t (managed on from frame) agree h = (refl, refl)
 received_alike rules o relay c s t (unregistered m) agree h = (refl, refl)
+received_alike rules o relay c s t (barred m) agree h = (refl, refl)
 received_alike rules o relay c s t (message m) agree h =
     let network = c.device.network in
-    let asked = cast_asks_for (message m) ++ route_asks_for relay (message m) ++ asks_managed relay (message m) in
-    let sent = cast_sends_for rules (message m) ++ route_sends_for rules relay (message m) ++ manage_sends_for rules relay (message m) in
-    let same = answer_alike rules o c s t (context_of network m) (apdu_for network m.npdu) agree
-    (none_rest (AsksToReadOn network o) rules asked (message_asks rules (standing c t) m) h) in
+    let asked = first_asks_for rules relay (message m) ++ cast_asks_for relay (message m) ++ route_asks_for relay (message m)
+    ++ asks_managed relay (message m) in
+    let sent = cast_sends_for rules relay (message m) ++ route_sends_for rules relay (message m) ++ manage_sends_for rules relay (message m) in
+    let same = answer_alike rules o c s t (context_of relay.format network m) (apdu_for network m.npdu) agree
+    (none_rest (AsksToReadOn network o) rules asked (message_asks rules relay.format (standing c t) m) h) in
     (ap (λ (xs : List Ask). asked ++ xs) same.0, ap (λ (x : Option Answer). sent ++ answer_sends network m x) same.1)
 
 -- ---- one event
@@ -170,7 +174,7 @@ next_with w t n o (Datagram port from octets) agree =
     let e = Datagram port from octets in
     next_by w t o (moved (move_at w e) w.relay) (w.ticks + 0) (w.denials + length (denials_at w e)) (n + length (denials_at (with_slots w t n) e))
     (change_at w e) (change_at (with_slots w t n) e)
-    (change_alike w.rules w.device.configured w.device.states t (receive w e)) agree
+    (change_alike w.rules w.relay.format w.device.configured w.device.states t (receive w e)) agree
 next_with w t n o Tick agree =
     next_by w t o (moved (move_at w Tick) w.relay) (w.ticks + 1) (w.denials + 0) (n + 0) None None refl agree
 
@@ -183,11 +187,11 @@ none_towards m (Some d) network = either _
     either true = refl
     either false = refl
 
-no_learning : (rules : List Rule) (m : Message) (network : ℕ) (o : Object)
-    → option_and_then object_written (apdu_for network m.npdu) ≡ Some o → manage_change rules m ≡ None
-no_learning rules m network o names = by m.npdu.payload refl
+no_learning : (rules : List Rule) (relay : Relay) (m : Message) (network : ℕ) (o : Object)
+    → option_and_then object_written (apdu_for network m.npdu) ≡ Some o → manage_change rules relay m ≡ None
+no_learning rules relay m network o names = by m.npdu.payload refl
   where
-    by : (payload : Payload) → m.npdu.payload ≡ payload → manage_change rules m ≡ None
+    by : (payload : Payload) → m.npdu.payload ≡ payload → manage_change rules relay m ≡ None
     by (apdu octets) is = rw is refl
     by (network_message n) is =
         absurd (no_some o (sym (ap (option_and_then object_written) (ap (λ (p : Payload). apdu_towards network p m.npdu.destination) is ∙ none_towards n m.npdu.destination network)) ∙ names))
@@ -199,26 +203,27 @@ puts_by o rules d context (Some octets) names write e = changes_are_in_place rul
 
 left_by : (w : State) (t : List Slots) (n : ℕ) (o : Object) (received : Received) (denials : ℕ) → object_of w.device received ≡ Some o
     → AgreeBut o w.device.configured w.device.states t
-    → Alike o (stands w (moved (option_map Commit (relay_change_for w.rules received)) w.relay) (changed (change_for w.rules w.device received) w.device) (w.ticks + 0) denials)
+    → Alike o (stands w (moved (option_map Commit (relay_change_for w.rules w.relay received)) w.relay) (changed (change_for w.rules w.relay.format w.device received) w.device) (w.ticks + 0) denials)
     (with_slots w t n)
 left_by w t n o dropped denials names agree = absurd (no_some o names)
 left_by w t n o (managed on from frame) denials names agree = absurd (no_some o names)
 left_by w t n o (unregistered m) denials names agree = absurd (no_some o names)
+left_by w t n o (barred m) denials names agree = absurd (no_some o names)
 left_by w t n o (message m) denials names agree =
     let c = w.device.configured in
     let s = w.device.states in
-    let g = message_change w.rules w.device m in
+    let g = message_change w.rules w.relay.format w.device m in
     record {
       states = t;
       number = n;
       is = ap (λ (x : Option Change). stands w (moved (option_map Commit x) w.relay) (standing c t) w.ticks n)
-          (sym (no_learning w.rules m c.device.network o names))
-          ∙ ap (λ (d : Database). stands w (moved (option_map Commit (manage_change w.rules m)) w.relay) (standing d.configured t) w.ticks n)
+          (sym (no_learning w.rules w.relay m c.device.network o names))
+          ∙ ap (λ (d : Database). stands w (moved (option_map Commit (manage_change w.rules w.relay m)) w.relay) (standing d.configured t) w.ticks n)
           (sym (changed_standing g c s))
-          ∙ ap (λ (ticks : ℕ). stands w (moved (option_map Commit (manage_change w.rules m)) w.relay) (standing (changed g w.device).configured t) ticks n)
+          ∙ ap (λ (ticks : ℕ). stands w (moved (option_map Commit (manage_change w.rules w.relay m)) w.relay) (standing (changed g w.device).configured t) ticks n)
           (sym (add-zero w.ticks));
       agree = subst (λ (d : Database). AgreeBut o d.configured d.states t) (sym (changed_standing g c s))
-          (agree_made o c s t g (puts_by o w.rules w.device (context_of c.device.network m) (apdu_for c.device.network m.npdu) names) agree);
+          (agree_made o c s t g (puts_by o w.rules w.device (context_of w.relay.format c.device.network m) (apdu_for c.device.network m.npdu) names) agree);
     }
 
 left_with : (w : State) (t : List Slots) (n : ℕ) (o : Object) (e : Event) → IsWriteOf o w e → AgreeBut o w.device.configured w.device.states t

@@ -7,7 +7,7 @@ use Rattle.gw_rules.specs.declared.rule.Rule.{Rule}
 use Rattle.gw_audit.specs.declared.denial.Denial.{Denial}
 use Rattle.gw_script.specs.Event.{Event}
 use Rattle.gw_core.specs.Asks.{asks_for}
-use Rattle.gw_core.specs.Receive.{Origin, Received, origin, receive}
+use Rattle.gw_core.specs.Receive.{Origin, Received, origin, receive, source_of}
 use Rattle.gw_core.specs.State.{State}
 
 -- the name under which an ask is denied where no rule matches it
@@ -31,7 +31,7 @@ denials_from rules number tick from (refusal ∷ refusals) = record {
   number = number;
   tick = tick;
   port = from.port;
-  source = from.source;
+  source = source_of from refusal.ask;
   ask = refusal.ask;
   rule = rule_name rules refusal.by;
 } ∷ denials_from rules (number + 1) tick from refusals

@@ -52,6 +52,8 @@ asks_for instance = record {
   instance = Some instance;
   property = Some 85;
   priority = None;
+  sender = None;
+  station = None;
 }
 
 -- one answer to the station, and the denial of this number, tick and ask, by a rule of this name

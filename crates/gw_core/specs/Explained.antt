@@ -11,7 +11,7 @@ use Rattle.gw_audit.specs.Line.{ask_text}
 use Rattle.gw_script.specs.Event.{Event}
 use Rattle.gw_core.specs.Asks.{asks}
 use Rattle.gw_core.specs.Denials.{name_at}
-use Rattle.gw_core.specs.Receive.{Origin, origin, receive}
+use Rattle.gw_core.specs.Receive.{Origin, origin, receive, source_of}
 use Rattle.gw_core.specs.Shown.{event_text}
 use Rattle.gw_core.specs.State.{State}
 
@@ -36,7 +36,7 @@ ask_line rules source ask = codes "ask " ++ ask_text source ask ++ codes " " ++ 
 -- a line for each ask of a datagram that claims to come from there
 abbrev pub ask_lines : List Rule → Option Origin → List Ask → List ℕ
 ask_lines rules None asks = []
-ask_lines rules (Some from) asks = flat_map (ask_line rules from.source) asks
+ask_lines rules (Some from) asks = flat_map (λ ask. ask_line rules (source_of from ask) ask) asks
 
 -- a line for each ask of an event, in their order
 unfoldable pub asks_text : State → Event → List ℕ

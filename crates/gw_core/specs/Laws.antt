@@ -1,5 +1,5 @@
 -- Laws over the definitions of the headline: what the folds of a history say in plain words.
-use Rattle.std.specs.Prelude.{◌≡◌, None, ℕ, zero, suc, ◌+◌, Bool, true, false, List, [], ◌∷◌, length, map, filter, not}
+use Rattle.std.specs.Prelude.{◌≡◌, Some, None, ℕ, zero, suc, ◌+◌, Bool, true, false, List, [], ◌∷◌, length, map, filter, not}
 use Rattle.std.specs.Prelude.{replicate, count_by}
 use Rattle.std.specs.List.{AllByRecursion, flat_map, list_all}
 use Rattle.gw_addr.specs.declared.bip.BipAddr.{BipAddr}
@@ -15,11 +15,18 @@ use Rattle.gw_core.specs.declared.event.Counts.{Counts}
 use Rattle.gw_script.specs.Event.{Event}
 use Rattle.gw_script.specs.Event.{Datagram, Tick}
 use Rattle.gw_configuration.specs.Configuration.{Configuration}
-use Rattle.gw_configuration.specs.declared.format.Format.{Format}
-use Rattle.gw_configuration.specs.declared.format.Format.TheVariants.{One}
+use Rattle.gw_rules.specs.declared.format.Format.{Format}
+use Rattle.gw_rules.specs.declared.format.Format.TheVariants.{One, Three}
 use Rattle.gw_core.specs.History.{RoutesStand, TablesStand, WritesStand, learnings, port_acts, writes, state_after, run}
 use Rattle.gw_core.specs.History.{history_after, IsStep, IsStateAfter, effects, run_after, run_from, state_from, next}
-use Rattle.gw_rules.specs.Ask.{Ask}
+use Rattle.gw_npdu.specs.Npdu.{Address}
+use Rattle.gw_relay.specs.Entry.{comes_by_route, enters, entry_asks}
+use Rattle.gw_relay.specs.Laws.{Reaches, is_unicast}
+use Rattle.gw_relay.specs.Stations.{belongs}
+use Rattle.gw_rules.specs.Allowed.{NoneAllowed}
+use Rattle.gw_rules.specs.Ask.{Ask, IsFor}
+use Rattle.gw_rules.specs.Format.{names_stations}
+use Rattle.gw_rules.specs.declared.operation.Operation.TheVariants.{Claim, Enter}
 use Rattle.gw_rules.specs.declared.rule.Rule.{Rule}
 use Rattle.gw_rules.specs.RuleList.{first, allows}
 use Rattle.gw_apdu.specs.declared.header.ConfirmedRequest.{ConfirmedRequest}
@@ -37,12 +44,13 @@ use Rattle.gw_core.specs.Asks.{asks, cast_asks_for, manage_asks_for, route_asks_
 use Rattle.gw_core.specs.Denials.{rule_name}
 use Rattle.gw_core.specs.Replay.{no_counts, run_text}
 use Rattle.gw_core.specs.Shown.{event_text, text_of_run}
-use Rattle.gw_core.specs.FormatOne.{asked_before, asked_from, effects_before, left_before, run_before}
+use Rattle.gw_core.specs.FormatOne.{before_two}
+use Rattle.gw_core.specs.FormatTwo.{asked_by, asked_from, before_three, effects_by, left_by, received_before, run_by}
 use Rattle.gw_core.specs.Effects.{NeedsNoMemory, cast_sends_for, change_at, effects_at, manage_sends_for, move_at}
 use Rattle.gw_core.specs.Effects.{nothing, route_sends_for}
 use Rattle.gw_relay.specs.Message.{Message}
 use Rattle.gw_core.specs.Explained.{ask_line, ask_lines}
-use Rattle.gw_core.specs.Receive.{dropped, message, origin, receive}
+use Rattle.gw_core.specs.Receive.{Received, dropped, message, origin, receive}
 use Rattle.gw_core.specs.State.{State}
 
 -- a tick, and no datagram
@@ -161,9 +169,9 @@ AllowedTrafficIsSent = (rules : List Rule) (relay : Relay) (m : Message) →
 -- A broadcast that the policy denies is distributed to nobody: a Distribute-Broadcast gets its refusal, and any
 -- other frame nothing.
 abbrev pub DeniedBroadcastsAreKept : Type 0
-DeniedBroadcastsAreKept = (rules : List Rule) (m : Message) →
-    list_all (allows rules) (cast_asks_for (message m)) ≡ false → accepts m.here m.from m.frame ≡ true →
-    cast_sends_for rules (message m) ≡ map (answer_to m.here.port m.from) (refused m.frame)
+DeniedBroadcastsAreKept = (rules : List Rule) (relay : Relay) (m : Message) →
+    list_all (allows rules) (cast_asks_for relay (message m)) ≡ false → accepts m.here m.from m.frame ≡ true →
+    cast_sends_for rules relay (message m) ≡ map (answer_to m.here.port m.from) (refused m.frame)
 
 -- A datagram that is dropped asks nothing and sends nothing, so it needs no memory.
 abbrev pub DroppedNeedsNoMemory : Type 0
@@ -216,15 +224,15 @@ DeniedLinesAreLogged = (w : State) (e : Event) →
 
 -- In a state of the first format an event does what it did before there was a second (FormatOne.antt).
 abbrev pub FormatOneIsAsBefore : Type 0
-FormatOneIsAsBefore = (w : State) (e : Event) → w.relay.format ≡ One → effects_at w e ≡ effects_before w e
+FormatOneIsAsBefore = (w : State) (e : Event) → w.relay.format ≡ One → effects_at w e ≡ effects_by before_two w e
 
 -- Under a configuration of the first format every list of events asks and does what it did before there was a second,
 -- and leaves the state that it left.
 abbrev pub FormatOneRunsAsBefore : Type 0
 FormatOneRunsAsBefore = (c : Configuration) (k : Counts) (l : List Event) → c.format ≡ One →
     let fresh = state_after c k [] in
-    (asked_from fresh l ≡ asked_before fresh l) × (run c k l ≡ run_before fresh l)
-    × (state_after c k (history_after [] l) ≡ left_before fresh l)
+    (asked_from fresh l ≡ asked_by before_two fresh l) × (run c k l ≡ run_by before_two fresh l)
+    × (state_after c k (history_after [] l) ≡ left_by before_two fresh l)
 
 -- a state under another format
 abbrev pub under : Format → State → State
@@ -233,9 +241,61 @@ under format w = record w { relay = record w.relay { format = format } }
 -- And what they did then looks at no format.
 abbrev pub FormatWasUnread : Type 0
 FormatWasUnread = (format : Format) (w : State) (l : List Event) →
-    (asked_before (under format w) l ≡ asked_before w l) × (run_before (under format w) l ≡ run_before w l)
-    × (left_before (under format w) l ≡ under format (left_before w l))
+    (asked_by before_two (under format w) l ≡ asked_by before_two w l)
+    × (run_by before_two (under format w) l ≡ run_by before_two w l)
+    × (left_by before_two (under format w) l ≡ under format (left_by before_two w l))
+
+-- In a state of the first or the second format an event does what it did before there was a third (FormatTwo.antt).
+abbrev pub FormatTwoIsAsBefore : Type 0
+FormatTwoIsAsBefore =
+    (w : State) (e : Event) → names_stations w.relay.format ≡ false → effects_at w e ≡ effects_by before_three w e
+
+-- Under a configuration of the first or the second format every list of events asks and does what it did before there was
+-- a third, and leaves the state that it left.
+abbrev pub FormatTwoRunsAsBefore : Type 0
+FormatTwoRunsAsBefore = (c : Configuration) (k : Counts) (l : List Event) → names_stations c.format ≡ false →
+    let fresh = state_after c k [] in
+    (asked_from fresh l ≡ asked_by before_three fresh l) × (run c k l ≡ run_by before_three fresh l)
+    × (state_after c k (history_after [] l) ≡ left_by before_three fresh l)
 
 -- After every history the format is that of the configuration.
 abbrev pub FormatStays : Type 0
 FormatStays = (c : Configuration) (k : Counts) (h : List Event) → (state_after c k h).relay.format ≡ c.format
+
+-- ---- the third format
+
+-- An event does nothing but what a refusal is: one denial, and for a Distribute-Broadcast-To-Network its negative code.
+-- No table, no route and no value of the device changes.
+pub record IsKeptOut (w : State) (e : Event) (m : Message) : Type 0 where
+  pub sends : (effects_at w e).sends ≡ map (answer_to m.here.port m.from) (refused m.frame)
+  pub asked : asks w e ≡ entry_asks w.rules w.relay m
+  pub denied : length (effects_at w e).denials ≡ 1
+  pub relay : (next w e).relay ≡ w.relay
+  pub device : (next w e).device ≡ w.device
+
+-- what a datagram brings before the policy is asked who may enter
+abbrev pub brings : State → Event → Received
+brings w e = received_before w e
+
+-- No forged claim: if the rules allow no ask to claim, an event whose NPDU names a source network that doesn't lie behind
+-- its link source does nothing but its denial.
+abbrev pub NoForgedClaim : Type 0
+NoForgedClaim =
+    (w : State) (e : Event) (m : Message) (source : Address) → w.relay.format ≡ Three → brings w e ≡ message m →
+    m.npdu.source ≡ Some source → comes_by_route w.relay m source ≡ false →
+    NoneAllowed (IsFor Claim) w.rules (asks w e) → IsKeptOut w e m
+
+-- No stranger: if they allow no ask to enter, an Original-Unicast-NPDU, an Original-Broadcast-NPDU or a Forwarded-NPDU
+-- whose link source doesn't belong to its port does nothing but its denial.
+abbrev pub NoStranger : Type 0
+NoStranger =
+    (w : State) (e : Event) (m : Message) → w.relay.format ≡ Three → brings w e ≡ message m →
+    enters m.frame ≡ true → belongs Three m.here m.link ≡ false →
+    NoneAllowed (IsFor Enter) w.rules (asks w e) → IsKeptOut w e m
+
+-- No delivery outside: every unicast that routing sends goes to an address that belongs to the port on which it is sent,
+-- to a router of the table, or, a Reject-Message-To-Network, back to the link source.
+abbrev pub NoDeliveryOutside : Type 0
+NoDeliveryOutside =
+    (w : State) (e : Event) (m : Message) → receive w e ≡ message m →
+    AllByRecursion (λ s. is_unicast s ≡ true → Reaches w.relay m s) (route_sends_for w.rules w.relay (receive w e))

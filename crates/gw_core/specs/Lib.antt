@@ -11,6 +11,7 @@ pub mod Respond
 pub mod Setting
 pub mod Examples
 pub mod FormatOne
+pub mod FormatTwo
 pub mod Laws
 pub mod Shown
 pub mod Explained

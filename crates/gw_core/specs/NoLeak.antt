@@ -1,9 +1,10 @@
 -- What an event leaves to be seen of those before it: two lists of events, of which the second leaves some out.
 use Rattle.std.specs.Prelude.{◌≡◌, ℕ, Bool, true, false, List, [], ◌∷◌, map, take, Option, Some, None, IfSome}
 use Rattle.std.specs.Prelude.{slice_get}
-use Rattle.std.specs.List.{Contains}
+use Rattle.std.specs.List.{AllByRecursion, Contains}
 use Rattle.std.specs.Option.{option_map, option_and_then}
 use Rattle.gw_addr.specs.declared.station.Source.{Source}
+use Rattle.gw_addr.specs.Address.{octets_of}
 use Rattle.gw_addr.specs.Station.{key_of}
 use Rattle.gw_audit.specs.declared.denial.Denial.{Denial}
 use Rattle.gw_device.specs.Laws.{AsksToRead, object_written}
@@ -12,7 +13,9 @@ use Rattle.gw_configuration.specs.Configuration.{Configuration}
 use Rattle.gw_relay.specs.Claim.{claimed, link_source, local_source}
 use Rattle.gw_relay.specs.Laws.{AreFrom}
 use Rattle.gw_rules.specs.Allowed.{NoChangeAllowed, NoneAllowed}
-use Rattle.gw_rules.specs.Ask.{Ask}
+use Rattle.gw_rules.specs.Ask.{Ask, IsFor, IsFrom}
+use Rattle.gw_rules.specs.Format.{names_stations}
+use Rattle.gw_rules.specs.declared.operation.Operation.TheVariants as operations
 use Rattle.gw_rules.specs.declared.rule.Rule.{Rule}
 use Rattle.gw_rules.specs.Hides.{IsHidden}
 use Rattle.gw_script.specs.Event.{Event, Datagram, Tick}
@@ -22,7 +25,7 @@ use Rattle.gw_core.specs.declared.event.Counts.{Counts}
 use Rattle.gw_core.specs.Asks.{asks}
 use Rattle.gw_core.specs.History.{history_after, run, state_after}
 use Rattle.gw_relay.specs.Message.{Message}
-use Rattle.gw_core.specs.Receive.{Received, dropped, managed, unregistered, message, receive}
+use Rattle.gw_core.specs.Receive.{Received, barred, dropped, managed, unregistered, message, receive}
 use Rattle.gw_core.specs.Reply.{apdu_for}
 use Rattle.gw_core.specs.State.{State, device_network}
 
@@ -81,6 +84,7 @@ abbrev pub object_of : Database → Received → Option Object
 object_of d dropped = None
 object_of d (managed on from frame) = None
 object_of d (unregistered m) = None
+object_of d (barred m) = None
 object_of d (message m) = option_and_then object_written (apdu_for (device_network d) m.npdu)
 
 -- an event is a WriteProperty of the object that the device takes
@@ -107,15 +111,24 @@ abbrev pub claim : Received → Option Source
 claim dropped = None
 claim (managed on from frame) = Some (local_source on.port.network from)
 claim (unregistered m) = Some m.claim
+claim (barred m) = Some m.claim
 claim (message m) = Some m.claim
 
 -- ---- the laws
 
--- A message claims what its NPDU and its frame say, and each ask that it raises is of that source.
+-- an ask is of the source that the message claims, or is one to enter, of the link source
+pub data IsOf (m : Message) (ask : Ask) : Type 0 where
+  by_claim : IsFrom m.claim.net (key_of m.claim.mac) ask → IsOf m ask
+  by_entry : IsFor operations.Enter ask → IsFrom m.here.port.network (key_of (octets_of m.link)) ask → IsOf m ask
+
+-- A message claims what its NPDU and its frame say, and each ask that it raises is of that source; but in format 3, where
+-- the policy is also asked who may enter, an ask to enter is of the link source.
 abbrev pub AsksCarryTheirClaim : Type 0
 AsksCarryTheirClaim =
     (w : State) (e : Event) (m : Message) → receive w e ≡ message m →
-    (m.claim ≡ claimed m.here.port.network (link_source m.from m.frame) m.npdu) × AreFrom m.claim (asks w e)
+    (m.claim ≡ claimed m.here.port.network (link_source m.from m.frame) m.npdu)
+    × AllByRecursion (IsOf m) (asks w e)
+    × (names_stations w.relay.format ≡ false → AreFrom m.claim (asks w e))
 
 -- Where all that is left out are writes of an object, an event is seen to do the same if it claims to come from one of
 -- those that may not read the object, whatever it asks.

@@ -2,6 +2,7 @@
 use Rattle.std.specs.Prelude.{ℕ, Bool, true, false, List, length, Option, Some, None, Ok, Err, nat_le, ◌==◌, ◌&&◌, ◌||◌}
 use Rattle.std.specs.Prelude.{not, if◌then◌else◌}
 use Rattle.std.specs.List.{list_any}
+use Rattle.std.specs.Option.{option_map_or}
 use Rattle.gw_addr.specs.declared.bip.BipAddr.{BipAddr}
 use Rattle.gw_addr.specs.declared.station.Source.{Source}
 use Rattle.gw_addr.specs.Address.{octets_of, big_endian}
@@ -15,19 +16,26 @@ use Rattle.gw_npdu.specs.Numbers.{max_len}
 use Rattle.gw_npdu.specs.Reading.{npdu_at}
 use Rattle.gw_relay.specs.Cast.{accepts, is_unregistered}
 use Rattle.gw_relay.specs.Claim.{local_source}
+use Rattle.gw_relay.specs.Entry.{admits}
 use Rattle.gw_relay.specs.Message.{Message, message_of}
-use Rattle.gw_relay.specs.State.{link_at}
+use Rattle.gw_relay.specs.State.{Relay, link_at}
 use Rattle.gw_relay.specs.declared.port.PortState.{PortState}
+use Rattle.gw_rules.specs.Ask.{Ask}
+use Rattle.gw_rules.specs.Operation.{operation_number}
+use Rattle.gw_rules.specs.declared.operation.Operation.TheVariants as operations
+use Rattle.gw_rules.specs.declared.rule.Rule.{Rule}
 use Rattle.gw_script.specs.Event.{Event}
 use Rattle.gw_script.specs.Event.{Datagram, Tick}
 use Rattle.gw_core.specs.State.{State, device_network}
 
 -- What an event is received as: nothing; a frame that manages a table of its port; a broadcast to be
--- distributed, from someone who isn't registered; or a message of the network layer that is heard.
+-- distributed, from someone who isn't registered; a message of the network layer that the policy keeps out; or one that
+-- is heard.
 pub data Received : Type 0 where
   dropped : Received
   managed : (on : PortState) (from : BipAddr) (frame : Frame) → Received
   unregistered : Message → Received
+  barred : Message → Received
   message : Message → Received
 
 -- ---- the datagram (Annex J.1)
@@ -117,27 +125,49 @@ receive_on links device number from octets = elim (link_at links number) [
   | None ↦ dropped
 ]
 
+-- ---- who may enter, and who may speak for a network
+
+-- a message is kept out if the policy denies that its sender enters, or that it claims its source
+abbrev pub admit : List Rule → Relay → Received → Received
+admit rules relay dropped = dropped
+admit rules relay (managed on from frame) = managed on from frame
+admit rules relay (unregistered m) = unregistered m
+admit rules relay (barred m) = barred m
+admit rules relay (message m) = if admits rules relay m then message m else barred m
+
 -- what an event is received as in this state
 unfoldable pub receive : State → Event → Received
 receive w (Datagram port from octets) =
-    receive_on w.relay.links (device_network w.device) port from octets
+    admit w.rules w.relay (receive_on w.relay.links (device_network w.device) port from octets)
 receive w Tick = dropped
 
 -- ---- where it comes from
 
--- the port that a datagram came on, and who it claims to come from
+-- the port that a datagram came on, whom it claims to come from, and the link source as a station of the port's network
 pub record Origin : Type 0 where
   pub port : ℕ
   pub source : Source
+  pub link : Source
 
 -- a node of the port's network
 abbrev pub node_origin : PortState → BipAddr → Origin
 node_origin on from =
-    record { port = on.port.number; source = local_source on.port.network from }
+    let source = local_source on.port.network from in
+    record { port = on.port.number; source = source; link = source }
 
 -- the origin of a message: who it claims to come from
 abbrev pub message_origin : Message → Origin
-message_origin m = record { port = m.here.port.number; source = m.claim }
+message_origin m = record {
+  port = m.here.port.number;
+  source = m.claim;
+  link = local_source m.here.port.network m.link;
+}
+
+-- whom an ask is of: to enter it is the link source, and else who the datagram claims to come from
+abbrev pub source_of : Origin → Ask → Source
+source_of from ask =
+    if option_map_or (λ number. number == operation_number operations.Enter) ask.operation false then from.link
+    else from.source
 
 -- The origin of what is received: a frame that manages a table, and an unregistered sender's, claim to come from
 -- their sender.
@@ -145,4 +175,5 @@ abbrev pub origin : Received → Option Origin
 origin dropped = None
 origin (managed on from frame) = Some (node_origin on from)
 origin (unregistered m) = Some (node_origin m.here m.from)
+origin (barred m) = Some (message_origin m)
 origin (message m) = Some (message_origin m)

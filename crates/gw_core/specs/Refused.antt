@@ -109,7 +109,7 @@ DeniedMembersAreRefused =
 abbrev pub DeniedListingsAreSilent : Type 0
 DeniedListingsAreSilent =
     (w : State) (e : Event) (ask : Ask) → Contains (asks w e) ask → IsFor operations.List ask →
-    allows w.rules ask ≡ false → serve_sends_for w.rules w.device (receive w e) ≡ []
+    allows w.rules ask ≡ false → serve_sends_for w.rules w.relay.format w.device (receive w e) ≡ []
 
 -- ---- the tables of a port (Annex J.2)
 

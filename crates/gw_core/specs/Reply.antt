@@ -7,8 +7,10 @@ use Rattle.gw_addr.specs.Station.{key_of}
 use Rattle.gw_npdu.specs.Npdu.{Fields, Address, Destination, Payload, apdu, message}
 use Rattle.gw_npdu.specs.Numbers.{every_network, max_len}
 use Rattle.gw_npdu.specs.Npdu as npdu
+use Rattle.gw_relay.specs.Asks.{sender_of}
 use Rattle.gw_relay.specs.Sends.{Sending}
 use Rattle.gw_relay.specs.Steps.{broadcast, unicast}
+use Rattle.gw_rules.specs.declared.format.Format.{Format}
 use Rattle.gw_device.specs.declared.context.Context.{Context}
 use Rattle.gw_device.specs.Response.{Answer}
 use Rattle.gw_relay.specs.Message.{Message}
@@ -93,11 +95,12 @@ max_reply_apdu network request =
     max_len - length (npdu.header (reply_npdu network request (record { apdu = []; broadcast = false })))
 
 -- where a message came from, whether it goes to more than the device, and the room for the answer
-abbrev pub context_of : ℕ → Message → Context
-context_of network m = record {
+abbrev pub context_of : Format → ℕ → Message → Context
+context_of format network m = record {
   port = m.here.port.number;
   source_network = m.claim.net;
   source_key = key_of m.claim.mac;
+  sender = sender_of format m.from;
   broadcast = goes_to_all network m.npdu.destination;
   room = max_reply_apdu network m.npdu;
 }

@@ -6,7 +6,7 @@ use Rattle.gw_rules.specs.declared.range.Range.{Range}
 use Rattle.gw_rules.specs.declared.rule.Rule.{Rule}
 use Rattle.gw_rules.specs.Rule.{rule_without_fields, with_range}
 use Rattle.gw_configuration.specs.declared.device.Device.{Device}
-use Rattle.gw_configuration.specs.declared.format.Format.TheVariants.{One}
+use Rattle.gw_rules.specs.declared.format.Format.TheVariants.{One}
 use Rattle.gw_configuration.specs.declared.object.Object.{Object}
 use Rattle.gw_configuration.specs.declared.object.ObjectValue.{ObjectValue}
 use Rattle.gw_configuration.specs.declared.object.ObjectValue.TheVariants.{BinaryValue, MultiStateValue}
@@ -19,9 +19,15 @@ use Rattle.gw_configuration.specs.Configuration.{Configuration}
 abbrev pub node : ℕ → ℕ → BipAddr
 node net host = record { ip = 192 ∷ 168 ∷ net ∷ host ∷ []; udp = 47808 }
 
--- a port on 192.168.net, whose network has that number too, and without peers
+-- a port on 192.168.net, whose network has that number too, without stations and peers
 abbrev pub port_on : ℕ → Port
-port_on net = record { network = net; address = node net 10; broadcast = node net 255; peers = [] }
+port_on net = record {
+  network = net;
+  address = node net 10;
+  broadcast = node net 255;
+  stations = [];
+  peers = [];
+}
 
 -- the device: 1234, on network 100
 abbrev pub device : Device
@@ -89,4 +95,6 @@ setting = record {
   routes = record { network = 300; port = 2; next = node 2 20 } ∷ [];
   objects = objects;
   rules = hide ∷ no_description ∷ all_else ∷ [];
+  notes = [] ∷ [] ∷ [] ∷ [];
+  sets = [];
 }

@@ -2,12 +2,14 @@
 use Rattle.std.specs.Prelude.{not, if◌then◌else◌, Option, Some, None}
 use Rattle.gw_bvll.specs.Bvll.{view as frame_view}
 use Rattle.gw_relay.specs.Cast.{accepts, is_unregistered}
+use Rattle.gw_relay.specs.Claim.{local_source}
 use Rattle.gw_relay.specs.Message.{Message, message_view}
 use Rattle.gw_core.specs.declared.denial.Origin.{Origin as CodeOrigin}
 use Rattle.gw_core.specs.declared.receive.Received.{Received as LentReceived}
 use Rattle.gw_core.specs.declared.receive.Received.TheVariants as lent
-use Rattle.gw_core.specs.Receive.{Origin, Received, message_origin, node_origin, dropped, managed, unregistered}
-use Rattle.gw_core.specs.Receive.{message}
+use Rattle.gw_core.specs.Receive.{Origin, Received, admit, message_origin, node_origin, dropped, managed}
+use Rattle.gw_core.specs.Receive.{message, unregistered}
+use Rattle.gw_core.specs.State.{State}
 
 -- A message is judged once it is passed on: it may be unheard, or an unregistered sender's.
 abbrev pub judged : Message → Received
@@ -20,6 +22,10 @@ received_view lent.Dropped = dropped
 received_view (lent.Managed m) = managed m.here.now m.from (frame_view m.frame.now)
 received_view (lent.Message m) = judged (message_view m)
 
+-- what it is received as once the policy is asked who may enter
+abbrev pub admitted_view : State → LentReceived → Received
+admitted_view w received = admit w.rules w.relay (received_view received)
+
 -- whom the code takes a datagram to come from, unjudged
 abbrev pub origin_of : LentReceived → Option Origin
 origin_of lent.Dropped = None
@@ -27,4 +33,4 @@ origin_of (lent.Managed m) = Some (node_origin m.here.now m.from)
 origin_of (lent.Message m) = Some (message_origin (message_view m))
 
 abbrev pub origin_view : CodeOrigin → Origin
-origin_view o = record { port = o.port; source = o.source }
+origin_view o = record { port = o.port; source = o.source; link = local_source o.network o.link }

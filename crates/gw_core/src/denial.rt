@@ -3,14 +3,15 @@
 ghost use Rattle.std.specs.Prelude.{◌≡◌, ◌<◌, ◌+◌, ◌^◌, [], length, IfOk, IsOk};
 ghost use Rattle.std.specs.Option.{option_map, option_map_or};
 ghost use Rattle.gw_core.specs.Denials.{default_name, denials_from, denials_of, name_at, rule_name};
+ghost use Rattle.gw_core.specs.Receive.{source_of};
 ghost use Rattle.gw_core.specs.View.{origin_of, origin_view};
 
 use crate::event::Counts;
 use crate::receive::Received;
-use gw_addr::Source;
+use gw_addr::{BipAddr, NetNum, Source};
 use gw_audit::{Denial, Denials};
 use gw_relay::local_source;
-use gw_rules::{NO_RULE, Refusal, Rule, RuleList, RuleName};
+use gw_rules::{Ask, NO_RULE, Operation, Refusal, Rule, RuleList, RuleName};
 use std::alloc::{AllocError, Global};
 
 /// The name of the rule of this number, from 1, or `default`.
@@ -50,11 +51,28 @@ fn copy_at(alloc: Global, rules: &RuleList, number: u16) -> Result<RuleName, All
     }
 }
 
-/// The port that a datagram came on, and who it claims to come from.
+/// The port that a datagram came on, who it claims to come from, and the link source.
 #[derive(Clone, Copy)]
 pub(crate) struct Origin {
     port: u8,
-    pub(crate) source: Source,
+    source: Source,
+    network: NetNum,
+    link: BipAddr,
+}
+
+impl Origin {
+    /// Whom an ask is of: an ask to enter is of the link source, and any other of whom the datagram claims
+    /// to come from.
+    pub(crate) fn source_of(&self, ask: &Ask) -> Source
+        ensures { result ≡ source_of (origin_view self.now) ask.now }
+    {
+        match ask.operation {
+            Some(number) if number == Operation::Enter.number() => {
+                local_source(self.network, self.link)
+            }
+            _ => self.source,
+        }
+    }
 }
 
 /// Where what is received comes from: a frame that manages a table, from its sender; a message, from
@@ -67,10 +85,14 @@ pub(crate) fn origin_of(received: &Received<'_>) -> Option<Origin>
         Received::Managed(message) => Some(Origin {
             port: message.here.port.number,
             source: local_source(message.here.port.network, message.from),
+            network: message.here.port.network,
+            link: message.from,
         }),
         Received::Message(message) => Some(Origin {
             port: message.here.port.number,
             source: message.claim(),
+            network: message.here.port.network,
+            link: message.link(),
         }),
     }
 }
@@ -137,7 +159,7 @@ fn denials_from(
             number: first + place as u64,
             tick: counts.ticks,
             port: from.port,
-            source: from.source,
+            source: from.source_of(&refusal.ask),
             ask: refusal.ask,
             rule,
         })?;

@@ -1,13 +1,12 @@
 //! A line for each ask of an event, allowed or denied.
 
-ghost use Rattle.std.specs.Prelude.{◌≡◌, ◌≤◌, ◌++◌, [], List, IsOk, OnOk, vec_capacity};
-ghost use Rattle.std.specs.List.{flat_map};
+ghost use Rattle.std.specs.Prelude.{◌≡◌, ◌≤◌, ◌++◌, [], IsOk, OnOk, Some, vec_capacity};
 ghost use Rattle.gw_addr.specs.Appending.{IsAppended};
 ghost use Rattle.gw_core.specs.Explained.{by_text, judged_text, verdict_text};
-ghost use Rattle.gw_core.specs.View.{origin_of};
+ghost use Rattle.gw_core.specs.View.{origin_of, origin_view};
 ghost use Rattle.gw_core.specs.internal.Verdicts.{verdict_line, verdict_lines};
 
-use crate::denial::{name_at, origin_of};
+use crate::denial::{Origin, name_at, origin_of};
 use crate::receive::Received;
 use gw_addr::{Source, put_decimal, put_octet, put_slice};
 use gw_audit::put_ask;
@@ -72,16 +71,17 @@ fn put_line(
 fn put_lines(
     out: &mut Vec<u8>,
     rules: &RuleList,
-    source: &Source,
+    from: &Origin,
     verdicts: &[Verdict],
 ) -> Result<(), AllocError>
-    ensures ok { let text = flat_map (verdict_line rules.now source.now) verdicts.now in
+    ensures ok { let text = verdict_lines rules.now (Some (origin_view from.now)) verdicts.now in
         OnOk result (out.new.items ≡ out.old.items ++ text) }
     ensures silent { verdicts.now ≡ [] → IsOk result }
     ensures capacity { vec_capacity out.old ≤ vec_capacity out.new }
 {
     for verdict in verdicts {
-        put_line(out, rules, source, verdict)?;
+        let source = from.source_of(&verdict.ask);
+        put_line(out, rules, &source, verdict)?;
     }
     Ok(())
 }
@@ -100,7 +100,7 @@ pub(crate) fn put_verdicts(
     ensures capacity { vec_capacity out.old ≤ vec_capacity out.new }
 {
     match origin_of(received) {
-        Some(from) => put_lines(out, rules, &from.source, verdicts),
+        Some(from) => put_lines(out, rules, &from, verdicts),
         None => Ok(()),
     }
 }

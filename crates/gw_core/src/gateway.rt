@@ -109,7 +109,7 @@ impl Gateway {
     ghost use Rattle.gw_core.specs.Denials.{denials_for};
     ghost use Rattle.gw_core.specs.Effects.{NeedsNoMemory, change_for, nothing, passes_end, relay_change_for, sends_for};
     ghost use Rattle.gw_core.specs.History.{IsStateAfter, IsStep, RoutesStand, TablesStand, WritesStand};
-    ghost use Rattle.gw_core.specs.View.{received_view};
+    ghost use Rattle.gw_core.specs.View.{admitted_view};
 
     /// A gateway of this configuration that goes on from these counts. The only fault is want of
     /// memory.
@@ -171,22 +171,23 @@ impl Gateway {
     #[inline(always)]
     fn outcome(&self, alloc: Global, received: &Received<'_>) -> Result<Outcome, StepFault>
         requires { self.now.denials ≤ 2 ^ 63 }
-        ensures sends { let received = received_view received.now in
+        ensures sends { let received = admitted_view self.now received.now in
             let due = sends_for self.now.rules self.now.relay self.now.device received in
             IfOk result (λ outcome. outcome.sends ≡ due) }
-        ensures denials { let due = denials_for self.now (received_view received.now) in
+        ensures denials { let due = denials_for self.now (admitted_view self.now received.now) in
             IfOk result (λ outcome. outcome.denials ≡ due) }
-        ensures change { let due = relay_change_for self.now.rules (received_view received.now) in
+        ensures change { let received = admitted_view self.now received.now in
+            let due = relay_change_for self.now.rules self.now.relay received in
             IfOk result (λ outcome. outcome.change ≡ due) }
-        ensures write { let received = received_view received.now in
-            let due = change_for self.now.rules self.now.device received in
+        ensures write { let received = admitted_view self.now received.now in
+            let due = change_for self.now.rules self.now.relay.format self.now.device received in
             IfOk result (λ outcome. outcome.write ≡ due) }
         ensures place { IfOk result (λ outcome. HasPlace self.now.device outcome.write) }
-        ensures room { let received = received_view received.now in IsOk result →
+        ensures room { let received = admitted_view self.now received.now in IsOk result →
             self.now.denials + length (denials_for self.now received) ≤ 2 ^ 63 }
-        ensures count_end { IsErrOf result StepFault.CountEnd →
-            2 ^ 63 < self.now.denials + length (denials_for self.now (received_view received.now)) }
-        ensures silent { let received = received_view received.now in
+        ensures count_end { IsErrOf result StepFault.CountEnd → 2 ^ 63
+            < self.now.denials + length (denials_for self.now (admitted_view self.now received.now)) }
+        ensures silent { let received = admitted_view self.now received.now in
             asks_for self.now.rules self.now.relay self.now.device received ≡ [] →
             sends_for self.now.rules self.now.relay self.now.device received ≡ [] → IsOk result }
     {

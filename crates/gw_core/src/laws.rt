@@ -3,11 +3,12 @@
 ghost use Rattle.std.specs.Prelude.{◌≡◌};
 ghost use Rattle.gw_core.specs.Examples.{AllArePlaced, BroadcastIsDistributed, CountsEnd, DeniedSetIsRefused, DeniedTableIsRefused, DeniedWriteIsUnseen, DenialsAreCountedOn, EachCutIsDropped, GlobalWhoIsGoesOn, HiddenObjectIsUntold, HiddenReadIsDenied, HiddenWriteIsUnseen, HidingIsSeen, LearnedRouteIsTaken, LocalReadIsUnheard, ReadIsAnswered, RegistrationEnds, RelinquishIsSeen, RoutedReadIsAnswered, UnknownNetworkIsSought, UnknownObjectIsTold, WhoIsIsAnswered, WriteIsSeen, WrongLengthsAreDropped};
 ghost use Rattle.gw_core.specs.NoLeak.{AsksCarryTheirClaim, QuietIsUnseen, WritesAreHidden, WritesAreUnread};
-ghost use Rattle.gw_core.specs.Laws.{ActsLeaveTheTables, AllowedTrafficIsSent, ConfigurationStays, DeniedAsksAreLogged, DeniedBroadcastsAreKept, DeniedLinesAreLogged, DeniedReadsAreRefused, DeniedWritesAreRefused, DenialsAreCounted, DenialsHaveTheirTick, DroppedNeedsNoMemory, FormatOneIsAsBefore, FormatOneRunsAsBefore, FormatStays, FormatWasUnread, LearningsLeaveTheRoutes, LogIsNumbered, NothingAskedIsChanged, NothingAskedIsLogged, NothingAskedIsWritten, PortsStay, RelayTicksAreCounted, RunsAreTold, RunsExtendHistories, StepsExtendHistories, TicksAreCounted, TicksOnlyCount, WritesLeaveTheSlots};
+ghost use Rattle.gw_core.specs.Laws.{ActsLeaveTheTables, AllowedTrafficIsSent, ConfigurationStays, DeniedAsksAreLogged, DeniedBroadcastsAreKept, DeniedLinesAreLogged, DeniedReadsAreRefused, DeniedWritesAreRefused, DenialsAreCounted, DenialsHaveTheirTick, DroppedNeedsNoMemory, FormatOneIsAsBefore, FormatOneRunsAsBefore, FormatStays, FormatTwoIsAsBefore, FormatTwoRunsAsBefore, FormatWasUnread, NoDeliveryOutside, NoForgedClaim, NoStranger, LearningsLeaveTheRoutes, LogIsNumbered, NothingAskedIsChanged, NothingAskedIsLogged, NothingAskedIsWritten, PortsStay, RelayTicksAreCounted, RunsAreTold, RunsExtendHistories, StepsExtendHistories, TicksAreCounted, TicksOnlyCount, WritesLeaveTheSlots};
 ghost use Rattle.gw_core.specs.Refused.{DeniedListingsAreSilent, DeniedManagementIsRefused, DeniedMembersAreRefused, DeniedPropertiesAreRefused, OthersAreAnswered, RepliesAreTheirParts};
 ghost use Rattle.gw_core.specs.Served.{StopsAreServed, TurnsAreServed};
 
 use crate::wire::RECEIVE_ROOM;
+use gw_relay::laws::{delivery, entry};
 
 /// A datagram is received to 1508 octets, one more than the longest that is heard.
 pub fn limits()
@@ -57,13 +58,29 @@ pub fn refusals()
 {}
 
 /// What the format of a policy changes. Under a configuration of the first format every list of events asks and does
-/// what a definition without formats says, and leaves its state; and no event changes the format of the configuration.
+/// what a definition without formats says, and leaves its state; under the first or the second, what a definition
+/// without the third says; and no event changes the format of the configuration.
 pub fn formats()
     ensures first { FormatOneIsAsBefore }
     ensures runs { FormatOneRunsAsBefore }
     ensures unread { FormatWasUnread }
+    ensures second { FormatTwoIsAsBefore }
+    ensures second_runs { FormatTwoRunsAsBefore }
     ensures stays { FormatStays }
 {}
+
+/// What the third format keeps out. If the rules allow nobody to claim, whoever names a source network that doesn't
+/// lie behind him does nothing but be denied; if they allow nobody to enter, so does whoever doesn't belong to the
+/// port that he reaches. And what is routed as a unicast stays inside: it goes to a station of the port on which it is
+/// sent, to a router of the table, or, as a Reject-Message-To-Network, back to where the message came from.
+pub fn stations()
+    ensures claims { NoForgedClaim }
+    ensures strangers { NoStranger }
+    ensures inside { NoDeliveryOutside }
+{
+    entry();
+    delivery();
+}
 
 /// What a gateway counts, whatever it is configured with and whatever comes.
 pub fn counts()

@@ -18,7 +18,8 @@ ghost use Rattle.gw_relay.specs.Message.{message_view};
 use gw_addr::NetNum;
 use gw_device::{Answer, Context, HEADER_ROOM};
 use gw_npdu::{AddressRef, Control, Destination, Npdu, Payload, Priority};
-use gw_relay::{Batch, Message, Sends};
+use gw_relay::{Batch, Message, Sends, sender_of};
+use gw_rules::Format;
 use std::alloc::{AllocError, Global};
 
 /// The one station of the device's network.
@@ -128,14 +129,15 @@ fn max_reply_apdu(network: NetNum, request: &Npdu<'_>) -> usize
 }
 
 /// What the device is told of a message.
-pub fn context_of(network: NetNum, message: &Message<'_>) -> Context
-    ensures context { result ≡ context_of network (message_view message.now) }
+pub fn context_of(format: Format, network: NetNum, message: &Message<'_>) -> Context
+    ensures context { result ≡ context_of format network (message_view message.now) }
     ensures room { max_len ≤ result.room + max_header_len }
 {
     Context {
         port: message.here.port.number,
         source_network: message.source_network(),
         source_key: message.source_key(),
+        sender: sender_of(format, message.from),
         broadcast: goes_to_all(network, &message.npdu.destination),
         room: max_reply_apdu(network, message.npdu),
     }

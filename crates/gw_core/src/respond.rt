@@ -12,7 +12,8 @@ ghost use Rattle.gw_relay.specs.Message.{message_view};
 ghost use Rattle.gw_relay.specs.Turn.{IsWalked};
 ghost use Rattle.gw_core.specs.Asks.{asks_for, message_asks};
 ghost use Rattle.gw_core.specs.Effects.{message_change, message_sends, sends_for};
-ghost use Rattle.gw_core.specs.Respond.{IsResponse, is_apdu, is_plain, message_response, passed_asks, passed_response};
+ghost use Rattle.gw_core.specs.Receive.{admit};
+ghost use Rattle.gw_core.specs.Respond.{IsResponse, entered_response, is_taken, is_apdu, is_plain, message_response, passed_asks, passed_response};
 ghost use Rattle.gw_core.specs.State.{device_network};
 ghost use Rattle.gw_core.specs.View.{judged, received_view};
 
@@ -23,7 +24,7 @@ use gw_bvll::Bvll;
 use gw_device::{Change, Device, Served};
 use gw_npdu::Payload;
 use gw_relay::{Message, Relay, Turn};
-use gw_rules::Asker;
+use gw_rules::{Asker, Format};
 use std::alloc::AllocError;
 
 /// The device's network.
@@ -118,35 +119,64 @@ fn add_passed<A: Asker>(
     add_each_way(relay, message, turn)
 }
 
+/// Adds what is asked before a message is taken that goes on to the network layer: whether its station may
+/// enter, and whether it may speak for a network. It answers whether the policy doesn't keep it out. Only a format that
+/// names stations asks.
+#[inline(always)]
+fn add_entry<A: Asker>(
+    relay: &Relay,
+    message: &Message<'_>,
+    turn: &mut Turn<A>,
+) -> Result<bool, AllocError>
+    ensures walked { (rules : List Rule) → A.StandsFor turn.old.asker rules →
+        let due = entered_response rules relay.now (message_view message.now) in
+        OnOk result (IsWalked A.kept A.kept_of rules due turn.old turn.new) }
+    ensures stays { (rules : List Rule) →
+        A.StandsFor turn.old.asker rules → A.StandsFor turn.new.asker rules }
+    ensures taken { (rules : List Rule) → A.StandsFor turn.old.asker rules →
+        let due = is_taken rules relay.now (message_view message.now) in
+        IfOk result (λ taken. taken ≡ due) }
+    ensures silent { (rules : List Rule) → A.StandsFor turn.old.asker rules →
+        (entered_response rules relay.now (message_view message.now)).asks ≡ [] → IsOk result }
+{
+    if relay.format().names_stations() && message.here.goes_on(message.from, message.frame) {
+        relay.add_entry(message, turn)
+    } else {
+        Ok(true)
+    }
+}
+
 /// Adds what the device does about a message (step 10), and answers the write that is granted, if there is
 /// one.
 fn add_served<A: Asker>(
+    format: Format,
     device: &Device,
     message: &Message<'_>,
     turn: &mut Turn<A>,
 ) -> Result<Option<Change>, AllocError>
     ensures walked { (rules : List Rule) → A.StandsFor turn.old.asker rules →
-        let due = message_response rules device.now (message_view message.now) in
+        let due = message_response rules format device.now (message_view message.now) in
         OnOk result (IsWalked A.kept A.kept_of rules due turn.old turn.new) }
     ensures write { (rules : List Rule) → A.StandsFor turn.old.asker rules →
-        let due = message_change rules device.now (message_view message.now) in
+        let due = message_change rules format device.now (message_view message.now) in
         IfOk result (λ write. write ≡ due) }
     ensures place { IfOk result (λ write. HasPlace device.now write) }
     ensures silent { (rules : List Rule) → A.StandsFor turn.old.asker rules →
         let m = message_view message.now in
-        message_asks rules device.now m ≡ [] → message_sends rules device.now m ≡ [] → IsOk result }
+        message_asks rules format device.now m ≡ [] → message_sends rules format device.now m ≡ [] →
+        IsOk result }
 {
     let network = network_of(device);
     let Some(apdu) = apdu_for(network, message.npdu) else {
         return Ok(None);
     };
-    let context = context_of(network, message);
+    let context = context_of(format, network, message);
     let Served { answer, change } = device.serve(&context, apdu, &mut turn.asker)?;
     add_answer(network, message, answer, &mut turn.sends)?;
     Ok(change)
 }
 
-/// Adds what is done about a message (steps 4 and 6 to 10), and answers the write to the device that is granted, if
+/// Adds what is done about a message (steps 4 to 10), and answers the write to the device that is granted, if
 /// there is one.
 #[inline(always)]
 fn add_message<A: Asker>(
@@ -156,18 +186,22 @@ fn add_message<A: Asker>(
     turn: &mut Turn<A>,
 ) -> Result<Option<Change>, AllocError>
     ensures response { (rules : List Rule) → A.StandsFor turn.old.asker rules →
-        let due = judged (message_view message.now) in
+        let due = admit rules relay.now (judged (message_view message.now)) in
         IfOk result (IsResponse A.kept A.kept_of rules relay.now device.now due turn.old turn.new) }
     ensures silent { (rules : List Rule) → A.StandsFor turn.old.asker rules →
-        let due = judged (message_view message.now) in
+        let due = admit rules relay.now (judged (message_view message.now)) in
         asks_for rules relay.now device.now due ≡ [] →
         sends_for rules relay.now device.now due ≡ [] → IsOk result }
 {
+    let taken = add_entry(relay, message, turn)?;
+    if !taken {
+        return Ok(None);
+    }
     let goes_on = add_passed(relay, message, turn)?;
     if !goes_on {
         return Ok(None);
     }
-    let write = add_served(device, message, turn)?;
+    let write = add_served(relay.format(), device, message, turn)?;
     Ok(write)
 }
 
@@ -182,10 +216,10 @@ pub(crate) fn respond<A: Asker>(
     turn: &mut Turn<A>,
 ) -> Result<Option<Change>, AllocError>
     ensures response { (rules : List Rule) → A.StandsFor turn.old.asker rules →
-        let due = received_view received.now in
+        let due = admit rules relay.now (received_view received.now) in
         IfOk result (IsResponse A.kept A.kept_of rules relay.now device.now due turn.old turn.new) }
     ensures silent { (rules : List Rule) → A.StandsFor turn.old.asker rules →
-        let due = received_view received.now in
+        let due = admit rules relay.now (received_view received.now) in
         asks_for rules relay.now device.now due ≡ [] →
         sends_for rules relay.now device.now due ≡ [] → IsOk result }
 {

@@ -37,7 +37,7 @@ use Rattle.gw_device.specs.declared.context.Context.{Context}
 use Rattle.gw_device.specs.Asks.{named_object}
 use Rattle.gw_device.specs.Device.{apdu_response, confirmed_response, device_response, header_response, or_reject, or_silence, service_response}
 use Rattle.gw_device.specs.Errors.{write_denied}
-use Rattle.gw_device.specs.Laws.{AsksHaveTheirSource, ChangesAreAllowed, ChangesAreInPlace, ChangesRestOnRequests, apdu_writes, body_writes, header_writes}
+use Rattle.gw_device.specs.Laws.{AsksHaveTheirSender, AsksHaveTheirSource, IsSentBy, ChangesAreAllowed, ChangesAreInPlace, ChangesRestOnRequests, apdu_writes, body_writes, header_writes}
 use Rattle.gw_device.specs.Multi.{Part, members_part, multi_ask, multi_part, multi_response, named_part, properties_part, reference_part}
 use Rattle.gw_device.specs.Read.{read_response}
 use Rattle.gw_device.specs.Response.{Response}
@@ -234,14 +234,19 @@ still_device rules d context octets = still_apdu rules d context (apdu_at octets
 
 -- ---- whose asks
 
--- each ask is of the source of the context
-abbrev FromIt : Context → List Ask → Type 0
-FromIt context asks = AllByRecursion (IsFrom context.source_network context.source_key) asks
+-- an ask that says what the context tells
+record Tells (context : Context) (ask : Ask) : Type 0 where
+  source : IsFrom context.source_network context.source_key ask
+  sender : IsSentBy context.sender ask
 
--- an ask that says so
+-- each ask does
+abbrev FromIt : Context → List Ask → Type 0
+FromIt context asks = AllByRecursion (Tells context) asks
+
 said : (context : Context) (ask : Ask) → ask.source_network ≡ Some context.source_network → ask.source_key ≡ context.source_key
-    → IsFrom context.source_network context.source_key ask
-said context ask net key = record { source_network = net; source_key = key }
+    → ask.sender ≡ context.sender → ask.station ≡ None → Tells context ask
+said context ask net key sender station =
+    record { source = record { source_network = net; source_key = key }; sender = record { sender = sender; station = station } }
 
 from_if : (context : Context) (b : Bool) (x y : Response) → FromIt context x.asks → FromIt context y.asks → FromIt context (if b then x else y).asks
 from_if context true x y f g = f
@@ -259,7 +264,7 @@ from_silenced context respond (Err fault) each = tt
 
 from_properties : (rules : List Rule) (d : Database) (context : Context) (object : Object) (ps : List Property) → FromIt context (properties_part rules d context object ps).asks
 from_properties rules d context object [] = tt
-from_properties rules d context object (p ∷ ps) = (said context _ refl refl, from_properties rules d context object ps)
+from_properties rules d context object (p ∷ ps) = (said context _ refl refl refl refl, from_properties rules d context object ps)
 
 from_members : (rules : List Rule) (d : Database) (context : Context) (object : Object) (p : ℕ) (set : PropertySet) (kind : Option ObjectType)
     → FromIt context (members_part rules d context object p set kind).asks
@@ -272,15 +277,15 @@ from_part_if context false x y f g = g
 
 from_named : (rules : List Rule) (d : Database) (context : Context) (object : Object) (p : ℕ) (index : Option ℕ) (set : Option PropertySet)
     → FromIt context (named_part rules d context object p index set).asks
-from_named rules d context object p index None = (said context _ refl refl, tt)
+from_named rules d context object p index None = (said context _ refl refl refl refl, tt)
 from_named rules d context object p index (Some set) =
     from_part_if context (allows rules (multi_ask d context object p)) _ _
-    (said context _ refl refl, from_members rules d context object p set (type_at d.configured object)) (said context _ refl refl, tt)
+    (said context _ refl refl refl refl, from_members rules d context object p set (type_at d.configured object)) (said context _ refl refl refl refl, tt)
 
 from_multi : (rules : List Rule) (d : Database) (context : Context) (rs : List Reference) → FromIt context (multi_part rules d context rs).asks
 from_multi rules d context [] = tt
 from_multi rules d context (r ∷ rs) =
-    each_both (IsFrom context.source_network context.source_key) (reference_part rules d context r (list_ends rs)).asks (multi_part rules d context rs).asks
+    each_both (Tells context) (reference_part rules d context r (list_ends rs)).asks (multi_part rules d context rs).asks
     (from_named rules d context (named_object d.configured r.object) r.property r.index (set_of r.property))
     (from_multi rules d context rs)
 
@@ -288,15 +293,15 @@ from_service : (rules : List Rule) (d : Database) (context : Context) (request :
     → FromIt context (service_response rules d context request body).asks
 from_service rules d context request body =
     from_if context (request.service == read_property) _ _
-    (from_reject context request.invoke (read_response rules d context request) (read_at body) (λ read. (said context _ refl refl, tt)))
+    (from_reject context request.invoke (read_response rules d context request) (read_at body) (λ read. (said context _ refl refl refl refl, tt)))
     (from_if context (request.service == read_property_multiple) _ _
     (from_reject context request.invoke (multi_response rules d context request) (multi_at body) (from_multi rules d context))
     (from_if context (request.service == write_property) _ _
-    (from_reject context request.invoke (write_response rules d context request.invoke) (write_at body) (λ write. (said context _ refl refl, tt))) tt))
+    (from_reject context request.invoke (write_response rules d context request.invoke) (write_at body) (λ write. (said context _ refl refl refl refl, tt))) tt))
 
 from_object : (rules : List Rule) (d : Database) (context : Context) (sought : Option Object) → FromIt context (object_response rules d context sought).asks
 from_object rules d context None = tt
-from_object rules d context (Some object) = (said context _ refl refl, tt)
+from_object rules d context (Some object) = (said context _ refl refl refl refl, tt)
 
 from_header : (rules : List Rule) (d : Database) (context : Context) (by : Header) (body : List ℕ) → FromIt context (header_response rules d context by body).asks
 from_header rules d context (header.ConfirmedRequest request) body =
@@ -306,7 +311,7 @@ from_header rules d context (header.UnconfirmedRequest service) body =
     (λ request. from_if context (is_within request.limits d.configured.device.instance) _ _
     (from_object rules d context (sought_object d.configured request.sought)) tt))
     (from_if context (service == who_is) _ _ (from_silenced context (who_is_response rules d context) (who_is_at body)
-    (λ request. from_if context (is_within request.limits d.configured.device.instance) _ _ (said context _ refl refl, tt) tt)) tt)
+    (λ request. from_if context (is_within request.limits d.configured.device.instance) _ _ (said context _ refl refl refl refl, tt) tt)) tt)
 from_header rules d context (header.SimpleAck invoke service) body = tt
 from_header rules d context (header.ComplexAck segment invoke service) body = tt
 from_header rules d context (header.SegmentAck invoke sequence window) body = tt
@@ -317,6 +322,14 @@ from_header rules d context (header.Abort invoke reason) body = tt
 from_apdu : (rules : List Rule) (d : Database) (context : Context) (x : Result Apdu ApduFault) → FromIt context (apdu_response rules d context x).asks
 from_apdu rules d context (Ok x) = from_header rules d context x.header x.rest
 from_apdu rules d context (Err fault) = tt
+
+sources : (context : Context) (asks : List Ask) → FromIt context asks → AllByRecursion (IsFrom context.source_network context.source_key) asks
+sources context [] _ = tt
+sources context (ask ∷ asks) told = (told.0.source, sources context asks told.1)
+
+senders : (context : Context) (asks : List Ask) → FromIt context asks → AllByRecursion (IsSentBy context.sender) asks
+senders context [] _ = tt
+senders context (ask ∷ asks) told = (told.0.sender, senders context asks told.1)
 
 -- ---- the laws
 
@@ -330,4 +343,7 @@ pub changes_are_allowed : ChangesAreAllowed
 changes_are_allowed rules d context octets h = still_device rules d context octets h
 
 pub asks_have_their_source : AsksHaveTheirSource
-asks_have_their_source rules d context octets = from_apdu rules d context (apdu_at octets)
+asks_have_their_source rules d context octets = sources context _ (from_apdu rules d context (apdu_at octets))
+
+pub asks_have_their_sender : AsksHaveTheirSender
+asks_have_their_sender rules d context octets = senders context _ (from_apdu rules d context (apdu_at octets))

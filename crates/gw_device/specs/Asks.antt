@@ -11,8 +11,8 @@ use Rattle.gw_rules.specs.Service.{service_number}
 use Rattle.gw_tags.specs.Object.{Object}
 use Rattle.gw_device.specs.declared.context.Context.{Context}
 
--- what a request asks for: whence it came, the device's network, its service, and the property of
--- an object
+-- what a request asks for: whence it came, the device's network, its service, the property of an object, and the
+-- sender if the context tells one
 abbrev pub property_ask : Operation → Service → Configured → Context → Object → ℕ → Ask
 property_ask operation service c context object property = record (ask_of operation) {
   port = Some context.port;
@@ -23,6 +23,7 @@ property_ask operation service c context object property = record (ask_of operat
   object_type = Some object.kind;
   instance = Some object.instance;
   property = Some property;
+  sender = context.sender;
 }
 
 -- the instance by which a read names the device itself, whatever its instance (clause 12.11)

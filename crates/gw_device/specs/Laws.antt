@@ -100,3 +100,14 @@ abbrev pub AsksHaveTheirSource : Type 0
 AsksHaveTheirSource =
     (rules : List Rule) (d : Database) (context : Context) (octets : List ℕ) →
     AllByRecursion (IsFrom context.source_network context.source_key) (device_asks rules d context octets)
+
+-- an ask whose sender has this key, or that has none, and that names no station
+pub record IsSentBy (key : Option ℕ) (ask : Ask) : Type 0 where
+  pub sender : ask.sender ≡ key
+  pub station : ask.station ≡ None
+
+-- Every ask of the device has the sender that its context tells, and no station.
+abbrev pub AsksHaveTheirSender : Type 0
+AsksHaveTheirSender =
+    (rules : List Rule) (d : Database) (context : Context) (octets : List ℕ) →
+    AllByRecursion (IsSentBy context.sender) (device_asks rules d context octets)

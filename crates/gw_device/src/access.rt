@@ -45,6 +45,7 @@ impl Access<'_> {
             object_type: Some(u64::from(object.kind)),
             instance: Some(u64::from(object.instance)),
             property: Some(u64::from(property)),
+            sender: context.sender,
             ..Ask::new(operation)
         }
     }

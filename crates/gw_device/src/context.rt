@@ -9,6 +9,8 @@ pub struct Context {
     pub source_key: Option<u64>,
     /// The network that it claims to come from.
     pub source_network: u16,
+    /// The key of the station whose datagram it is, in format 3; in formats 1 and 2 there is none.
+    pub sender: Option<u64>,
     /// The number of the port that it came on, from 1.
     pub port: u8,
     /// Whether it went to more than this device.

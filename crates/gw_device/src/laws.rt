@@ -1,7 +1,7 @@
 //! What holds of everything that the device does. The functions do nothing: their contracts are the
 //! laws.
 
-ghost use Rattle.gw_device.specs.Laws.{AsksHaveTheirSource, ChangesAreAllowed, ChangesAreInPlace, ChangesCanBeMade, ChangesRestOnRequests, UnreadIsUnseen};
+ghost use Rattle.gw_device.specs.Laws.{AsksHaveTheirSender, AsksHaveTheirSource, ChangesAreAllowed, ChangesAreInPlace, ChangesCanBeMade, ChangesRestOnRequests, UnreadIsUnseen};
 
 /// What the device does about an APDU doesn't rest on the slots and the default of an object, where
 /// no ask of that APDU to read the object is allowed. Two standings that differ in that object
@@ -20,7 +20,8 @@ pub fn changes()
     ensures acts { ChangesCanBeMade }
 {}
 
-/// Every ask has the source of the APDU's context.
+/// Every ask has the source and the sender of the APDU's context, and names no station.
 pub fn asks()
-    ensures { AsksHaveTheirSource }
+    ensures source { AsksHaveTheirSource }
+    ensures sender { AsksHaveTheirSender }
 {}

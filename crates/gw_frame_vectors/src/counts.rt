@@ -8,7 +8,7 @@ use std::io;
 use std::io::{ErrorKind, Write};
 
 /// What is made of rules, if they can be.
-fn made<T: Drop>(made: Result<T, RuleFault>) -> io::Result<T> {
+pub fn made<T: Drop>(made: Result<T, RuleFault>) -> io::Result<T> {
     match made {
         Ok(made) => Ok(made),
         Err(RuleFault::Memory) => Err(ErrorKind::OutOfMemory.into()),
@@ -54,17 +54,22 @@ fn put_rule(rule: Option<u16>, out: &mut Vec<u8>) -> io::Result<()> {
 pub fn counts(alloc: Global, case: &str, out: &mut Vec<u8>) -> io::Result<()> {
     let (rules, key) = wanted(case.split_once("; "))?;
     let rules = rule_list(alloc, rules)?;
-    let index = RuleIndex::build(alloc, &rules)?;
     let ask = Ask {
         source_key: number_or_none(Some(key))?,
         ..Ask::new(Operation::Read)
     };
-    put_rule(rules.first(&ask), out)?;
+    put_counts(alloc, &rules, &ask, out)
+}
+
+/// Appends the first rule by the list, the first rule by the index, and how much work the index took.
+pub fn put_counts(alloc: Global, rules: &RuleList, ask: &Ask, out: &mut Vec<u8>) -> io::Result<()> {
+    let index = RuleIndex::build(alloc, rules)?;
+    put_rule(rules.first(ask), out)?;
     let Counted {
         rule,
         comparisons,
         ands,
-    } = index.first_counted(&ask);
+    } = index.first_counted(ask);
     write!(out, ", ")?;
     put_rule(rule, out)?;
     write!(out, " by {comparisons} comparisons and {ands} ANDs")

@@ -8,7 +8,16 @@ use std::alloc::Global;
 use std::io;
 use std::io::ErrorKind;
 
-/// The ask of an operation, a destination, a service, an object's type and instance, a property and a priority.
+/// A number, or none for `-` and where there is no word.
+fn number_if_any(word: Option<&str>) -> io::Result<Option<u64>> {
+    match word {
+        None => Ok(None),
+        _ => number_or_none(word),
+    }
+}
+
+/// The ask of an operation, a destination, a service, an object's type and instance, a property and a priority, and of a sender and a
+/// station if there are such.
 fn ask(fields: &str) -> io::Result<Ask> {
     let mut words = fields.split(' ');
     Ok(Ask {
@@ -19,6 +28,8 @@ fn ask(fields: &str) -> io::Result<Ask> {
         instance: number_or_none(words.next())?,
         property: number_or_none(words.next())?,
         priority: number_or_none(words.next())?,
+        sender: number_if_any(words.next())?,
+        station: number_if_any(words.next())?,
         ..Ask::new(Operation::Cast)
     })
 }

@@ -24,7 +24,14 @@ fn put_fields(ask: &ShownAsk, out: &mut Vec<u8>) -> io::Result<()> {
     put_field(ask.object_type, out)?;
     put_field(ask.instance, out)?;
     put_field(ask.property, out)?;
-    put_field(ask.priority, out)
+    put_field(ask.priority, out)?;
+    match &ask.stations {
+        Some(stations) => {
+            put_field(Some(stations.sender), out)?;
+            put_field(stations.station, out)
+        }
+        None => Ok(()),
+    }
 }
 
 /// Appends a port, a network and a station.
@@ -34,7 +41,7 @@ fn put_source(alloc: Global, port: u8, source: &Source, out: &mut Vec<u8>) -> io
     put_octets(alloc, source.mac.as_slice(), out)
 }
 
-/// What a line tells, as a case of `audit` is written; of eight words alone without the number, the tick and the rule; or
+/// What a line tells, as a case of `audit` is written; of the words of an ask alone without the number, the tick and the rule; or
 /// `no line`.
 pub fn line(alloc: Global, case: &str, out: &mut Vec<u8>) -> io::Result<()> {
     let Some(ask) = read_ask(case.as_bytes()) else {

@@ -8,6 +8,7 @@ mod counts;
 mod denials;
 mod frames;
 mod logs;
+mod rules;
 mod texts;
 mod values;
 
@@ -38,6 +39,10 @@ impl Kinds for FrameKinds {
             "told" => logs::told(alloc, line, out),
             "since" => logs::since(alloc, line, out),
             "counts" => counts::counts(alloc, line, out),
+            "rules" => rules::rules(alloc, line, out),
+            "limits" => rules::limits(alloc, line, out),
+            "bounds" => rules::bounds(alloc, line, out),
+            "operations" => rules::operation(line, out),
             _ => Err(ErrorKind::InvalidData.into()),
         }
     }

@@ -1,3 +1,4 @@
 pub mod Appending
 pub mod Found
+pub mod Passing
 pub mod Taking

@@ -1,10 +1,11 @@
 -- Notes on rules that may not mean what they say. Each says when it is made; none is a theorem about the gateway.
-use Rattle.std.specs.Prelude.{ℕ, Bool, not, ◌&&◌, ◌||◌, ◌==◌, nat_lt, if◌then◌else◌, List, [], ◌∷◌, ◌++◌, length, find}
-use Rattle.std.specs.Prelude.{codes, decimal}
+use Rattle.std.specs.Prelude.{ℕ, ◌+◌, Bool, not, ◌&&◌, ◌||◌, ◌==◌, nat_lt, if◌then◌else◌, List, [], ◌∷◌, ◌++◌, length, find}
+use Rattle.std.specs.Prelude.{codes, decimal, position}
 use Rattle.std.specs.List.{filter, flat_map, list_any}
 use Rattle.std.specs.Option.{is_some, option_map_or}
 use Rattle.gw_configuration.specs.Configuration.{Configuration}
 use Rattle.gw_configuration.specs.declared.port.Port.{Port}
+use Rattle.gw_rules.specs.Format.{names_stations}
 use Rattle.gw_rules.specs.Rule.{ranges_of}
 use Rattle.gw_rules.specs.declared.field.FieldName.{FieldName}
 use Rattle.gw_rules.specs.declared.field.TheConstants.FieldName.{ALL}
@@ -12,9 +13,11 @@ use Rattle.gw_rules.specs.declared.range.Range.{Range}
 use Rattle.gw_rules.specs.declared.rule.Rule.{Rule}
 use Rattle.gw_shapes.specs.Meeting.{overlaps}
 use Rattle.gw_script.specs.Order.{in_order}
-use Rattle.gw_lint.specs.Passage.{answers, is_routed, is_unnamed, opener, opens_beyond, requests}
+use Rattle.gw_lint.specs.Passage.{answers, is_cast, is_routed, is_unnamed, opener, opens_beyond, requests}
 use Rattle.gw_shapes.specs.Shape.{Shape}
 use Rattle.gw_lint.specs.Text.{key_of, rule_text}
+use Rattle.gw_lint.specs.Trust.{ending_words, is_open_end, is_open_for, is_source_alone, is_source_network_alone}
+use Rattle.gw_lint.specs.Trust.{port_words, reach_words, source_words}
 
 -- `note: rule <number> <name>: look at <words>` and a line feed
 abbrev pub head_text : List Rule → ℕ → List ℕ
@@ -84,22 +87,68 @@ answer_words one other =
     ++ codes " may pass, their answers (services 1026 to 1031) may not"
 
 -- for two ports, where requests may pass from the network of one to that of the other, and no answer may pass back
-abbrev pub answer_note : List Rule → ℕ → Port → ℕ → Port → List ℕ
-answer_note rules number port other_number other =
-    if (port.network == other.network) || is_some (opener rules (answers other_number other port.network)) then []
-    else option_map_or (λ by. note_text rules by (answer_words port.network other.network))
-    (opener rules (requests number port other.network)) []
+abbrev pub answer_note : Configuration → ℕ → Port → ℕ → Port → List ℕ
+answer_note c number port other_number other =
+    if (port.network == other.network) || is_some (opener c.rules (answers c.format other_number other port.network))
+    then []
+    else option_map_or (λ by. note_text c.rules by (answer_words port.network other.network))
+    (opener c.rules (requests c.format number port other.network)) []
 
 abbrev pub answer_notes : Configuration → ℕ → Port → List ℕ
-answer_notes c number port = in_order (answer_note c.rules number port) 1 c.ports
+answer_notes c number port = in_order (answer_note c number port) 1 c.ports
+
+-- ---- what anyone may say (`Trust.antt`)
+
+-- a source without its network or a sender
+abbrev pub source_note : Configuration → ℕ → Rule → List ℕ
+source_note c number rule =
+    if is_source_alone rule then note_text c.rules number (source_words c.format) else []
+
+-- a source network without a source or a sender: in formats 1 and 2 anyone may be of that; in format 3 where it is
+-- that of a port without stations, the first of which is told
+abbrev pub reached_note : Configuration → ℕ → List Range → List ℕ
+reached_note c number ranges =
+    if names_stations c.format
+    then option_map_or (λ place. note_text c.rules number (port_words (place + 1)))
+    (position (is_open_for ranges) c.ports) []
+    else note_text c.rules number reach_words
+
+abbrev pub reach_note : Configuration → ℕ → Rule → List ℕ
+reach_note c number rule =
+    if is_source_network_alone rule then reached_note c number rule.ranges.source_network else []
+
+-- the last rule without fields
+abbrev pub ending_note : Configuration → ℕ → Rule → List ℕ
+ending_note c number rule =
+    if is_open_end c.rules number rule then note_text c.rules number (ending_words c.format) else []
+
+abbrev pub trust_notes : Configuration → ℕ → Rule → List ℕ
+trust_notes c number rule = source_note c number rule ++ reach_note c number rule ++ ending_note c number rule
+
+-- ---- broadcasts
+
+-- one of the broadcasts of these shapes may pass
+abbrev pub lets_broadcasts : List Shape → List Rule → Bool
+lets_broadcasts shapes rules = list_any (λ shape. is_cast shape && is_some (opener rules shape)) shapes
+
+-- where no rule allows them
+abbrev pub cast_note : List Shape → Configuration → List ℕ
+cast_note shapes c =
+    if lets_broadcasts shapes c.rules then []
+    else codes "note: look at cast: no rule allows it, so no broadcast reaches a peer or a foreign device" ++ 10 ∷ []
 
 -- ---- all of them
 
--- those of a rule
-abbrev pub rule_notes : List Shape → Configuration → ℕ → Rule → List ℕ
-rule_notes shapes c number rule =
+-- on what a rule may not match as it reads
+abbrev pub field_notes : List Shape → Configuration → ℕ → Rule → List ℕ
+field_notes shapes c number rule =
     network_note c number rule ++ overlap_notes c.rules number rule ++ object_note shapes c number
 
--- rule by rule, and then port by port, over the shapes of the configuration
+-- those of a rule
+abbrev pub rule_notes : List Shape → Configuration → ℕ → Rule → List ℕ
+rule_notes shapes c number rule = field_notes shapes c number rule ++ trust_notes c number rule
+
+-- rule by rule, then port by port, and then that on broadcasts, over the shapes of the configuration
 abbrev pub notes_text : List Shape → Configuration → List ℕ
-notes_text shapes c = in_order (rule_notes shapes c) 1 c.rules ++ in_order (answer_notes c) 1 c.ports
+notes_text shapes c =
+    in_order (rule_notes shapes c) 1 c.rules ++ in_order (answer_notes c) 1 c.ports ++ cast_note shapes c

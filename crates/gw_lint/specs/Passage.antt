@@ -5,15 +5,17 @@ use Rattle.std.specs.Option.{option_map, option_map_or}
 use Rattle.gw_configuration.specs.declared.port.Port.{Port}
 use Rattle.gw_rules.specs.Fields.{value_of}
 use Rattle.gw_rules.specs.Operation.{operation_number}
+use Rattle.gw_rules.specs.Range.{holds}
 use Rattle.gw_rules.specs.Rule.{each_field, ranges_of}
 use Rattle.gw_rules.specs.RuleList.{allows_at}
+use Rattle.gw_rules.specs.declared.format.Format.{Format}
 use Rattle.gw_rules.specs.declared.operation.Operation.TheVariants as operations
 use Rattle.gw_rules.specs.declared.rule.Rule.{Rule}
 use Rattle.gw_shapes.specs.Cover.{takes_side}
 use Rattle.gw_shapes.specs.Meeting.{has_number, meets}
 use Rattle.gw_shapes.specs.Pieces.{most, numbers}
 use Rattle.gw_shapes.specs.Shape.{Shape}
-use Rattle.gw_shapes.specs.Shapes.{bound, only, own}
+use Rattle.gw_shapes.specs.Shapes.{aimed, bound, only, own}
 use Rattle.gw_shapes.specs.declared.side.Side.{Side}
 
 -- in each field that the rule names, one of its ranges holds all that the shape has there
@@ -36,16 +38,17 @@ opener rules shape =
 -- ---- requests and their answers
 
 -- messages with these services that are routed from the network of a port, of this number, to another network
-abbrev pub routed : ℕ → Port → ℕ → ℕ → ℕ → Shape
-routed number from to first last = bound (own number from.network) operations.Route (numbers first last) (only to)
+abbrev pub routed : Format → ℕ → Port → ℕ → Side → Shape
+routed format number from to services =
+    aimed format (bound (own format number from.network) operations.Route services (only to))
 
 -- requests that are answered, by their confirmed services (clause 21)
-abbrev pub requests : ℕ → Port → ℕ → Shape
-requests number from to = routed number from to 0 255
+abbrev pub requests : Format → ℕ → Port → ℕ → Shape
+requests format number from to = routed format number from to (numbers 0 255)
 
 -- APDUs that are no requests, by their types (clause 20.1)
-abbrev pub answers : ℕ → Port → ℕ → Shape
-answers number from to = routed number from to 1026 1031
+abbrev pub answers : Format → ℕ → Port → ℕ → Shape
+answers format number from to = routed format number from to (numbers 1026 1031)
 
 -- ---- requests without an object
 
@@ -59,6 +62,10 @@ is_unnamed shape =
 -- a shape of messages that are routed
 abbrev pub is_routed : Shape → Bool
 is_routed shape = shape.operation.range.low == operation_number operations.Route
+
+-- a shape that has broadcasts which are passed on to peers and foreign devices
+abbrev pub is_cast : Shape → Bool
+is_cast shape = holds (operation_number operations.Cast) shape.operation.range
 
 -- the rule of this number is the one by which asks of a shape may pass
 abbrev pub opens : List Rule → ℕ → Shape → Bool

@@ -3,7 +3,7 @@ use Rattle.std.specs.Prelude.{ℕ, ◌-◌, Bool, true, not, nat_lt, if◌then�
 use Rattle.std.specs.Prelude.{Option, codes, decimal}
 use Rattle.std.specs.Int.{w64, to_be_bytes}
 use Rattle.std.specs.List.{flat_map}
-use Rattle.std.specs.Option.{option_map_or}
+use Rattle.std.specs.Option.{is_some, option_map_or}
 use Rattle.gw_addr.specs.Address.{address_in, text_of}
 use Rattle.gw_audit.specs.Line.{absent, field_text, operation_text}
 use Rattle.gw_rules.specs.Ask.{Ask}
@@ -12,7 +12,7 @@ use Rattle.gw_rules.specs.RuleList.{allows_at}
 use Rattle.gw_rules.specs.declared.field.FieldName.{FieldName}
 use Rattle.gw_rules.specs.declared.field.FieldName.TheVariants.{Operation, Port, SourceNetwork, SourceKey}
 use Rattle.gw_rules.specs.declared.field.FieldName.TheVariants.{DestinationNetwork, Service, ObjectType, Instance}
-use Rattle.gw_rules.specs.declared.field.FieldName.TheVariants.{Property, Priority}
+use Rattle.gw_rules.specs.declared.field.FieldName.TheVariants.{Property, Priority, Sender, Station}
 use Rattle.gw_rules.specs.declared.field.TheConstants.FieldName.{ALL}
 use Rattle.gw_rules.specs.declared.rule.Rule.{Rule}
 use Rattle.gw_lint.specs.declared.finding.Finding.{Finding}
@@ -32,23 +32,34 @@ key_of ObjectType = codes "object_type"
 key_of Instance = codes "instance"
 key_of Property = codes "property"
 key_of Priority = codes "priority"
+key_of Sender = codes "sender"
+key_of Station = codes "station"
 
 -- a source key as the address that it is, or as its number where it has more than the 48 bits of one
 abbrev pub source_text : ℕ → List ℕ
 source_text key =
     if nat_lt key 281474976710656 then text_of (address_in (drop 2 (to_be_bytes w64 key))) else decimal key
 
--- what an ask has for a field: an operation by its name, a source key as an address, else a number
+-- what an ask has for a field: an operation by its name, the key of a station as an address, else a number
 abbrev pub value_text : FieldName → Option ℕ → List ℕ
 value_text Operation value = operation_text value
 value_text SourceKey value = option_map_or source_text value absent
+value_text Sender value = option_map_or source_text value absent
+value_text Station value = option_map_or source_text value absent
 value_text _ value = field_text value
+
+-- an ask without a sender is one of formats 1 and 2, which have neither sender nor station
+abbrev pub is_shown : Ask → FieldName → Bool
+is_shown ask Sender = is_some ask.sender
+is_shown ask Station = is_some ask.sender
+is_shown ask _ = true
 
 -- ` <key>=<value>`
 abbrev pub item_text : Ask → FieldName → List ℕ
-item_text ask field = codes " " ++ key_of field ++ codes "=" ++ value_text field (value_of field ask)
+item_text ask field =
+    if is_shown ask field then codes " " ++ key_of field ++ codes "=" ++ value_text field (value_of field ask) else []
 
--- the ten fields of an ask
+-- the fields of an ask: twelve, or ten where it has no sender
 abbrev pub ask_fields_text : Ask → List ℕ
 ask_fields_text ask = flat_map (item_text ask) ALL
 

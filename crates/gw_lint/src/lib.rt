@@ -3,10 +3,13 @@
 #![tactic(auto)]
 
 mod finding;
+pub mod laws;
 mod lint;
 mod note;
 mod passage;
 mod text;
+mod trust;
+mod trust_note;
 
 pub use finding::{Finding, MAX_STEPS, finding_of, findings_of};
 pub use lint::put_lint;

@@ -2,19 +2,20 @@
 ghost use Rattle.std.specs.Prelude.{◌≡◌, ◌&&◌, ◌==◌, ◌++◌, find, is_some, length, OnOk};
 ghost use Rattle.std.specs.List.{filter, flat_map, list_any};
 ghost use Rattle.gw_shapes.specs.Meeting.{overlaps};
-ghost use Rattle.gw_lint.specs.Notes.{answer_note, answer_notes, answer_words, has_overlap, head_text, is_known, is_unknown, lets_unnamed, network_note, network_words, note_text, notes_text, object_note, overlap_note, overlap_words, rule_notes};
+ghost use Rattle.gw_lint.specs.Notes.{answer_note, answer_notes, answer_words, cast_note, field_notes, has_overlap, head_text, is_known, is_unknown, lets_broadcasts, lets_unnamed, network_note, network_words, note_text, notes_text, object_note, overlap_note, overlap_words, rule_notes};
 ghost use Rattle.gw_script.specs.Order.{in_order};
-ghost use Rattle.gw_lint.specs.Passage.{is_routed, is_unnamed, opener, opens_beyond};
+ghost use Rattle.gw_lint.specs.Passage.{is_cast, is_routed, is_unnamed, opener, opens_beyond};
 
-use crate::passage::{answers, is_routed, is_unnamed, opener, opens_beyond, requests};
+use crate::passage::{answers, is_cast, is_routed, is_unnamed, opener, opens_beyond, requests};
 use crate::text::{key_of, put_rule};
+use crate::trust_note::put_trust_notes;
 use gw_addr::{put_decimal, put_slice};
 use gw_configuration::{Config, Port, Route};
 use gw_rules::{FieldName, Range, Rule, RuleList};
 use gw_shapes::{Shape, overlaps};
 use std::alloc::AllocError;
 
-/// Appends all notes: rule by rule, and then port by port.
+/// Appends all notes: rule by rule, then port by port, and then that on broadcasts.
 pub(crate) fn put_notes(
     out: &mut Vec<u8>,
     shapes: &[Shape],
@@ -23,7 +24,8 @@ pub(crate) fn put_notes(
     ensures { OnOk result (out.new.items ≡ out.old.items ++ notes_text shapes.now config.now) }
 {
     put_rules_notes(out, shapes, config)?;
-    put_ports_notes(out, config)
+    put_ports_notes(out, config)?;
+    put_cast_note(out, shapes, config)
 }
 
 fn put_rules_notes(out: &mut Vec<u8>, shapes: &[Shape], config: &Config) -> Result<(), AllocError>
@@ -59,13 +61,28 @@ fn put_rule_notes(
     ensures { OnOk result (out.new.items ≡
         out.old.items ++ rule_notes shapes.now config.now number rule.now) }
 {
+    put_field_notes(out, shapes, config, number, rule)?;
+    put_trust_notes(out, config, number, rule)
+}
+
+/// Appends those on what the rule may not match as it reads.
+fn put_field_notes(
+    out: &mut Vec<u8>,
+    shapes: &[Shape],
+    config: &Config,
+    number: u16,
+    rule: &Rule,
+) -> Result<(), AllocError>
+    ensures { OnOk result (out.new.items ≡
+        out.old.items ++ field_notes shapes.now config.now number rule.now) }
+{
     put_network_note(out, config, number, rule)?;
     put_overlap_notes(out, config.rules(), number, rule, &FieldName::ALL)?;
     put_object_note(out, shapes, config, number)
 }
 
 /// Appends what each note begins with: the rule that it is on.
-fn put_head(out: &mut Vec<u8>, rules: &RuleList, number: u16) -> Result<(), AllocError>
+pub(crate) fn put_head(out: &mut Vec<u8>, rules: &RuleList, number: u16) -> Result<(), AllocError>
     ensures { OnOk result (out.new.items ≡ out.old.items ++ head_text rules.now number) }
 {
     out.extend_from_slice(b"note: ")?;
@@ -268,14 +285,7 @@ fn put_answer_notes(
 {
     let ports = config.ports();
     for place in 0..ports.len() {
-        put_answer_note(
-            out,
-            config.rules(),
-            number,
-            port,
-            place as u16 + 1,
-            &ports[place],
-        )?;
+        put_answer_note(out, config, number, port, place as u16 + 1, &ports[place])?;
     }
     Ok(())
 }
@@ -283,21 +293,24 @@ fn put_answer_notes(
 /// Appends that note for two ports.
 fn put_answer_note(
     out: &mut Vec<u8>,
-    rules: &RuleList,
+    config: &Config,
     number: u16,
     port: &Port,
     other_number: u16,
     other: &Port,
 ) -> Result<(), AllocError>
     ensures { OnOk result (out.new.items ≡
-        out.old.items ++ answer_note rules.now number port.now other_number other.now) }
+        out.old.items ++ answer_note config.now number port.now other_number other.now) }
 {
+    let format = config.format();
+    let rules = config.rules();
     let here = port.network.get();
     let there = other.network.get();
-    if here == there || opener(rules, &answers(other_number, other, here)).is_some() {
+    let back = answers(format, other_number, other, here);
+    if here == there || opener(rules, &back).is_some() {
         return Ok(());
     }
-    match opener(rules, &requests(number, port, there)) {
+    match opener(rules, &requests(format, number, port, there)) {
         Some(by) => put_way_note(out, rules, by, here, there),
         None => Ok(()),
     }
@@ -329,5 +342,26 @@ fn put_answer_words(out: &mut Vec<u8>, here: u16, there: u16) -> Result<(), Allo
     put_slice(
         out,
         b" may pass, their answers (services 1026 to 1031) may not",
+    )
+}
+
+/// Whether one of the broadcasts of these shapes may pass.
+fn lets_broadcasts(shapes: &[Shape], rules: &RuleList) -> bool
+    ensures { result ≡ lets_broadcasts shapes.now rules.now }
+{
+    shapes
+        .iter()
+        .any(|shape| is_cast(shape) && opener(rules, shape).is_some())
+}
+
+/// Appends a note where no rule allows broadcasts.
+fn put_cast_note(out: &mut Vec<u8>, shapes: &[Shape], config: &Config) -> Result<(), AllocError>
+    ensures { OnOk result (out.new.items ≡ out.old.items ++ cast_note shapes.now config.now) }
+{
+    if lets_broadcasts(shapes, config.rules()) {
+        return Ok(());
+    }
+    out.extend_from_slice(
+        b"note: look at cast: no rule allows it, so no broadcast reaches a peer or a foreign device\n",
     )
 }

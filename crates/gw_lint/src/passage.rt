@@ -1,12 +1,12 @@
 //! Whether asks of a shape may pass a policy, as far as the ranges of its rules tell.
 ghost use Rattle.std.specs.Prelude.{◌≡◌, position};
-ghost use Rattle.gw_lint.specs.Passage.{answers, holds_shape, is_routed, is_unnamed, opener, opens, opens_beyond, requests, routed, settler, settles, towards};
+ghost use Rattle.gw_lint.specs.Passage.{answers, holds_shape, is_cast, is_routed, is_unnamed, opener, opens, opens_beyond, requests, routed, settler, settles, towards};
 
 use crate::text::allows_at;
 use gw_addr::NetNum;
 use gw_configuration::Port;
-use gw_rules::{FieldName, Operation, Rule, RuleList};
-use gw_shapes::{Origin, Shape, Side, bound, has_number, meets, numbers, only, takes_side};
+use gw_rules::{FieldName, Format, Operation, Rule, RuleList};
+use gw_shapes::{Origin, Shape, Side, aimed, bound, has_number, meets, numbers, only, takes_side};
 
 /// Whether in each field that the rule names one of its ranges holds all that the shape has there.
 fn holds_shape(shape: &Shape, rule: &Rule) -> bool
@@ -60,33 +60,26 @@ pub(crate) fn opener(rules: &RuleList, shape: &Shape) -> Option<u16>
 
 /// Messages with these services that are routed from the network of a port, of this number, to another
 /// network.
-fn routed(number: u16, from: &Port, to: u16, first: u64, last: u64) -> Shape
-    ensures { result ≡ routed number from.now to first last }
+fn routed(format: Format, number: u16, from: &Port, to: u16, services: Side) -> Shape
+    ensures { result ≡ routed format number from.now to services }
 {
-    let own = Origin {
-        port: only(u64::from(number)),
-        network: only(u64::from(from.network.get())),
-    };
-    bound(
-        &own,
-        Operation::Route,
-        numbers(first, last),
-        only(u64::from(to)),
-    )
+    let own = Origin::own(format, u64::from(number), u64::from(from.network.get()));
+    let shape = bound(&own, Operation::Route, services, only(u64::from(to)));
+    aimed(format, &shape)
 }
 
 /// Requests that are answered, by their confirmed services (clause 21).
-pub(crate) fn requests(number: u16, from: &Port, to: u16) -> Shape
-    ensures { result ≡ requests number from.now to }
+pub(crate) fn requests(format: Format, number: u16, from: &Port, to: u16) -> Shape
+    ensures { result ≡ requests format number from.now to }
 {
-    routed(number, from, to, 0, 255)
+    routed(format, number, from, to, numbers(0, 255))
 }
 
 /// APDUs that are no requests, by their types (clause 20.1).
-pub(crate) fn answers(number: u16, from: &Port, to: u16) -> Shape
-    ensures { result ≡ answers number from.now to }
+pub(crate) fn answers(format: Format, number: u16, from: &Port, to: u16) -> Shape
+    ensures { result ≡ answers format number from.now to }
 {
-    routed(number, from, to, 1026, 1031)
+    routed(format, number, from, to, numbers(1026, 1031))
 }
 
 /// Whether it is a shape of reads or writes that name no object.
@@ -103,6 +96,13 @@ pub(crate) fn is_routed(shape: &Shape) -> bool
     ensures { result ≡ is_routed shape.now }
 {
     shape.operation.range.low == Operation::Route.number()
+}
+
+/// Whether it is a shape that has broadcasts which are passed on to peers and foreign devices.
+pub(crate) fn is_cast(shape: &Shape) -> bool
+    ensures { result ≡ is_cast shape.now }
+{
+    shape.operation.range.holds(Operation::Cast.number())
 }
 
 /// Whether asks of a shape may pass by the rule of this number.

@@ -4,7 +4,7 @@ ghost use Rattle.std.specs.List.{flat_map};
 ghost use Rattle.gw_audit.specs.Line.{operation_of, operation_text};
 ghost use Rattle.gw_rules.specs.RuleList.{allows_at};
 ghost use Rattle.gw_script.specs.Order.{in_order};
-ghost use Rattle.gw_lint.specs.Text.{found_text, is_told, item_text, key_of, likeness_text, line_text, rule_text, says_same, source_text, value_text};
+ghost use Rattle.gw_lint.specs.Text.{found_text, is_shown, is_told, item_text, key_of, likeness_text, line_text, rule_text, says_same, source_text, value_text};
 
 use crate::Finding;
 use gw_addr::{BipAddr, put_decimal};
@@ -163,10 +163,24 @@ fn put_items(out: &mut Vec<u8>, ask: &Ask, fields: &[FieldName]) -> Result<(), A
 fn put_item(out: &mut Vec<u8>, ask: &Ask, field: FieldName) -> Result<(), AllocError>
     ensures { OnOk result (out.new.items ≡ out.old.items ++ item_text ask.now field) }
 {
+    if !is_shown(ask, field) {
+        return Ok(());
+    }
     out.push(b' ')?;
     out.extend_from_slice(key_of(field).as_bytes())?;
     out.push(b'=')?;
     put_value(out, field, *ask.get(field))
+}
+
+/// Whether the ask can have the field: without a sender it is one of formats 1 and 2, which have neither
+/// sender nor station.
+fn is_shown(ask: &Ask, field: FieldName) -> bool
+    ensures { result ≡ is_shown ask.now field }
+{
+    match field {
+        FieldName::Sender | FieldName::Station => ask.sender.is_some(),
+        _ => true,
+    }
 }
 
 /// The key that a configuration has for a field.
@@ -184,11 +198,13 @@ pub(crate) fn key_of(field: FieldName) -> &'static str
         FieldName::Instance => "instance",
         FieldName::Property => "property",
         FieldName::Priority => "priority",
+        FieldName::Sender => "sender",
+        FieldName::Station => "station",
     }
 }
 
-/// Appends what an ask has for a field: an operation by its name, a source key as an address, else a
-/// number.
+/// Appends what an ask has for a field: an operation by its name, the key of a station as an address, else
+/// a number.
 fn put_value(out: &mut Vec<u8>, field: FieldName, value: Option<u64>) -> Result<(), AllocError>
     ensures { OnOk result (out.new.items ≡ out.old.items ++ value_text field value) }
 {
@@ -197,7 +213,7 @@ fn put_value(out: &mut Vec<u8>, field: FieldName, value: Option<u64>) -> Result<
     };
     match field {
         FieldName::Operation => put_operation(out, number),
-        FieldName::SourceKey => put_source(out, number),
+        FieldName::SourceKey | FieldName::Sender | FieldName::Station => put_source(out, number),
         _ => put_decimal(out, number),
     }
 }
@@ -221,8 +237,8 @@ fn operation_of(number: u64) -> Option<Operation>
         .find(|operation| operation.number() == number)
 }
 
-/// Appends a source key as the address that it is, or as its number where it has more than the 48 bits
-/// of one.
+/// Appends the key of a station as the address that it is, or as its number where it has more than the
+/// 48 bits of one.
 fn put_source(out: &mut Vec<u8>, key: u64) -> Result<(), AllocError>
     ensures { OnOk result (out.new.items ≡ out.old.items ++ source_text key) }
 {

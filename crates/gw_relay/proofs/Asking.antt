@@ -8,10 +8,11 @@ use Rattle.gw_bvll.specs.Bvll.{Message as Frame}
 use Rattle.gw_bvll.specs.Bvll as bvll
 use Rattle.gw_rules.specs.Ask.{Ask}
 use Rattle.gw_rules.specs.RuleList.{allows}
+use Rattle.gw_rules.specs.declared.format.Format.{Format}
 use Rattle.gw_rules.specs.declared.operation.Operation.{Operation}
 use Rattle.gw_rules.specs.declared.rule.Rule.{Rule}
 use Rattle.gw_relay.specs.Asks.{link_ask, link_asks, management_of}
-use Rattle.gw_relay.specs.Cast.{cast_ask, cast_asks, cast_sends, goes_on, is_broadcast, accepts, is_unregistered, passed_on, targets}
+use Rattle.gw_relay.specs.Cast.{carried_asks, cast_ask, cast_asks, cast_sends, goes_on, is_broadcast, accepts, is_unregistered, passed_on, targets}
 use Rattle.gw_relay.specs.Link.{answer_to, change_of, granted, is_granted, link_answer, link_change, link_grants, refused}
 use Rattle.gw_relay.specs.Message.{Message}
 use Rattle.gw_bvll.specs.declared.writing.TheConstants.{MAX_LEN}
@@ -31,79 +32,79 @@ allowed_one rules ask = and-true (allows rules ask)
 -- ---- tables
 
 -- the asks of a frame that manages a table are one
-pub link_asked : (link : PortState) (from : BipAddr) (frame : Frame) (op : Operation) → management_of frame ≡ Some op
-    → link_asks link.port from frame ≡ link_ask link.port from frame op ∷ []
-link_asked link from frame op managed = rw managed refl
+pub link_asked : (format : Format) (link : PortState) (from : BipAddr) (frame : Frame) (op : Operation) → management_of frame ≡ Some op
+    → link_asks format link.port from frame ≡ link_ask format link.port from frame op ∷ []
+link_asked format link from frame op managed = rw managed refl
 
-grants_so : (rules : List Rule) (link : PortState) (from : BipAddr) (frame : Frame) (op : Operation) (b : Bool) → management_of frame ≡ Some op
-    → b ≡ allows rules (link_ask link.port from frame op) → link_grants rules link from frame ≡ (b && is_granted link from frame)
-grants_so rules link from frame op b managed judges =
-    ap (λ (asks : List Ask). list_all (allows rules) asks && is_granted link from frame) (link_asked link from frame op managed)
-    ∙ ap (λ (a : Bool). a && is_granted link from frame) (allowed_one rules (link_ask link.port from frame op) ∙ sym judges)
+grants_so : (rules : List Rule) (format : Format) (link : PortState) (from : BipAddr) (frame : Frame) (op : Operation) (b : Bool) → management_of frame ≡ Some op
+    → b ≡ allows rules (link_ask format link.port from frame op) → link_grants rules format link from frame ≡ (b && is_granted link from frame)
+grants_so rules format link from frame op b managed judges =
+    ap (λ (asks : List Ask). list_all (allows rules) asks && is_granted link from frame) (link_asked format link from frame op managed)
+    ∙ ap (λ (a : Bool). a && is_granted link from frame) (allowed_one rules (link_ask format link.port from frame op) ∙ sym judges)
 
-pub link_served : (rules : List Rule) (link : PortState) (from : BipAddr) (frame : Frame) (op : Operation) (b : Bool)
+pub link_served : (rules : List Rule) (format : Format) (link : PortState) (from : BipAddr) (frame : Frame) (op : Operation) (b : Bool)
     → management_of frame ≡ Some op
-    → b ≡ allows rules (link_ask link.port from frame op) → link_answer rules link from frame ≡ served link from frame b
+    → b ≡ allows rules (link_ask format link.port from frame op) → link_answer rules format link from frame ≡ served link from frame b
 unfolding link_answer
-link_served rules link from frame op b managed judges =
+link_served rules format link from frame op b managed judges =
     ap (λ (g : Bool). map (answer_to link.port from) (if g then granted link frame else refused frame))
-    (grants_so rules link from frame op b managed judges)
+    (grants_so rules format link from frame op b managed judges)
 
-pub link_changed : (rules : List Rule) (link : PortState) (from : BipAddr) (frame : Frame) (op : Operation) (b : Bool)
+pub link_changed : (rules : List Rule) (format : Format) (link : PortState) (from : BipAddr) (frame : Frame) (op : Operation) (b : Bool)
     → management_of frame ≡ Some op
-    → b ≡ allows rules (link_ask link.port from frame op) → link_change rules link from frame ≡ served_change link from frame b
+    → b ≡ allows rules (link_ask format link.port from frame op) → link_change rules format link from frame ≡ served_change link from frame b
 unfolding link_change
-link_changed rules link from frame op b managed judges =
+link_changed rules format link from frame op b managed judges =
     let none : Option Change = None in
-    ap (λ (g : Bool). if g then change_of link.port from frame else none) (grants_so rules link from frame op b managed judges)
+    ap (λ (g : Bool). if g then change_of link.port from frame else none) (grants_so rules format link from frame op b managed judges)
 
 -- a frame that manages no table has no answer, no ask and no change
-pub unmanaged_answer : (rules : List Rule) (link : PortState) (from : BipAddr) (frame : Frame) → management_of frame ≡ None
-    → link_answer rules link from frame ≡ []
+pub unmanaged_answer : (rules : List Rule) (format : Format) (link : PortState) (from : BipAddr) (frame : Frame) → management_of frame ≡ None
+    → link_answer rules format link from frame ≡ []
 unfolding link_answer
-unmanaged_answer rules link from (bvll.result_code code) e = refl
-unmanaged_answer rules link from (bvll.write_bdt entries) e = cc
-unmanaged_answer rules link from bvll.read_bdt e = cc
-unmanaged_answer rules link from (bvll.read_bdt_ack entries) e = refl
-unmanaged_answer rules link from (bvll.forwarded originator npdu) e = refl
-unmanaged_answer rules link from (bvll.register time_to_live) e = cc
-unmanaged_answer rules link from bvll.read_fdt e = cc
-unmanaged_answer rules link from (bvll.read_fdt_ack entries) e = refl
-unmanaged_answer rules link from (bvll.delete address) e = cc
-unmanaged_answer rules link from (bvll.distribute npdu) e = refl
-unmanaged_answer rules link from (bvll.original_unicast npdu) e = refl
-unmanaged_answer rules link from (bvll.original_broadcast npdu) e = refl
+unmanaged_answer rules format link from (bvll.result_code code) e = refl
+unmanaged_answer rules format link from (bvll.write_bdt entries) e = cc
+unmanaged_answer rules format link from bvll.read_bdt e = cc
+unmanaged_answer rules format link from (bvll.read_bdt_ack entries) e = refl
+unmanaged_answer rules format link from (bvll.forwarded originator npdu) e = refl
+unmanaged_answer rules format link from (bvll.register time_to_live) e = cc
+unmanaged_answer rules format link from bvll.read_fdt e = cc
+unmanaged_answer rules format link from (bvll.read_fdt_ack entries) e = refl
+unmanaged_answer rules format link from (bvll.delete address) e = cc
+unmanaged_answer rules format link from (bvll.distribute npdu) e = refl
+unmanaged_answer rules format link from (bvll.original_unicast npdu) e = refl
+unmanaged_answer rules format link from (bvll.original_broadcast npdu) e = refl
 
-pub unmanaged_change : (rules : List Rule) (link : PortState) (from : BipAddr) (frame : Frame) → management_of frame ≡ None
-    → link_change rules link from frame ≡ None
+pub unmanaged_change : (rules : List Rule) (format : Format) (link : PortState) (from : BipAddr) (frame : Frame) → management_of frame ≡ None
+    → link_change rules format link from frame ≡ None
 unfolding link_change
-unmanaged_change rules link from (bvll.result_code code) e = refl
-unmanaged_change rules link from (bvll.write_bdt entries) e = cc
-unmanaged_change rules link from bvll.read_bdt e = cc
-unmanaged_change rules link from (bvll.read_bdt_ack entries) e = refl
-unmanaged_change rules link from (bvll.forwarded originator npdu) e = refl
-unmanaged_change rules link from (bvll.register time_to_live) e = cc
-unmanaged_change rules link from bvll.read_fdt e = cc
-unmanaged_change rules link from (bvll.read_fdt_ack entries) e = refl
-unmanaged_change rules link from (bvll.delete address) e = cc
-unmanaged_change rules link from (bvll.distribute npdu) e = refl
-unmanaged_change rules link from (bvll.original_unicast npdu) e = refl
-unmanaged_change rules link from (bvll.original_broadcast npdu) e = refl
+unmanaged_change rules format link from (bvll.result_code code) e = refl
+unmanaged_change rules format link from (bvll.write_bdt entries) e = cc
+unmanaged_change rules format link from bvll.read_bdt e = cc
+unmanaged_change rules format link from (bvll.read_bdt_ack entries) e = refl
+unmanaged_change rules format link from (bvll.forwarded originator npdu) e = refl
+unmanaged_change rules format link from (bvll.register time_to_live) e = cc
+unmanaged_change rules format link from bvll.read_fdt e = cc
+unmanaged_change rules format link from (bvll.read_fdt_ack entries) e = refl
+unmanaged_change rules format link from (bvll.delete address) e = cc
+unmanaged_change rules format link from (bvll.distribute npdu) e = refl
+unmanaged_change rules format link from (bvll.original_unicast npdu) e = refl
+unmanaged_change rules format link from (bvll.original_broadcast npdu) e = refl
 
 -- a frame that asks nothing changes nothing
-unasked_by : (rules : List Rule) (link : PortState) (from : BipAddr) (frame : Frame) (op : Option Operation) → management_of frame ≡ op
-    → link_asks link.port from frame ≡ [] → link_change rules link from frame ≡ None
-unasked_by rules link from frame None is none = unmanaged_change rules link from frame is
-unasked_by rules link from frame (Some op) is none =
-    let one : link_ask link.port from frame op ∷ [] ≡ [] = sym (link_asked link from frame op is) ∙ none in
+unasked_by : (rules : List Rule) (format : Format) (link : PortState) (from : BipAddr) (frame : Frame) (op : Option Operation) → management_of frame ≡ op
+    → link_asks format link.port from frame ≡ [] → link_change rules format link from frame ≡ None
+unasked_by rules format link from frame None is none = unmanaged_change rules format link from frame is
+unasked_by rules format link from frame (Some op) is none =
+    let one : link_ask format link.port from frame op ∷ [] ≡ [] = sym (link_asked format link from frame op is) ∙ none in
     absurd cc
 
-pub unasked_change : (rules : List Rule) (link : PortState) (from : BipAddr) (frame : Frame) → link_asks link.port from frame ≡ []
-    → link_change rules link from frame ≡ None
-unasked_change rules link from frame none = unasked_by rules link from frame (management_of frame) refl none
+pub unasked_change : (rules : List Rule) (format : Format) (link : PortState) (from : BipAddr) (frame : Frame) → link_asks format link.port from frame ≡ []
+    → link_change rules format link from frame ≡ None
+unasked_change rules format link from frame none = unasked_by rules format link from frame (management_of frame) refl none
 
-pub unmanaged_asks : (link : PortState) (from : BipAddr) (frame : Frame) → management_of frame ≡ None → link_asks link.port from frame ≡ []
-unmanaged_asks link from frame e = rw e refl
+pub unmanaged_asks : (format : Format) (link : PortState) (from : BipAddr) (frame : Frame) → management_of frame ≡ None → link_asks format link.port from frame ≡ []
+unmanaged_asks format link from frame e = rw e refl
 
 -- ---- broadcasts
 
@@ -115,35 +116,35 @@ none_if false port octets = refl
 pub sent_nowhere : (port : ℕ) (message : Frame) → sent port [] message ≡ []
 sent_nowhere port message = none_if (nat_le (length (encoding message)) MAX_LEN) port (encoding message)
 
--- a broadcast that is heard, and no unregistered sender's, asks once
-pub cast_asked : (m : Message) → accepts m.here m.from m.frame ≡ true → is_unregistered m.here m.from m.frame ≡ false
-    → is_broadcast m.frame ≡ true → cast_asks m ≡ cast_ask m ∷ []
+-- a broadcast that is heard, and no unregistered sender's, asks for itself and for what it carries
+pub cast_asked : (format : Format) (m : Message) → accepts m.here m.from m.frame ≡ true → is_unregistered m.here m.from m.frame ≡ false
+    → is_broadcast m.frame ≡ true → cast_asks format m ≡ cast_ask format m ∷ carried_asks format m
 unfolding cast_asks
-cast_asked m h s b = rw (h, s, b) refl
+cast_asked format m h s b = rw (h, s, b) refl
 
 -- a frame that is not heard, or an unregistered sender's, asks nothing
-pub unheard_asks : (m : Message) → accepts m.here m.from m.frame ≡ false → cast_asks m ≡ []
+pub unheard_asks : (format : Format) (m : Message) → accepts m.here m.from m.frame ≡ false → cast_asks format m ≡ []
 unfolding cast_asks
-unheard_asks m h = rw h refl
+unheard_asks format m h = rw h refl
 
-pub strange_asks : (m : Message) → accepts m.here m.from m.frame ≡ true → is_unregistered m.here m.from m.frame ≡ true → cast_asks m ≡ []
+pub strange_asks : (format : Format) (m : Message) → accepts m.here m.from m.frame ≡ true → is_unregistered m.here m.from m.frame ≡ true → cast_asks format m ≡ []
 unfolding cast_asks
-strange_asks m h s = rw (h, s) refl
+strange_asks format m h s = rw (h, s) refl
 
-pub quiet_asks : (m : Message) → accepts m.here m.from m.frame ≡ true → is_unregistered m.here m.from m.frame ≡ false
-    → is_broadcast m.frame ≡ false → cast_asks m ≡ []
+pub quiet_asks : (format : Format) (m : Message) → accepts m.here m.from m.frame ≡ true → is_unregistered m.here m.from m.frame ≡ false
+    → is_broadcast m.frame ≡ false → cast_asks format m ≡ []
 unfolding cast_asks
-quiet_asks m h s b = rw (h, s, b) refl
+quiet_asks format m h s b = rw (h, s, b) refl
 
 -- the sends of each
-pub unheard_sends : (rules : List Rule) (m : Message) → accepts m.here m.from m.frame ≡ false → cast_sends rules m ≡ []
+pub unheard_sends : (rules : List Rule) (format : Format) (m : Message) → accepts m.here m.from m.frame ≡ false → cast_sends rules format m ≡ []
 unfolding cast_sends
-unheard_sends rules m h = rw h refl
+unheard_sends rules format m h = rw h refl
 
-pub strange_sends : (rules : List Rule) (m : Message) → accepts m.here m.from m.frame ≡ true → is_unregistered m.here m.from m.frame ≡ true
-    → cast_sends rules m ≡ map (answer_to m.here.port m.from) (refused m.frame)
+pub strange_sends : (rules : List Rule) (format : Format) (m : Message) → accepts m.here m.from m.frame ≡ true → is_unregistered m.here m.from m.frame ≡ true
+    → cast_sends rules format m ≡ map (answer_to m.here.port m.from) (refused m.frame)
 unfolding cast_sends
-strange_sends rules m h s = rw (h, s) refl
+strange_sends rules format m h s = rw (h, s) refl
 
 by_answer : (b : Bool) (link : PortState) (from : BipAddr) (frame : Frame)
     → (if not b then map (answer_to link.port from) (refused frame) else sent link.port.number (targets link from frame)
@@ -151,12 +152,12 @@ by_answer : (b : Bool) (link : PortState) (from : BipAddr) (frame : Frame)
 by_answer true link from frame = refl
 by_answer false link from frame = refl
 
-pub cast_judged : (rules : List Rule) (m : Message) (b : Bool) → accepts m.here m.from m.frame ≡ true
-    → is_unregistered m.here m.from m.frame ≡ false → is_broadcast m.frame ≡ true → b ≡ allows rules (cast_ask m)
-    → cast_sends rules m ≡ judged m.here m.from m.frame b
+pub cast_judged : (rules : List Rule) (format : Format) (m : Message) (b : Bool) → accepts m.here m.from m.frame ≡ true
+    → is_unregistered m.here m.from m.frame ≡ false → is_broadcast m.frame ≡ true → b ≡ list_all (allows rules) (cast_ask format m ∷ carried_asks format m)
+    → cast_sends rules format m ≡ judged m.here m.from m.frame b
 unfolding cast_sends
-cast_judged rules m b h s broadcast judges =
-    rw (h, s, cast_asked m h s broadcast, allowed_one rules (cast_ask m), ← judges) (by_answer b m.here m.from m.frame)
+cast_judged rules format m b h s broadcast judges =
+    rw (h, s, cast_asked format m h s broadcast, ← judges) (by_answer b m.here m.from m.frame)
 
 -- a frame that is no broadcast goes to nobody
 no_targets : (link : PortState) (from : BipAddr) (frame : Frame) → is_broadcast frame ≡ false → targets link from frame ≡ []
@@ -173,17 +174,17 @@ no_targets link from (bvll.distribute npdu) e = cc
 no_targets link from (bvll.original_unicast npdu) e = refl
 no_targets link from (bvll.original_broadcast npdu) e = cc
 
-pub quiet_sends : (rules : List Rule) (m : Message) → accepts m.here m.from m.frame ≡ true → is_unregistered m.here m.from m.frame ≡ false
-    → is_broadcast m.frame ≡ false → cast_sends rules m ≡ []
+pub quiet_sends : (rules : List Rule) (format : Format) (m : Message) → accepts m.here m.from m.frame ≡ true → is_unregistered m.here m.from m.frame ≡ false
+    → is_broadcast m.frame ≡ false → cast_sends rules format m ≡ []
 unfolding cast_sends
-quiet_sends rules m h s b =
-    rw (h, s, quiet_asks m h s b, no_targets m.here m.from m.frame b) (sent_nowhere m.here.port.number (passed_on m.from m.frame))
+quiet_sends rules format m h s b =
+    rw (h, s, quiet_asks format m h s b, no_targets m.here m.from m.frame b) (sent_nowhere m.here.port.number (passed_on m.from m.frame))
 
 -- so it isn't silent
-pub cast_loud : (m : Message) → accepts m.here m.from m.frame ≡ true → is_unregistered m.here m.from m.frame ≡ false
-    → is_broadcast m.frame ≡ true → cast_asks m ≡ [] → ⊥
-cast_loud m h s b none =
-    let both : cast_ask m ∷ [] ≡ [] = sym (cast_asked m h s b) ∙ none in
+pub cast_loud : (format : Format) (m : Message) → accepts m.here m.from m.frame ≡ true → is_unregistered m.here m.from m.frame ≡ false
+    → is_broadcast m.frame ≡ true → cast_asks format m ≡ [] → ⊥
+cast_loud format m h s b none =
+    let both : cast_ask format m ∷ carried_asks format m ≡ [] = sym (cast_asked format m h s b) ∙ none in
     cc
 
 -- a frame that goes on is accepted, and no unregistered sender's

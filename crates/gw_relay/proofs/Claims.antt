@@ -13,8 +13,8 @@ use Rattle.gw_apdu.specs.declared.header.ConfirmedRequest.{ConfirmedRequest as R
 use Rattle.gw_apdu.specs.declared.header.Header.{Header}
 use Rattle.gw_apdu.specs.declared.header.Header.TheVariants as header
 use Rattle.gw_npdu.specs.Npdu.{Destination, Payload, apdu, message, payload_octets}
-use Rattle.gw_configuration.specs.declared.format.Format.{Format}
-use Rattle.gw_configuration.specs.declared.format.Format.TheVariants.{One, Two}
+use Rattle.gw_rules.specs.declared.format.Format.{Format}
+use Rattle.gw_rules.specs.declared.format.Format.TheVariants.{One, Two, Three}
 use Rattle.gw_services.specs.Choices.{read_property, read_property_multiple, write_property}
 use Rattle.gw_services.specs.Limits.{priority_of}
 use Rattle.gw_services.specs.Multi.{Reference}
@@ -28,17 +28,18 @@ use Rattle.gw_routes.specs.declared.route.Way.{Way}
 use Rattle.gw_routes.specs.declared.route.Way.TheVariants as ways
 use Rattle.gw_rules.specs.Allowed.{NoneAllowed}
 use Rattle.gw_rules.specs.Ask.{Ask, IsFor, IsFrom}
+use Rattle.gw_rules.specs.Format.{names_stations}
 use Rattle.gw_rules.specs.RuleList.{allows}
 use Rattle.gw_rules.specs.declared.operation.Operation.{Operation}
 use Rattle.gw_rules.specs.declared.operation.Operation.TheVariants as operations
 use Rattle.gw_rules.specs.declared.rule.Rule.{Rule}
 use Rattle.gw_relay.specs.Asks.{bound_for, link_ask}
-use Rattle.gw_relay.specs.Cast.{cast_asks, goes_on, is_broadcast}
+use Rattle.gw_relay.specs.Cast.{carried_asks, cast_ask, cast_asks, goes_on, is_broadcast}
 use Rattle.gw_relay.specs.Laws.{AreFrom, BroadcastsCarryTheirClaim, NetworkMessagesCarryTheirClaim, RoutesAreKept, RoutingCarriesTheClaim, TableAsksReadNothing, TablesAreKept}
 use Rattle.gw_relay.specs.Link.{link_change}
 use Rattle.gw_relay.specs.Manage.{is_i_am_router, is_what_is_network_number, is_who_is_router, keep_allowed, learn_ask, learn_steps, manage_asks, named_networks, question_of, question_steps}
 use Rattle.gw_relay.specs.Message.{Message}
-use Rattle.gw_relay.specs.Named.{apdu_asks, forward_asks, header_asks, multi_asks, named_ask, named_asks, read_asks, reference_ask, request_asks, unnamed_ask, write_asks}
+use Rattle.gw_relay.specs.Named.{apdu_asks, forward_asks, header_asks, multi_asks, named_ask, named_asks, payload_asks, read_asks, reference_ask, request_asks, unnamed_ask, write_asks}
 use Rattle.gw_relay.specs.Route.{copy, is_local, leaves, others, route_ask, steps_by}
 use Rattle.gw_relay.specs.State.{Commit, Relay, after, moved}
 use Rattle.gw_relay.specs.Steps.{Step, asks_of}
@@ -51,63 +52,63 @@ use Rattle.gw_relay.proofs.Learning.{learned_asks}
 
 pub tables_are_kept : TablesAreKept
 unfolding link_change
-tables_are_kept rules on from (bvll.write_bdt entries) h =
-    let denied : allows rules (link_ask on.port from (bvll.write_bdt entries) operations.WriteTable) ≡ false = (h operations.WriteTable refl).0 refl in
+tables_are_kept rules format on from (bvll.write_bdt entries) h =
+    let denied : allows rules (link_ask format on.port from (bvll.write_bdt entries) operations.WriteTable) ≡ false = (h operations.WriteTable refl).0 refl in
     rw denied refl
-tables_are_kept rules on from (bvll.register time_to_live) h =
-    let denied : allows rules (link_ask on.port from (bvll.register time_to_live) operations.Register) ≡ false = (h operations.Register refl).0 refl in
+tables_are_kept rules format on from (bvll.register time_to_live) h =
+    let denied : allows rules (link_ask format on.port from (bvll.register time_to_live) operations.Register) ≡ false = (h operations.Register refl).0 refl in
     rw denied refl
-tables_are_kept rules on from (bvll.delete address) h =
-    let denied : allows rules (link_ask on.port from (bvll.delete address) operations.Delete) ≡ false = (h operations.Delete refl).0 refl in
+tables_are_kept rules format on from (bvll.delete address) h =
+    let denied : allows rules (link_ask format on.port from (bvll.delete address) operations.Delete) ≡ false = (h operations.Delete refl).0 refl in
     rw denied refl
-tables_are_kept rules on from bvll.read_bdt h = none_either _
+tables_are_kept rules format on from bvll.read_bdt h = none_either _
   where
     none_either : (b : Bool) → ◌≡◌ {A = Option Change} (if b then None else None) None
     none_either true = refl
     none_either false = refl
-tables_are_kept rules on from bvll.read_fdt h = none_either _
+tables_are_kept rules format on from bvll.read_fdt h = none_either _
   where
     none_either : (b : Bool) → ◌≡◌ {A = Option Change} (if b then None else None) None
     none_either true = refl
     none_either false = refl
-tables_are_kept rules on from (bvll.result_code code) h = refl
-tables_are_kept rules on from (bvll.read_bdt_ack entries) h = refl
-tables_are_kept rules on from (bvll.forwarded originator npdu) h = refl
-tables_are_kept rules on from (bvll.read_fdt_ack entries) h = refl
-tables_are_kept rules on from (bvll.distribute npdu) h = refl
-tables_are_kept rules on from (bvll.original_unicast npdu) h = refl
-tables_are_kept rules on from (bvll.original_broadcast npdu) h = refl
+tables_are_kept rules format on from (bvll.result_code code) h = refl
+tables_are_kept rules format on from (bvll.read_bdt_ack entries) h = refl
+tables_are_kept rules format on from (bvll.forwarded originator npdu) h = refl
+tables_are_kept rules format on from (bvll.read_fdt_ack entries) h = refl
+tables_are_kept rules format on from (bvll.distribute npdu) h = refl
+tables_are_kept rules format on from (bvll.original_unicast npdu) h = refl
+tables_are_kept rules format on from (bvll.original_broadcast npdu) h = refl
 
 -- and no ask about one is to read a property
 pub table_asks_read_nothing : TableAsksReadNothing
-table_asks_read_nothing port from (bvll.write_bdt entries) = (λ e. absurd cc, tt)
-table_asks_read_nothing port from (bvll.register time_to_live) = (λ e. absurd cc, tt)
-table_asks_read_nothing port from (bvll.delete address) = (λ e. absurd cc, tt)
-table_asks_read_nothing port from bvll.read_bdt = (λ e. absurd cc, tt)
-table_asks_read_nothing port from bvll.read_fdt = (λ e. absurd cc, tt)
-table_asks_read_nothing port from (bvll.result_code code) = tt
-table_asks_read_nothing port from (bvll.read_bdt_ack entries) = tt
-table_asks_read_nothing port from (bvll.forwarded originator npdu) = tt
-table_asks_read_nothing port from (bvll.read_fdt_ack entries) = tt
-table_asks_read_nothing port from (bvll.distribute npdu) = tt
-table_asks_read_nothing port from (bvll.original_unicast npdu) = tt
-table_asks_read_nothing port from (bvll.original_broadcast npdu) = tt
+table_asks_read_nothing format port from (bvll.write_bdt entries) = (λ e. absurd cc, tt)
+table_asks_read_nothing format port from (bvll.register time_to_live) = (λ e. absurd cc, tt)
+table_asks_read_nothing format port from (bvll.delete address) = (λ e. absurd cc, tt)
+table_asks_read_nothing format port from bvll.read_bdt = (λ e. absurd cc, tt)
+table_asks_read_nothing format port from bvll.read_fdt = (λ e. absurd cc, tt)
+table_asks_read_nothing format port from (bvll.result_code code) = tt
+table_asks_read_nothing format port from (bvll.read_bdt_ack entries) = tt
+table_asks_read_nothing format port from (bvll.forwarded originator npdu) = tt
+table_asks_read_nothing format port from (bvll.read_fdt_ack entries) = tt
+table_asks_read_nothing format port from (bvll.distribute npdu) = tt
+table_asks_read_nothing format port from (bvll.original_unicast npdu) = tt
+table_asks_read_nothing format port from (bvll.original_broadcast npdu) = tt
 
 -- ---- the routes
 
-none_learned : (rules : List Rule) (m : Message) (networks : List ℕ)
-    → NoneAllowed (IsFor operations.Learn) rules (map (learn_ask m) networks) → keep_allowed rules m networks ≡ []
-none_learned rules m [] h = refl
-none_learned rules m (n ∷ networks) h =
-    let denied : allows rules (learn_ask m n) ≡ false = h.0 refl in
-    rw denied (none_learned rules m networks h.1)
+none_learned : (rules : List Rule) (format : Format) (m : Message) (networks : List ℕ)
+    → NoneAllowed (IsFor operations.Learn) rules (map (learn_ask format m) networks) → keep_allowed rules format m networks ≡ []
+none_learned rules format m [] h = refl
+none_learned rules format m (n ∷ networks) h =
+    let denied : allows rules (learn_ask format m n) ≡ false = h.0 refl in
+    rw denied (none_learned rules format m networks h.1)
 
 moved_by : (b : Bool) (rules : List Rule) (relay : Relay) (m : Message) → is_i_am_router m.npdu ≡ b
     → NoneAllowed (IsFor operations.Learn) rules (manage_asks relay m)
-    → moved (option_map Commit (if b then Some (Learnings m.here.port.number m.link (keep_allowed rules m (named_networks m))) else None)) relay ≡ relay
+    → moved (option_map Commit (if b then Some (Learnings m.here.port.number m.link (keep_allowed rules relay.format m (named_networks m))) else None)) relay ≡ relay
 moved_by true rules relay m is h =
     ap (λ (networks : List ℕ). after (Learnings m.here.port.number m.link networks) relay)
-    (none_learned rules m (named_networks m) (subst (NoneAllowed (IsFor operations.Learn) rules) (learned_asks relay m is) h))
+    (none_learned rules relay.format m (named_networks m) (subst (NoneAllowed (IsFor operations.Learn) rules) (learned_asks relay m is) h))
 moved_by false rules relay m is h = refl
 
 pub routes_are_kept : RoutesAreKept
@@ -128,11 +129,6 @@ steps_if : (source : Source) (b : Bool) (xs ys : List Step) → AreFrom source (
     → AreFrom source (asks_of (if b then xs else ys))
 steps_if source true xs ys f g = f
 steps_if source false xs ys f g = g
-
-pub broadcasts_carry_their_claim : BroadcastsCarryTheirClaim
-unfolding cast_asks
-broadcasts_carry_their_claim m =
-    asks_if m.claim (goes_on m.here m.from m.frame && is_broadcast m.frame) _ [] (said m.claim _ refl refl, tt) tt
 
 -- what is asked after a `route` ask is of its source
 from_unnamed : (source : Source) (route : Ask) (operation : Operation) → IsFrom source.net (key_of source.mac) route
@@ -191,32 +187,44 @@ from_apdu : (source : Source) (route : Ask) (read : Result Apdu ApduFault) → I
 from_apdu source route (Ok a) is = from_header source route a.header a.rest is
 from_apdu source route (Err fault) is = tt
 
+from_payload : (source : Source) (route : Ask) (payload : Payload) → IsFrom source.net (key_of source.mac) route
+    → AreFrom source (payload_asks route payload)
+from_payload source route (message m) is = tt
+from_payload source route (apdu octets) is = from_apdu source route (apdu_at octets) is
+
 from_behind : (source : Source) (format : Format) (route : Ask) (payload : Payload) → IsFrom source.net (key_of source.mac) route
     → AreFrom source (named_asks format route payload)
 from_behind source One route payload is = tt
-from_behind source Two route (message m) is = tt
-from_behind source Two route (apdu octets) is = from_apdu source route (apdu_at octets) is
+from_behind source Two route payload is = from_payload source route payload is
+from_behind source Three route payload is = from_payload source route payload is
+
+pub broadcasts_carry_their_claim : BroadcastsCarryTheirClaim
+unfolding cast_asks
+broadcasts_carry_their_claim format m =
+    let is = said m.claim (cast_ask format m) refl refl in
+    asks_if m.claim (goes_on m.here m.from m.frame && is_broadcast m.frame) (cast_ask format m ∷ carried_asks format m) []
+    (is, asks_if m.claim (names_stations format) _ [] (from_behind m.claim format (cast_ask format m) m.npdu.payload is) tt) tt
 
 -- a message's asks for one way
 from_forward : (m : Message) (format : Format) (network : Option ℕ)
-    → AreFrom m.claim (forward_asks format (route_ask m network) m.npdu.payload)
+    → AreFrom m.claim (forward_asks format (route_ask format m network) m.npdu.payload)
 from_forward m format network =
-    let is = said m.claim (route_ask m network) refl refl in
-    (is, from_behind m.claim format (route_ask m network) m.npdu.payload is)
+    let is = said m.claim (route_ask format m network) refl refl in
+    (is, from_behind m.claim format (route_ask format m network) m.npdu.payload is)
 
 from_both : (source : Source) (xs ys : List Ask) → AreFrom source xs → AreFrom source ys → AreFrom source (xs ++ ys)
 from_both source [] ys f g = g
 from_both source (x ∷ xs) ys f g = (f.0, from_both source xs ys f.1 g)
 
 from_one : (m : Message) (format : Format) (network : Option ℕ)
-    → AreFrom m.claim (forward_asks format (route_ask m network) m.npdu.payload ++ [])
-from_one m format network = from_both m.claim (forward_asks format (route_ask m network) m.npdu.payload) [] (from_forward m format network) tt
+    → AreFrom m.claim (forward_asks format (route_ask format m network) m.npdu.payload ++ [])
+from_one m format network = from_both m.claim (forward_asks format (route_ask format m network) m.npdu.payload) [] (from_forward m format network) tt
 
 from_copies : (format : Format) (m : Message) (d : Destination) (links : List PortState)
     → AreFrom m.claim (asks_of (map (copy format m d) links))
 from_copies format m d [] = tt
 from_copies format m d (link ∷ links) =
-    from_both m.claim (forward_asks format (route_ask m (Some link.port.network)) m.npdu.payload) _
+    from_both m.claim (forward_asks format (route_ask format m (Some link.port.network)) m.npdu.payload) _
     (from_forward m format (Some link.port.network)) (from_copies format m d links)
 
 from_way : (relay : Relay) (m : Message) (d : Destination) (by : Way) → AreFrom m.claim (asks_of (steps_by relay m d by))
@@ -236,10 +244,10 @@ routing_carries_the_claim relay m = steps_if m.claim (is_local m.npdu.payload) [
     by None = tt
     by (Some d) = from_way relay m d (way relay.routes d.address.network)
 
-from_learning : (m : Message) (networks : List ℕ)
-    → AreFrom m.claim (asks_of (map (λ n. record { asks = learn_ask m n ∷ []; sends = [] }) networks))
-from_learning m [] = tt
-from_learning m (n ∷ networks) = (said m.claim _ refl refl, from_learning m networks)
+from_learning : (format : Format) (m : Message) (networks : List ℕ)
+    → AreFrom m.claim (asks_of (map (λ n. record { asks = learn_ask format m n ∷ []; sends = [] }) networks))
+from_learning format m [] = tt
+from_learning format m (n ∷ networks) = (said m.claim _ refl refl, from_learning format m networks)
 
 from_question : (relay : Relay) (m : Message) (octets : List ℕ) → AreFrom m.claim (asks_of (question_steps relay m octets))
 from_question relay m [] = (said m.claim _ refl refl, tt)
@@ -253,7 +261,7 @@ from_question relay m (a ∷ b ∷ c ∷ octets) = tt
 
 pub network_messages_carry_their_claim : NetworkMessagesCarryTheirClaim
 network_messages_carry_their_claim relay m =
-    steps_if m.claim (is_i_am_router m.npdu) (learn_steps m) _ (from_learning m (named_networks m))
+    steps_if m.claim (is_i_am_router m.npdu) (learn_steps relay.format m) _ (from_learning relay.format m (named_networks m))
     (steps_if m.claim (is_who_is_router m.npdu) (question_steps relay m (payload_octets m.npdu.payload)) _
     (from_question relay m (payload_octets m.npdu.payload))
     (steps_if m.claim (is_what_is_network_number m.npdu) _ [] (said m.claim _ refl refl, tt) tt))

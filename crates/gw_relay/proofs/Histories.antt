@@ -41,9 +41,9 @@ of_agree f g agree number ports acts =
 
 -- a granted act
 either_act : (b : Bool) (port : Port) (acts : Acts) (act : Act) (t : Registrations) → t ≡ table_after (act ∷ acts.history)
-    → ◌≡◌ {A = PortState} (record { port = port; bdt = acts.entries; fdt = if b then t else table_after acts.history })
+    → ◌≡◌ {A = PortState} (record { port = port; stations = acts.stations; bdt = acts.entries; fdt = if b then t else table_after acts.history })
     (link_after port (with_act b act acts))
-either_act true port acts act t e = ap (λ (fdt : Registrations). record { port = port; bdt = acts.entries; fdt = fdt }) e
+either_act true port acts act t e = ap (λ (fdt : Registrations). record { port = port; stations = acts.stations; bdt = acts.entries; fdt = fdt }) e
 either_act false port acts act t e = refl
 
 registered_agree : (address : BipAddr) (time_to_live : ℕ)
@@ -86,7 +86,7 @@ tick_extends : (ports : List Port) (acts : List Acts) → map link_later (all_af
 tick_extends [] acts = refl
 tick_extends (port ∷ ports) [] = refl
 tick_extends (port ∷ ports) (first ∷ acts) =
-    ap₂ (λ (fdt : Registrations) (links : List PortState). record { port = port; bdt = first.entries; fdt = fdt } ∷ links)
+    ap₂ (λ (fdt : Registrations) (links : List PortState). record { port = port; stations = first.stations; bdt = first.entries; fdt = fdt } ∷ links)
     (table_later first.history) (tick_extends ports acts)
 
 pub ticks_extend : TicksExtendHistories
@@ -100,5 +100,5 @@ none_registered = refl
 pub configured_stand : ConfiguredLinksStand
 configured_stand number [] = refl
 configured_stand number (p ∷ ports) =
-    ap₂ (λ (fdt : Registrations) (links : List PortState). record { port = (link_of number p).port; bdt = p.peers; fdt = fdt } ∷ links)
+    ap₂ (λ (fdt : Registrations) (links : List PortState). record { port = (link_of number p).port; stations = p.stations; bdt = p.peers; fdt = fdt } ∷ links)
     none_registered (configured_stand (number + 1) ports)

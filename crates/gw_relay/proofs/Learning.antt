@@ -45,13 +45,13 @@ first_of false xs ys e = cc
 
 pub learned_sends : (rules : List Rule) (relay : Relay) (m : Message) → is_i_am_router m.npdu ≡ true → manage_sends rules relay m ≡ []
 learned_sends rules relay m h =
-    ap (λ (steps : List Step). sends_of rules steps) (first_of (is_i_am_router m.npdu) (learn_steps m) (answer_steps relay m) h)
-    ∙ no_sends rules (λ n. learn_ask m n) (named_networks m)
+    ap (λ (steps : List Step). sends_of rules steps) (first_of (is_i_am_router m.npdu) (learn_steps relay.format m) (answer_steps relay m) h)
+    ∙ no_sends rules (λ n. learn_ask relay.format m n) (named_networks m)
 
-pub learned_asks : (relay : Relay) (m : Message) → is_i_am_router m.npdu ≡ true → manage_asks relay m ≡ map (learn_ask m) (named_networks m)
+pub learned_asks : (relay : Relay) (m : Message) → is_i_am_router m.npdu ≡ true → manage_asks relay m ≡ map (learn_ask relay.format m) (named_networks m)
 learned_asks relay m h =
-    ap (λ (steps : List Step). asks_of steps) (first_of (is_i_am_router m.npdu) (learn_steps m) (answer_steps relay m) h)
-    ∙ each_ask (λ n. learn_ask m n) (named_networks m)
+    ap (λ (steps : List Step). asks_of steps) (first_of (is_i_am_router m.npdu) (learn_steps relay.format m) (answer_steps relay m) h)
+    ∙ each_ask (λ n. learn_ask relay.format m n) (named_networks m)
 
 -- a router's message names a network at least
 some_networks : (octets : List ℕ) → are_networks octets ≡ true → not (length octets == 0) ≡ true → networks_in octets ≡ [] → ⊥
@@ -79,20 +79,20 @@ no_map f (x ∷ xs) none = absurd cc
 pub learned_loud : (relay : Relay) (m : Message) → is_i_am_router m.npdu ≡ true → manage_asks relay m ≡ [] → ⊥
 learned_loud relay m h none =
     some_networks (payload_octets m.npdu.payload) (whole_networks m.npdu h) (some_octets m.npdu h)
-    (no_map (learn_ask m) (named_networks m) (sym (learned_asks relay m h) ∙ none))
+    (no_map (learn_ask relay.format m) (named_networks m) (sym (learned_asks relay m h) ∙ none))
 
 unasked_by : (b : Bool) (rules : List Rule) (relay : Relay) (m : Message) → is_i_am_router m.npdu ≡ b → manage_asks relay m ≡ []
-    → manage_change rules m ≡ None
+    → manage_change rules relay m ≡ None
 unasked_by true rules relay m h none = absurd (learned_loud relay m h none)
 unasked_by false rules relay m h none = rw h refl
 
 -- what asks nothing learns nothing
-pub unasked_learning : (rules : List Rule) (relay : Relay) (m : Message) → manage_asks relay m ≡ [] → manage_change rules m ≡ None
+pub unasked_learning : (rules : List Rule) (relay : Relay) (m : Message) → manage_asks relay m ≡ [] → manage_change rules relay m ≡ None
 unasked_learning rules relay m none = unasked_by (is_i_am_router m.npdu) rules relay m refl none
 
 -- what is answered to a router's message is what is learned of it
 pub learned_due : (rules : List Rule) (relay : Relay) (m : Message) → is_i_am_router m.npdu ≡ true
-    → manage_response rules relay m ≡ learn_response rules m
+    → manage_response rules relay m ≡ learn_response rules relay.format m
 learned_due rules relay m h = rw (learned_asks relay m h, learned_sends rules relay m h, h) refl
 
 -- and of another it is the answer's steps

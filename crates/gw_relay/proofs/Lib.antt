@@ -12,3 +12,6 @@ pub mod Learning
 pub mod WayLemmas
 pub mod Claims
 pub mod NamedLemmas
+pub mod Entering
+pub mod FormatLemmas
+pub mod Delivery

@@ -42,13 +42,13 @@ changed_past number f links pos past = rw (numbered number pos) (past_is links (
 -- one link more is a tick later
 pub later_step : (before now : List PortState) (i : ℕ) (d : PortState) (fdt : Registrations) → i < length before
     → now ≡ map link_later (take i before) ++ drop i before → fdt ≡ with_tick (get_or now i d).fdt
-    → set now i (record { port = (get_or now i d).port; bdt = (get_or now i d).bdt; fdt = fdt }) ≡ map link_later (take (i + 1) before)
+    → set now i (record { port = (get_or now i d).port; stations = (get_or now i d).stations; bdt = (get_or now i d).bdt; fdt = fdt }) ≡ map link_later (take (i + 1) before)
     ++ drop (i + 1) before
 later_step before now i d fdt h e ticked =
     let first = map link_later (take i before) in
     let y : PortState = get_or before i d in
     let rest = drop (i + 1) before in
-    let new : PortState = record { port = (get_or now i d).port; bdt = (get_or now i d).bdt; fdt = fdt } in
+    let new : PortState = record { port = (get_or now i d).port; stations = (get_or now i d).stations; bdt = (get_or now i d).bdt; fdt = fdt } in
     let len : length first ≡ i = length-map (take i before) link_later ∙ length-take-le i before (omega arith) in
     let split : now ≡ first ++ y ∷ rest = e ∙ ap (λ (t : List PortState). first ++ t) (drop_more before i d h) in
     let here : get_or now i d ≡ y = ap (λ (t : List PortState). get_or t i d) split ∙ get_or_at first y rest d i len in

@@ -14,12 +14,15 @@ use Rattle.gw_bvll.specs.Bvll.{forwarded, distribute, original_broadcast}
 use Rattle.gw_bvll.specs.Bvll.{Message as Frame}
 use Rattle.gw_npdu.specs.Numbers.{max_len}
 use Rattle.gw_rules.specs.Ask.{Ask}
+use Rattle.gw_rules.specs.Format.{names_stations}
 use Rattle.gw_rules.specs.RuleList.{allows}
+use Rattle.gw_rules.specs.declared.format.Format.{Format}
 use Rattle.gw_rules.specs.declared.operation.Operation.TheVariants.{Cast}
 use Rattle.gw_rules.specs.declared.rule.Rule.{Rule}
-use Rattle.gw_relay.specs.Asks.{bound_for, message_ask}
+use Rattle.gw_relay.specs.Asks.{bound_for, passing_ask}
 use Rattle.gw_relay.specs.Link.{answer_to, refused}
 use Rattle.gw_relay.specs.Message.{Message}
+use Rattle.gw_relay.specs.Named.{named_asks}
 use Rattle.gw_relay.specs.Response.{Response}
 use Rattle.gw_relay.specs.Sends.{Sending, sent}
 use Rattle.gw_relay.specs.declared.port.PortState.{PortState}
@@ -101,26 +104,33 @@ is_broadcast (original_broadcast npdu) = true
 is_broadcast other = false
 
 -- the ask of a broadcast
-abbrev pub cast_ask : Message → Ask
-cast_ask m = message_ask Cast m (bound_for m.npdu)
+abbrev pub cast_ask : Format → Message → Ask
+cast_ask format m = passing_ask format Cast m (bound_for m.npdu)
 
-unfoldable pub cast_asks : Message → List Ask
-cast_asks m =
-    if goes_on m.here m.from m.frame && is_broadcast m.frame then cast_ask m ∷ [] else []
+-- What is asked after it, whether or not it is allowed: each property that the request reads or writes, where the
+-- format names stations.
+abbrev pub carried_asks : Format → Message → List Ask
+carried_asks format m =
+    if names_stations format then named_asks format (cast_ask format m) m.npdu.payload else []
 
--- The sends of a broadcast: one message to all its targets if the policy allows it. A
+unfoldable pub cast_asks : Format → Message → List Ask
+cast_asks format m =
+    if goes_on m.here m.from m.frame && is_broadcast m.frame
+    then cast_ask format m ∷ carried_asks format m else []
+
+-- The sends of a broadcast: one message to all its targets if the policy allows all its asks. A
 -- Distribute-Broadcast-To-Network of an unregistered sender, or that is denied, is refused by its code.
-unfoldable pub cast_sends : List Rule → Message → List Sending
-cast_sends rules m =
+unfoldable pub cast_sends : List Rule → Format → Message → List Sending
+cast_sends rules format m =
     if not (accepts m.here m.from m.frame) then []
-    else if is_unregistered m.here m.from m.frame || not (list_all (allows rules) (cast_asks m))
+    else if is_unregistered m.here m.from m.frame || not (list_all (allows rules) (cast_asks format m))
     then map (answer_to m.here.port m.from) (refused m.frame)
     else sent m.here.port.number (targets m.here m.from m.frame) (passed_on m.from m.frame)
 
 -- what distribution answers
-abbrev pub cast_response : List Rule → Message → Response
-cast_response rules m =
-    record { asks = cast_asks m; sends = cast_sends rules m; change = None }
+abbrev pub cast_response : List Rule → Format → Message → Response
+cast_response rules format m =
+    record { asks = cast_asks format m; sends = cast_sends rules format m; change = None }
 
 -- ---- a broadcast by the gateway
 

@@ -6,6 +6,7 @@ use Rattle.std.specs.Prelude.{◌≡◌, ℕ, ◌+◌, Bool, if◌then◌else◌
 use Rattle.gw_addr.specs.declared.entry.BdtEntry.{BdtEntry}
 use Rattle.gw_bdt_fdt.specs.History.{Act, Register, Delete, Tick, History, table_after}
 use Rattle.gw_bdt_fdt.specs.Registrations.{contains, has_room}
+use Rattle.gw_configuration.specs.Subnet.{Subnet}
 use Rattle.gw_configuration.specs.declared.port.Port.{Port as ConfiguredPort}
 use Rattle.gw_routes.specs.History.{history_with}
 use Rattle.gw_routes.specs.History.{History as Learned}
@@ -18,14 +19,20 @@ use Rattle.gw_relay.specs.declared.change.Change.TheVariants.{Entries, Registrat
 use Rattle.gw_relay.specs.declared.port.PortState.{PortState}
 use Rattle.gw_relay.specs.declared.port.Port.{Port}
 
--- what came of a history on a port
+-- what came of a history on a port, whose stations stay as they are configured
 pub record Acts : Type 0 where
+  pub stations : List Subnet
   pub entries : List BdtEntry
   pub history : History
 
 -- a port after its acts
 abbrev pub link_after : Port → Acts → PortState
-link_after port acts = record { port = port; bdt = acts.entries; fdt = table_after acts.history }
+link_after port acts = record {
+  port = port;
+  stations = acts.stations;
+  bdt = acts.entries;
+  fdt = table_after acts.history;
+}
 
 -- the ports, each after its acts
 abbrev pub all_after : List Port → List Acts → List PortState
@@ -44,7 +51,7 @@ ports_from number (p ∷ ports) = port_of number p ∷ ports_from (number + 1) p
 
 -- before any event
 abbrev pub initial_acts : ConfiguredPort → Acts
-initial_acts p = record { entries = p.peers; history = [] }
+initial_acts p = record { stations = p.stations; entries = p.peers; history = [] }
 
 -- one act more, if it is granted
 abbrev pub with_act : Bool → Act → Acts → Acts

@@ -21,7 +21,12 @@ port_of number p = record {
 
 -- a port with the peers that it starts with, where nobody is registered
 abbrev pub link_of : ℕ → ConfiguredPort → PortState
-link_of number p = record { port = port_of number p; bdt = p.peers; fdt = no_registration }
+link_of number p = record {
+  port = port_of number p;
+  stations = p.stations;
+  bdt = p.peers;
+  fdt = no_registration;
+}
 
 -- the ports with their numbers, counted on from one
 abbrev pub links_from : ℕ → List ConfiguredPort → List PortState

@@ -1,5 +1,6 @@
 -- What the definitions come to, in plain words.
-use Rattle.std.specs.Prelude.{◌≡◌, ℕ, false, List, map, None}
+use Rattle.std.specs.Prelude.{◌≡◌, ℕ, Bool, true, false, ◌&&◌, ◌==◌, List, [], ◌∷◌, ◌++◌, map, slice_index}
+use Rattle.std.specs.Prelude.{Some, None}
 use Rattle.std.specs.List.{AllByRecursion, list_any}
 use Rattle.std.specs.Option.{option_map}
 use Rattle.gw_addr.specs.declared.bip.BipAddr.{BipAddr}
@@ -10,20 +11,32 @@ use Rattle.gw_addr.specs.Station.{key_of}
 use Rattle.gw_bdt_fdt.specs.Peers.{all_ones, is_of, peers}
 use Rattle.gw_bdt_fdt.specs.Registrations.{same}
 use Rattle.gw_bvll.specs.Bvll.{Message as Frame}
+use Rattle.gw_bvll.specs.Bvll.{octet_of}
+use Rattle.gw_bvll.specs.declared.function.Function.TheVariants.{OriginalUnicast}
 use Rattle.gw_configuration.specs.declared.port.Port.{Port as ConfiguredPort}
-use Rattle.gw_rules.specs.declared.operation.Operation.TheVariants.{Learn, Read}
+use Rattle.gw_npdu.specs.Npdu.{Address}
+use Rattle.gw_rules.specs.Format.{names_stations}
+use Rattle.gw_rules.specs.declared.format.Format.{Format}
+use Rattle.gw_rules.specs.declared.operation.Operation.TheVariants.{Claim, Enter, Learn, Read}
 use Rattle.gw_rules.specs.declared.rule.Rule.{Rule}
 use Rattle.gw_rules.specs.Allowed.{NoChangeAllowed, NoneAllowed}
 use Rattle.gw_rules.specs.Ask.{Ask, IsFor, IsFrom}
-use Rattle.gw_relay.specs.Asks.{link_asks}
-use Rattle.gw_relay.specs.Cast.{cast_asks, devices_but, directed}
+use Rattle.gw_relay.specs.Asks.{bound_for, link_asks}
+use Rattle.gw_relay.specs.Cast.{cast_asks, cast_response, devices_but, directed}
+use Rattle.gw_relay.specs.Claim.{local_source}
+use Rattle.gw_relay.specs.Entry.{admits, claim_asks, comes_by_route, enter_asks, enters, entry_asks}
+use Rattle.gw_relay.specs.FormatTwo.{cast_response_before, link_response_before, manage_response_before}
+use Rattle.gw_relay.specs.FormatTwo.{route_response_before}
 use Rattle.gw_relay.specs.History.{Acts, acts_after, acts_later, initial_acts, ports_from, AreStatesAfter}
 use Rattle.gw_relay.specs.Initial.{links_from}
-use Rattle.gw_relay.specs.Link.{link_change}
-use Rattle.gw_relay.specs.Manage.{manage_asks, manage_change}
+use Rattle.gw_relay.specs.Link.{link_change, link_response}
+use Rattle.gw_relay.specs.Manage.{manage_asks, manage_change, manage_response}
 use Rattle.gw_relay.specs.Message.{Message}
-use Rattle.gw_relay.specs.Route.{route_asks}
+use Rattle.gw_relay.specs.Route.{reject, route_asks, route_response, route_sends}
+use Rattle.gw_relay.specs.Sends.{Sending}
 use Rattle.gw_relay.specs.State.{Commit, Relay, link_later, links_after, moved}
+use Rattle.gw_relay.specs.Stations.{belongs}
+use Rattle.gw_relay.specs.Steps.{unicast}
 use Rattle.gw_relay.specs.declared.change.Change.{Change}
 use Rattle.gw_relay.specs.declared.port.PortState.{PortState}
 use Rattle.gw_relay.specs.declared.port.Port.{Port}
@@ -61,21 +74,21 @@ OwnEntryIsLeftOut = (own : BipAddr) (entries : List BdtEntry) → list_any (is_o
 -- No table of a port changes if no ask of the frame that would change one is allowed.
 abbrev pub TablesAreKept : Type 0
 TablesAreKept =
-    (rules : List Rule) (on : PortState) (from : BipAddr) (frame : Frame) →
-    NoChangeAllowed rules (link_asks on.port from frame) → link_change rules on from frame ≡ None
+    (rules : List Rule) (format : Format) (on : PortState) (from : BipAddr) (frame : Frame) →
+    NoChangeAllowed rules (link_asks format on.port from frame) → link_change rules format on from frame ≡ None
 
 -- An ask about a table is for no property.
 abbrev pub TableAsksReadNothing : Type 0
 TableAsksReadNothing =
-    (port : Port) (from : BipAddr) (frame : Frame) →
-    AllByRecursion (λ ask. IsFor Read ask → ⊥) (link_asks port from frame)
+    (format : Format) (port : Port) (from : BipAddr) (frame : Frame) →
+    AllByRecursion (λ ask. IsFor Read ask → ⊥) (link_asks format port from frame)
 
 -- Nothing is learned if no ask of the message to learn is allowed.
 abbrev pub RoutesAreKept : Type 0
 RoutesAreKept =
     (rules : List Rule) (relay : Relay) (m : Message) →
     NoneAllowed (IsFor Learn) rules (manage_asks relay m) →
-    moved (option_map Commit (manage_change rules m)) relay ≡ relay
+    moved (option_map Commit (manage_change rules relay m)) relay ≡ relay
 
 -- ---- whose asks
 
@@ -85,10 +98,111 @@ AreFrom source asks = AllByRecursion (IsFrom source.net (key_of source.mac)) ask
 
 -- Every ask of a broadcast, of routing and of a network layer message is of the source that the message claims.
 abbrev pub BroadcastsCarryTheirClaim : Type 0
-BroadcastsCarryTheirClaim = (m : Message) → AreFrom m.claim (cast_asks m)
+BroadcastsCarryTheirClaim = (format : Format) (m : Message) → AreFrom m.claim (cast_asks format m)
 
 abbrev pub RoutingCarriesTheClaim : Type 0
 RoutingCarriesTheClaim = (relay : Relay) (m : Message) → AreFrom m.claim (route_asks relay m)
 
 abbrev pub NetworkMessagesCarryTheirClaim : Type 0
 NetworkMessagesCarryTheirClaim = (relay : Relay) (m : Message) → AreFrom m.claim (manage_asks relay m)
+
+-- An ask to enter is of the link source, as a node of the port's network; and an ask to claim is of the claim.
+abbrev pub EnteringCarriesTheLinkSource : Type 0
+EnteringCarriesTheLinkSource =
+    (format : Format) (m : Message) → AreFrom (local_source m.here.port.network m.link) (enter_asks format m)
+
+abbrev pub ClaimingCarriesTheClaim : Type 0
+ClaimingCarriesTheClaim = (relay : Relay) (m : Message) → AreFrom m.claim (claim_asks relay m)
+
+-- ---- who is admitted
+
+-- A station that doesn't belong to the port isn't admitted if no ask to enter is allowed.
+abbrev pub StrangersAreKeptOut : Type 0
+StrangersAreKeptOut =
+    (rules : List Rule) (relay : Relay) (m : Message) → names_stations relay.format ≡ true → enters m.frame ≡ true →
+    belongs relay.format m.here m.link ≡ false → NoneAllowed (IsFor Enter) rules (entry_asks rules relay m) →
+    admits rules relay m ≡ false
+
+-- A message of a source that doesn't come by its route isn't admitted if no ask to claim is allowed.
+abbrev pub ForgedClaimsAreKeptOut : Type 0
+ForgedClaimsAreKeptOut =
+    (rules : List Rule) (relay : Relay) (m : Message) (source : Address) → names_stations relay.format ≡ true →
+    m.npdu.source ≡ Some source → comes_by_route relay m source ≡ false →
+    NoneAllowed (IsFor Claim) rules (entry_asks rules relay m) → admits rules relay m ≡ false
+
+-- Nothing is asked of a station that belongs to the port and speaks for itself.
+abbrev pub OwnStationsEnterUnasked : Type 0
+OwnStationsEnterUnasked =
+    (rules : List Rule) (relay : Relay) (m : Message) → belongs relay.format m.here m.link ≡ true →
+    m.npdu.source ≡ None → entry_asks rules relay m ≡ []
+
+-- Nor of a router of the port that speaks for a network that lies behind it.
+abbrev pub RoutersEnterUnasked : Type 0
+RoutersEnterUnasked =
+    (rules : List Rule) (relay : Relay) (m : Message) (source : Address) → belongs relay.format m.here m.link ≡ true →
+    m.npdu.source ≡ Some source → comes_by_route relay m source ≡ true → entry_asks rules relay m ≡ []
+
+-- What is asked before a message is taken reads nothing.
+abbrev pub EntryAsksReadNothing : Type 0
+EntryAsksReadNothing =
+    (rules : List Rule) (relay : Relay) (m : Message) →
+    AllByRecursion (λ ask. IsFor Read ask → ⊥) (entry_asks rules relay m)
+
+-- ---- where a message is delivered
+
+-- a datagram that is an Original-Unicast-NPDU
+abbrev pub is_unicast : Sending → Bool
+is_unicast s = slice_index s.octets 1 == octet_of OriginalUnicast
+
+-- it goes to an address that belongs to the port on which it is sent
+abbrev pub goes_inside : Relay → Sending → Bool
+goes_inside relay s =
+    list_any (λ link. link.port.number == s.port && belongs relay.format link s.to) relay.links
+
+-- it goes to a router of the table, by the port of its route
+abbrev pub goes_to_router : Relay → Sending → Bool
+goes_to_router relay s =
+    list_any (λ routed. routed.1.port == s.port && same routed.1.next s.to)
+    (relay.routes.configured ++ relay.routes.learned)
+
+-- where routing sends a unicast: inside, to a router, or as a Reject-Message-To-Network back to the link source
+pub data Reaches (relay : Relay) (m : Message) (s : Sending) : Type 0 where
+  Inside : goes_inside relay s ≡ true → Reaches relay m s
+  ToRouter : goes_to_router relay s ≡ true → Reaches relay m s
+  Rejected : (network : ℕ) → bound_for m.npdu ≡ Some network →
+      unicast m.here.port.number m.link (reject network m.npdu) ≡ s ∷ [] → Reaches relay m s
+
+abbrev pub NothingIsDeliveredOutside : Type 0
+NothingIsDeliveredOutside =
+    (rules : List Rule) (relay : Relay) (m : Message) →
+    AllByRecursion (λ s. is_unicast s ≡ true → Reaches relay m s) (route_sends rules relay m)
+
+-- ---- the first two formats
+
+-- Where the format names no stations, every part is as it was before there was such a format, and nothing is asked
+-- before a message is taken.
+abbrev pub TablesAreAsBefore : Type 0
+TablesAreAsBefore =
+    (rules : List Rule) (format : Format) (on : PortState) (from : BipAddr) (frame : Frame) →
+    names_stations format ≡ false →
+    link_response rules format on from frame ≡ link_response_before rules on from frame
+
+abbrev pub BroadcastsAreAsBefore : Type 0
+BroadcastsAreAsBefore =
+    (rules : List Rule) (format : Format) (m : Message) → names_stations format ≡ false →
+    cast_response rules format m ≡ cast_response_before rules m
+
+abbrev pub RoutingIsAsBefore : Type 0
+RoutingIsAsBefore =
+    (rules : List Rule) (relay : Relay) (m : Message) → names_stations relay.format ≡ false →
+    route_response rules relay m ≡ route_response_before rules relay m
+
+abbrev pub NetworkMessagesAreAsBefore : Type 0
+NetworkMessagesAreAsBefore =
+    (rules : List Rule) (relay : Relay) (m : Message) → names_stations relay.format ≡ false →
+    manage_response rules relay m ≡ manage_response_before rules relay m
+
+abbrev pub EntryIsUnasked : Type 0
+EntryIsUnasked =
+    (rules : List Rule) (relay : Relay) (m : Message) → names_stations relay.format ≡ false →
+    entry_asks rules relay m ≡ []

@@ -3,6 +3,7 @@ pub mod State
 pub mod Initial
 pub mod History
 pub mod Claim
+pub mod Stations
 pub mod Message
 pub mod Response
 pub mod Turn
@@ -13,5 +14,7 @@ pub mod Cast
 pub mod Steps
 pub mod Route
 pub mod Manage
+pub mod Entry
+pub mod FormatTwo
 pub mod Laws
 pub mod internal

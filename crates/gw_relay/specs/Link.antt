@@ -10,6 +10,7 @@ use Rattle.gw_bvll.specs.Bvll.{encoding, function_of, refusal, success}
 use Rattle.gw_bvll.specs.Bvll.{write_bdt, read_bdt, read_bdt_ack, register, read_fdt, read_fdt_ack, delete, result_code}
 use Rattle.gw_bvll.specs.Bvll.{Message as Frame}
 use Rattle.gw_rules.specs.RuleList.{allows}
+use Rattle.gw_rules.specs.declared.format.Format.{Format}
 use Rattle.gw_rules.specs.declared.rule.Rule.{Rule}
 use Rattle.gw_relay.specs.Asks.{link_asks}
 use Rattle.gw_relay.specs.Response.{Response}
@@ -48,29 +49,29 @@ change_of port from (delete address) = Some (Deletion port.number address)
 change_of port from other = None
 
 -- it is had if the policy allows it and it can be had
-abbrev pub link_grants : List Rule → PortState → BipAddr → Frame → Bool
-link_grants rules link from frame =
-    list_all (allows rules) (link_asks link.port from frame) && is_granted link from frame
+abbrev pub link_grants : List Rule → Format → PortState → BipAddr → Frame → Bool
+link_grants rules format link from frame =
+    list_all (allows rules) (link_asks format link.port from frame) && is_granted link from frame
 
 -- an answer, which goes to the sender
 abbrev pub answer_to : Port → BipAddr → Frame → Sending
 answer_to port from answer = sending port.number (encoding answer) from
 
 -- the answer to a frame that reads or changes a table
-unfoldable pub link_answer : List Rule → PortState → BipAddr → Frame → List Sending
-link_answer rules link from frame =
+unfoldable pub link_answer : List Rule → Format → PortState → BipAddr → Frame → List Sending
+link_answer rules format link from frame =
     map (answer_to link.port from)
-    (if link_grants rules link from frame then granted link frame else refused frame)
+    (if link_grants rules format link from frame then granted link frame else refused frame)
 
 -- what it changes
-unfoldable pub link_change : List Rule → PortState → BipAddr → Frame → Option Change
-link_change rules link from frame =
-    if link_grants rules link from frame then change_of link.port from frame else None
+unfoldable pub link_change : List Rule → Format → PortState → BipAddr → Frame → Option Change
+link_change rules format link from frame =
+    if link_grants rules format link from frame then change_of link.port from frame else None
 
 -- what is answered to it
-abbrev pub link_response : List Rule → PortState → BipAddr → Frame → Response
-link_response rules link from frame = record {
-  asks = link_asks link.port from frame;
-  sends = link_answer rules link from frame;
-  change = link_change rules link from frame;
+abbrev pub link_response : List Rule → Format → PortState → BipAddr → Frame → Response
+link_response rules format link from frame = record {
+  asks = link_asks format link.port from frame;
+  sends = link_answer rules format link from frame;
+  change = link_change rules format link from frame;
 }

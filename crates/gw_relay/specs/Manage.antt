@@ -15,6 +15,7 @@ use Rattle.gw_routes.specs.declared.route.Way.{Way}
 use Rattle.gw_routes.specs.declared.route.Way.TheVariants.{Port, Device, Router, Everywhere, Unknown}
 use Rattle.gw_rules.specs.Ask.{Ask}
 use Rattle.gw_rules.specs.RuleList.{allows}
+use Rattle.gw_rules.specs.declared.format.Format.{Format}
 use Rattle.gw_rules.specs.declared.operation.Operation.TheVariants as operations
 use Rattle.gw_rules.specs.declared.rule.Rule.{Rule}
 use Rattle.gw_relay.specs.Asks.{message_ask}
@@ -84,8 +85,8 @@ is_what_is_network_number npdu =
 -- ---- what is asked, and what is sent
 
 -- the ask of a network layer message, of a network if it names one
-abbrev pub network_ask : Message → Option ℕ → Ask
-network_ask m network = message_ask operations.Network m network
+abbrev pub network_ask : Format → Message → Option ℕ → Ask
+network_ask format m network = message_ask format operations.Network m network
 
 -- the question that is passed on names who asked
 abbrev pub asker : Message → Address
@@ -107,12 +108,13 @@ answer_who_is_router relay m network Everywhere = []
 -- one network is asked for
 abbrev pub question_of : Relay → Message → ℕ → Step
 question_of relay m network =
-    step (network_ask m (Some network)) (answer_who_is_router relay m network (way relay.routes network))
+    step (network_ask relay.format m (Some network))
+    (answer_who_is_router relay m network (way relay.routes network))
 
 -- all networks are asked for that aren't reached by the port
 abbrev pub question_of_all : Relay → Message → Step
 question_of_all relay m =
-    step (network_ask m None)
+    step (network_ask relay.format m None)
     (broadcast (i_am_router (reachable_from relay.routes m.here.port.number)) m.here)
 
 -- by the octets of a Who-Is-Router-To-Network: all networks, one, or another shape
@@ -125,18 +127,19 @@ question_steps relay m (high ∷ low ∷ []) =
 question_steps relay m (a ∷ b ∷ c ∷ octets) = []
 
 -- the ask of a network that is to be learned
-abbrev pub learn_ask : Message → ℕ → Ask
-learn_ask m network = message_ask operations.Learn m (Some network)
+abbrev pub learn_ask : Format → Message → ℕ → Ask
+learn_ask format m network = message_ask format operations.Learn m (Some network)
 
 -- the number of the port's network is asked for
-abbrev pub number_step : Message → Step
-number_step m = step (network_ask m None) (broadcast (network_number_is m.here.port.network) m.here)
+abbrev pub number_step : Format → Message → Step
+number_step format m =
+    step (network_ask format m None) (broadcast (network_number_is m.here.port.network) m.here)
 
 -- the questions, a line a type; every other message asks nothing and gets no answer
 abbrev pub answer_steps : Relay → Message → List Step
 answer_steps relay m =
     if is_who_is_router m.npdu then question_steps relay m (payload_octets m.npdu.payload)
-    else if is_what_is_network_number m.npdu then number_step m ∷ []
+    else if is_what_is_network_number m.npdu then number_step relay.format m ∷ []
     else []
 
 -- the networks that a router names
@@ -144,11 +147,11 @@ abbrev pub named_networks : Message → List ℕ
 named_networks m = networks_in (payload_octets m.npdu.payload)
 
 -- one ask for each of them, in order, on which no send hangs
-abbrev pub learn_steps : Message → List Step
-learn_steps m = map (λ n. step (learn_ask m n) []) (named_networks m)
+abbrev pub learn_steps : Format → Message → List Step
+learn_steps format m = map (λ n. step (learn_ask format m n) []) (named_networks m)
 
 abbrev pub manage_steps : Relay → Message → List Step
-manage_steps relay m = if is_i_am_router m.npdu then learn_steps m else answer_steps relay m
+manage_steps relay m = if is_i_am_router m.npdu then learn_steps relay.format m else answer_steps relay m
 
 -- the asks of a network layer message
 abbrev pub manage_asks : Relay → Message → List Ask
@@ -159,14 +162,14 @@ abbrev pub manage_sends : List Rule → Relay → Message → List Sending
 manage_sends rules relay m = sends_of rules (manage_steps relay m)
 
 -- the networks that the policy lets be learned
-abbrev pub keep_allowed : List Rule → Message → List ℕ → List ℕ
-keep_allowed rules m networks = filter (λ n. allows rules (learn_ask m n)) networks
+abbrev pub keep_allowed : List Rule → Format → Message → List ℕ → List ℕ
+keep_allowed rules format m networks = filter (λ n. allows rules (learn_ask format m n)) networks
 
 -- its change: they are reached by the port, and the link source is the next router
-abbrev pub manage_change : List Rule → Message → Option Change
-manage_change rules m =
+abbrev pub manage_change : List Rule → Relay → Message → Option Change
+manage_change rules relay m =
     if is_i_am_router m.npdu
-    then Some (Learnings m.here.port.number m.link (keep_allowed rules m (named_networks m)))
+    then Some (Learnings m.here.port.number m.link (keep_allowed rules relay.format m (named_networks m)))
     else None
 
 -- what is answered to it
@@ -174,5 +177,5 @@ abbrev pub manage_response : List Rule → Relay → Message → Response
 manage_response rules relay m = record {
   asks = manage_asks relay m;
   sends = manage_sends rules relay m;
-  change = manage_change rules m;
+  change = manage_change rules relay m;
 }

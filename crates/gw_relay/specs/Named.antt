@@ -1,5 +1,6 @@
--- What a request reads or writes that is passed on: the asks after its `route` ask, under the second
--- format of a policy (ours; the bodies are those of clauses 15.5, 15.7 and 15.9).
+-- What a request reads or writes that is passed on: the asks after its `route` ask under the second and
+-- third format of a policy, and after its `cast` ask under the third (ours; the bodies are those of
+-- clauses 15.5, 15.7 and 15.9).
 use Rattle.std.specs.Prelude.{ℕ, ◌==◌, ◌||◌, if◌then◌else◌, is_some, List, [], ◌∷◌, map, Option, Some, None, Result, Ok}
 use Rattle.std.specs.Prelude.{Err}
 use Rattle.gw_apdu.specs.Apdu.{Fields as Apdu}
@@ -9,10 +10,10 @@ use Rattle.gw_apdu.specs.declared.header.ConfirmedRequest.{ConfirmedRequest as R
 use Rattle.gw_apdu.specs.declared.header.Header.{Header}
 use Rattle.gw_apdu.specs.declared.header.Header.TheVariants.{ConfirmedRequest}
 use Rattle.gw_npdu.specs.Npdu.{Payload, apdu, message}
-use Rattle.gw_configuration.specs.declared.format.Format.{Format}
-use Rattle.gw_configuration.specs.declared.format.Format.TheVariants.{One, Two}
 use Rattle.gw_rules.specs.Ask.{Ask}
 use Rattle.gw_rules.specs.Operation.{operation_number}
+use Rattle.gw_rules.specs.declared.format.Format.{Format}
+use Rattle.gw_rules.specs.declared.format.Format.TheVariants.{One, Two, Three}
 use Rattle.gw_rules.specs.declared.operation.Operation.{Operation}
 use Rattle.gw_rules.specs.declared.operation.Operation.TheVariants as operations
 use Rattle.gw_services.specs.Choices.{read_property, read_property_multiple, write_property}
@@ -24,7 +25,8 @@ use Rattle.gw_services.specs.Write.{Write, write_at}
 use Rattle.gw_services.specs.declared.fault.BodyFault.{BodyFault}
 use Rattle.gw_tags.specs.Object.{Object}
 
--- a read or a write of what the octets don't show: its way and its service are those of the `route` ask
+-- a read or a write of what the octets don't show: its way and its service are those of the `route` ask, and so are
+-- its sender and its station
 abbrev pub unnamed_ask : Ask → Operation → Ask
 unnamed_ask route operation = record route { operation = Some (operation_number operation) }
 
@@ -84,11 +86,16 @@ abbrev pub apdu_asks : Ask → Result Apdu ApduFault → List Ask
 apdu_asks route (Ok a) = header_asks route a.header a.rest
 apdu_asks route (Err fault) = []
 
+-- of a payload: a network layer message names nothing
+abbrev pub payload_asks : Ask → Payload → List Ask
+payload_asks route (message m) = []
+payload_asks route (apdu octets) = apdu_asks route (apdu_at octets)
+
 -- what is asked after a `route` ask
 abbrev pub named_asks : Format → Ask → Payload → List Ask
 named_asks One route payload = []
-named_asks Two route (message m) = []
-named_asks Two route (apdu octets) = apdu_asks route (apdu_at octets)
+named_asks Two route payload = payload_asks route payload
+named_asks Three route payload = payload_asks route payload
 
 -- a `route` ask, and what is asked after it
 abbrev pub forward_asks : Format → Ask → Payload → List Ask

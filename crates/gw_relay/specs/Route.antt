@@ -1,6 +1,6 @@
 -- Routing (clauses 6.2.2, 6.4.4, 6.5): by the way of its destination, what is asked for a message
 -- and what is then sent.
-use Rattle.std.specs.Prelude.{ℕ, Bool, true, false, not, ◌||◌, ◌==◌, List, [], ◌∷◌, ◌++◌, length, filter, map, nat_eq}
+use Rattle.std.specs.Prelude.{ℕ, Bool, true, false, not, ◌&&◌, ◌||◌, ◌==◌, List, [], ◌∷◌, ◌++◌, length, filter, map, nat_eq}
 use Rattle.std.specs.Prelude.{nat_lt, Option, Some, None, if◌then◌else◌}
 use Rattle.std.specs.Int.{w16, to_be_bytes}
 use Rattle.std.specs.List.{flat_map}
@@ -14,19 +14,20 @@ use Rattle.gw_npdu.specs.Kind.{kind_number}
 use Rattle.gw_npdu.specs.Npdu.{Address, Destination, Fields, Payload, apdu, message}
 use Rattle.gw_npdu.specs.Onward.{onward}
 use Rattle.gw_routes.specs.Table.{way}
-use Rattle.gw_configuration.specs.declared.format.Format.{Format}
 use Rattle.gw_routes.specs.declared.route.Route.{Route}
 use Rattle.gw_routes.specs.declared.route.Way.{Way}
 use Rattle.gw_routes.specs.declared.route.Way.TheVariants.{Port, Router, Everywhere, Unknown}
 use Rattle.gw_rules.specs.Ask.{Ask}
+use Rattle.gw_rules.specs.declared.format.Format.{Format}
 use Rattle.gw_rules.specs.declared.operation.Operation.TheVariants as operations
 use Rattle.gw_rules.specs.declared.rule.Rule.{Rule}
-use Rattle.gw_relay.specs.Asks.{bound_for, message_ask}
+use Rattle.gw_relay.specs.Asks.{bound_for, passing_ask}
 use Rattle.gw_relay.specs.Message.{Message}
 use Rattle.gw_relay.specs.Named.{forward_asks}
 use Rattle.gw_relay.specs.Response.{Response}
 use Rattle.gw_relay.specs.Sends.{Sending}
 use Rattle.gw_relay.specs.State.{Relay, at_port}
+use Rattle.gw_relay.specs.Stations.{belongs}
 use Rattle.gw_relay.specs.Steps.{Step, asks_of, broadcast, sends_of, taken, unicast}
 use Rattle.gw_relay.specs.declared.port.PortState.{PortState}
 use Rattle.gw_relay.specs.declared.port.Port.{Port as RelayPort}
@@ -100,11 +101,13 @@ who_is_router source network = made None source WhoIsRouterToNetwork (to_be_byte
 abbrev pub others : ℕ → List PortState → List PortState
 others number links = filter (λ link. not (nat_eq link.port.number number)) links
 
--- on a port's own network: to all if there is no DADR, to a BACnet/IP address, or to nobody
-abbrev pub delivered : List ℕ → Fields → PortState → List Sending
-delivered mac npdu link =
+-- on a port's own network: to all if there is no DADR, to a BACnet/IP address that belongs to the port, or
+-- to nobody
+abbrev pub delivered : Format → List ℕ → Fields → PortState → List Sending
+delivered format mac npdu link =
     if length mac == 0 then broadcast npdu link
-    else if length mac == 6 then unicast link.port.number (address_in mac) npdu
+    else if length mac == 6 && belongs format link (address_in mac)
+    then unicast link.port.number (address_in mac) npdu
     else []
 
 -- No way is known: the sender gets a reject, and each other port's routers are asked for one. There is
@@ -123,7 +126,7 @@ routed m d route =
 -- by the way of the destination's network, which is one
 abbrev pub forward : Relay → Message → Destination → Way → List Sending
 forward relay m d (Port number) =
-    at_port [] (delivered d.address.mac (last_hop m)) relay.links number
+    at_port [] (delivered relay.format d.address.mac (last_hop m)) relay.links number
 forward relay m d (Router route) = routed m d route
 forward relay m d Unknown = reject_and_search relay m d.address.network
 forward relay m d other = []
@@ -131,8 +134,8 @@ forward relay m d other = []
 -- ---- what is asked
 
 -- the ask of a message that goes to a network
-abbrev pub route_ask : Message → Option ℕ → Ask
-route_ask m network = message_ask operations.Route m network
+abbrev pub route_ask : Format → Message → Option ℕ → Ask
+route_ask format m network = passing_ask format operations.Route m network
 
 -- a way that doesn't lead back by the port of this number, nor to the device, which the gateway is
 abbrev pub leaves : ℕ → Way → Bool
@@ -144,7 +147,7 @@ leaves number other = false
 -- one way, and what hangs on its asks
 abbrev pub on_way : Relay → Message → Destination → Way → Step
 on_way relay m d way = record {
-  asks = forward_asks relay.format (route_ask m (bound_for m.npdu)) m.npdu.payload;
+  asks = forward_asks relay.format (route_ask relay.format m (bound_for m.npdu)) m.npdu.payload;
   sends = forward relay m d way;
 }
 
@@ -155,7 +158,7 @@ copy_to_port m d link = if has_hops d then broadcast (next_hop m) link else []
 -- the copy of a global broadcast for another port
 abbrev pub copy : Format → Message → Destination → PortState → Step
 copy format m d link = record {
-  asks = forward_asks format (route_ask m (Some link.port.network)) m.npdu.payload;
+  asks = forward_asks format (route_ask format m (Some link.port.network)) m.npdu.payload;
   sends = copy_to_port m d link;
 }
 

@@ -5,6 +5,7 @@ pub mod Octets
 pub mod Grants
 pub mod Ticks
 pub mod Serving
+pub mod Entering
 pub mod Passing
 pub mod Outgoing
 pub mod Rooms

@@ -4,15 +4,15 @@ ghost use Rattle.std.specs.Prelude.{◌≡◌};
 ghost use Rattle.std.specs.Option.{option_map};
 ghost use Rattle.gw_bvll.specs.Bvll.{view as frame_view};
 ghost use Rattle.gw_npdu.specs.Npdu.{view as npdu_view, payload_view};
-ghost use Rattle.gw_relay.specs.Asks.{bound_for, link_ask, management_of, message_ask, service_of};
+ghost use Rattle.gw_relay.specs.Asks.{bound_for, deleted_station, link_ask, management_of, message_ask, passing_ask, sender_of, service_of, station_key, station_of};
 ghost use Rattle.gw_relay.specs.Message.{message_view};
 
-use crate::message::Message;
+use crate::message::{Message, key_of};
 use crate::port::Port;
 use gw_addr::BipAddr;
 use gw_bvll::Bvll;
 use gw_npdu::{Npdu, Payload};
-use gw_rules::{Ask, Operation, Service};
+use gw_rules::{Ask, Format, Operation, Service};
 
 /// What a frame is about to do with a table of its port, or `None` if it manages none.
 pub(crate) fn management_of(frame: &Bvll<'_>) -> Option<Operation>
@@ -27,15 +27,65 @@ pub(crate) fn management_of(frame: &Bvll<'_>) -> Option<Operation>
     }
 }
 
+/// An address as the key of a station, in a format that names stations.
+fn station_key(format: Format, address: BipAddr) -> Option<u64>
+    ensures { result ≡ station_key format address }
+{
+    if format.names_stations() {
+        Some(address.key48())
+    } else {
+        None
+    }
+}
+
+/// Who sent a datagram, in a format that names stations.
+#[inline(always)]
+pub fn sender_of(format: Format, from: BipAddr) -> Option<u64>
+    ensures { result ≡ sender_of format from }
+{
+    station_key(format, from)
+}
+
+/// The one station that a message is bound for, in a format that names stations: a DADR of six octets.
+fn station_of(format: Format, npdu: &Npdu<'_>) -> Option<u64>
+    ensures { result ≡ station_of format (npdu_view npdu.now) }
+{
+    if !format.names_stations() {
+        return None;
+    }
+    match &npdu.destination {
+        Some(destination) => key_of(destination.mac),
+        None => None,
+    }
+}
+
+/// The station whose registration a frame is to delete, in a format that names stations.
+fn deleted_station(format: Format, frame: &Bvll<'_>) -> Option<u64>
+    ensures { result ≡ deleted_station format (frame_view frame.now) }
+{
+    match frame {
+        Bvll::Delete(address) => station_key(format, *address),
+        _ => None,
+    }
+}
+
 /// The ask of a frame that manages a table.
-pub(crate) fn link_ask(port: &Port, from: BipAddr, frame: &Bvll<'_>, operation: Operation) -> Ask
-    ensures { result ≡ link_ask port.now from (frame_view frame.now) operation }
+pub(crate) fn link_ask(
+    format: Format,
+    port: &Port,
+    from: BipAddr,
+    frame: &Bvll<'_>,
+    operation: Operation,
+) -> Ask
+    ensures { result ≡ link_ask format port.now from (frame_view frame.now) operation }
 {
     Ask {
         port: Some(u64::from(port.number)),
         source_network: Some(u64::from(port.network.get())),
         source_key: Some(from.key48()),
         service: Some(Service::BvllFunction(frame.function().octet()).number()),
+        sender: sender_of(format, from),
+        station: deleted_station(format, frame),
         ..Ask::new(operation)
     }
 }
@@ -64,8 +114,8 @@ impl Message<'_> {
     /// The ask of a message that goes to that network, if it names one: it comes from the source that
     /// the message claims.
     #[inline(always)]
-    pub(crate) fn ask(&self, operation: Operation, destination: Option<u16>) -> Ask
-        ensures { result ≡ message_ask operation (message_view self.now) destination }
+    pub(crate) fn ask(&self, format: Format, operation: Operation, destination: Option<u16>) -> Ask
+        ensures { result ≡ message_ask format operation (message_view self.now) destination }
     {
         Ask {
             port: Some(u64::from(self.here.port.number)),
@@ -73,7 +123,24 @@ impl Message<'_> {
             source_key: self.source_key(),
             destination_network: destination.map(u64::from),
             service: service_of(&self.npdu.payload),
+            sender: sender_of(format, self.from),
             ..Ask::new(operation)
+        }
+    }
+
+    /// The ask of a message that is passed on, which has the station that it is bound for.
+    #[inline(always)]
+    pub(crate) fn passing_ask(
+        &self,
+        format: Format,
+        operation: Operation,
+        destination: Option<u16>,
+    ) -> Ask
+        ensures { result ≡ passing_ask format operation (message_view self.now) destination }
+    {
+        Ask {
+            station: station_of(format, self.npdu),
+            ..self.ask(format, operation, destination)
         }
     }
 }

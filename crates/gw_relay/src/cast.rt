@@ -15,7 +15,6 @@ ghost use Rattle.gw_relay.specs.Sends.{sendings_of, sent};
 ghost use Rattle.gw_relay.specs.internal.Rooms.{broadcast_npdu};
 ghost use Rattle.gw_relay.specs.internal.Serving.{judged};
 
-use crate::ask::bound_for;
 use crate::message::Message;
 use crate::octets::message_octets;
 use crate::outgoing::Outgoing;
@@ -25,7 +24,7 @@ use crate::sends::{Batch, Sends};
 use crate::turn::Turn;
 use gw_addr::{BdtEntry, BipAddr};
 use gw_bvll::Bvll;
-use gw_rules::{Asker, Operation};
+use gw_rules::Asker;
 use std::alloc::{AllocError, Global};
 
 /// How many octets of a Forwarded-NPDU come before its NPDU (Annex J.2.5).
@@ -341,7 +340,7 @@ impl Relay {
         turn: &mut Turn<A>,
     ) -> Result<bool, AllocError>
         ensures turn { (rules : List Rule) → A.StandsFor turn.old.asker rules →
-            let due = cast_response rules (message_view message.now) in
+            let due = cast_response rules self.now.format (message_view message.now) in
             OnOk result (IsWalked A.kept A.kept_of rules due turn.old turn.new) }
         ensures stays { (rules : List Rule) → A.StandsFor turn.old.asker rules →
             A.StandsFor turn.new.asker rules }
@@ -349,9 +348,9 @@ impl Relay {
             IfOk result (λ goes. goes ≡ goes_on m.here m.from m.frame) }
         // What asks nothing and refuses no unregistered sender wants no memory.
         ensures silent { let m = message_view message.now in
-            cast_asks m ≡ [] → is_unregistered m.here m.from m.frame ≡ false → IsOk result }
+            cast_asks self.now.format m ≡ [] → is_unregistered m.here m.from m.frame ≡ false → IsOk result }
         ensures unasked { let m = message_view message.now in
-            cast_asks m ≡ [] → is_unregistered m.here m.from m.frame ≡ false → turn.new ≡ turn.old }
+            cast_asks self.now.format m ≡ [] → is_unregistered m.here m.from m.frame ≡ false → turn.new ≡ turn.old }
     {
         let here = message.here;
         let from = message.from;
@@ -362,30 +361,32 @@ impl Relay {
             here.add_refusal(from, message.frame, &mut turn.sends)?;
             return Ok(false);
         }
-        message.add_accepted_cast(turn)?;
+        self.add_accepted_cast(message, turn)?;
         Ok(true)
     }
-}
 
-impl Message<'_> {
     /// Distributes a broadcast that is accepted, and no unregistered sender's, and adds what that gives.
-    fn add_accepted_cast<A: Asker>(&self, turn: &mut Turn<A>) -> Result<(), AllocError>
-        requires { let m = message_view self.now in goes_on m.here m.from m.frame ≡ true }
+    fn add_accepted_cast<A: Asker>(
+        &self,
+        message: &Message<'_>,
+        turn: &mut Turn<A>,
+    ) -> Result<(), AllocError>
+        requires { let m = message_view message.now in goes_on m.here m.from m.frame ≡ true }
         ensures turn { (rules : List Rule) → A.StandsFor turn.old.asker rules →
-            let due = cast_response rules (message_view self.now) in
+            let due = cast_response rules self.now.format (message_view message.now) in
             OnOk result (IsWalked A.kept A.kept_of rules due turn.old turn.new) }
         ensures stays { (rules : List Rule) → A.StandsFor turn.old.asker rules →
             A.StandsFor turn.new.asker rules }
-        ensures silent { cast_asks (message_view self.now) ≡ [] → IsOk result }
-        ensures unasked { cast_asks (message_view self.now) ≡ [] → turn.new ≡ turn.old }
+        ensures silent { cast_asks self.now.format (message_view message.now) ≡ [] → IsOk result }
+        ensures unasked { cast_asks self.now.format (message_view message.now) ≡ [] →
+            turn.new ≡ turn.old }
     {
-        if !is_broadcast(self.frame) {
+        if !is_broadcast(message.frame) {
             return Ok(());
         }
-        let ask = self.ask(Operation::Cast, bound_for(self.npdu));
-        let is_allowed = turn.asker.authorize(&ask)?;
-        let here = self.here;
-        here.add_judged(self.from, self.frame, is_allowed, &mut turn.sends)?;
+        let is_allowed = self.authorize_cast(&mut turn.asker, message)?;
+        let here = message.here;
+        here.add_judged(message.from, message.frame, is_allowed, &mut turn.sends)?;
         Ok(())
     }
 }

@@ -36,6 +36,7 @@ fn link_of(alloc: Global, number: u8, port: &ConfiguredPort) -> Result<PortState
     requires { IsFalse (has_twice port.now.peers) }
     ensures { IfOk result (λ link. link ≡ link_of number port.now) }
 {
+    let stations = port.stations.copy(alloc)?;
     let peers = Vec::from_slice(alloc, port.peers.as_slice())?;
     let bdt = Bdt::from_vec(peers).unwrap();
     Ok(PortState {
@@ -45,6 +46,7 @@ fn link_of(alloc: Global, number: u8, port: &ConfiguredPort) -> Result<PortState
             address: port.address,
             broadcast: port.broadcast,
         },
+        stations,
         bdt,
         fdt: Fdt::new(alloc),
     })

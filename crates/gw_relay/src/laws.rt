@@ -1,7 +1,7 @@
 //! What the words of the relay mean, proved of every change, every history and every table, for a
 //! reader of the definitions that contracts here and in the crates above cite. The functions do
 //! nothing.
-ghost use Rattle.gw_relay.specs.Laws.{AllOnesReachTheManager, BroadcastsCarryTheirClaim, ChangesExtendHistories, ConfiguredLinksStand, NetworkMessagesCarryTheirClaim, OwnEntryIsLeftOut, RoutesAreKept, RoutingCarriesTheClaim, SenderIsLeftOut, TableAsksReadNothing, TablesAreKept, TicksExtendHistories};
+ghost use Rattle.gw_relay.specs.Laws.{AllOnesReachTheManager, BroadcastsAreAsBefore, BroadcastsCarryTheirClaim, ChangesExtendHistories, ClaimingCarriesTheClaim, ConfiguredLinksStand, EnteringCarriesTheLinkSource, EntryAsksReadNothing, EntryIsUnasked, ForgedClaimsAreKeptOut, NetworkMessagesAreAsBefore, NetworkMessagesCarryTheirClaim, NothingIsDeliveredOutside, OwnEntryIsLeftOut, OwnStationsEnterUnasked, RoutersEnterUnasked, RoutesAreKept, RoutingCarriesTheClaim, RoutingIsAsBefore, SenderIsLeftOut, StrangersAreKeptOut, TableAsksReadNothing, TablesAreAsBefore, TablesAreKept, TicksExtendHistories};
 
 /// The ports' tables are those of the last granted entries, and of the granted registrations and
 /// deletions and the ticks: so they begin, and each change and each tick extends that.
@@ -28,9 +28,38 @@ pub fn changes()
     ensures routes { RoutesAreKept }
 {}
 
-/// Every ask of a message is of the source that the message claims.
+/// Every ask of a message is of the source that the message claims, but an ask to enter, which is of the
+/// link source on the port's network.
 pub fn claims()
     ensures broadcasts { BroadcastsCarryTheirClaim }
     ensures routing { RoutingCarriesTheClaim }
     ensures network_messages { NetworkMessagesCarryTheirClaim }
+    ensures entering { EnteringCarriesTheLinkSource }
+    ensures claiming { ClaimingCarriesTheClaim }
+{}
+
+/// Who is admitted where the format names stations: no stranger and no source that doesn't come by its
+/// route, if the rules allow none; a station of the port that speaks for itself, and a router of the port
+/// that speaks for a network that lies behind it, without an ask. Nothing is read by that.
+pub fn entry()
+    ensures strangers { StrangersAreKeptOut }
+    ensures claims { ForgedClaimsAreKeptOut }
+    ensures stations { OwnStationsEnterUnasked }
+    ensures routers { RoutersEnterUnasked }
+    ensures reads { EntryAsksReadNothing }
+{}
+
+/// A message that is routed as a unicast goes to an address that belongs to the port on which it is sent, to
+/// a router of the table, or, as a Reject-Message-To-Network, back to the link source.
+pub fn delivery()
+    ensures inside { NothingIsDeliveredOutside }
+{}
+
+/// Where the format names no stations, the relay asks and does what it did before there was such a format.
+pub fn formats()
+    ensures tables { TablesAreAsBefore }
+    ensures broadcasts { BroadcastsAreAsBefore }
+    ensures routing { RoutingIsAsBefore }
+    ensures network_messages { NetworkMessagesAreAsBefore }
+    ensures entry { EntryIsUnasked }
 {}

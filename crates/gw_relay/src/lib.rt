@@ -8,6 +8,7 @@
 mod ask;
 mod cast;
 mod change;
+mod entry;
 mod initial;
 pub mod laws;
 mod link;
@@ -23,8 +24,10 @@ mod relay;
 mod response;
 mod route;
 mod sends;
+mod stations;
 mod turn;
 
+pub use ask::sender_of;
 pub use change::Change;
 pub use message::{Message, TableMessage, local_source};
 pub use port::{Port, PortState, link_at};

@@ -48,20 +48,20 @@ impl Relay {
     ) -> Result<(), AllocError>
         ensures turn { (rules : List Rule) → A.StandsFor turn.old.asker rules →
             let m = message.now in
-            let due = link_response rules m.here.now m.from (view m.frame.now) in
+            let due = link_response rules self.now.format m.here.now m.from (view m.frame.now) in
             OnOk result (IsWalked A.kept A.kept_of rules due turn.old turn.new) }
         ensures stays { (rules : List Rule) → A.StandsFor turn.old.asker rules →
             A.StandsFor turn.new.asker rules }
         ensures silent { let m = message.now in
-            link_asks m.here.now.port m.from (view m.frame.now) ≡ [] → IsOk result }
+            link_asks self.now.format m.here.now.port m.from (view m.frame.now) ≡ [] → IsOk result }
         ensures unasked { let m = message.now in
-            link_asks m.here.now.port m.from (view m.frame.now) ≡ [] → turn.new ≡ turn.old }
+            link_asks self.now.format m.here.now.port m.from (view m.frame.now) ≡ [] → turn.new ≡ turn.old }
     {
         let (here, from, frame) = (message.here, message.from, message.frame);
         let Some(operation) = management_of(frame) else {
             return Ok(());
         };
-        let ask = link_ask(&here.port, from, frame, operation);
+        let ask = link_ask(self.format(), &here.port, from, frame, operation);
         let is_allowed = turn.asker.authorize(&ask)?;
         let change = here.add_table_answer(from, frame, is_allowed, &mut turn.sends)?;
         turn.set_change(change);

@@ -24,7 +24,7 @@ use crate::turn::Turn;
 use gw_addr::{NetNum, Sequence, put_number};
 use gw_npdu::{AddressRef, Destination, MessageKind, Npdu};
 use gw_routes::Way;
-use gw_rules::{Asker, Operation};
+use gw_rules::{Asker, Format, Operation};
 use std::alloc::AllocError;
 
 /// The number of a network is configured, not learned (clause 6.4.20).
@@ -142,14 +142,18 @@ impl PortState {
 
 impl Message<'_> {
     /// Asks, and answers a What-Is-Network-Number (clause 6.4.19).
-    fn add_number_answer<A: Asker>(&self, turn: &mut Turn<A>) -> Result<(), AllocError>
+    fn add_number_answer<A: Asker>(
+        &self,
+        format: Format,
+        turn: &mut Turn<A>,
+    ) -> Result<(), AllocError>
         ensures steps { (rules : List Rule) → A.StandsFor turn.old.asker rules →
-            let step = number_step (message_view self.now) in
+            let step = number_step format (message_view self.now) in
             OnOk result (AreTaken A.kept A.kept_of rules (step ∷ []) turn.old turn.new) }
         ensures stays { (rules : List Rule) → A.StandsFor turn.old.asker rules →
             A.StandsFor turn.new.asker rules }
     {
-        let ask = self.ask(Operation::Network, None);
+        let ask = self.ask(format, Operation::Network, None);
         if turn.asker.authorize(&ask)? {
             self.here.add_number_is(&mut turn.sends)
         } else {
@@ -160,16 +164,17 @@ impl Message<'_> {
     /// Asks for each network that a router names, and keeps those that may be learned.
     fn keep_allowed<A: Asker>(
         &self,
+        format: Format,
         octets: &[u8],
         networks: &mut Sequence<NetNum>,
         asker: &mut A,
     ) -> Result<(), AllocError>
         requires { are_networks octets.now ≡ true }
         ensures networks { (rules : List Rule) → A.StandsFor asker.old rules →
-            let kept = keep_allowed rules (message_view self.now) (networks_in octets.now) in
+            let kept = keep_allowed rules format (message_view self.now) (networks_in octets.now) in
             OnOk result (networks.new ≡ networks.old ++ kept) }
         ensures verdicts { (rules : List Rule) → A.StandsFor asker.old rules →
-            let asks = map (learn_ask (message_view self.now)) (networks_in octets.now) in
+            let asks = map (learn_ask format (message_view self.now)) (networks_in octets.now) in
             OnOk result (A.kept asker.new ≡ A.kept asker.old ++ A.kept_of rules asks) }
         ensures stays { (rules : List Rule) → A.StandsFor asker.old rules →
             A.StandsFor asker.new rules }
@@ -178,25 +183,25 @@ impl Message<'_> {
             return Ok(());
         };
         let network = NetNum::new(u16::from_be_bytes([*high, *low])).unwrap();
-        let ask = self.ask(Operation::Learn, Some(network.get()));
+        let ask = self.ask(format, Operation::Learn, Some(network.get()));
         if asker.authorize(&ask)? {
             networks.push(network)?;
         }
-        self.keep_allowed(rest, networks, asker)
+        self.keep_allowed(format, rest, networks, asker)
     }
 
     /// Asks for each network that a router names, and keeps those to be committed that may be learned.
-    fn learn<A: Asker>(&self, turn: &mut Turn<A>) -> Result<(), AllocError>
+    fn learn<A: Asker>(&self, format: Format, turn: &mut Turn<A>) -> Result<(), AllocError>
         requires { is_i_am_router (message_view self.now).npdu ≡ true }
         ensures turn { (rules : List Rule) → A.StandsFor turn.old.asker rules →
-            let due = learn_response rules (message_view self.now) in
+            let due = learn_response rules format (message_view self.now) in
             OnOk result (IsWalked A.kept A.kept_of rules due turn.old turn.new) }
         ensures stays { (rules : List Rule) → A.StandsFor turn.old.asker rules →
             A.StandsFor turn.new.asker rules }
     {
         let mut networks = Sequence::new(turn.alloc());
         let octets = self.npdu.payload.octets();
-        self.keep_allowed(octets, &mut networks, &mut turn.asker)?;
+        self.keep_allowed(format, octets, &mut networks, &mut turn.asker)?;
         turn.set_change(Some(Change::Learnings {
             port: self.here.port.number,
             next: self.link(),
@@ -261,7 +266,7 @@ impl Relay {
         ensures stays { (rules : List Rule) → A.StandsFor turn.old.asker rules →
             A.StandsFor turn.new.asker rules }
     {
-        let ask = message.ask(Operation::Network, Some(network.get()));
+        let ask = message.ask(self.format(), Operation::Network, Some(network.get()));
         if !turn.asker.authorize(&ask)? {
             return Ok(());
         }
@@ -281,7 +286,7 @@ impl Relay {
         ensures stays { (rules : List Rule) → A.StandsFor turn.old.asker rules →
             A.StandsFor turn.new.asker rules }
     {
-        let ask = message.ask(Operation::Network, None);
+        let ask = message.ask(self.format(), Operation::Network, None);
         if !turn.asker.authorize(&ask)? {
             return Ok(());
         }
@@ -340,7 +345,7 @@ impl Relay {
             return self.add_answers(message, octets, turn);
         }
         if is_what_is_network_number(message.npdu) {
-            return message.add_number_answer(turn);
+            return message.add_number_answer(self.format(), turn);
         }
         Ok(())
     }
@@ -363,7 +368,7 @@ impl Relay {
         ensures unasked { manage_asks self.now (message_view message.now) ≡ [] → turn.new ≡ turn.old }
     {
         if is_i_am_router(message.npdu) {
-            return message.learn(turn);
+            return message.learn(self.format(), turn);
         }
         self.add_by_type(message, turn)
     }

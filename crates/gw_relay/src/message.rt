@@ -110,7 +110,7 @@ fn remote_source(address: &AddressRef<'_>) -> Source
 }
 
 /// The number of an address of six octets.
-fn key_of(address: &[u8]) -> Option<u64>
+pub(crate) fn key_of(address: &[u8]) -> Option<u64>
     ensures { result ≡ key_of address.now }
 {
     match address {

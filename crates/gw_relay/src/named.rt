@@ -1,5 +1,5 @@
-//! What a request reads or writes that is passed on, as the second format of a policy judges it: the
-//! asks after its `route` ask.
+//! What a request reads or writes that is passed on: the asks after its `route` ask under the second and
+//! third format of a policy, and after its `cast` ask under the third.
 
 ghost use Rattle.std.specs.Prelude.{◌≡◌, ◌∷◌, [], true, is_ok, List, IfOk};
 ghost use Rattle.std.specs.Option.{option_map};
@@ -10,14 +10,17 @@ ghost use Rattle.gw_services.specs.MultiReading.{multi_at, references_at};
 ghost use Rattle.gw_services.specs.Read.{read_at};
 ghost use Rattle.gw_services.specs.Write.{write_at};
 ghost use Rattle.gw_tags.specs.Object.{object_view};
+ghost use Rattle.gw_relay.specs.Cast.{cast_ask, carried_asks};
+ghost use Rattle.gw_relay.specs.Message.{message_view};
 ghost use Rattle.gw_relay.specs.Named.{forward_asks, multi_asks, named_ask, named_asks, read_asks, reference_ask, request_asks, segment_asks, unnamed_ask, write_asks};
 ghost use Rattle.gw_relay.specs.internal.Taken.{AreAsked};
 
+use crate::ask::bound_for;
+use crate::message::Message;
 use crate::relay::Relay;
 use gw_apdu::{Apdu, ConfirmedRequest, Header};
-use gw_configuration::Format;
 use gw_npdu::Payload;
-use gw_rules::{Ask, Asker, Operation};
+use gw_rules::{Ask, Asker, Format, Operation};
 use gw_services::{
     MAX_REFERENCES, Next, READ_PROPERTY, READ_PROPERTY_MULTIPLE, Reference, WRITE_PROPERTY,
     decode_read, decode_write, read_reference,
@@ -113,7 +116,7 @@ fn are_references(left: u8, current: Option<ObjectId>, octets: &[u8]) -> bool
 }
 
 /// Puts one ask, and answers whether it is allowed.
-fn authorize_one<A: Asker>(asker: &mut A, ask: &Ask) -> Result<bool, AllocError>
+pub(crate) fn authorize_one<A: Asker>(asker: &mut A, ask: &Ask) -> Result<bool, AllocError>
     ensures asked { (rules : List Rule) → A.StandsFor asker.old rules →
         IfOk result (AreAsked A.kept A.kept_of rules (ask.now ∷ []) asker.old asker.new) }
     ensures stays { (rules : List Rule) → A.StandsFor asker.old rules →
@@ -222,7 +225,7 @@ impl Relay {
         ensures stays { (rules : List Rule) → A.StandsFor asker.old rules →
             A.StandsFor asker.new rules }
     {
-        let (Format::Two, Payload::Apdu(octets)) = (self.format(), payload) else {
+        let (Format::Two | Format::Three, Payload::Apdu(octets)) = (self.format(), payload) else {
             return Ok(true);
         };
         match gw_apdu::decode(octets) {
@@ -253,5 +256,30 @@ impl Relay {
         let goes = asker.authorize(route)?;
         let are_allowed = self.authorize_named(asker, route, payload)?;
         Ok(goes && are_allowed)
+    }
+
+    /// Puts the `cast` ask of a message, and after it, in a format that names stations, those of what
+    /// the message names, whether or not it is allowed; and answers whether all are.
+    #[inline(always)]
+    pub(crate) fn authorize_cast<A: Asker>(
+        &self,
+        asker: &mut A,
+        message: &Message<'_>,
+    ) -> Result<bool, AllocError>
+        ensures asked { (rules : List Rule) → A.StandsFor asker.old rules →
+            let format = self.now.format in
+            let m = message_view message.now in
+            let asks = cast_ask format m ∷ carried_asks format m in
+            IfOk result (AreAsked A.kept A.kept_of rules asks asker.old asker.new) }
+        ensures stays { (rules : List Rule) → A.StandsFor asker.old rules →
+            A.StandsFor asker.new rules }
+    {
+        let format = self.format();
+        let ask = message.passing_ask(format, Operation::Cast, bound_for(message.npdu));
+        if format.names_stations() {
+            self.authorize_forward(asker, &ask, &message.npdu.payload)
+        } else {
+            authorize_one(asker, &ask)
+        }
     }
 }

@@ -6,6 +6,7 @@ ghost use Rattle.gw_relay.specs.State.{link_at};
 
 use gw_addr::{BipAddr, NetNum};
 use gw_bdt_fdt::{Bdt, Fdt};
+use gw_configuration::Stations;
 
 /// A port of the gateway: the BACnet/IP network that it is on (Annex J.1).
 #[derive(Clone, Copy)]
@@ -24,6 +25,8 @@ pub struct Port {
 pub struct PortState {
     /// The port.
     pub port: Port,
+    /// The subnets of its stations, or none where it names no stations.
+    pub stations: Stations,
     /// The broadcast distribution table.
     pub bdt: Bdt,
     /// The foreign device table.
@@ -35,6 +38,7 @@ impl Drop for PortState {
     fn drop(self) {
         let PortState {
             port: _,
+            stations: _,
             bdt: _,
             fdt: _,
         } = self;

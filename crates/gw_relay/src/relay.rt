@@ -28,9 +28,9 @@ use crate::port::{PortState, link_at};
 use crate::response::RelayResponse;
 use crate::sends::Sends;
 use crate::turn::Turn;
-use gw_configuration::{Config, Format};
+use gw_configuration::Config;
 use gw_routes::Routes;
-use gw_rules::{Authorizer, Judge};
+use gw_rules::{Authorizer, Format, Judge};
 use std::alloc::{AllocError, Global};
 use std::marker::Model;
 
@@ -111,11 +111,11 @@ impl Relay {
     ) -> Result<(), AllocError>
         ensures relayed { (rules : List Rule) → J.StandsFor judge.now rules →
             let m = message.now in
-            let due = link_response rules m.here.now m.from (frame_view m.frame.now) in
+            let due = link_response rules self.now.format m.here.now m.from (frame_view m.frame.now) in
             OnOk result (IsAdded rules due given.old given.new) }
         ensures err { OnErr result (given.new ≡ given.old) }
         ensures silent { let m = message.now in
-            link_asks m.here.now.port m.from (frame_view m.frame.now) ≡ [] → IsOk result }
+            link_asks self.now.format m.here.now.port m.from (frame_view m.frame.now) ≡ [] → IsOk result }
     {
         let mut turn = Turn::new(Authorizer::new(alloc, judge));
         self.add_link(message, &mut turn)?;
@@ -133,14 +133,14 @@ impl Relay {
         given: &mut RelayResponse,
     ) -> Result<bool, AllocError>
         ensures relayed { (rules : List Rule) → J.StandsFor judge.now rules →
-            let due = cast_response rules (message_view message.now) in
+            let due = cast_response rules self.now.format (message_view message.now) in
             OnOk result (IsAdded rules due given.old given.new) }
         ensures goes_on { let m = message_view message.now in
             IfOk result (λ goes. goes ≡ goes_on m.here m.from m.frame) }
         ensures err { OnErr result (given.new ≡ given.old) }
         // What asks nothing and refuses no unregistered sender wants no memory.
         ensures silent { let m = message_view message.now in
-            cast_asks m ≡ [] → is_unregistered m.here m.from m.frame ≡ false → IsOk result }
+            cast_asks self.now.format m ≡ [] → is_unregistered m.here m.from m.frame ≡ false → IsOk result }
     {
         let mut turn = Turn::new(Authorizer::new(alloc, judge));
         let goes_on = self.add_cast(message, &mut turn)?;
@@ -168,8 +168,8 @@ impl Relay {
         self.links.as_slice()
     }
 
-    /// The format of the policy, by which routing asks.
-    pub(crate) fn format(&self) -> Format
+    /// The format of the policy, by which asks are put.
+    pub fn format(&self) -> Format
         ensures { result ≡ self.now.format }
     {
         self.format

@@ -21,7 +21,7 @@ use crate::sends::Sends;
 use crate::turn::Turn;
 use gw_npdu::{AddressRef, Destination, MessageKind, Npdu, Onward, Payload};
 use gw_routes::{Route, Way};
-use gw_rules::{Asker, Operation};
+use gw_rules::{Asker, Format, Operation};
 use std::alloc::{AllocError, Global};
 
 /// The hop count that a message begins with (clause 6.2.3).
@@ -75,26 +75,28 @@ impl Message<'_> {
         Outgoing::onward(alloc, self.npdu, &how)
     }
 
-    /// Adds the message on the destination's own network.
+    /// Adds the message on the destination's own network: to all, or to an address that belongs to the
+    /// port.
     fn add_delivered(
         &self,
+        format: Format,
         mac: &[u8],
         port: &PortState,
         sends: &mut Sends,
     ) -> Result<(), AllocError>
         ensures { let npdu = last_hop (message_view self.now) in
-            OnOk result (sends.new ≡ sends.old ++ delivered mac.now npdu port.now) }
+            OnOk result (sends.new ≡ sends.old ++ delivered format mac.now npdu port.now) }
     {
         if mac.is_empty() {
             let next = self.hop(sends.alloc(), false)?;
             return port.add_broadcast(next, sends);
         }
         match gw_addr::bip_from_slice(mac) {
-            Ok(to) => {
+            Ok(to) if port.belongs(format, to) => {
                 let next = self.hop(sends.alloc(), false)?;
                 add_unicast(port.port.number, to, next, sends)
             }
-            Err(_) => Ok(()),
+            _ => Ok(()),
         }
     }
 
@@ -230,7 +232,7 @@ impl Relay {
     {
         match way {
             Way::Port(number) => match link_at(self.ports(), *number) {
-                Some(port) => message.add_delivered(destination.mac, port, sends),
+                Some(port) => message.add_delivered(self.format(), destination.mac, port, sends),
                 None => Ok(()),
             },
             Way::Router(route) => message.add_routed(destination, route, sends),
@@ -281,7 +283,11 @@ impl Relay {
         ensures stays { (rules : List Rule) → A.StandsFor turn.old.asker rules →
             A.StandsFor turn.new.asker rules }
     {
-        let ask = message.ask(Operation::Route, Some(port.port.network.get()));
+        let ask = message.passing_ask(
+            self.format(),
+            Operation::Route,
+            Some(port.port.network.get()),
+        );
         if self.authorize_forward(&mut turn.asker, &ask, &message.npdu.payload)? {
             message.copy_to_port(destination, port, &mut turn.sends)
         } else {
@@ -304,7 +310,7 @@ impl Relay {
         ensures stays { (rules : List Rule) → A.StandsFor turn.old.asker rules →
             A.StandsFor turn.new.asker rules }
     {
-        let ask = message.ask(Operation::Route, bound_for(message.npdu));
+        let ask = message.passing_ask(self.format(), Operation::Route, bound_for(message.npdu));
         if self.authorize_forward(&mut turn.asker, &ask, &message.npdu.payload)? {
             self.forward(message, destination, way, &mut turn.sends)
         } else {

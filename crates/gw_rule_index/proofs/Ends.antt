@@ -1,23 +1,24 @@
 -- The bounds of a field: all values of an elementary range are admitted alike.
-use Rattle.std.proofs.Common.{◌≡◌, ℕ, zero, suc, ◌+◌, ◌^◌, ◌≤◌, ◌<◌, Bool, true, false, ◌&&◌, cond, List, [], ◌∷◌, map, length, get_or, Some, arith, refl, sym, subst, ◌∙◌, ap, nat_le, nat_lt, inl, inr, eqb, ◌||◌, ◌==◌}
+use Rattle.std.proofs.Common.{◌≡◌, ℕ, zero, suc, ◌+◌, ◌^◌, ◌≤◌, ◌<◌, Bool, true, false, ◌&&◌, ◌*◌, ◌++◌, cond, List, [], ◌∷◌, map, length, get_or, Some, arith, refl, sym, subst, ◌∙◌, ap, nat_le, nat_lt, inl, inr, eqb, ◌||◌, ◌==◌}
 use Rattle.std.specs.List.{Contains, dedup, dedup_from, flat_map, list_any}
 use Rattle.std.specs.List.Sorted.{IsNonDecreasing, IsPermutation, IsSorted, IsStrictlyIncreasing}
 use Rattle.std.specs.Ordering.{nat_cmp}
 use Rattle.std.proofs.lemmas.Bool.{cases_lt, lt-ltb, le-leb, lt-leb, leb-true}
-use Rattle.std.proofs.lemmas.List.{get_or-map, length-map, get_or_default}
+use Rattle.std.proofs.lemmas.List.{get_or-map, length-append, length-map, get_or_default}
 use Rattle.std.proofs.lemmas.List.Concat.{length-flat_map}
 use Rattle.std.proofs.lemmas.List.Elements.{Contains-append_left, Contains-append_right}
 use Rattle.std.proofs.lemmas.List.Kept.{Contains-dedup_nat}
 use Rattle.std.proofs.lemmas.List.Sorted.{Contains-permutation, length_permutation, IsNonDecreasingBy-from_all_adjacent}
-use Rattle.std.proofs.lemmas.List.Sums.{sum_by-le}
+use Rattle.std.proofs.lemmas.List.Sums.{sum_by-cons, sum_by-le}
 use Rattle.std.proofs.lemmas.Map.Keys.{IsStrictlyIncreasing-dedup}
 use Rattle.gw_rules.specs.Range.{holds}
-use Rattle.gw_rules.specs.Rule.{ranges_of, HasFewRanges}
-use Rattle.gw_rules.specs.RuleList.{KeepsCounts}
+use Rattle.gw_rules.specs.Rule.{ranges_of}
+use Rattle.gw_rules.specs.RuleList.{KeepsLongCounts, ranges_in_all}
 use Rattle.gw_rules.specs.declared.field.FieldName.{FieldName}
 use Rattle.gw_rules.specs.declared.range.Range.{Range}
 use Rattle.gw_rules.specs.declared.rule.Rule.{Rule}
 use Rattle.gw_rule_index.specs.declared.row.Row.{Row}
+use Rattle.gw_rule_index.specs.Comparisons.{is_named}
 use Rattle.gw_rule_index.specs.internal.Bounds.{AreSearchable, IsPlace, bound_at, ends, field_ends}
 use Rattle.gw_rule_index.specs.internal.Field.{HasRows}
 use Rattle.gw_rule_index.specs.internal.Row.{Marks, admits_in}
@@ -28,6 +29,7 @@ pub record AreBounds (field : FieldName) (rules : List Rule) (numbers : List ℕ
   pub rises : (i j : ℕ) → i ≤ j → j < length numbers → get_or numbers i 0 ≤ get_or numbers j 0
   pub few : length numbers ≤ 4096
   pub covers : (x : ℕ) → Contains (field_ends field rules) x → Contains numbers x
+  pub skipped : is_named rules field ≡ false → length numbers ≡ 0
 
 -- ---- how many ends there are
 ends_few : (range : Range) → length (ends range) ≤ 2
@@ -37,19 +39,37 @@ ends_few range = go (nat_lt (range.high + 1) (2 ^ 64))
     go true = omega arith
     go false = omega arith
 
-rule_ends_few : (field : FieldName) (rule : Rule) → HasFewRanges rule → length (flat_map ends (ranges_of field rule)) ≤ 8
-rule_ends_few field rule few =
-    let at = length-flat_map ends (ranges_of field rule) in
-    let most = sum_by-le (λ range. length (ends range)) 2 (ranges_of field rule) (λ k d within. ends_few (get_or (ranges_of field rule) k d)) in
-    let four = few field in
-    omega (arith, at, most, four)
+rule_ends_few : (ranges : List Range) → length (flat_map ends ranges) ≤ 2 * length ranges
+rule_ends_few ranges =
+    let at = length-flat_map ends ranges in
+    let most = sum_by-le (λ range. length (ends range)) 2 ranges (λ k d within. ends_few (get_or ranges k d)) in
+    omega (arith, at, most)
 
-field_ends_few : (field : FieldName) (rules : List Rule) → KeepsCounts rules → length (field_ends field rules) ≤ 4096
-field_ends_few field rules keeps =
-    let at = length-flat_map (λ rule. flat_map ends (ranges_of field rule)) rules in
-    let most = sum_by-le (λ rule. length (flat_map ends (ranges_of field rule))) 8 rules (λ k d within. rule_ends_few field (get_or rules k d) (keeps.1 k d within)) in
-    let all = keeps.0 in
-    omega (arith, at, most, all)
+-- two for each range of all rules together
+all_ends_few : (field : FieldName) (rules : List Rule) → length (field_ends field rules) ≤ 2 * ranges_in_all rules field
+all_ends_few field [] = omega arith
+all_ends_few field (rule ∷ rules) =
+    let here = rule_ends_few (ranges_of field rule) in
+    let rest = all_ends_few field rules in
+    let joined = length-append (flat_map ends (ranges_of field rule)) (field_ends field rules) in
+    let more = sum_by-cons (λ (rule : Rule). length (ranges_of field rule)) rule rules in
+    omega (arith, here, rest, joined, more)
+
+field_ends_few : (field : FieldName) (rules : List Rule) → KeepsLongCounts rules → length (field_ends field rules) ≤ 4096
+field_ends_few field rules keeps = omega (arith, all_ends_few field rules, keeps.in_all field)
+
+-- none where no rule names the field
+no_ends_here : (ranges : List Range) (others : Bool) (more : List ℕ) → (others ≡ false → length more ≡ 0) → (nat_lt 0 (length ranges) || others) ≡ false → length (flat_map ends ranges ++ more) ≡ 0
+no_ends_here [] others more rest none = rest none
+no_ends_here (range ∷ ranges) others more rest none =
+    let named : nat_lt 0 (length (range ∷ ranges)) ≡ true = lt-ltb 0 (length (range ∷ ranges)) (omega arith) in
+    let both : true ≡ false = sym (ap (λ b. b || others) named) ∙ none in
+    absurd (cc)
+
+no_ends : (field : FieldName) (rules : List Rule) → is_named rules field ≡ false → length (field_ends field rules) ≡ 0
+no_ends field [] none = refl
+no_ends field (rule ∷ rules) none =
+    no_ends_here (ranges_of field rule) (is_named rules field) (field_ends field rules) (no_ends field rules) none
 
 -- ---- each end of a range of a rule is among them
 in_flat_map : {X : Type 0} (f : X → List ℕ) (xs : List X) (x : X) (n : ℕ) → Contains xs x → Contains (f x) n → Contains (flat_map f xs) n
@@ -80,20 +100,23 @@ dedup_shorter : (xs : List ℕ) → length (dedup eqb xs) ≤ length xs
 dedup_shorter [] = omega arith
 dedup_shorter (x ∷ xs) = omega (arith, dedup_from_shorter x xs)
 
-pub are_bounds : (field : FieldName) (rules : List Rule) (all sorted numbers : List ℕ) → all ≡ field_ends field rules → IsPermutation all sorted → IsSorted nat_cmp sorted → numbers ≡ dedup eqb sorted → KeepsCounts rules → AreBounds field rules numbers
+pub are_bounds : (field : FieldName) (rules : List Rule) (all sorted numbers : List ℕ) → all ≡ field_ends field rules → IsPermutation all sorted → IsSorted nat_cmp sorted → numbers ≡ dedup eqb sorted → KeepsLongCounts rules → AreBounds field rules numbers
 are_bounds field rules all sorted numbers is moved up single keeps = record {
   rises = λ i j before within. rise i j 0 before within;
-  few =
-      let most = field_ends_few field rules keeps in
-      let long : length all ≡ length (field_ends field rules) = ap length is in
-      let same : length sorted ≡ length all = length_permutation all sorted moved in
-      let fewer : length numbers ≤ length sorted = subst (λ xs. length xs ≤ length sorted) (sym single) (dedup_shorter sorted) in
-      omega (arith, most, long, same, fewer);
+  few = omega (arith, field_ends_few field rules keeps, fewer);
   covers = λ x there.
       subst (λ xs. Contains xs x) (sym single)
       (Contains-dedup_nat sorted x (Contains-permutation all sorted x moved (subst (λ xs. Contains xs x) (sym is) there)));
+  skipped = λ none. omega (arith, no_ends field rules none, fewer);
 }
   where
+    fewer : length numbers ≤ length (field_ends field rules)
+    fewer =
+        let long : length all ≡ length (field_ends field rules) = ap length is in
+        let same : length sorted ≡ length all = length_permutation all sorted moved in
+        let less : length numbers ≤ length sorted = subst (λ xs. length xs ≤ length sorted) (sym single) (dedup_shorter sorted) in
+        omega (arith, long, same, less)
+
     strict : IsStrictlyIncreasing numbers
     strict = subst IsStrictlyIncreasing (sym single) (IsStrictlyIncreasing-dedup sorted up)
 

@@ -1,21 +1,18 @@
 -- Rows from field to field.
-use Rattle.std.proofs.Common.{◌≡◌, ℕ, ◌+◌, ◌*◌, ◌≤◌, ◌<◌, Bool, true, false, ◌&&◌, ◌==◌, List, [], length, take, get_or, Option, Some, None, arith, cond, nat_lt, refl, sym, ◌∙◌, ap}
-use Rattle.std.specs.List.{Contains, slice_get}
+use Rattle.std.proofs.Common.{◌≡◌, ℕ, ◌+◌, ◌*◌, ◌≤◌, ◌<◌, Bool, false, ◌&&◌, List, [], length, take, get_or, Option, Some, None, arith, nat_lt, refl, sym, ◌∙◌, ap}
+use Rattle.std.specs.List.{Contains, slice_get, sum_by}
 use Rattle.std.specs.Option.{option_map_or}
-use Rattle.std.proofs.lemmas.Bool.{eqb-false}
 use Rattle.std.proofs.lemmas.List.Elements.{Contains-get_or}
 use Rattle.std.proofs.lemmas.List.Folds.{list_all_more, list_any_none}
 use Rattle.std.proofs.lemmas.List.Sums.{sum_by_more}
 use Rattle.std.proofs.lemmas.Option.{get_or_from_slice_get, slice_get_within}
 use Rattle.gw_rules.specs.Ask.{Ask}
 use Rattle.gw_rules.specs.Fields.{value_of}
-use Rattle.gw_rules.specs.Range.{admits}
 use Rattle.gw_rules.specs.Rule.{ranges_of}
 use Rattle.gw_rules.specs.declared.field.FieldName.{FieldName}
 use Rattle.gw_rules.specs.declared.range.Range.{Range}
 use Rattle.gw_rules.specs.declared.rule.Rule.{Rule}
-use Rattle.gw_rule_index.specs.declared.bound.Bound.{Bound}
-use Rattle.gw_rule_index.specs.Comparisons.{is_named, least_comparisons, least_comparisons_in, most_comparisons, most_comparisons_in, one_comparison}
+use Rattle.gw_rule_index.specs.Comparisons.{is_named, most_comparisons, most_comparisons_in, one_comparison}
 use Rattle.gw_rule_index.specs.internal.Row.{Marks, admits_all, admits_in, bit}
 
 -- a row marks alike by two tests that agree on the rules of the list
@@ -27,17 +24,6 @@ marks_same words one two rules same marks k b word inside =
     at place None e = refl
     at place (Some rule) e =
         same rule (place, slice_get_within rules place rule e, get_or_from_slice_get rules place rule rule e)
-
-and_true : (b : Bool) → b ≡ (b && true)
-and_true true = refl
-and_true false = refl
-
--- a field that no rule names keeps each rule
-pub marks_skipped : (words : List ℕ) (test : Rule → Bool) (rules : List Rule) (field : FieldName) (value : Option ℕ) → ((rule : Rule) → Contains rules rule → ranges_of field rule ≡ []) → Marks words test rules → Marks words (λ rule. test rule && admits_in field value rule) rules
-marks_skipped words test rules field value unnamed marks =
-    marks_same words test (λ rule. test rule && admits_in field value rule) rules
-    (λ rule there. and_true (test rule) ∙ ap (λ ranges. test rule && admits ranges value) (sym (unnamed rule there)))
-    marks
 
 -- one more field
 pub marks_more : (words : List ℕ) (rules : List Rule) (ask : Ask) (fields : List FieldName) (i : ℕ) (d : FieldName) (value : Option ℕ) → i < length fields → value ≡ value_of (get_or fields i d) ask → Marks words (λ rule. admits_all ask (take i fields) rule && admits_in (get_or fields i d) value rule) rules → Marks words (admits_all ask (take (i + 1) fields)) rules
@@ -62,23 +48,7 @@ pub none_named : (rules : List Rule) (field : FieldName) → ((rule : Rule) → 
 none_named rules field unnamed =
     list_any_none (λ rule. nat_lt 0 (length (ranges_of field rule))) rules (λ k d inside. ap (λ (ranges : List Range). nat_lt 0 (length ranges)) (unnamed (get_or rules k d) (Contains-get_or rules k d inside)))
 
--- a field that no rule names wants no comparison, and another at most one
-pub least_none : (rules : List Rule) (field : FieldName) (value : Option ℕ) → ((rule : Rule) → Contains rules rule → ranges_of field rule ≡ []) → least_comparisons rules field value ≡ 0
-least_none rules field value unnamed = ap (λ b. cond b (one_comparison value) 0) (none_named rules field unnamed)
-
-pub least_one : (rules : List Rule) (field : FieldName) (value : Option ℕ) → least_comparisons rules field value ≤ one_comparison value
-least_one rules field value = at (is_named rules field)
-  where
-    at : (b : Bool) → cond b (one_comparison value) 0 ≤ one_comparison value
-    at true = omega arith
-    at false = omega arith
-
-pub least_more : (rules : List Rule) (ask : Ask) (fields : List FieldName) (i : ℕ) (d : FieldName) (value : Option ℕ) → i < length fields → value ≡ value_of (get_or fields i d) ask → least_comparisons_in rules ask (take (i + 1) fields) ≡ least_comparisons_in rules ask (take i fields) + least_comparisons rules (get_or fields i d) value
-least_more rules ask fields i d value within is =
-    sum_by_more (λ field. least_comparisons rules field (value_of field ask)) fields i d within
-    ∙ ap (λ v. least_comparisons_in rules ask (take i fields) + least_comparisons rules (get_or fields i d) v) (sym is)
-
-pub some_there : (bounds seen : List Bound) → seen ≡ bounds → (length seen == 0) ≡ false → 1 ≤ length bounds
-some_there bounds seen same some =
-    let not_none = eqb-false (length seen) 0 some in
-    omega (arith, ap length same, not_none)
+pub ones_more : (ask : Ask) (fields : List FieldName) (i : ℕ) (d : FieldName) (value : Option ℕ) → i < length fields → value ≡ value_of (get_or fields i d) ask → sum_by (λ field. one_comparison (value_of field ask)) (take (i + 1) fields) ≡ sum_by (λ field. one_comparison (value_of field ask)) (take i fields) + one_comparison value
+ones_more ask fields i d value within is =
+    sum_by_more (λ field. one_comparison (value_of field ask)) fields i d within
+    ∙ ap (λ v. sum_by (λ field. one_comparison (value_of field ask)) (take i fields) + one_comparison v) (sym is)

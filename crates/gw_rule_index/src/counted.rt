@@ -5,10 +5,10 @@ ghost use Rattle.std.specs.Prelude.{◌≡◌, None};
 pub const COMPARISONS_A_FIELD: u32 = 13;
 
 /// The most comparisons for an ask.
-pub const MAX_COMPARISONS: u32 = 130;
+pub const MAX_COMPARISONS: u32 = 156;
 
 /// The most rows that are joined for an ask.
-pub const MAX_ANDS: u32 = 10;
+pub const MAX_ANDS: u32 = 12;
 
 /// An answer, and how much work it took.
 #[derive(Clone, Copy)]

@@ -1,7 +1,7 @@
 //! How the index of a field is built.
 ghost use Rattle.std.specs.Prelude.{◌≡◌, ◌+◌, ◌++◌, IfOk, OnOk, length, map};
 ghost use Rattle.std.specs.List.{flat_map};
-ghost use Rattle.gw_rules.specs.RuleList.{KeepsCounts};
+ghost use Rattle.gw_rules.specs.RuleList.{KeepsLongCounts};
 ghost use Rattle.gw_rule_index.specs.internal.Bounds.{bound_at, ends, field_ends};
 ghost use Rattle.gw_rule_index.specs.internal.Field.{HasRows, IsIndexOf};
 
@@ -14,7 +14,7 @@ use std::alloc::{AllocError, Global};
 impl FieldIndex {
     /// The index of a field of these rules. `AllocError` where memory was refused.
     pub(crate) fn build(alloc: Global, rules: &[Rule], field: FieldName) -> Result<Self, AllocError>
-        requires { KeepsCounts rules.now }
+        requires { KeepsLongCounts rules.now }
         ensures { IfOk result (λ index. IsIndexOf rules.now field index) }
     {
         let mut numbers = ends_of(alloc, rules, field)?;

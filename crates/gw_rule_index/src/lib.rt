@@ -9,6 +9,7 @@ mod counted;
 mod field_ask;
 mod field_build;
 mod field_index;
+mod field_indexes;
 pub mod laws;
 mod policy;
 mod row;

@@ -1,19 +1,21 @@
 //! The index of a whole rule list, as a judge.
-ghost use Rattle.std.specs.Prelude.{◌≡◌, ◌*◌, ◌≤◌, List, IfOk, IfSome, false, length, map, true};
+ghost use Rattle.std.specs.Prelude.{◌≡◌, ◌*◌, ◌≤◌, List, IfOk, IfSome, false, filter, length, map, true};
+ghost use Rattle.std.specs.List.{sum_by};
 ghost use Rattle.std.specs.Option.{option_map_or};
 ghost use Rattle.gw_rules.specs.Rule.{matches};
 ghost use Rattle.gw_rules.specs.Fields.{value_of};
-ghost use Rattle.gw_rules.specs.RuleList.{KeepsCounts, allows, allows_at, decide, first};
+ghost use Rattle.gw_rules.specs.RuleList.{KeepsLongCounts, allows, allows_at, decide, first};
 ghost use Rattle.gw_rules.specs.declared.field.FieldName.{FieldName};
 ghost use Rattle.gw_rules.specs.declared.rule.Rule.{Rule};
 ghost use Rattle.gw_rule_index.specs.declared.counted.TheConstants.{COMPARISONS_A_FIELD, MAX_ANDS, MAX_COMPARISONS};
-ghost use Rattle.gw_rule_index.specs.Comparisons.{least_comparisons_in, least_comparisons_of, most_comparisons_in, most_comparisons_of};
-ghost use Rattle.gw_rule_index.specs.internal.Field.{IsIndexOf};
+ghost use Rattle.gw_rule_index.specs.Comparisons.{least_comparisons_of, most_comparisons_in, most_comparisons_of, most_named_comparisons_of, named_fields, one_comparison};
+ghost use Rattle.gw_rule_index.specs.internal.Field.{IsIndexOf, has_bounds};
 ghost use Rattle.gw_rule_index.specs.internal.Index.{IsBuiltFrom};
 ghost use Rattle.gw_rule_index.specs.internal.Row.{Marks, admits_all};
 
 use crate::Counted;
 use crate::field_index::FieldIndex;
+use crate::field_indexes::FieldIndexes;
 use crate::row::Row;
 use gw_rules::{Ask, Decision, FieldName, Fields, Judge, Rule, RuleList};
 use std::alloc::{AllocError, Global};
@@ -22,9 +24,10 @@ use std::alloc::{AllocError, Global};
 /// of these the rules that admit it, a bit a rule. It answers as the list does that it was built
 /// from, and doesn't keep that list.
 ///
-/// An ask costs at most 13 comparisons for each field that it has and at most ten ANDs of 512 bits.
+/// An ask costs at most 13 comparisons for each field that it has and some rule names, and an AND of
+/// 512 bits for each field that some rule names.
 pub struct RuleIndex {
-    fields: Fields<FieldIndex>,
+    fields: FieldIndexes,
     every: Row,
     verdicts: Vec<bool>,
 }
@@ -41,14 +44,14 @@ impl Drop for RuleIndex {
 }
 
 impl RuleIndex {
-    /// The index of these rules. `AllocError` where there is no memory for it: up to 3 MiB for 512
-    /// rules with four ranges in each field.
+    /// The index of these rules. `AllocError` where there is no memory for it: up to 3.5 MiB, since
+    /// each of the twelve fields may have 4096 bounds of 8 octets and 4097 rows of 64.
     pub fn build(alloc: Global, rules: &RuleList) -> Result<Self, AllocError>
         ensures { IfOk result (λ index. IsBuiltFrom index rules.now) }
     {
         let rules = rules.rules();
         Ok(RuleIndex {
-            fields: index_fields(alloc, rules)?,
+            fields: indexes_of(alloc, rules)?,
             every: Row::every(rules),
             verdicts: verdicts_of(alloc, rules)?,
         })
@@ -71,10 +74,15 @@ impl RuleIndex {
         ensures number { IfSome result.rule (λ number. 1 ≤ number) }
         ensures each_field { result.comparisons ≤ most_comparisons_of ask.now }
         ensures comparisons { result.comparisons ≤ MAX_COMPARISONS }
+        ensures named { (rules : List Rule) → IsBuiltFrom self.now rules →
+            result.comparisons ≤ most_named_comparisons_of rules ask.now }
         // Each field that the ask has and a rule names takes a comparison.
         ensures least { (rules : List Rule) → IsBuiltFrom self.now rules →
             least_comparisons_of rules ask.now ≤ result.comparisons }
         ensures ands { result.ands ≤ MAX_ANDS }
+        // Each field that a rule names takes an AND, and no other does.
+        ensures joins { (rules : List Rule) → IsBuiltFrom self.now rules →
+            result.ands ≡ named_fields rules }
     {
         let mut counted = Counted::start();
         let row = self.matching(ask, &mut counted);
@@ -92,31 +100,36 @@ impl RuleIndex {
             Marks result.words (λ rule. matches rule ask.now) rules }
         ensures each_field { counted.new.comparisons ≤ most_comparisons_of ask.now }
         ensures comparisons { counted.new.comparisons ≤ MAX_COMPARISONS }
+        ensures named { (rules : List Rule) → IsBuiltFrom self.now rules →
+            counted.new.comparisons ≤ most_named_comparisons_of rules ask.now }
         ensures least { (rules : List Rule) → IsBuiltFrom self.now rules →
             least_comparisons_of rules ask.now ≤ counted.new.comparisons }
         ensures ands { counted.new.ands ≤ MAX_ANDS }
+        ensures joins { (rules : List Rule) → IsBuiltFrom self.now rules →
+            counted.new.ands ≡ named_fields rules }
     {
         let mut row = self.every;
-        self.keep_fields(ask, &FieldName::ALL, &mut row, counted);
+        self.keep_named(ask, &mut row, counted);
         row
     }
 
-    /// Keeps the rules that admit what the ask has in each of these fields.
-    fn keep_fields(&self, ask: &Ask, fields: &[FieldName], row: &mut Row, counted: &mut Counted)
-        requires fields { length fields.now ≤ MAX_ANDS }
+    /// Keeps the rules that admit what the ask has in each field that some rule names.
+    fn keep_named(&self, ask: &Ask, row: &mut Row, counted: &mut Counted)
         requires comparisons { counted.old.comparisons ≡ 0 }
         requires ands { counted.old.ands ≡ 0 }
         ensures row { (rules : List Rule) → IsBuiltFrom self.now rules →
             Marks row.old.words (λ _. true) rules →
-            Marks row.new.words (admits_all ask.now fields.now) rules }
-        ensures each_field { counted.new.comparisons ≤ most_comparisons_in ask.now fields.now }
-        ensures comparisons { counted.new.comparisons ≤ COMPARISONS_A_FIELD * length fields.now }
-        ensures least { (rules : List Rule) → IsBuiltFrom self.now rules →
-            least_comparisons_in rules ask.now fields.now ≤ counted.new.comparisons }
-        ensures ands { counted.new.ands ≤ length fields.now }
+            Marks row.new.words (admits_all ask.now self.now.fields.named.items) rules }
+        ensures each_field { counted.new.comparisons
+            ≤ most_comparisons_in ask.now self.now.fields.named.items }
+        ensures comparisons { counted.new.comparisons
+            ≤ COMPARISONS_A_FIELD * length self.now.fields.named.items }
+        ensures least { sum_by (λ field. one_comparison (value_of field ask.now))
+            self.now.fields.named.items ≤ counted.new.comparisons }
+        ensures ands { counted.new.ands ≡ length self.now.fields.named.items }
     {
-        for field in fields {
-            let index = self.fields.get(*field);
+        for field in &self.fields.named {
+            let index = self.fields.each.get(*field);
             let value = *ask.get(*field);
             index.keep(value, row, counted);
         }
@@ -168,9 +181,32 @@ impl Judge for RuleIndex {
     }
 }
 
+/// The index of each field, and the fields that some rule names.
+fn indexes_of(alloc: Global, rules: &[Rule]) -> Result<FieldIndexes, AllocError>
+    requires { KeepsLongCounts rules.now }
+    ensures { IfOk result (λ fields. (field : FieldName) →
+        IsIndexOf rules.now field (value_of field fields.each)) }
+{
+    let each = index_fields(alloc, rules)?;
+    let named = named_of(alloc, &each)?;
+    Ok(FieldIndexes { each, named })
+}
+
+/// The fields that have a bound, in the order of their numbers.
+fn named_of(alloc: Global, fields: &Fields<FieldIndex>) -> Result<Vec<FieldName>, AllocError>
+    ensures { IfOk result (λ named.
+        named.items ≡ filter (λ field. has_bounds (value_of field fields.now)) FieldName.ALL) }
+{
+    FieldName::ALL
+        .iter()
+        .copied()
+        .filter(|field| fields.get(*field).has_bounds())
+        .collect(alloc)
+}
+
 /// The index of each field.
 fn index_fields(alloc: Global, rules: &[Rule]) -> Result<Fields<FieldIndex>, AllocError>
-    requires { KeepsCounts rules.now }
+    requires { KeepsLongCounts rules.now }
     ensures { IfOk result (λ fields. (field : FieldName) →
         IsIndexOf rules.now field (value_of field fields)) }
 {
@@ -184,6 +220,8 @@ fn index_fields(alloc: Global, rules: &[Rule]) -> Result<Fields<FieldIndex>, All
     let instance = FieldIndex::build(alloc, rules, FieldName::Instance)?;
     let property = FieldIndex::build(alloc, rules, FieldName::Property)?;
     let priority = FieldIndex::build(alloc, rules, FieldName::Priority)?;
+    let sender = FieldIndex::build(alloc, rules, FieldName::Sender)?;
+    let station = FieldIndex::build(alloc, rules, FieldName::Station)?;
     Ok(Fields {
         operation,
         port,
@@ -195,6 +233,8 @@ fn index_fields(alloc: Global, rules: &[Rule]) -> Result<Fields<FieldIndex>, All
         instance,
         property,
         priority,
+        sender,
+        station,
     })
 }
 

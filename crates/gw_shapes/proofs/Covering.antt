@@ -76,7 +76,7 @@ pub negated : (b : Bool) → not b ≡ true → b ≡ false
 negated true e = absurd cc
 negated false e = refl
 
-sided : (side : Side) (earlier later : List Range) (value : Option ℕ) → takes_side side earlier later ≡ true → IsWithin side value
+pub sided : (side : Side) (earlier later : List Range) (value : Option ℕ) → takes_side side earlier later ≡ true → IsWithin side value
     → Admitted later value → Admitted earlier value
 sided side [] later value t is admitted named = absurd (omega arith)
 sided side (e ∷ es) [] None t is admitted named =

@@ -4,23 +4,17 @@ use Rattle.std.proofs.Math.Seq.{take-suc}
 use Rattle.std.proofs.lemmas.Grind.{flat_map-append}
 use Rattle.std.proofs.lemmas.List.{append-nil, take_all}
 use Rattle.std.specs.List.{flat_map}
-use Rattle.gw_configuration.specs.declared.format.Format.{Format}
-use Rattle.gw_configuration.specs.declared.format.Format.TheVariants.{Two}
 use Rattle.gw_configuration.specs.declared.port.Port.{Port}
+use Rattle.gw_rules.specs.declared.format.Format.{Format}
 use Rattle.gw_shapes.specs.Shape.{Shape}
-use Rattle.gw_shapes.specs.Shapes.{foreign_shapes, gaps_between, message_shapes, own, own_shapes, request_shapes, shapes_from, split, table_shapes}
-use Rattle.gw_shapes.specs.declared.shapes.Origin.{Origin}
+use Rattle.gw_shapes.specs.Shapes.{foreign_shapes, gaps_between, own, own_shapes, shapes_within, split}
 use Rattle.gw_shapes.specs.declared.side.Side.{Side}
 
 pub two_appended : (out a b x y : List Shape) → x ≡ out ++ a → y ≡ x ++ b → y ≡ out ++ (a ++ b)
 two_appended out a b x y e f = f ∙ ap (λ (xs : List Shape). xs ++ b) e ∙ append_assoc out a b
 
--- under the second format
-pub both_appended : (format : Format) (device : ℕ) (from : Origin) (out x y : List Shape) → format ≡ Two → x ≡ out ++ message_shapes device from
-    → y ≡ x ++ request_shapes Two from → y ≡ out ++ shapes_from format device from
-both_appended format device from out x y is e f =
-    two_appended out (message_shapes device from) (request_shapes format from) x y e
-    (f ∙ ap (λ (other : Format). x ++ request_shapes other from) (sym is))
+pub three_appended : (out a b c x y z : List Shape) → x ≡ out ++ a → y ≡ x ++ b → z ≡ y ++ c → z ≡ out ++ (a ++ (b ++ c))
+three_appended out a b c x y z e f g = two_appended out a (b ++ c) x z e (two_appended x b c y z f g)
 
 step_on : (out new all a rest tail : List Shape) → new ≡ out ++ a → tail ≡ a ++ rest → out ++ tail ≡ all → new ++ rest ≡ all
 step_on out new all a rest tail e f is =
@@ -39,7 +33,7 @@ gap_step format device ports place networks d out new all within grown is =
     grown (ap (flat_map make) next) is
 
 abbrev owned : Format → ℕ → ℕ → Port → List Shape
-owned format device number p = table_shapes (own number p.network) ++ shapes_from format device (own number p.network)
+owned format device number p = shapes_within format device (own format number p.network)
 
 port_next : (ports : List Port) (place : ℕ) (p : Port) → place < length ports → p ≡ get_or ports place p → drop place ports ≡ p ∷ drop (place + 1) ports
 port_next ports place p within there =
@@ -48,7 +42,7 @@ port_next ports place p within there =
 -- the shapes of one port more
 pub port_step : (format : Format) (device place : ℕ) (ports : List Port) (p : Port) (out new all : List Shape) → place < length ports
     → p ≡ get_or ports place p
-    → new ≡ out ++ (table_shapes (own (place + 1) p.network) ++ shapes_from format device (own (place + 1) p.network))
+    → new ≡ out ++ shapes_within format device (own format (place + 1) p.network)
     → out ++ own_shapes format device (1 + place) (drop place ports) ≡ all
     → new ++ own_shapes format device (1 + (place + 1)) (drop (place + 1) ports) ≡ all
 port_step format device place ports p out new all within there grown is =

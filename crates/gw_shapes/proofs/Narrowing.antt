@@ -12,7 +12,7 @@ use Rattle.gw_rules.specs.Fields.{value_of}
 use Rattle.gw_rules.specs.Range.{holds}
 use Rattle.gw_rules.specs.Rule.{Matches, ranges_of}
 use Rattle.gw_rules.specs.RuleList.{HasNumber, first}
-use Rattle.gw_rules.specs.declared.field.FieldName.TheVariants.{Operation, Port, SourceNetwork, SourceKey, DestinationNetwork, Service, ObjectType, Instance, Property, Priority}
+use Rattle.gw_rules.specs.declared.field.FieldName.TheVariants.{Operation, Port, SourceNetwork, SourceKey, DestinationNetwork, Service, ObjectType, Instance, Property, Priority, Sender, Station}
 use Rattle.gw_rules.specs.declared.field.TheConstants.FieldName.{ALL}
 use Rattle.gw_rules.specs.declared.range.Range.{Range}
 use Rattle.gw_rules.specs.declared.rule.Rule.{Rule}
@@ -88,11 +88,13 @@ held_matches rule ask other lies field = elim field as (λ field. Admitted (rang
   | Instance ↦ held rule.ranges.instance ask.instance other.instance (lies Instance)
   | Property ↦ held rule.ranges.property ask.property other.property (lies Property)
   | Priority ↦ held rule.ranges.priority ask.priority other.priority (lies Priority)
+  | Sender ↦ held rule.ranges.sender ask.sender other.sender (lies Sender)
+  | Station ↦ held rule.ranges.station ask.station other.station (lies Station)
 ]
 
 -- what is inside in each field lies in the shape
 each_inside : (cut : Shape) (ask : Ask) → AllByRecursion (λ field. IsWithin (value_of field cut) (value_of field ask)) ALL → LiesIn cut ask
-each_inside cut ask (a, (b, (c, (d, (e, (f, (g, (h, (i, (j, u)))))))))) = lies_by cut ask a b c d e f g h i j
+each_inside cut ask (a, (b, (c, (d, (e, (f, (g, (h, (i, (j, (k, (l, u)))))))))))) = lies_by cut ask a b c d e f g h i j k l
 
 -- ---- a shape that a rule matches something of
 

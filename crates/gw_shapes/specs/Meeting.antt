@@ -54,4 +54,6 @@ corner shape rule = record {
   instance = corner_value shape.instance rule.ranges.instance;
   property = corner_value shape.property rule.ranges.property;
   priority = corner_value shape.priority rule.ranges.priority;
+  sender = corner_value shape.sender rule.ranges.sender;
+  station = corner_value shape.station rule.ranges.station;
 }

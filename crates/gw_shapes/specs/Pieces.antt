@@ -102,4 +102,6 @@ held_shape rule ask = record {
   instance = held_side rule.ranges.instance ask.instance;
   property = held_side rule.ranges.property ask.property;
   priority = held_side rule.ranges.priority ask.priority;
+  sender = held_side rule.ranges.sender ask.sender;
+  station = held_side rule.ranges.station ask.station;
 }

@@ -3,11 +3,12 @@ use Rattle.std.specs.Prelude.{ℕ, ◌+◌, true, List, [], ◌∷◌, ◌++◌,
 use Rattle.std.specs.List.{flat_map}
 use Rattle.std.specs.Option.{option_to_list}
 use Rattle.gw_configuration.specs.Configuration.{Configuration}
-use Rattle.gw_configuration.specs.declared.format.Format.{Format}
-use Rattle.gw_configuration.specs.declared.format.Format.TheVariants.{One, Two}
 use Rattle.gw_configuration.specs.declared.port.Port.{Port}
+use Rattle.gw_rules.specs.Format.{names_stations}
 use Rattle.gw_rules.specs.Operation.{operation_number}
 use Rattle.gw_rules.specs.Range.{holds}
+use Rattle.gw_rules.specs.declared.format.Format.{Format}
+use Rattle.gw_rules.specs.declared.format.Format.TheVariants.{One, Two, Three}
 use Rattle.gw_rules.specs.declared.operation.Operation.{Operation}
 use Rattle.gw_rules.specs.declared.operation.Operation.TheVariants as operations
 use Rattle.gw_shapes.specs.Pieces.{above, below, most, no_range, numbers}
@@ -30,9 +31,17 @@ nothing = record { absent = true; range = no_range }
 abbrev pub perhaps : Side
 perhaps = record { absent = true; range = record { low = 0; high = most } }
 
+-- a number in format 3, and absent in the others
+abbrev pub some_in : Format → Side
+some_in format = if names_stations format then some else nothing
+
+-- either in format 3, and absent in the others
+abbrev pub perhaps_in : Format → Side
+perhaps_in format = if names_stations format then perhaps else nothing
+
 -- ---- shapes, whose first fields say whence the asks come
 
--- of no network and no object
+-- of no network, no object and no station
 abbrev pub plain : Origin → Operation → Side → Shape
 plain from operation service = record {
   operation = only (operation_number operation);
@@ -45,6 +54,8 @@ plain from operation service = record {
   instance = nothing;
   property = nothing;
   priority = nothing;
+  sender = from.sender;
+  station = nothing;
 }
 
 -- to a network
@@ -61,21 +72,25 @@ named from operation service destination priority = record (bound from operation
   priority = priority;
 }
 
--- frames that read or change a table of their port, by their function
-abbrev pub table_shapes : Origin → List Shape
-table_shapes from =
+-- these asks, of messages that may name one station
+abbrev pub aimed : Format → Shape → Shape
+aimed format shape = record shape { station = perhaps_in format }
+
+-- frames that read or change a table of their port, by their function; one that deletes names a station
+abbrev pub table_shapes : Format → Origin → List Shape
+table_shapes format from =
     plain from operations.WriteTable (only 769)
     ∷ plain from operations.ReadTable (only 770)
     ∷ plain from operations.Register (only 773)
     ∷ plain from operations.ReadTable (only 774)
-    ∷ plain from operations.Delete (only 776)
+    ∷ record (plain from operations.Delete (only 776)) { station = some_in format }
     ∷ []
 
 -- what a message raises: broadcasts, routing, network messages, and requests to the device on this network
-abbrev pub message_shapes : ℕ → Origin → List Shape
-message_shapes device from =
-    bound from operations.Cast perhaps perhaps
-    ∷ bound from operations.Route perhaps some
+abbrev pub message_shapes : Format → ℕ → Origin → List Shape
+message_shapes format device from =
+    aimed format (bound from operations.Cast perhaps perhaps)
+    ∷ aimed format (bound from operations.Route perhaps some)
     ∷ bound from operations.Learn (only 513) some
     ∷ bound from operations.Network (only 512) perhaps
     ∷ bound from operations.Network (only 530) nothing
@@ -86,31 +101,49 @@ message_shapes device from =
     ∷ named from operations.List (only 264) (only device) nothing
     ∷ []
 
--- requests that are passed on, by what they name, under the second format
-abbrev pub request_shapes : Format → Origin → List Shape
-request_shapes One from = []
-request_shapes Two from =
-    bound from operations.Read (numbers 12 14) some
-    ∷ named from operations.Read (numbers 12 14) some nothing
-    ∷ bound from operations.Write (only 15) some
-    ∷ named from operations.Write (only 15) some some
+-- requests that are passed on to such a destination, by what they name
+abbrev pub passed_shapes : Format → Side → Origin → List Shape
+passed_shapes format destination from =
+    aimed format (bound from operations.Read (numbers 12 14) destination)
+    ∷ aimed format (named from operations.Read (numbers 12 14) destination nothing)
+    ∷ aimed format (bound from operations.Write (only 15) destination)
+    ∷ aimed format (named from operations.Write (only 15) destination some)
     ∷ []
 
+-- under the first format they aren't judged by that, under the second where they are routed, and under the third in a
+-- broadcast too, which may have no destination
+abbrev pub request_shapes : Format → Origin → List Shape
+request_shapes One from = []
+request_shapes Two from = passed_shapes Two some from
+request_shapes Three from = passed_shapes Three perhaps from
+
 abbrev pub shapes_from : Format → ℕ → Origin → List Shape
-shapes_from format device from = message_shapes device from ++ request_shapes format from
+shapes_from format device from = message_shapes format device from ++ request_shapes format from
+
+-- a station that enters by a port, under the third format
+abbrev pub enter_shapes : Format → Origin → List Shape
+enter_shapes format from = if names_stations format then plain from operations.Enter nothing ∷ [] else []
+
+-- one that speaks for another network, under the third format
+abbrev pub claim_shapes : Format → Origin → List Shape
+claim_shapes format from = if names_stations format then plain from operations.Claim nothing ∷ [] else []
 
 -- ---- whence
 
 -- a station of a port's own network
-abbrev pub own : ℕ → ℕ → Origin
-own number network = record { port = only number; network = only network }
+abbrev pub own : Format → ℕ → ℕ → Origin
+own format number network = record { port = only number; network = only network; sender = some_in format }
+
+-- what comes from there
+abbrev pub shapes_within : Format → ℕ → Origin → List Shape
+shapes_within format device from =
+    table_shapes format from ++ (enter_shapes format from ++ shapes_from format device from)
 
 -- from each port's own network, with the ports counted on from a number
 abbrev pub own_shapes : Format → ℕ → ℕ → List Port → List Shape
 own_shapes format device number [] = []
 own_shapes format device number (p ∷ ports) =
-    (table_shapes (own number p.network) ++ shapes_from format device (own number p.network))
-    ++ own_shapes format device (number + 1) ports
+    shapes_within format device (own format number p.network) ++ own_shapes format device (number + 1) ports
 
 -- a side without a number
 abbrev pub split : ℕ → Side → List Side
@@ -129,11 +162,15 @@ abbrev pub gaps : ℕ → List Port → List Side
 gaps device ports = gaps_between (flat_map (split device) (some ∷ [])) ports
 
 -- a station of such a network, by any of so many ports
-abbrev pub foreign : ℕ → Side → Origin
-foreign ports network = record { port = numbers 1 ports; network = network }
+abbrev pub foreign : Format → ℕ → Side → Origin
+foreign format ports network = record { port = numbers 1 ports; network = network; sender = some_in format }
+
+-- what comes from there
+abbrev pub shapes_beyond : Format → ℕ → Origin → List Shape
+shapes_beyond format device from = claim_shapes format from ++ shapes_from format device from
 
 abbrev pub foreign_shapes : Format → ℕ → ℕ → Side → List Shape
-foreign_shapes format device ports network = shapes_from format device (foreign ports network)
+foreign_shapes format device ports network = shapes_beyond format device (foreign format ports network)
 
 -- all of them
 abbrev pub shapes_of : Format → ℕ → List Port → List Shape

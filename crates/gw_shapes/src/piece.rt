@@ -123,6 +123,14 @@ pub(crate) fn with_side(shape: &Shape, field: FieldName, side: Side) -> Shape
             priority: side,
             ..*shape
         },
+        FieldName::Sender => Shape {
+            sender: side,
+            ..*shape
+        },
+        FieldName::Station => Shape {
+            station: side,
+            ..*shape
+        },
     }
 }
 
@@ -239,5 +247,7 @@ pub(crate) fn held_shape(rule: &Rule, ask: &Ask) -> Shape
         instance: held_side(&ranges.instance, ask.instance),
         property: held_side(&ranges.property, ask.property),
         priority: held_side(&ranges.priority, ask.priority),
+        sender: held_side(&ranges.sender, ask.sender),
+        station: held_side(&ranges.station, ask.station),
     }
 }

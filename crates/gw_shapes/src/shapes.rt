@@ -3,22 +3,23 @@
 ghost use Rattle.std.specs.Prelude.{◌≡◌, ◌≤◌, ◌++◌, [], ◌∷◌, IfOk, OnOk, length};
 ghost use Rattle.std.specs.List.{flat_map};
 ghost use Rattle.std.specs.Option.{option_to_list};
-ghost use Rattle.gw_configuration.specs.declared.format.Format.{Format};
-ghost use Rattle.gw_shapes.specs.Shapes.{bound, foreign_shapes, gaps, gaps_between, message_shapes, named, only, own_shapes, plain, request_shapes, shapes, shapes_from, split, table_shapes};
+ghost use Rattle.gw_shapes.specs.Shapes.{aimed, bound, claim_shapes, enter_shapes, foreign, foreign_shapes, gaps, gaps_between, message_shapes, named, only, own, own_shapes, passed_shapes, perhaps_in, plain, request_shapes, shapes, shapes_beyond, shapes_from, shapes_within, some_in, split, table_shapes};
 
 use crate::piece::{NO_RANGE, above, below, numbers};
 use crate::{Shape, Side};
-use gw_configuration::{Config, Format, Port};
-use gw_rules::{Fields, Operation, Range};
+use gw_configuration::{Config, Port};
+use gw_rules::{Fields, Format, Operation, Range};
 use std::alloc::{AllocError, Global};
 
-/// Whence asks come: by which ports, and from which networks.
+/// Whence asks come: by which ports, from which networks, and who sends them.
 #[derive(Clone, Copy)]
 pub struct Origin {
     /// The ports, by their numbers from 1.
     pub port: Side,
     /// The source networks.
     pub network: Side,
+    /// The senders, of whom asks tell in format 3 alone.
+    pub sender: Side,
 }
 
 /// Any number.
@@ -52,7 +53,53 @@ pub fn only(number: u64) -> Side
     numbers(number, number)
 }
 
-/// Asks of no network and no object.
+/// A number in format 3, and an absent field in the others.
+fn some_in(format: Format) -> Side
+    ensures { result ≡ some_in format }
+{
+    if format.names_stations() {
+        SOME
+    } else {
+        NOTHING
+    }
+}
+
+/// Either in format 3, and an absent field in the others.
+fn perhaps_in(format: Format) -> Side
+    ensures { result ≡ perhaps_in format }
+{
+    if format.names_stations() {
+        PERHAPS
+    } else {
+        NOTHING
+    }
+}
+
+impl Origin {
+    /// A station of the network of a port, of this number.
+    pub fn own(format: Format, number: u64, network: u64) -> Self
+        ensures { result ≡ own format number network }
+    {
+        Origin {
+            port: only(number),
+            network: only(network),
+            sender: some_in(format),
+        }
+    }
+
+    /// A station of another network, by any of so many ports.
+    fn foreign(format: Format, ports: u64, network: &Side) -> Self
+        ensures { result ≡ foreign format ports network.now }
+    {
+        Origin {
+            port: numbers(1, ports),
+            network: *network,
+            sender: some_in(format),
+        }
+    }
+}
+
+/// Asks of no network, no object and no station.
 fn plain(from: &Origin, operation: Operation, service: Side) -> Shape
     ensures { result ≡ plain from.now operation service }
 {
@@ -67,6 +114,8 @@ fn plain(from: &Origin, operation: Operation, service: Side) -> Shape
         instance: NOTHING,
         property: NOTHING,
         priority: NOTHING,
+        sender: from.sender,
+        station: NOTHING,
     }
 }
 
@@ -99,28 +148,41 @@ fn named(
     }
 }
 
-/// Frames that read or change a table of their port (Annex J.2).
-fn table_shapes(from: &Origin) -> [Shape; 5]
-    ensures { result ≡ table_shapes from.now }
+/// These asks, of messages that may name one station.
+pub fn aimed(format: Format, shape: &Shape) -> Shape
+    ensures { result ≡ aimed format shape.now }
+{
+    Fields {
+        station: perhaps_in(format),
+        ..*shape
+    }
+}
+
+/// Frames that read or change a table of their port (Annex J.2); one that deletes names a station.
+fn table_shapes(format: Format, from: &Origin) -> [Shape; 5]
+    ensures { result ≡ table_shapes format from.now }
 {
     [
         plain(from, Operation::WriteTable, only(769)),
         plain(from, Operation::ReadTable, only(770)),
         plain(from, Operation::Register, only(773)),
         plain(from, Operation::ReadTable, only(774)),
-        plain(from, Operation::Delete, only(776)),
+        Fields {
+            station: some_in(format),
+            ..plain(from, Operation::Delete, only(776))
+        },
     ]
 }
 
 /// What a message raises: broadcasts, routing, network messages, and requests to the device on this
 /// network.
-fn message_shapes(device: u64, from: &Origin) -> [Shape; 10]
-    ensures { result ≡ message_shapes device from.now }
+fn message_shapes(format: Format, device: u64, from: &Origin) -> [Shape; 10]
+    ensures { result ≡ message_shapes format device from.now }
 {
     let here = only(device);
     [
-        bound(from, Operation::Cast, PERHAPS, PERHAPS),
-        bound(from, Operation::Route, PERHAPS, SOME),
+        aimed(format, &bound(from, Operation::Cast, PERHAPS, PERHAPS)),
+        aimed(format, &bound(from, Operation::Route, PERHAPS, SOME)),
         bound(from, Operation::Learn, only(513), SOME),
         bound(from, Operation::Network, only(512), PERHAPS),
         bound(from, Operation::Network, only(530), NOTHING),
@@ -132,16 +194,36 @@ fn message_shapes(device: u64, from: &Origin) -> [Shape; 10]
     ]
 }
 
-/// Requests that are passed on, by what they name: of the second format alone.
-fn request_shapes(from: &Origin) -> [Shape; 4]
-    ensures { result ≡ request_shapes Format.Two from.now }
+/// Requests that are passed on to such a destination, by what they name.
+fn passed_shapes(format: Format, destination: Side, from: &Origin) -> [Shape; 4]
+    ensures { result ≡ passed_shapes format destination from.now }
 {
+    let reads = numbers(12, 14);
+    let writes = only(15);
     [
-        bound(from, Operation::Read, numbers(12, 14), SOME),
-        named(from, Operation::Read, numbers(12, 14), SOME, NOTHING),
-        bound(from, Operation::Write, only(15), SOME),
-        named(from, Operation::Write, only(15), SOME, SOME),
+        aimed(format, &bound(from, Operation::Read, reads, destination)),
+        aimed(
+            format,
+            &named(from, Operation::Read, reads, destination, NOTHING),
+        ),
+        aimed(format, &bound(from, Operation::Write, writes, destination)),
+        aimed(
+            format,
+            &named(from, Operation::Write, writes, destination, SOME),
+        ),
     ]
+}
+
+/// Appends the shapes of requests that are judged by what they name: in format 1 none that are passed
+/// on, in format 2 those that are routed, in format 3 those in broadcasts too.
+fn push_requests(out: &mut Vec<Shape>, format: Format, from: &Origin) -> Result<(), AllocError>
+    ensures { OnOk result (out.new.items ≡ out.old.items ++ request_shapes format from.now) }
+{
+    match format {
+        Format::One => Ok(()),
+        Format::Two => out.extend_from_slice(&passed_shapes(Format::Two, SOME, from)),
+        Format::Three => out.extend_from_slice(&passed_shapes(Format::Three, PERHAPS, from)),
+    }
 }
 
 /// Appends the shapes of what messages from there raise.
@@ -153,12 +235,57 @@ fn push_from(
 ) -> Result<(), AllocError>
     ensures { OnOk result (out.new.items ≡ out.old.items ++ shapes_from format device from.now) }
 {
-    out.extend_from_slice(&message_shapes(device, from))?;
-    match format {
-        Format::One => {}
-        Format::Two => out.extend_from_slice(&request_shapes(from))?,
+    out.extend_from_slice(&message_shapes(format, device, from))?;
+    push_requests(out, format, from)
+}
+
+/// Appends the shape of a station that enters, in format 3.
+fn push_enter(out: &mut Vec<Shape>, format: Format, from: &Origin) -> Result<(), AllocError>
+    ensures { OnOk result (out.new.items ≡ out.old.items ++ enter_shapes format from.now) }
+{
+    if !format.names_stations() {
+        return Ok(());
     }
+    out.push(plain(from, Operation::Enter, NOTHING))?;
     Ok(())
+}
+
+/// Appends the shape of a station that speaks for another network, in format 3.
+fn push_claim(out: &mut Vec<Shape>, format: Format, from: &Origin) -> Result<(), AllocError>
+    ensures { OnOk result (out.new.items ≡ out.old.items ++ claim_shapes format from.now) }
+{
+    if !format.names_stations() {
+        return Ok(());
+    }
+    out.push(plain(from, Operation::Claim, NOTHING))?;
+    Ok(())
+}
+
+/// Appends the shapes of what comes from a port's own network.
+fn push_within(
+    out: &mut Vec<Shape>,
+    format: Format,
+    device: u64,
+    from: &Origin,
+) -> Result<(), AllocError>
+    ensures { OnOk result (out.new.items ≡ out.old.items ++ shapes_within format device from.now) }
+{
+    out.extend_from_slice(&table_shapes(format, from))?;
+    push_enter(out, format, from)?;
+    push_from(out, format, device, from)
+}
+
+/// Appends the shapes of what comes from another network.
+fn push_beyond(
+    out: &mut Vec<Shape>,
+    format: Format,
+    device: u64,
+    from: &Origin,
+) -> Result<(), AllocError>
+    ensures { OnOk result (out.new.items ≡ out.old.items ++ shapes_beyond format device from.now) }
+{
+    push_claim(out, format, from)?;
+    push_from(out, format, device, from)
 }
 
 /// Appends the shapes of what comes from each port's own network.
@@ -172,12 +299,8 @@ fn push_own(
     ensures { OnOk result (out.new.items ≡ out.old.items ++ own_shapes format device 1 ports.now) }
 {
     for (place, port) in ports.iter().enumerate() {
-        let from = Origin {
-            port: only(place as u64 + 1),
-            network: only(u64::from(port.network.get())),
-        };
-        out.extend_from_slice(&table_shapes(&from))?;
-        push_from(out, format, device, &from)?;
+        let from = Origin::own(format, place as u64 + 1, u64::from(port.network.get()));
+        push_within(out, format, device, &from)?;
     }
     Ok(())
 }
@@ -239,11 +362,12 @@ fn push_foreign(
         out.old.items ++ flat_map (foreign_shapes format device ports) networks.now) }
 {
     for network in networks {
-        let from = Origin {
-            port: numbers(1, ports),
-            network: *network,
-        };
-        push_from(out, format, device, &from)?;
+        push_beyond(
+            out,
+            format,
+            device,
+            &Origin::foreign(format, ports, network),
+        )?;
     }
     Ok(())
 }

@@ -15,7 +15,7 @@ pub struct Side {
     pub range: Range,
 }
 
-/// Asks that lie in a side each for the ten fields.
+/// Asks that lie in a side each for the twelve fields.
 pub type Shape = Fields<Side>;
 
 /// Whether two ranges have a number in common, where both have one.
@@ -104,5 +104,7 @@ pub(crate) fn corner(shape: &Shape, rule: &Rule) -> Ask
         instance: corner_value(&shape.instance, &ranges.instance),
         property: corner_value(&shape.property, &ranges.property),
         priority: corner_value(&shape.priority, &ranges.priority),
+        sender: corner_value(&shape.sender, &ranges.sender),
+        station: corner_value(&shape.station, &ranges.station),
     }
 }

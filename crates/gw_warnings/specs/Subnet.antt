@@ -12,6 +12,10 @@ number_of octets = from_be_bytes w32 octets
 abbrev pub is_multicast : BipAddr → Bool
 is_multicast address = nat_le 224 (slice_index address.ip 0) && nat_le (slice_index address.ip 0) 239
 
+-- 255.255.255.255, which broadcasts on whatever network a datagram goes out (RFC 919)
+abbrev pub is_limited : BipAddr → Bool
+is_limited address = number_of address.ip == 4294967295
+
 -- how many addresses a subnet may have: the powers of 2 from 1 to 2 ^ 32
 unfoldable pub sizes : List ℕ
 sizes = map (λ bits. 2 ^ bits) (range_with_len 0 33)

@@ -2,9 +2,11 @@
 #![tactic(auto)]
 
 mod oddity;
+mod peer_warnings;
 mod port_warnings;
 mod route_warnings;
 mod rule_warnings;
+mod set_warnings;
 mod spot;
 mod subnet;
 mod warnings;

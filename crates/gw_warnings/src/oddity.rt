@@ -20,6 +20,8 @@ pub(crate) enum Oddity {
     OtherPort(BipAddr),
     /// No subnet that holds this own address has it as its broadcast address.
     OffSubnet(BipAddr),
+    /// It broadcasts on whatever network a datagram goes out.
+    Limited,
     /// It is the broadcast address of this port.
     IsBroadcast(usize),
     /// It is the own address of this port.
@@ -45,6 +47,7 @@ fn put_oddity(out: &mut Vec<u8>, oddity: Oddity) -> Result<(), AllocError>
         Oddity::Multicast => put_slice(out, b" is a multicast address"),
         Oddity::OtherPort(own) => put_with(out, b" has another UDP port than ", own),
         Oddity::OffSubnet(own) => put_with(out, b" is the broadcast address of no subnet of ", own),
+        Oddity::Limited => put_slice(out, b" broadcasts on no network in particular"),
         Oddity::IsBroadcast(port) => put_numbered(out, b" is the broadcast address of port ", port),
         Oddity::IsOwn(port) => put_numbered(out, b" is the own address of port ", port),
         Oddity::Elsewhere(port) => put_numbered(out, b" is off the subnet of port ", port),

@@ -7,7 +7,7 @@ ghost use Rattle.gw_warnings.specs.Warnings.{broadcast_lines, has_zero_port, oth
 
 use crate::oddity::{Oddity, put_mask, put_owned, put_where};
 use crate::spot::Spot;
-use crate::subnet::{is_multicast, is_off_subnet};
+use crate::subnet::{is_limited, is_multicast, is_off_subnet};
 use gw_addr::{BdtEntry, BipAddr};
 use gw_configuration::Port;
 use std::alloc::AllocError;
@@ -86,7 +86,8 @@ fn put_broadcast(out: &mut Vec<u8>, place: usize, port: &Port) -> Result<(), All
         Oddity::Multicast,
     )?;
     put_where(out, other_port, spot, broadcast, Oddity::OtherPort(own))?;
-    put_where(out, off, spot, broadcast, Oddity::OffSubnet(own))
+    put_where(out, off, spot, broadcast, Oddity::OffSubnet(own))?;
+    put_where(out, is_limited(broadcast), spot, broadcast, Oddity::Limited)
 }
 
 /// Appends the lines of these peers of a port in their order.

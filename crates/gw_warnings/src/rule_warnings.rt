@@ -2,47 +2,109 @@
 ghost use Rattle.std.specs.Prelude.{◌≡◌, ◌++◌, codes, decimal};
 ghost use Rattle.gw_addr.specs.Appending.{IsAppended};
 ghost use Rattle.gw_script.specs.Order.{in_order};
-ghost use Rattle.gw_warnings.specs.Warnings.{address_of, cut_line, ends_words, is_cut, is_missing, item_words, missing_line, missing_lines, name_words, range_words, rule_lines, source_lines, with_udp};
+ghost use Rattle.gw_warnings.specs.Warnings.{address_of, cut_line, cut_lines, ends_words, is_cut, is_missing, item_words, missing_line, missing_lines, none_line, none_lines, range_word, range_words, rule_lines, with_udp};
 
-use crate::spot::put_numbered;
+use crate::spot::{put_name, put_numbered};
 use crate::subnet::number_of;
 use gw_addr::{BipAddr, put_decimal, put_octet, put_slice};
-use gw_rules::{Range, Rule, RuleName};
+use gw_rules::{Format, Range, Rule, RuleName};
 use std::alloc::AllocError;
 
 /// The greatest UDP port.
 const LAST_PORT: u16 = 65535;
 
+/// A field of a rule whose ranges have a line each.
+#[derive(Clone, Copy)]
+struct RuleField<'a> {
+    /// The format of the policy.
+    format: Format,
+    /// The position of the rule, from 0.
+    index: usize,
+    /// The rule's name.
+    name: &'a RuleName,
+    /// The key of the field.
+    key: &'a [u8],
+}
+
+/// Appends the line of a policy without rules.
+pub(crate) fn put_none(out: &mut Vec<u8>, rules: &[Rule]) -> Result<(), AllocError>
+    ensures { IsAppended (none_lines rules.now) out.old out.new result }
+{
+    if rules.is_empty() {
+        put_none_line(out)
+    } else {
+        Ok(())
+    }
+}
+
+fn put_none_line(out: &mut Vec<u8>) -> Result<(), AllocError>
+    ensures { IsAppended none_line out.old out.new result }
+{
+    put_slice(out, b"warning: there is no rule, so every ask is denied")?;
+    put_octet(out, b'\n')
+}
+
 /// Appends the lines of the rules in their order, where there are so many ports.
-pub(crate) fn put_rules(out: &mut Vec<u8>, ports: u64, rules: &[Rule]) -> Result<(), AllocError>
-    ensures { IsAppended (in_order (rule_lines ports) 0 rules.now) out.old out.new result }
+pub(crate) fn put_rules(
+    out: &mut Vec<u8>,
+    format: Format,
+    ports: u64,
+    rules: &[Rule],
+) -> Result<(), AllocError>
+    ensures { IsAppended (in_order (rule_lines format ports) 0 rules.now) out.old out.new result }
 {
     for (index, rule) in rules.iter().enumerate() {
-        put_rule(out, ports, index, rule)?;
+        put_rule(out, format, ports, index, rule)?;
     }
     Ok(())
 }
 
-fn put_rule(out: &mut Vec<u8>, ports: u64, index: usize, rule: &Rule) -> Result<(), AllocError>
-    ensures { IsAppended (rule_lines ports index rule.now) out.old out.new result }
+fn put_rule(
+    out: &mut Vec<u8>,
+    format: Format,
+    ports: u64,
+    index: usize,
+    rule: &Rule,
+) -> Result<(), AllocError>
+    ensures { IsAppended (rule_lines format ports index rule.now) out.old out.new result }
 {
-    put_missing(out, ports, index, &rule.name, rule.ranges.port.as_slice())?;
-    put_sources(out, index, &rule.name, rule.ranges.source_key.as_slice())
+    let port = RuleField {
+        format,
+        index,
+        name: &rule.name,
+        key: b"port",
+    };
+    let source = RuleField {
+        key: b"source",
+        ..port
+    };
+    let sender = RuleField {
+        key: b"sender",
+        ..port
+    };
+    let station = RuleField {
+        key: b"station",
+        ..port
+    };
+    put_missing(out, ports, &port, rule.ranges.port.as_slice())?;
+    put_cuts(out, &source, rule.ranges.source_key.as_slice())?;
+    put_cuts(out, &sender, rule.ranges.sender.as_slice())?;
+    put_cuts(out, &station, rule.ranges.station.as_slice())
 }
 
 /// Appends a line for each range of ports that names one that isn't there.
 fn put_missing(
     out: &mut Vec<u8>,
     ports: u64,
-    index: usize,
-    name: &RuleName,
+    field: &RuleField<'_>,
     ranges: &[Range],
 ) -> Result<(), AllocError>
     ensures { IsAppended
-        (in_order (missing_lines ports index name.now) 0 ranges.now) out.old out.new result }
+        (in_order (missing_lines ports field.now.format field.now.index field.now.name.now field.now.key.now) 0 ranges.now)
+        out.old out.new result }
 {
     for (item, range) in ranges.iter().enumerate() {
-        put_missing_item(out, ports, index, name, item, range)?;
+        put_missing_item(out, ports, field, item, range)?;
     }
     Ok(())
 }
@@ -50,16 +112,16 @@ fn put_missing(
 fn put_missing_item(
     out: &mut Vec<u8>,
     ports: u64,
-    index: usize,
-    name: &RuleName,
+    field: &RuleField<'_>,
     item: usize,
     range: &Range,
 ) -> Result<(), AllocError>
     ensures { IsAppended
-        (missing_lines ports index name.now item range.now) out.old out.new result }
+        (missing_lines ports field.now.format field.now.index field.now.name.now field.now.key.now item range.now)
+        out.old out.new result }
 {
     if is_missing(ports, range) {
-        put_missing_line(out, ports, index, name, item, range)
+        put_missing_line(out, ports, field, item, range)
     } else {
         Ok(())
     }
@@ -68,14 +130,15 @@ fn put_missing_item(
 fn put_missing_line(
     out: &mut Vec<u8>,
     ports: u64,
-    index: usize,
-    name: &RuleName,
+    field: &RuleField<'_>,
     item: usize,
     range: &Range,
 ) -> Result<(), AllocError>
-    ensures { IsAppended (missing_line ports index name.now item range.now) out.old out.new result }
+    ensures { IsAppended
+        (missing_line ports field.now.format field.now.index field.now.name.now field.now.key.now item range.now)
+        out.old out.new result }
 {
-    put_item(out, index, name, b"port", item)?;
+    put_item(out, field, item)?;
     put_range(out, range)?;
     put_slice(out, b" names a port that isn't there; the last is ")?;
     put_decimal(out, ports)?;
@@ -112,35 +175,32 @@ fn put_pair(out: &mut Vec<u8>, range: &Range) -> Result<(), AllocError>
     put_octet(out, b']')
 }
 
-/// Appends a line for each range of sources that is cut.
-fn put_sources(
-    out: &mut Vec<u8>,
-    index: usize,
-    name: &RuleName,
-    ranges: &[Range],
-) -> Result<(), AllocError>
+/// Appends a line for each range of addresses that is cut.
+fn put_cuts(out: &mut Vec<u8>, field: &RuleField<'_>, ranges: &[Range]) -> Result<(), AllocError>
     ensures { IsAppended
-        (in_order (source_lines index name.now) 0 ranges.now) out.old out.new result }
+        (in_order (cut_lines field.now.format field.now.index field.now.name.now field.now.key.now) 0 ranges.now)
+        out.old out.new result }
 {
     for (item, range) in ranges.iter().enumerate() {
-        put_source(out, index, name, item, range)?;
+        put_cut(out, field, item, range)?;
     }
     Ok(())
 }
 
-fn put_source(
+fn put_cut(
     out: &mut Vec<u8>,
-    index: usize,
-    name: &RuleName,
+    field: &RuleField<'_>,
     item: usize,
     range: &Range,
 ) -> Result<(), AllocError>
-    ensures { IsAppended (source_lines index name.now item range.now) out.old out.new result }
+    ensures { IsAppended
+        (cut_lines field.now.format field.now.index field.now.name.now field.now.key.now item range.now)
+        out.old out.new result }
 {
     let low = address_of(range.low);
     let high = address_of(range.high);
     if is_cut(low, high) {
-        put_cut(out, index, name, item, low, high)
+        put_cut_line(out, field, item, low, high)
     } else {
         Ok(())
     }
@@ -163,17 +223,18 @@ fn is_cut(low: BipAddr, high: BipAddr) -> bool
 }
 
 /// Appends the line of a range that is cut, with the range to write.
-fn put_cut(
+fn put_cut_line(
     out: &mut Vec<u8>,
-    index: usize,
-    name: &RuleName,
+    field: &RuleField<'_>,
     item: usize,
     low: BipAddr,
     high: BipAddr,
 ) -> Result<(), AllocError>
-    ensures { IsAppended (cut_line index name.now item low high) out.old out.new result }
+    ensures { IsAppended
+        (cut_line field.now.format field.now.index field.now.name.now field.now.key.now item low high)
+        out.old out.new result }
 {
-    put_item(out, index, name, b"source", item)?;
+    put_item(out, field, item)?;
     put_ends(out, low, high)?;
     put_slice(
         out,
@@ -202,28 +263,26 @@ fn put_ends(out: &mut Vec<u8>, low: BipAddr, high: BipAddr) -> Result<(), AllocE
     put_slice(out, b"\"]")
 }
 
-/// Appends the name of a rule.
-fn put_name(out: &mut Vec<u8>, name: &RuleName) -> Result<(), AllocError>
-    ensures { IsAppended (name_words name.now) out.old out.new result }
+/// What ranges are counted as: in formats 1 and 2 each is an item as it is written; in format 3 an item
+/// may have several.
+fn range_word(format: Format) -> &'static [u8]
+    ensures { result.now ≡ range_word format }
 {
-    put_slice(out, b" \"")?;
-    put_slice(out, name.as_str().as_bytes())?;
-    put_slice(out, b"\": ")
+    if format.names_stations() {
+        b": range "
+    } else {
+        b": item "
+    }
 }
 
-/// Appends the place of an item of a rule's field.
-fn put_item(
-    out: &mut Vec<u8>,
-    index: usize,
-    name: &RuleName,
-    field: &[u8],
-    item: usize,
-) -> Result<(), AllocError>
-    ensures { IsAppended (item_words index name.now field.now item) out.old out.new result }
+/// Appends the place of a range of a rule's field.
+fn put_item(out: &mut Vec<u8>, field: &RuleField<'_>, item: usize) -> Result<(), AllocError>
+    ensures { IsAppended (item_words field.now.format field.now.index field.now.name.now field.now.key.now item)
+        out.old out.new result }
 {
-    put_numbered(out, b"warning: rule ", index)?;
-    put_name(out, name)?;
-    put_slice(out, field)?;
-    put_numbered(out, b": item ", item)?;
+    put_numbered(out, b"warning: rule ", field.index)?;
+    put_name(out, field.name)?;
+    put_slice(out, field.key)?;
+    put_numbered(out, range_word(field.format), item)?;
     put_slice(out, b": ")
 }

@@ -1,10 +1,11 @@
 //! Places of addresses and masks in a configuration.
 ghost use Rattle.std.specs.Prelude.{◌++◌, codes};
 ghost use Rattle.gw_addr.specs.Appending.{IsAppended};
-ghost use Rattle.gw_warnings.specs.Warnings.{spot_words};
+ghost use Rattle.gw_warnings.specs.Warnings.{name_words, spot_words};
 ghost use Rattle.gw_configuration.specs.Located.{numbered};
 
 use gw_addr::{put_decimal, put_slice};
+use gw_rules::RuleName;
 use std::alloc::AllocError;
 
 /// A key in the table of a port, of a peer of a port, or of a route. The numbers are positions,
@@ -33,6 +34,15 @@ pub(crate) fn put_numbered(
 {
     put_slice(out, word)?;
     put_decimal(out, position as u128 + 1)
+}
+
+/// Appends the name of a set or a rule.
+pub(crate) fn put_name(out: &mut Vec<u8>, name: &RuleName) -> Result<(), AllocError>
+    ensures { IsAppended (name_words name.now) out.old out.new result }
+{
+    put_slice(out, b" \"")?;
+    put_slice(out, name.as_str().as_bytes())?;
+    put_slice(out, b"\": ")
 }
 
 /// Appends the place of a key in the table that a word and a position name.

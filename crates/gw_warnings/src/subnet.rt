@@ -1,7 +1,7 @@
 //! Subnets of IPv4, as far as an own and a broadcast address tell of them, and masks.
 ghost use Rattle.std.specs.Prelude.{◌≡◌, ◌<◌, ◌^◌, ◌==◌, ◌&&◌};
 ghost use Rattle.std.specs.List.{list_any};
-ghost use Rattle.gw_warnings.specs.Subnet.{has_holes, is_beside, is_broadcast_for, is_elsewhere, is_multicast, is_off_subnet, is_subnet, number_of, sizes};
+ghost use Rattle.gw_warnings.specs.Subnet.{has_holes, is_beside, is_broadcast_for, is_elsewhere, is_limited, is_multicast, is_off_subnet, is_subnet, number_of, sizes};
 
 use gw_addr::BipAddr;
 
@@ -12,6 +12,9 @@ const MULTICAST_HIGH: u8 = 239;
 
 /// How many addresses IPv4 has.
 const ADDRESSES: u64 = 4_294_967_296;
+
+/// The last address of all, as a number.
+const LIMITED_BROADCAST: u64 = 4_294_967_295;
 
 /// How many addresses a subnet has at least: of two, none is a broadcast address.
 const FEWEST: u64 = 4;
@@ -59,6 +62,13 @@ pub(crate) fn is_multicast(address: BipAddr) -> bool
 {
     let [first, _, _, _] = address.ip;
     MULTICAST_LOW <= first && first <= MULTICAST_HIGH
+}
+
+/// Whether it is 255.255.255.255, which broadcasts on whatever network a datagram goes out (RFC 919).
+pub(crate) fn is_limited(address: BipAddr) -> bool
+    ensures { result ≡ is_limited address }
+{
+    number_of(address.ip) == LIMITED_BROADCAST
 }
 
 #[tactic(auto, unfolding(crate::specs::Subnet::sizes))]

@@ -1,16 +1,19 @@
 //! What a configuration has that is accepted and can't be meant.
 ghost use Rattle.gw_addr.specs.Appending.{IsAppended, IsAppendedWhole};
-ghost use Rattle.gw_warnings.specs.Warnings.{warnings_text};
+ghost use Rattle.gw_warnings.specs.Warnings.{policy_lines, warnings_text};
 
+use crate::peer_warnings::put_registering;
 use crate::port_warnings::put_ports;
 use crate::route_warnings::put_routes;
-use crate::rule_warnings::put_rules;
+use crate::rule_warnings::{put_none, put_rules};
+use crate::set_warnings::put_sets;
 use gw_addr::keep_whole;
 use gw_configuration::Config;
 use std::alloc::AllocError;
 
 /// Appends a line for each thing in a configuration that is accepted and can't be meant: those of
-/// the ports with their peers, then of the routes, then of the rules, each in the order of the text.
+/// the ports with their peers, then of the routes, the sets and the rules, each in the order of the text,
+/// and then of the peers whom the rules let register.
 ///
 /// ```text
 /// warning: port 1: broadcast: 192.168.2.255:47808 is the broadcast address of no subnet of 192.168.1.10:47808
@@ -32,5 +35,18 @@ fn put_lines(out: &mut Vec<u8>, config: &Config) -> Result<(), AllocError>
     let ports = config.ports();
     put_ports(out, ports)?;
     put_routes(out, ports, config.routes())?;
-    put_rules(out, ports.len() as u64, config.rules().rules())
+    put_sets(out, config.sets())?;
+    put_policy(out, config)
+}
+
+/// Appends the lines of the policy.
+fn put_policy(out: &mut Vec<u8>, config: &Config) -> Result<(), AllocError>
+    ensures { IsAppended (policy_lines config.now) out.old out.new result }
+{
+    let ports = config.ports();
+    let rules = config.rules();
+    let format = config.format();
+    put_none(out, rules.rules())?;
+    put_rules(out, format, ports.len() as u64, rules.rules())?;
+    put_registering(out, format, rules, ports)
 }

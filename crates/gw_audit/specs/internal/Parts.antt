@@ -1,12 +1,13 @@
 -- The pieces in which a line is written.
-use Rattle.std.specs.Prelude.{ℕ, List, [], ◌∷◌, ◌++◌, codes}
+use Rattle.std.specs.Prelude.{ℕ, is_some, List, [], ◌∷◌, ◌++◌, Option, codes}
 use Rattle.std.specs.Fmt.{decimal}
 use Rattle.std.specs.List.{flat_map}
+use Rattle.std.specs.Option.{option_map_or}
 use Rattle.gw_addr.specs.Station.{two_digits}
 use Rattle.gw_addr.specs.declared.station.Source.{Source}
 use Rattle.gw_rules.specs.Ask.{Ask}
 use Rattle.gw_audit.specs.declared.denial.Denial.{Denial}
-use Rattle.gw_audit.specs.Line.{field_text, operation_text}
+use Rattle.gw_audit.specs.Line.{absent, field_text, key_text, operation_word, stations_of, stations_text}
 
 -- `<number> <tick> <port> `
 abbrev pub counts_text : Denial → List ℕ
@@ -19,7 +20,7 @@ source_text source = decimal source.net ++ codes ":" ++ flat_map two_digits sour
 -- ` <operation> dst=<n> svc=<n>`
 abbrev pub request_text : Ask → List ℕ
 request_text ask =
-    codes " " ++ operation_text ask.operation
+    codes " " ++ operation_word (is_some ask.sender) ask.operation
     ++ codes " dst=" ++ field_text ask.destination_network
     ++ codes " svc=" ++ field_text ask.service
 
@@ -30,14 +31,26 @@ object_text ask =
     ++ codes " prop=" ++ field_text ask.property
     ++ codes " prio=" ++ field_text ask.priority
 
--- ` rule=<name>` and a line feed
+-- `<net>:<MAC> <operation> dst=<n> svc=<n> obj=<type>,<instance> prop=<n> prio=<n>`
+abbrev pub asked_text : Source → Ask → List ℕ
+asked_text source ask = source_text source ++ request_text ask ++ object_text ask
+
+-- and the stations
+abbrev pub ask_pieces_text : Source → Ask → List ℕ
+ask_pieces_text source ask = asked_text source ask ++ stations_text (stations_of ask)
+
+-- ` rule=<name>`
 abbrev pub rule_text : List ℕ → List ℕ
-rule_text name = codes " rule=" ++ name ++ 10 ∷ []
+rule_text name = codes " rule=" ++ name
+
+-- a station that may be there
+abbrev pub station_text : Option ℕ → List ℕ
+station_text station = option_map_or key_text station absent
+
+-- the name of the rule, the stations and a line feed
+abbrev pub end_text : Denial → List ℕ
+end_text d = rule_text d.rule ++ stations_text (stations_of d.ask) ++ 10 ∷ []
 
 -- the pieces of a line, one behind the other
 abbrev pub pieces_text : Denial → List ℕ
-pieces_text d = counts_text d ++ source_text d.source ++ request_text d.ask ++ object_text d.ask ++ rule_text d.rule
-
--- the pieces of what was asked and by whom
-abbrev pub asked_text : Source → Ask → List ℕ
-asked_text source ask = source_text source ++ request_text ask ++ object_text ask
+pieces_text d = counts_text d ++ asked_text d.source d.ask ++ end_text d

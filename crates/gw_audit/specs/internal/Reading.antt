@@ -3,6 +3,7 @@ use Rattle.std.specs.Prelude.{◌≡◌, ℕ, ◌+◌, ◌^◌, ◌==◌, ◌&&�
 use Rattle.std.specs.Prelude.{length, take, drop, find, position, codes, Option, Some, None, Result, Ok, Err}
 use Rattle.std.specs.Cmp.Lexicographic.{pointwise}
 use Rattle.std.specs.Fmt.{decimal}
+use Rattle.std.specs.Int.{w64, from_be_bytes}
 use Rattle.std.specs.List.{list_any}
 use Rattle.std.specs.Option.{option_and_then, option_map, option_map_or}
 use Rattle.std.specs.Str.{is_utf8}
@@ -10,22 +11,28 @@ use Rattle.std.specs.Str.Parse.{digits_value}
 use Rattle.hex.specs.Hex.{decode_of}
 use Rattle.hex.specs.declared.error.FromHexError.{FromHexError}
 use Rattle.gw_addr.specs.declared.station.Source.{Source}
-use Rattle.gw_addr.specs.Station.{network_of, station_of}
+use Rattle.gw_addr.specs.Station.{key_of, network_of, station_of}
 use Rattle.gw_rules.specs.declared.operation.Operation.{Operation}
 use Rattle.gw_rules.specs.declared.operation.TheConstants.Operation.{ALL}
 use Rattle.gw_rules.specs.Operation.{operation_name, operation_number}
 use Rattle.gw_audit.specs.declared.entry.ShownAsk.{ShownAsk}
+use Rattle.gw_audit.specs.declared.entry.Stations.{Stations}
 use Rattle.gw_audit.specs.declared.reading.Request.{Request}
 use Rattle.gw_audit.specs.declared.reading.Target.{Target}
 use Rattle.gw_audit.specs.declared.denial.Denial.{Denial}
 use Rattle.gw_audit.specs.Entry.{ask_shown, shown_ask}
-use Rattle.gw_audit.specs.Line.{absent, operation_of}
+use Rattle.gw_audit.specs.Line.{absent, operation_named}
 
 -- what is read next, where something was read
 infixl 10 ◌>>=◌
 abbrev pub ◌>>=◌ : {A B : Type 0} → Option A → (A → Option B) → Option B
 (Some x) >>= f = f x
 None >>= f = None
+
+-- the first of two that is there
+abbrev pub or_else : {A : Type 0} → Option A → Option A → Option A
+or_else (Some x) other = Some x
+or_else None other = other
 
 -- What a function returned, seen by view, is what the reading gives.
 abbrev pub Gives : {X Y : Type 0} → (X → Y) → Option X → Option Y → Type 0
@@ -54,19 +61,23 @@ abbrev pub field_in : List ℕ → Option (Option ℕ)
 field_in text =
     if pointwise nat_eq text absent then Some None else option_map (λ number. Some number) (number_in text)
 
--- a number that no operation has
-abbrev pub other_number : ℕ → Option (Option ℕ)
-other_number number = if is_some (operation_of number) then None else Some (Some number)
+-- a number that a line has no name for
+abbrev pub other_number : Bool → ℕ → Option (Option ℕ)
+other_number has_sender number = if is_some (operation_named has_sender number) then None else Some (Some number)
+
+-- a number that a line has a name for
+abbrev pub named_number : Bool → ℕ → Option (Option ℕ)
+named_number has_sender number = if is_some (operation_named has_sender number) then Some (Some number) else None
 
 -- an operation of this name, or else its number
-abbrev pub operation_or : Option Operation → List ℕ → Option (Option ℕ)
-operation_or (Some operation) text = Some (Some (operation_number operation))
-operation_or None text = option_and_then other_number (number_in text)
+abbrev pub operation_or : Bool → Option Operation → List ℕ → Option (Option ℕ)
+operation_or has_sender (Some operation) text = named_number has_sender (operation_number operation)
+operation_or has_sender None text = option_and_then (other_number has_sender) (number_in text)
 
-abbrev pub operation_in : List ℕ → Option (Option ℕ)
-operation_in text =
+abbrev pub operation_in : Bool → List ℕ → Option (Option ℕ)
+operation_in has_sender text =
     if pointwise nat_eq text absent then Some None
-    else operation_or (find (λ operation. pointwise nat_eq (operation_name operation) text) ALL) text
+    else operation_or has_sender (find (λ operation. pointwise nat_eq (operation_name operation) text) ALL) text
 
 -- `a` to `z`
 abbrev pub is_lower : ℕ → Bool
@@ -80,6 +91,24 @@ station_in (Err fault) = None
 -- the octets of a station in upper-case digits
 abbrev pub mac_in : List ℕ → Option (List ℕ)
 mac_in text = if list_any is_lower text then None else station_in (decode_of text)
+
+-- the key of six octets, or of eight if it has more than 48 bits
+abbrev pub long_key : ℕ → Option ℕ
+long_key key = if nat_lt key 281474976710656 then None else Some key
+
+abbrev pub long_key_in : List ℕ → Option ℕ
+long_key_in octets = if length octets == 8 then long_key (from_be_bytes w64 octets) else None
+
+abbrev pub key_of_mac : List ℕ → Option ℕ
+key_of_mac mac = or_else (key_of mac) (long_key_in mac)
+
+abbrev pub key_in : List ℕ → Option ℕ
+key_in text = mac_in text >>= key_of_mac
+
+-- the key of a station, or none
+abbrev pub station_key : List ℕ → Option (Option ℕ)
+station_key text =
+    if pointwise nat_eq text absent then Some None else option_map (λ key. Some key) (key_in text)
 
 -- a port and a network
 abbrev pub port_of : ℕ → Option ℕ
@@ -103,8 +132,8 @@ number_to c text = up_to number_in c text
 abbrev pub field_to : ℕ → List ℕ → Option (Option ℕ × List ℕ)
 field_to c text = up_to field_in c text
 
-abbrev pub operation_to : ℕ → List ℕ → Option (Option ℕ × List ℕ)
-operation_to c text = up_to operation_in c text
+abbrev pub key_to : ℕ → List ℕ → Option (ℕ × List ℕ)
+key_to c text = up_to key_in c text
 
 abbrev pub mac_to : ℕ → List ℕ → Option (List ℕ × List ℕ)
 mac_to c text = up_to mac_in c text
@@ -128,13 +157,12 @@ source_at text = do
   mac ← mac_to 32 number.1
   Some (record { net = net; mac = mac.0 }, mac.1)
 
--- `<operation> dst=<n> svc=<n> `
+-- `dst=<n> svc=<n> `
 abbrev pub request_at : List ℕ → Option (Request × List ℕ)
 request_at text = do
-  operation ← operation_to 32 text
-  destination ← labelled_to (codes "dst=") 32 operation.1
+  destination ← labelled_to (codes "dst=") 32 text
   service ← labelled_to (codes "svc=") 32 destination.1
-  Some (record { operation = operation.0; destination_network = destination.0; service = service.0 }, service.1)
+  Some (record { destination_network = destination.0; service = service.0 }, service.1)
 
 -- `obj=<type>,<instance> prop=<n> `
 abbrev pub target_at : List ℕ → Option (Target × List ℕ)
@@ -158,45 +186,84 @@ priority_of word = field_in word.0 >>= (λ value. Some (value, word.1))
 abbrev pub priority_at : List ℕ → Option (Option ℕ × List ℕ)
 priority_at text = behind (codes "prio=") text >>= (λ rest. priority_of (word_at rest))
 
--- an ask of these parts
+-- an ask of these parts, without its operation and its stations
 abbrev pub ask_of_parts : ℕ → Source → Request → Target → Option ℕ → ShownAsk
 ask_of_parts port source request target priority = record {
   port = port;
   source = source;
-  operation = request.operation;
+  operation = None;
   destination_network = request.destination_network;
   service = request.service;
   object_type = target.object_type;
   instance = target.instance;
   property = target.property;
   priority = priority;
+  stations = None;
 }
 
--- the eight words of an ask
-abbrev pub ask_at : List ℕ → Option (ShownAsk × List ℕ)
+-- the eight words of an ask: what they say but for the operation, the word of that, and what comes after them
+abbrev pub ask_at : List ℕ → Option (ShownAsk × List ℕ × List ℕ)
 ask_at text = do
   port ← port_at text
   source ← source_at port.1
-  request ← request_at source.1
+  operation ← parted_at 32 source.1
+  request ← request_at operation.1
   target ← target_at request.1
   priority ← priority_at target.1
-  Some (ask_of_parts port.0 source.0 request.0 target.0 priority.0, priority.1)
+  Some (ask_of_parts port.0 source.0 request.0 target.0 priority.0, operation.0, priority.1)
+
+-- ` sender=<MAC> station=<MAC>` to the end
+abbrev pub named_stations : List ℕ → Option Stations
+named_stations text = do
+  rest ← behind (codes " sender=") text
+  sender ← key_to 32 rest
+  word ← behind (codes "station=") sender.1
+  station ← station_key word
+  Some (record { sender = sender.0; station = station })
+
+-- the stations at the end of a line, which may name none
+abbrev pub stations_in : List ℕ → Option (Option Stations)
+stations_in text =
+    if length text == 0 then Some None else option_map (λ stations. Some stations) (named_stations text)
+
+-- the ask with its operation and its stations
+abbrev pub with_both : ShownAsk → Option ℕ → Option Stations → ShownAsk
+with_both ask operation stations = record {
+  port = ask.port;
+  source = ask.source;
+  operation = operation;
+  destination_network = ask.destination_network;
+  service = ask.service;
+  object_type = ask.object_type;
+  instance = ask.instance;
+  property = ask.property;
+  priority = ask.priority;
+  stations = stations;
+}
+
+-- which operations have names hangs on whether there are stations
+abbrev pub whole_ask : ShownAsk → List ℕ → List ℕ → Option ShownAsk
+whole_ask ask operation end = do
+  stations ← stations_in end
+  operation ← operation_in (is_some stations) operation
+  Some (with_both ask operation stations)
 
 -- ---- a whole line
 
--- these words and nothing more
-abbrev pub all_of : ShownAsk × List ℕ → Option ShownAsk
-all_of asked = if length asked.1 == 0 then Some asked.0 else None
-
+-- an ask alone
 abbrev pub ask_in : List ℕ → Option ShownAsk
-ask_in text = ask_at text >>= all_of
+ask_in text = ask_at text >>= (λ asked. whole_ask asked.0 asked.1 asked.2)
 
--- `rule=<name>`, a name of UTF-8
+-- a name of UTF-8
 abbrev pub name_of : List ℕ → Option (List ℕ)
 name_of text = if is_utf8 text then Some text else None
 
-abbrev pub rule_in : List ℕ → Option (List ℕ)
-rule_in text = behind (codes " rule=") text >>= name_of
+-- ` rule=<name>`, up to the next space
+abbrev pub rule_of : List ℕ × List ℕ → Option (List ℕ × List ℕ)
+rule_of word = name_of word.0 >>= (λ name. Some (name, word.1))
+
+abbrev pub rule_at : List ℕ → Option (List ℕ × List ℕ)
+rule_at text = behind (codes " rule=") text >>= (λ rest. rule_of (word_at rest))
 
 abbrev pub denial_of_parts : ℕ → ℕ → ShownAsk → List ℕ → Denial
 denial_of_parts number tick ask rule = record {
@@ -213,11 +280,12 @@ abbrev pub line_in : List ℕ → Option Denial
 line_in text = do
   number ← number_to 32 text
   tick ← number_to 32 number.1
-  ask ← ask_at tick.1
-  rule ← rule_in ask.1
-  Some (denial_of_parts number.0 tick.0 ask.0 rule)
+  asked ← ask_at tick.1
+  rule ← rule_at asked.2
+  ask ← whole_ask asked.0 asked.1 rule.1
+  Some (denial_of_parts number.0 tick.0 ask rule.0)
 
--- the ask of a line, or of eight words
+-- the ask of a line, or of its words alone
 abbrev pub told_by : Option Denial → List ℕ → Option ShownAsk
 told_by (Some d) text = Some (shown_ask d)
 told_by None text = ask_in text

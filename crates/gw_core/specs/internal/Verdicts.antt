@@ -6,7 +6,7 @@ use Rattle.gw_rules.specs.declared.rule.Rule.{Rule}
 use Rattle.gw_rules.specs.declared.verdict.Verdict.{Verdict}
 use Rattle.gw_audit.specs.Line.{ask_text}
 use Rattle.gw_core.specs.Explained.{judged_text}
-use Rattle.gw_core.specs.Receive.{Origin}
+use Rattle.gw_core.specs.Receive.{Origin, source_of}
 
 -- the line of one ask with its verdict
 abbrev pub verdict_line : List Rule → Source → Verdict → List ℕ
@@ -16,4 +16,4 @@ verdict_line rules source v =
 -- a line for each, of a datagram that claims to come from there
 abbrev pub verdict_lines : List Rule → Option Origin → List Verdict → List ℕ
 verdict_lines rules None verdicts = []
-verdict_lines rules (Some from) verdicts = flat_map (verdict_line rules from.source) verdicts
+verdict_lines rules (Some from) verdicts = flat_map (λ v. verdict_line rules (source_of from v.ask) v) verdicts

@@ -2,6 +2,7 @@
 use Rattle.std.specs.Prelude.{Bool, ◌&&◌, if◌then◌else◌, List, [], map, Option, None, Some}
 use Rattle.gw_addr.specs.declared.bip.BipAddr.{BipAddr}
 use Rattle.gw_bvll.specs.Bvll.{Message as Frame}
+use Rattle.gw_rules.specs.declared.format.Format.{Format}
 use Rattle.gw_rules.specs.declared.rule.Rule.{Rule}
 use Rattle.gw_relay.specs.Cast.{passed_on, targets}
 use Rattle.gw_relay.specs.Link.{answer_to, change_of, granted, is_granted, refused}
@@ -31,9 +32,9 @@ judged link from frame allowed =
     else map (answer_to link.port from) (refused frame)
 
 -- what is learned of a router's message
-abbrev pub learn_response : List Rule → Message → Response
-learn_response rules m = record {
-  asks = map (learn_ask m) (named_networks m);
+abbrev pub learn_response : List Rule → Format → Message → Response
+learn_response rules format m = record {
+  asks = map (learn_ask format m) (named_networks m);
   sends = [];
-  change = Some (Learnings m.here.port.number m.link (keep_allowed rules m (named_networks m)));
+  change = Some (Learnings m.here.port.number m.link (keep_allowed rules format m (named_networks m)));
 }

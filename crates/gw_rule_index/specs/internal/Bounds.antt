@@ -6,13 +6,12 @@ use Rattle.gw_rules.specs.Rule.{ranges_of}
 use Rattle.gw_rules.specs.declared.field.FieldName.{FieldName}
 use Rattle.gw_rules.specs.declared.range.Range.{Range}
 use Rattle.gw_rules.specs.declared.rule.Rule.{Rule}
-use Rattle.gw_rules.specs.declared.rule_list.TheConstants.{MAX_RULES}
-use Rattle.gw_rules.specs.declared.rule.TheConstants.{MAX_RANGES}
+use Rattle.gw_rules.specs.declared.rule_list.TheConstants.{MAX_RANGES_IN_ALL}
 use Rattle.gw_rule_index.specs.declared.bound.Bound.{Bound}
 
--- the most bounds of a field: two for each of four ranges of 512 rules
+-- the most bounds of a field: two for each of the 2048 ranges that all rules together may have for it
 abbrev pub most_bounds : ℕ
-most_bounds = 2 * (MAX_RANGES * MAX_RULES)
+most_bounds = 2 * MAX_RANGES_IN_ALL
 
 -- the bounds ascend, and thirteen comparisons are enough for them
 abbrev pub AreSearchable : List Bound → Type 0

@@ -1,11 +1,12 @@
 -- What the index of a field is.
-use Rattle.std.specs.Prelude.{◌≡◌, ℕ, ◌^◌, ◌≤◌, ◌<◌, List, [], ◌∷◌, length, Some, None, slice_index, slice_index_or}
+use Rattle.std.specs.Prelude.{◌≡◌, ℕ, ◌^◌, ◌≤◌, ◌<◌, ◌==◌, Bool, false, not, List, [], ◌∷◌, length, Some, None, slice_index, slice_index_or}
 use Rattle.std.specs.List.{Contains}
 use Rattle.gw_rules.specs.Rule.{ranges_of}
 use Rattle.gw_rules.specs.declared.field.FieldName.{FieldName}
 use Rattle.gw_rules.specs.declared.rule.Rule.{Rule}
 use Rattle.gw_rule_index.specs.declared.field_index.FieldIndex.{FieldIndex}
 use Rattle.gw_rule_index.specs.declared.row.Row.{Row}
+use Rattle.gw_rule_index.specs.Comparisons.{is_named}
 use Rattle.gw_rule_index.specs.internal.Bounds.{AreSearchable, IsPlace}
 use Rattle.gw_rule_index.specs.internal.Row.{Marks, admits_in}
 
@@ -20,6 +21,10 @@ HasRows rules field numbers rows =
     (place : ℕ) (d : Row) → place < length rows →
     MarksAt rules field rows place d (slice_index (0 ∷ numbers) place)
 
+-- the field has a bound, so some rule names it
+abbrev pub has_bounds : FieldIndex → Bool
+has_bounds index = not (length index.bounds.items == 0)
+
 -- for each value the row that is found marks exactly the rules that admit it
 pub record IsIndexOf (rules : List Rule) (field : FieldName) (index : FieldIndex) : Type 0 where
   pub searchable : AreSearchable index.bounds.items
@@ -28,3 +33,4 @@ pub record IsIndexOf (rules : List Rule) (field : FieldName) (index : FieldIndex
   pub absent : Marks index.absent.words (admits_in field None) rules
   pub unnamed : length index.bounds.items ≡ 0 →
       (rule : Rule) → Contains rules rule → ranges_of field rule ≡ []
+  pub skipped : is_named rules field ≡ false → length index.bounds.items ≡ 0

@@ -11,6 +11,6 @@ use Rattle.gw_rule_index.specs.internal.Row.{Marks}
 -- each field has its index, and each rule its place and what it says
 pub record IsBuiltFrom (index : RuleIndex) (rules : List Rule) : Type 0 where
   pub few : length rules ≤ MAX_RULES
-  pub fields : (field : FieldName) → IsIndexOf rules field (value_of field index.fields)
+  pub fields : (field : FieldName) → IsIndexOf rules field (value_of field index.fields.each)
   pub every : Marks index.every.words (λ _. true) rules
   pub verdicts : index.verdicts.items ≡ map (λ rule. rule.allow) rules

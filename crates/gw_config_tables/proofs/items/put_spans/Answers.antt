@@ -1,12 +1,12 @@
-use Rattle.std.proofs.Common.{rules, ◌≡◌, ◌≤◌, Err, map, arith}
+use Rattle.std.proofs.Common.{rules, ◌≡◌, Err, map, arith}
 use Rattle.toml.specs.View.{view}
-use Rattle.gw_config_tables.specs.Items.{behind, spans_in}
+use Rattle.gw_config_tables.specs.Items.{added_to, spans_in}
 use Rattle.gw_config_tables.proofs.Each.{spans_end, spans_stop}
 use Rattle.gw_config_tables.proofs.items.put_spans.Goals as goal
 
 pub returns-in_err-span-clause-ranges : goal.returns-in_err-span-clause-ranges
 returns-in_err-span-clause-ranges c =
-    let stopped : behind c.args.all.now (spans_in c.args.of (map view c.args.items.now)) ≡ Err c.in_err-span.field-0.0 =
+    let stopped : added_to c.args.all.now (spans_in c.args.of (map view c.args.items.now)) ≡ Err c.in_err-span.field-0.0 =
     spans_stop _ _ _ _ _ _ _ _ c.have_span_kind.ensures c.if-have_span_kind.false c.loop-item-test.true c.item-item.is c.in_err-span.ensures.range c.loop-item.invariant.put in
     search rules
 

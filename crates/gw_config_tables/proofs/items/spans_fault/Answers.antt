@@ -1,4 +1,4 @@
-use Rattle.std.proofs.Common.{◌≤◌, arith}
+use Rattle.std.proofs.Common.{arith}
 use Rattle.gw_config_tables.proofs.Each.{spans_fault_end, spans_fault_stop}
 use Rattle.gw_config_tables.proofs.items.spans_fault.Goals as goal
 

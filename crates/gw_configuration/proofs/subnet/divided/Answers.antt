@@ -1,8 +1,7 @@
-use Rattle.std.proofs.Common.{rules, ◌≡◌, ◌∙◌, ◌++◌, ◌∷◌, ℕ, List, Option, Some, None, refl, sym, ap, arith}
+use Rattle.std.proofs.Common.{rules, ◌≡◌, ◌∙◌, Some, None, refl, sym, ap, arith}
 use Rattle.std.specs.Fmt.{decimal}
 use Rattle.std.proofs.lemmas.Str.Pattern.{split_parts}
-use Rattle.gw_addr.specs.declared.mask.Mask.{Mask}
-use Rattle.gw_addr.specs.Mask.{IsMask, mask_text}
+use Rattle.gw_addr.specs.Mask.{mask_text}
 use Rattle.gw_configuration.specs.internal.Prefix.{prefix_of}
 use Rattle.gw_configuration.proofs.Prefixes.{halves, prefix_again, prefix_found}
 use Rattle.gw_configuration.proofs.subnet.divided.Goals as goal

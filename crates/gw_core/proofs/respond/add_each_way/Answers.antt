@@ -10,7 +10,7 @@ use Rattle.gw_core.proofs.respond.add_each_way.Goals as goal
 
 pub returns-in_err-goes_on-clause-silent : goal.returns-in_err-goes_on-clause-silent
 returns-in_err-goes_on-clause-silent g c = λ asks known.
-    let ok = c.in_err-goes_on.ensures.silent (empty_left (cast_asks (message_view c.args.message.now)) _ asks) known in
+    let ok = c.in_err-goes_on.ensures.silent (empty_left (cast_asks c.args.relay.now.format (message_view c.args.message.now)) _ asks) known in
     absurd cc
 
 pub returns-in_err-add_route-clause-silent : goal.returns-in_err-add_route-clause-silent
@@ -32,8 +32,8 @@ returns-then-not-goes_on-clause-walked g c = λ rules stands.
     let relay = c.args.relay.now in
     let m = message_view c.args.message.now in
     let off = sym c.in_ok-goes_on.ensures.goes_on ∙ c.if-not-goes_on.true in
-    walked_like g.A.Asker.kept g.A.Asker.kept_of rules (cast_response rules m) (passed_response rules relay m) _ _ (asks_off relay m off)
-    (sends_off rules relay m off) (change_off rules m off) (c.in_ok-goes_on.ensures.turn rules stands)
+    walked_like g.A.Asker.kept g.A.Asker.kept_of rules (cast_response rules relay.format m) (passed_response rules relay m) _ _ (asks_off relay m off)
+    (sends_off rules relay m off) (change_off rules relay m off) (c.in_ok-goes_on.ensures.turn rules stands)
 
 pub returns-clause-walked : goal.returns-clause-walked
 returns-clause-walked g c = λ rules stands.
@@ -49,4 +49,4 @@ returns-clause-walked g c = λ rules stands.
     let later = walked_both kept kept_of g.met.A.Asker.kept_both rules (route_response rules relay m) (manage_response rules relay m) _ _ _
     routed managed in
     walked_like kept kept_of rules _ (passed_response rules relay m) _ _ (asks_on relay m on) (sends_on rules relay m on)
-    (change_on rules m on) (walked_both kept kept_of g.met.A.Asker.kept_both rules (cast_response rules m) _ _ _ _ cast later)
+    (change_on rules relay m on) (walked_both kept kept_of g.met.A.Asker.kept_both rules (cast_response rules relay.format m) _ _ _ _ cast later)

@@ -12,4 +12,4 @@ returns-then-is_apdu-clause-walked g c = λ rules stands.
     let m = message_view c.args.message.now in
     let is = sym c.is_apdu.ensures ∙ c.if-is_apdu.true in
     walked_none g.A.Asker.kept g.A.Asker.kept_of g.met.A.Asker.kept_none rules (manage_response rules relay m) _ (ap asks_of (no_steps relay m is))
-    (ap (sends_of rules) (no_steps relay m is)) (nothing_learned rules m is)
+    (ap (sends_of rules) (no_steps relay m is)) (nothing_learned rules relay m is)

@@ -10,6 +10,7 @@ use Rattle.gw_core.proofs.respond.add_served.Goals as goal
 
 pub returns-clause-walked : goal.returns-clause-walked
 returns-clause-walked g c = λ rules stands.
+    let format = c.args.format in
     let d = c.args.device.now in
     let m = message_view c.args.message.now in
     let network = c.network_of-network.result in
@@ -18,16 +19,16 @@ returns-clause-walked g c = λ rules stands.
     let its = c.network_of-network.ensures in
     let answered = (c.in_ok-answer.ensures.served rules stands).answer in record {
       sends = c.in_ok-add_answer.ensures.sends ∙ ap (λ (l : List Sending). c.args.turn.now.sends ++ l)
-          (sends_put rules d m network context octets _ its c.in-Some.ensures c.context_of-context.ensures.context answered);
+          (sends_put rules format d m network context octets _ its c.in-Some.ensures c.context_of-context.ensures.context answered);
       verdicts = c.in_ok-answer.ensures.asks rules stands
           ∙ ap (λ (l : List Ask). g.A.Asker.kept c.args.turn.now.asker ++ g.A.Asker.kept_of rules l)
-          (sym (asks_put rules d m network context octets its c.in-Some.ensures c.context_of-context.ensures.context));
+          (sym (asks_put rules format d m network context octets its c.in-Some.ensures c.context_of-context.ensures.context));
       change = sym (or_none c.args.turn.now.change);
     }
 
 pub returns-in_err-answer-clause-silent : goal.returns-in_err-answer-clause-silent
 returns-in_err-answer-clause-silent g c = λ rules stands asks sends.
-    let silent = silent_message rules c.args.device.now
+    let silent = silent_message rules c.args.format c.args.device.now
     (message_view c.args.message.now) c.network_of-network.result c.context_of-context.result c.in-Some.apdu.now
     c.network_of-network.ensures c.in-Some.ensures c.context_of-context.ensures.context c.context_of-context.ensures.room asks sends in
     let ok = c.in_err-answer.ensures.silent rules silent.0 silent.1 in
@@ -35,7 +36,7 @@ returns-in_err-answer-clause-silent g c = λ rules stands asks sends.
 
 pub returns-in_err-add_answer-clause-silent : goal.returns-in_err-add_answer-clause-silent
 returns-in_err-add_answer-clause-silent g c = λ rules stands asks sends.
-    let silent = silent_message rules c.args.device.now
+    let silent = silent_message rules c.args.format c.args.device.now
     (message_view c.args.message.now) c.network_of-network.result c.context_of-context.result c.in-Some.apdu.now
     c.network_of-network.ensures c.in-Some.ensures c.context_of-context.ensures.context c.context_of-context.ensures.room asks sends in
     let answered = (c.in_ok-answer.ensures.served rules stands).answer ∙ silent.1 in

@@ -4,7 +4,7 @@ use Rattle.gw_warnings.proofs.rule_warnings.put_item.Goals as goal
 
 pub returns : goal.returns
 returns c =
-    then_put (then_put (then_put (then_put c.in_ok-put_numbered.ensures c.in_ok-put_name.ensures) c.in_ok-put_slice.ensures) c.in_ok-put_numbered-2.ensures) c.put_slice-2.ensures
+    then_put (then_put (then_put (then_put c.in_ok-put_numbered.ensures c.in_ok-put_name.ensures) c.in_ok-put_slice.ensures) (rw c.range_word.ensures at c.in_ok-put_numbered-2.ensures)) c.put_slice-2.ensures
 
 pub returns-in_err-put_numbered : goal.returns-in_err-put_numbered
 returns-in_err-put_numbered c =
@@ -20,4 +20,4 @@ returns-in_err-put_slice c =
 
 pub returns-in_err-put_numbered-2 : goal.returns-in_err-put_numbered-2
 returns-in_err-put_numbered-2 c =
-    refused (cut _ (then_put (then_put (then_put c.in_ok-put_numbered.ensures c.in_ok-put_name.ensures) c.in_ok-put_slice.ensures) c.in_err-put_numbered-2.ensures)) c.from_residual-in_err-put_numbered-2.ensures.0
+    refused (cut _ (then_put (then_put (then_put c.in_ok-put_numbered.ensures c.in_ok-put_name.ensures) c.in_ok-put_slice.ensures) (rw c.range_word.ensures at c.in_err-put_numbered-2.ensures))) c.from_residual-in_err-put_numbered-2.ensures.0

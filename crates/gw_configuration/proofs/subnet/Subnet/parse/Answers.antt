@@ -1,6 +1,5 @@
-use Rattle.std.proofs.Common.{rules, ◌≡◌, ◌∙◌, ℕ, Some, None, ap, arith, refl, sym}
+use Rattle.std.proofs.Common.{rules, ◌≡◌, ◌∙◌, ℕ, Some, None, ap, arith, refl}
 use Rattle.gw_addr.specs.declared.mask.Mask.{Mask}
-use Rattle.gw_configuration.specs.Subnet.{Subnet, subnet_of}
 use Rattle.gw_configuration.proofs.Prefixes.{is_network_mask, network_mask, subnet_again}
 use Rattle.gw_configuration.proofs.subnet.Subnet.parse.Goals as goal
 

@@ -7,7 +7,7 @@ use Rattle.gw_script.specs.Event.{Datagram}
 use Rattle.gw_core.specs.Asks.{asks_for}
 use Rattle.gw_core.specs.Receive.{receive}
 use Rattle.gw_core.specs.State.{State}
-use Rattle.gw_core.specs.View.{origin_of, received_view}
+use Rattle.gw_core.specs.View.{admitted_view, origin_of}
 use Rattle.gw_core.specs.internal.Verdicts.{verdict_lines}
 use Rattle.gw_core.proofs.DenialLemmas.{asks_received}
 use Rattle.gw_core.proofs.EffectLemmas.{received_as, sends_received}
@@ -24,7 +24,7 @@ returns-in_err-respond-clause-silent c =
       denials = c.self.inside.counts.denials;
     } in
     let event = Datagram c.args.arrival.now.port c.args.arrival.now.from c.args.arrival.now.octets.now in
-    let received : received_view c.receive-received.result ≡ receive w event =
+    let received : admitted_view w c.receive-received.result ≡ receive w event =
     received_as w c.ports.result.now c.network_of-device.result c.args.arrival.now.port c.args.arrival.now.from c.args.arrival.now.octets.now _
     c.receive-received.ensures c.ports.ensures c.network_of-device.ensures in
     let judge = ap (λ a. a.judge) c.new-turn.ensures.asker ∙ c.new.ensures.judge in
@@ -41,7 +41,7 @@ returns-clause-ok c =
       denials = c.self.inside.counts.denials;
     } in
     let event = Datagram c.args.arrival.now.port c.args.arrival.now.from c.args.arrival.now.octets.now in
-    let received : received_view c.receive-received.result ≡ receive w event =
+    let received : admitted_view w c.receive-received.result ≡ receive w event =
     received_as w c.ports.result.now c.network_of-device.result c.args.arrival.now.port c.args.arrival.now.from c.args.arrival.now.octets.now _
     c.receive-received.ensures c.ports.ensures c.network_of-device.ensures in
     let judge = ap (λ a. a.judge) c.new-turn.ensures.asker ∙ c.new.ensures.judge in
@@ -64,12 +64,12 @@ returns-clause-silent c =
       denials = c.self.inside.counts.denials;
     } in
     let event = Datagram c.args.arrival.now.port c.args.arrival.now.from c.args.arrival.now.octets.now in
-    let received : received_view c.receive-received.result ≡ receive w event =
+    let received : admitted_view w c.receive-received.result ≡ receive w event =
     received_as w c.ports.result.now c.network_of-device.result c.args.arrival.now.port c.args.arrival.now.from c.args.arrival.now.octets.now _
     c.receive-received.ensures c.ports.ensures c.network_of-device.ensures in
     let judge = ap (λ a. a.judge) c.new-turn.ensures.asker ∙ c.new.ensures.judge in
     let begun = ap (λ a. a.verdicts) c.new-turn.ensures.asker ∙ c.new.ensures.verdicts in
     let response = c.in_ok-respond.ensures.response w.rules judge in
     rw (← c.self.view_is) (λ none. c.put_verdicts.ensures.silent (c.verdicts.ensures ∙ response.walked.verdicts
-    ∙ ap (λ (l : List Verdict). l ++ verdicts_of w.rules (asks_for w.rules w.relay w.device (received_view c.receive-received.result))) begun
+    ∙ ap (λ (l : List Verdict). l ++ verdicts_of w.rules (asks_for w.rules w.relay w.device (admitted_view w c.receive-received.result))) begun
     ∙ ap (verdicts_of w.rules) (sym (asks_received w event _ received) ∙ none.0)))

@@ -1,7 +1,7 @@
 use Rattle.std.proofs.Common.{◌∙◌, length, ap, arith}
 use Rattle.gw_rules.specs.Authorizer.{denied_of}
 use Rattle.gw_core.specs.State.{State}
-use Rattle.gw_core.specs.View.{received_view}
+use Rattle.gw_core.specs.View.{admitted_view}
 use Rattle.gw_core.proofs.DenialLemmas.{counted_for, recorded}
 use Rattle.gw_core.proofs.RespondLemmas.{stands_alone}
 use Rattle.gw_core.proofs.gateway.Gateway.outcome.Goals as goal
@@ -15,7 +15,7 @@ returns-in_err-write-clause-silent c =
       ticks = c.self.inside.counts.ticks;
       denials = c.self.inside.counts.denials;
     } in
-    let received = received_view c.args.received.now in
+    let received = admitted_view w c.args.received.now in
     let judge = ap (λ a. a.judge) c.new-turn.ensures.asker ∙ c.new.ensures.judge in
     let begun = ap (λ a. a.denied) c.new-turn.ensures.asker ∙ c.new.ensures.denied in
     rw (← c.self.view_is) (λ asks sends. let ok = c.in_err-write.ensures.silent w.rules judge asks sends in absurd cc)
@@ -29,7 +29,7 @@ returns-then-refusals-left-clause-count_end c =
       ticks = c.self.inside.counts.ticks;
       denials = c.self.inside.counts.denials;
     } in
-    let received = received_view c.args.received.now in
+    let received = admitted_view w c.args.received.now in
     let judge = ap (λ a. a.judge) c.new-turn.ensures.asker ∙ c.new.ensures.judge in
     let begun = ap (λ a. a.denied) c.new-turn.ensures.asker ∙ c.new.ensures.denied in
     let response = c.in_ok-write.ensures.response w.rules judge in
@@ -54,7 +54,7 @@ returns-then-refusals-left-clause-silent c =
       ticks = c.self.inside.counts.ticks;
       denials = c.self.inside.counts.denials;
     } in
-    let received = received_view c.args.received.now in
+    let received = admitted_view w c.args.received.now in
     let judge = ap (λ a. a.judge) c.new-turn.ensures.asker ∙ c.new.ensures.judge in
     let begun = ap (λ a. a.denied) c.new-turn.ensures.asker ∙ c.new.ensures.denied in
     let response = c.in_ok-write.ensures.response w.rules judge in
@@ -78,7 +78,7 @@ returns-in_err-denials-clause-silent c =
       ticks = c.self.inside.counts.ticks;
       denials = c.self.inside.counts.denials;
     } in
-    let received = received_view c.args.received.now in
+    let received = admitted_view w c.args.received.now in
     let judge = ap (λ a. a.judge) c.new-turn.ensures.asker ∙ c.new.ensures.judge in
     let begun = ap (λ a. a.denied) c.new-turn.ensures.asker ∙ c.new.ensures.denied in
     let response = c.in_ok-write.ensures.response w.rules judge in
@@ -96,7 +96,7 @@ returns-clause-denials c =
       ticks = c.self.inside.counts.ticks;
       denials = c.self.inside.counts.denials;
     } in
-    let received = received_view c.args.received.now in
+    let received = admitted_view w c.args.received.now in
     let judge = ap (λ a. a.judge) c.new-turn.ensures.asker ∙ c.new.ensures.judge in
     let begun = ap (λ a. a.denied) c.new-turn.ensures.asker ∙ c.new.ensures.denied in
     let response = c.in_ok-write.ensures.response w.rules judge in
@@ -114,7 +114,7 @@ returns-clause-place c =
       ticks = c.self.inside.counts.ticks;
       denials = c.self.inside.counts.denials;
     } in
-    let received = received_view c.args.received.now in
+    let received = admitted_view w c.args.received.now in
     let judge = ap (λ a. a.judge) c.new-turn.ensures.asker ∙ c.new.ensures.judge in
     let begun = ap (λ a. a.denied) c.new-turn.ensures.asker ∙ c.new.ensures.denied in
     let response = c.in_ok-write.ensures.response w.rules judge in
@@ -131,7 +131,7 @@ returns-clause-room c =
       ticks = c.self.inside.counts.ticks;
       denials = c.self.inside.counts.denials;
     } in
-    let received = received_view c.args.received.now in
+    let received = admitted_view w c.args.received.now in
     let judge = ap (λ a. a.judge) c.new-turn.ensures.asker ∙ c.new.ensures.judge in
     let begun = ap (λ a. a.denied) c.new-turn.ensures.asker ∙ c.new.ensures.denied in
     let response = c.in_ok-write.ensures.response w.rules judge in

@@ -5,7 +5,7 @@ use Rattle.gw_core.specs.declared.fault.StepFault.TheVariants.{CountEnd}
 use Rattle.gw_script.specs.Event.{Datagram}
 use Rattle.gw_core.specs.Receive.{receive}
 use Rattle.gw_core.specs.State.{State, device_network}
-use Rattle.gw_core.specs.View.{received_view}
+use Rattle.gw_core.specs.View.{admitted_view}
 use Rattle.gw_core.proofs.DenialLemmas.{asks_received, denials_received}
 use Rattle.gw_core.proofs.EffectLemmas.{change_received, effects_are, effects_received, move_received, passes_end-within, passes_end-denials, received_as, sends_received}
 use Rattle.gw_core.proofs.HistoryLemmas.{fault_of_call, moves_on}
@@ -16,11 +16,11 @@ pub returns-in_err-sends-clause-count_end : goal.returns-in_err-sends-clause-cou
 returns-in_err-sends-clause-count_end c =
     let w = c.args.self.now in
     let event = Datagram c.args.port c.args.from c.args.octets.now in
-    let received : received_view c.receive-received.result ≡ receive w event =
+    let received : admitted_view w c.receive-received.result ≡ receive w event =
     received_as w c.ports.result.now c.network_of-device.result c.args.port c.args.from c.args.octets.now _ c.receive-received.ensures
     (c.ports.ensures ∙ ap (λ (s : State). s.relay.links) c.now.view_is)
     (c.network_of-device.ensures ∙ ap (λ (s : State). device_network s.device) c.now.view_is) in
-    let counted = denials_received w event (received_view c.receive-received.result) received in
+    let counted = denials_received w event (admitted_view w c.receive-received.result) received in
     λ h.
     let same = fault_of_call c.from_residual.result c.in_err-sends.field-0.0 CountEnd c.from_residual.ensures.1 h in
     passes_end-denials w event _ counted (c.in_err-sends.ensures.count_end (ap Err same))
@@ -29,7 +29,7 @@ pub returns-in_err-sends-clause-silent : goal.returns-in_err-sends-clause-silent
 returns-in_err-sends-clause-silent c = λ none.
     let w = c.args.self.now in
     let event = Datagram c.args.port c.args.from c.args.octets.now in
-    let received : received_view c.receive-received.result ≡ receive w event =
+    let received : admitted_view w c.receive-received.result ≡ receive w event =
     received_as w c.ports.result.now c.network_of-device.result c.args.port c.args.from c.args.octets.now _ c.receive-received.ensures
     (c.ports.ensures ∙ ap (λ (s : State). s.relay.links) c.now.view_is)
     (c.network_of-device.ensures ∙ ap (λ (s : State). device_network s.device) c.now.view_is) in
@@ -41,11 +41,11 @@ pub returns-clause-step : goal.returns-clause-step
 returns-clause-step c =
     let w = c.args.self.now in
     let event = Datagram c.args.port c.args.from c.args.octets.now in
-    let received : received_view c.receive-received.result ≡ receive w event =
+    let received : admitted_view w c.receive-received.result ≡ receive w event =
     received_as w c.ports.result.now c.network_of-device.result c.args.port c.args.from c.args.octets.now _ c.receive-received.ensures
     (c.ports.ensures ∙ ap (λ (s : State). s.relay.links) c.now.view_is)
     (c.network_of-device.ensures ∙ ap (λ (s : State). device_network s.device) c.now.view_is) in
-    let counted = denials_received w event (received_view c.receive-received.result) received in
+    let counted = denials_received w event (admitted_view w c.receive-received.result) received in
     let ticks : w.ticks + 0 ≤ 2 ^ 63 = subst (λ (s : State). s.ticks + 0 ≤ 2 ^ 63) c.now.view_is (omega (arith, c.now.invariant.ticks)) in
     let sized = c.len.ensures ∙ ap length c.in_ok-sends.ensures.denials ∙ counted in
     record {
@@ -61,7 +61,7 @@ pub returns-in_err-move_on-clause-silent : goal.returns-in_err-move_on-clause-si
 returns-in_err-move_on-clause-silent c = λ none.
     let w = c.args.self.now in
     let event = Datagram c.args.port c.args.from c.args.octets.now in
-    let received : received_view c.receive-received.result ≡ receive w event =
+    let received : admitted_view w c.receive-received.result ≡ receive w event =
     received_as w c.ports.result.now c.network_of-device.result c.args.port c.args.from c.args.octets.now _ c.receive-received.ensures
     (c.ports.ensures ∙ ap (λ (s : State). s.relay.links) c.now.view_is)
     (c.network_of-device.ensures ∙ ap (λ (s : State). device_network s.device) c.now.view_is) in

@@ -10,8 +10,8 @@ pub returns-then-not-accepts-clause-turn : goal.returns-then-not-accepts-clause-
 returns-then-not-accepts-clause-turn g c = λ rules stands.
     let m = message_view c.args.message.now in
     let heard = sym c.accepts.ensures ∙ c.if-not-accepts.true in
-    none_walked g.A.Asker.kept g.A.Asker.kept_of g.met.A.Asker.kept_none rules (cast_response rules m) c.args.turn.now
-    (unheard_sends rules m heard) (unheard_asks m heard) refl
+    none_walked g.A.Asker.kept g.A.Asker.kept_of g.met.A.Asker.kept_none rules (cast_response rules c.args.self.now.format m) c.args.turn.now
+    (unheard_sends rules c.args.self.now.format m heard) (unheard_asks c.args.self.now.format m heard) refl
 
 pub returns-then-is_unregistered-clause-turn : goal.returns-then-is_unregistered-clause-turn
 returns-then-is_unregistered-clause-turn g c = λ rules stands.
@@ -19,7 +19,7 @@ returns-then-is_unregistered-clause-turn g c = λ rules stands.
     let turn = c.args.turn.now in
     let heard = sym c.accepts.ensures ∙ c.if-not-accepts.false in
     let strange = sym c.is_unregistered.ensures ∙ c.if-is_unregistered.true in record {
-      sends = c.in_ok-add_refusal.ensures.ok ∙ ap (λ (l : List Sending). turn.sends ++ l) (sym (strange_sends rules m heard strange));
-      verdicts = none_kept g.A.Asker.kept g.A.Asker.kept_of g.met.A.Asker.kept_none rules turn.asker _ (strange_asks m heard strange);
+      sends = c.in_ok-add_refusal.ensures.ok ∙ ap (λ (l : List Sending). turn.sends ++ l) (sym (strange_sends rules c.args.self.now.format m heard strange));
+      verdicts = none_kept g.A.Asker.kept g.A.Asker.kept_of g.met.A.Asker.kept_none rules turn.asker _ (strange_asks c.args.self.now.format m heard strange);
       change = or_none turn.change;
     }

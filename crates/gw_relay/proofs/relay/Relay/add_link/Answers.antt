@@ -1,8 +1,10 @@
-use Rattle.std.proofs.Common.{◌∙◌, sym, ap, List, [], ◌∷◌, ◌++◌, Option}
+use Rattle.std.proofs.Common.{◌≡◌, ◌∙◌, sym, ap, List, [], ◌∷◌, ◌++◌, Option}
 use Rattle.std.specs.Option.{option_or}
 use Rattle.gw_bvll.specs.Bvll.{view}
 use Rattle.gw_rules.specs.Ask.{Ask}
 use Rattle.gw_rules.specs.RuleList.{allows}
+use Rattle.gw_rules.specs.declared.format.Format.{Format}
+use Rattle.gw_relay.specs.Asks.{link_ask}
 use Rattle.gw_relay.specs.Link.{link_response}
 use Rattle.gw_relay.specs.Sends.{Sending}
 use Rattle.gw_relay.specs.declared.change.Change.{Change}
@@ -15,9 +17,9 @@ returns-in_default-clause-turn g c = λ rules stands.
     let m = c.args.message.now in
     let frame = view m.frame.now in
     let none = sym c.management_of.ensures ∙ c.in_default.is in
-    none_walked g.A.Asker.kept g.A.Asker.kept_of g.met.A.Asker.kept_none rules (link_response rules m.here.now m.from frame) c.args.turn.now
-    (unmanaged_answer rules m.here.now m.from frame none) (unmanaged_asks m.here.now m.from frame none)
-    (unmanaged_change rules m.here.now m.from frame none)
+    none_walked g.A.Asker.kept g.A.Asker.kept_of g.met.A.Asker.kept_none rules (link_response rules c.args.self.now.format m.here.now m.from frame) c.args.turn.now
+    (unmanaged_answer rules c.args.self.now.format m.here.now m.from frame none) (unmanaged_asks c.args.self.now.format m.here.now m.from frame none)
+    (unmanaged_change rules c.args.self.now.format m.here.now m.from frame none)
 
 pub returns-clause-turn : goal.returns-clause-turn
 returns-clause-turn g c = λ rules stands.
@@ -28,12 +30,14 @@ returns-clause-turn g c = λ rules stands.
     let operation = c.in-Some.operation in
     let allowed = c.in_ok-is_allowed.is_allowed in
     let managed = sym c.management_of.ensures ∙ c.in-Some.is in
-    let judges = c.in_ok-is_allowed.ensures.answer rules stands ∙ ap (allows rules) c.link_ask-ask.ensures in
+    let own : c.link_ask-ask.result ≡ link_ask c.args.self.now.format link.port m.from frame operation = c.link_ask-ask.ensures
+    ∙ ap (λ (format : Format). link_ask format link.port m.from frame operation) c.format.ensures in
+    let judges = c.in_ok-is_allowed.ensures.answer rules stands ∙ ap (allows rules) own in
     let asked = c.in_ok-is_allowed.ensures.kept rules stands
-    ∙ ap (λ (ask : Ask). g.A.Asker.kept turn.asker ++ g.A.Asker.kept_of rules (ask ∷ [])) c.link_ask-ask.ensures in record {
+    ∙ ap (λ (ask : Ask). g.A.Asker.kept turn.asker ++ g.A.Asker.kept_of rules (ask ∷ [])) own in record {
       sends = c.set_change.ensures.sends ∙ c.in_ok-change.ensures.sends ∙ ap (λ (l : List Sending). turn.sends ++ l)
-          (sym (link_served rules link m.from frame operation allowed managed judges));
-      verdicts = rw (link_asked link m.from frame operation managed) (ap g.A.Asker.kept c.set_change.ensures.asker ∙ asked);
+          (sym (link_served rules c.args.self.now.format link m.from frame operation allowed managed judges));
+      verdicts = rw (link_asked c.args.self.now.format link m.from frame operation managed) (ap g.A.Asker.kept c.set_change.ensures.asker ∙ asked);
       change = c.set_change.ensures.change ∙ ap (λ (x : Option Change). option_or turn.change x)
-          (c.in_ok-change.ensures.change ∙ sym (link_changed rules link m.from frame operation allowed managed judges));
+          (c.in_ok-change.ensures.change ∙ sym (link_changed rules c.args.self.now.format link m.from frame operation allowed managed judges));
     }

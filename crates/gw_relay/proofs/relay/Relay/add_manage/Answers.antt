@@ -1,8 +1,10 @@
-use Rattle.std.proofs.Common.{◌∙◌, sym, subst}
+use Rattle.std.proofs.Common.{◌∙◌, sym, ap, subst}
 use Rattle.std.specs.Prelude.{OnOk}
+use Rattle.gw_rules.specs.declared.format.Format.{Format}
 use Rattle.gw_relay.specs.Message.{message_view}
 use Rattle.gw_relay.specs.Response.{Response}
 use Rattle.gw_relay.specs.Turn.{IsWalked}
+use Rattle.gw_relay.specs.internal.Serving.{learn_response}
 use Rattle.gw_relay.proofs.Learning.{learned_due}
 use Rattle.gw_relay.proofs.relay.Relay.add_manage.Goals as goal
 
@@ -11,4 +13,5 @@ returns-then-is_i_am_router-clause-turn g c = λ rules stands.
     let m = message_view c.args.message.now in
     let names = sym c.is_i_am_router.ensures ∙ c.if-is_i_am_router.true in
     subst (λ (due : Response). OnOk c.learn.result (IsWalked g.A.Asker.kept g.A.Asker.kept_of rules due c.args.turn.now c.learn.new.turn))
-    (sym (learned_due rules c.args.self.now m names)) (c.learn.ensures.turn rules stands)
+    (ap (λ (format : Format). learn_response rules format m) c.format.ensures ∙ sym (learned_due rules c.args.self.now m names))
+    (c.learn.ensures.turn rules stands)

@@ -7,7 +7,7 @@ use Rattle.gw_relay.proofs.relay.Relay.link.Goals as goal
 
 pub returns-clause-relayed : goal.returns-clause-relayed
 returns-clause-relayed g c = λ rules stands.
-    let due = link_response rules c.args.message.now.here.now c.args.message.now.from (view c.args.message.now.frame.now) in
+    let due = link_response rules c.args.self.now.format c.args.message.now.here.now c.args.message.now.from (view c.args.message.now.frame.now) in
     let asks = c.new-turn.ensures.asker in
     let walked = c.in_ok-add_link.ensures.turn rules (rw (asks, c.new.ensures.judge) stands) in
     walked_added rules due c.new-turn.result c.add_link.new.turn c.args.given.now c.add_turn.new.self walked

@@ -21,4 +21,5 @@ returns c =
           (subst (λ bounds. IsPlace bounds value place) same at);
       absent = c.admitting.ensures;
       unnamed = λ none. unnamed c.args.field c.args.rules.now c.deref.result.now are (sym long ∙ none);
+      skipped = λ none. long ∙ are.skipped none;
     }
