@@ -17,12 +17,13 @@ use Rattle.gw_npdu.specs.declared.kind.MessageKind.{MessageKind}
 use Rattle.gw_npdu.specs.declared.kind.MessageKind.TheVariants.{IAmRouterToNetwork, WhatIsNetworkNumber, WhoIsRouterToNetwork}
 use Rattle.gw_npdu.specs.Kind.{kind_number}
 use Rattle.gw_npdu.specs.Npdu.{Destination, Payload, apdu, message, payload_octets}
-use Rattle.gw_configuration.specs.declared.format.Format.{Format}
-use Rattle.gw_configuration.specs.declared.format.Format.TheVariants.{One, Two}
+use Rattle.gw_rules.specs.declared.format.Format.{Format}
+use Rattle.gw_rules.specs.declared.format.Format.TheVariants.{One, Two, Three}
 use Rattle.gw_routes.specs.Table.{way}
 use Rattle.gw_routes.specs.declared.route.Way.{Way}
 use Rattle.gw_routes.specs.declared.route.Way.TheVariants as ways
 use Rattle.gw_rules.specs.Ask.{Ask}
+use Rattle.gw_rules.specs.Format.{names_stations}
 use Rattle.gw_rules.specs.declared.operation.Operation.TheVariants as operations
 use Rattle.gw_rules.proofs.EachAsk.{each_both}
 use Rattle.gw_services.specs.Choices.{read_property, read_property_multiple, write_property}
@@ -34,9 +35,10 @@ use Rattle.gw_services.specs.Write.{Write, write_at}
 use Rattle.gw_services.specs.declared.fault.BodyFault.{BodyFault}
 use Rattle.gw_tags.specs.Object.{Object}
 use Rattle.gw_relay.specs.Asks.{bound_for, service_of}
+use Rattle.gw_relay.specs.Cast.{cast_ask, cast_asks, goes_on, is_broadcast}
 use Rattle.gw_relay.specs.Manage.{is_i_am_router, is_what_is_network_number, is_who_is_router, learn_ask, manage_asks, named_networks, network_ask, question_of, question_steps}
 use Rattle.gw_relay.specs.Message.{Message}
-use Rattle.gw_relay.specs.Named.{apdu_asks, body_asks, forward_asks, header_asks, multi_asks, named_ask, named_asks, read_asks, reference_ask, request_asks, segment_asks, unnamed_ask, write_asks}
+use Rattle.gw_relay.specs.Named.{apdu_asks, body_asks, forward_asks, header_asks, multi_asks, named_ask, named_asks, payload_asks, read_asks, reference_ask, request_asks, segment_asks, unnamed_ask, write_asks}
 use Rattle.gw_relay.specs.Route.{copy, is_kind, is_local, leaves, others, route_ask, route_asks, steps_by}
 use Rattle.gw_relay.specs.State.{Relay}
 use Rattle.gw_relay.specs.Steps.{Step, asks_of}
@@ -47,9 +49,15 @@ each_if : (P : Ask → Type 0) (b : Bool) (xs ys : List Ask) → (b ≡ true →
 each_if P true xs ys f g = f refl
 each_if P false xs ys f g = g refl
 
--- ---- behind a `route` ask
+-- ---- what is asked after a `route` or `cast` ask
 
--- it holds of each ask that can stand behind one, by the service of that
+-- a format in which requests that are passed on are judged by what they name
+abbrev pub JudgesRequests : Format → Type 0
+JudgesRequests One = ⊥
+JudgesRequests Two = Unit {0}
+JudgesRequests Three = Unit {0}
+
+-- it holds of each ask that can come after one, by the service of that
 pub record NamedCases (P : Ask → Type 0) (route : Ask) : Type 0 where
   pub unnamed_read : (service : ℕ) → route.service ≡ Some service → 12 ≤ service → service ≤ 14 → P (unnamed_ask route operations.Read)
   pub named_read : (service : ℕ) → route.service ≡ Some service → 12 ≤ service → service ≤ 14 → (object : Object) (p : ℕ)
@@ -126,36 +134,57 @@ each_apdu : (P : Ask → Type 0) (route : Ask) (read : Result Apdu ApduFault) �
 each_apdu P route (Ok a) cases is = each_header P route a.header a.rest cases is
 each_apdu P route (Err fault) cases is = tt
 
-each_behind : (P : Ask → Type 0) (format : Format) (route : Ask) (payload : Payload) → (format ≡ Two → NamedCases P route)
+each_payload : (P : Ask → Type 0) (route : Ask) (payload : Payload) → NamedCases P route → route.service ≡ service_of payload
+    → AllByRecursion P (payload_asks route payload)
+each_payload P route (message m) cases is = tt
+each_payload P route (apdu octets) cases is = each_apdu P route (apdu_at octets) cases is
+
+each_behind : (P : Ask → Type 0) (format : Format) (route : Ask) (payload : Payload) → (JudgesRequests format → NamedCases P route)
     → route.service ≡ service_of payload → AllByRecursion P (named_asks format route payload)
 each_behind P One route payload cases is = tt
-each_behind P Two route (message m) cases is = tt
-each_behind P Two route (apdu octets) cases is = each_apdu P route (apdu_at octets) (cases refl) is
+each_behind P Two route payload cases is = each_payload P route payload (cases tt) is
+each_behind P Three route payload cases is = each_payload P route payload (cases tt) is
+
+-- ---- distribution
+
+-- it holds of the ask of a broadcast, and of those after it
+pub record CastCases (P : Ask → Type 0) (format : Format) (m : Message) : Type 0 where
+  pub cast : P (cast_ask format m)
+  pub behind : names_stations format ≡ true → NamedCases P (cast_ask format m)
+
+pub each_cast : (P : Ask → Type 0) (format : Format) (m : Message) → CastCases P format m → AllByRecursion P (cast_asks format m)
+unfolding cast_asks
+each_cast P format m cases =
+    each_if P (goes_on m.here m.from m.frame && is_broadcast m.frame) _ [] (λ e. (
+      cases.cast,
+      each_if P (names_stations format) _ []
+          (λ t. each_behind P format (cast_ask format m) m.npdu.payload (λ judges. cases.behind t) refl) (λ f. tt),
+    )) (λ e. tt)
 
 -- ---- routing
 
--- it holds of each ask for a network, and of those behind it
+-- it holds of each ask for a network, and of those after it
 pub record RouteCases (P : Ask → Type 0) (format : Format) (m : Message) : Type 0 where
-  pub route : (network : ℕ) → P (route_ask m (Some network))
-  pub behind : (network : ℕ) → format ≡ Two → NamedCases P (route_ask m (Some network))
+  pub route : (network : ℕ) → P (route_ask format m (Some network))
+  pub behind : (network : ℕ) → JudgesRequests format → NamedCases P (route_ask format m (Some network))
 
 each_forward : (P : Ask → Type 0) (format : Format) (m : Message) (network : ℕ) → RouteCases P format m
-    → AllByRecursion P (forward_asks format (route_ask m (Some network)) m.npdu.payload)
+    → AllByRecursion P (forward_asks format (route_ask format m (Some network)) m.npdu.payload)
 each_forward P format m network cases =
-    (cases.route network, each_behind P format (route_ask m (Some network)) m.npdu.payload (cases.behind network) refl)
+    (cases.route network, each_behind P format (route_ask format m (Some network)) m.npdu.payload (cases.behind network) refl)
 
 each_one : (P : Ask → Type 0) (format : Format) (m : Message) (network : ℕ) → bound_for m.npdu ≡ Some network → RouteCases P format m
-    → AllByRecursion P (forward_asks format (route_ask m (bound_for m.npdu)) m.npdu.payload ++ [])
+    → AllByRecursion P (forward_asks format (route_ask format m (bound_for m.npdu)) m.npdu.payload ++ [])
 each_one P format m network is cases =
-    each_both P (forward_asks format (route_ask m (bound_for m.npdu)) m.npdu.payload) []
-    (subst (λ (to : Option ℕ). AllByRecursion P (forward_asks format (route_ask m to) m.npdu.payload)) (sym is)
+    each_both P (forward_asks format (route_ask format m (bound_for m.npdu)) m.npdu.payload) []
+    (subst (λ (to : Option ℕ). AllByRecursion P (forward_asks format (route_ask format m to) m.npdu.payload)) (sym is)
     (each_forward P format m network cases)) tt
 
 each_copy : (P : Ask → Type 0) (format : Format) (m : Message) (d : Destination) (links : List PortState) → RouteCases P format m
     → AllByRecursion P (asks_of (map (copy format m d) links))
 each_copy P format m d [] cases = tt
 each_copy P format m d (link ∷ links) cases =
-    each_both P (forward_asks format (route_ask m (Some link.port.network)) m.npdu.payload) _
+    each_both P (forward_asks format (route_ask format m (Some link.port.network)) m.npdu.payload) _
     (each_forward P format m link.port.network cases) (each_copy P format m d links cases)
 
 steps_if : (P : Ask → Type 0) (b : Bool) (xs ys : List Step) → (b ≡ true → AllByRecursion P (asks_of xs)) → AllByRecursion P (asks_of ys)
@@ -184,22 +213,22 @@ each_route P relay m cases = steps_if P (is_local m.npdu.payload) [] _ (λ e. tt
 -- ---- network layer messages
 
 -- it holds of each ask for one, by its type
-pub record NetworkCases (P : Ask → Type 0) (m : Message) : Type 0 where
-  pub learn : service_of m.npdu.payload ≡ Some 513 → (network : ℕ) → P (learn_ask m network)
-  pub question : service_of m.npdu.payload ≡ Some 512 → (network : Option ℕ) → P (network_ask m network)
-  pub number : service_of m.npdu.payload ≡ Some 530 → P (network_ask m None)
+pub record NetworkCases (P : Ask → Type 0) (format : Format) (m : Message) : Type 0 where
+  pub learn : service_of m.npdu.payload ≡ Some 513 → (network : ℕ) → P (learn_ask format m network)
+  pub question : service_of m.npdu.payload ≡ Some 512 → (network : Option ℕ) → P (network_ask format m network)
+  pub number : service_of m.npdu.payload ≡ Some 530 → P (network_ask format m None)
 
 -- the service of a message of a type
 kind_service : (kind : MessageKind) (payload : Payload) → is_kind kind payload ≡ true → service_of payload ≡ Some (512 + kind_number kind)
 kind_service kind (apdu octets) e = absurd cc
 kind_service kind (message m) e = ap (λ (n : ℕ). Some (512 + n)) (eqb-true m.kind (kind_number kind) e)
 
-each_learning : (P : Ask → Type 0) (m : Message) (networks : List ℕ) → service_of m.npdu.payload ≡ Some 513 → NetworkCases P m
-    → AllByRecursion P (asks_of (map (λ n. record { asks = learn_ask m n ∷ []; sends = [] }) networks))
-each_learning P m [] is cases = tt
-each_learning P m (n ∷ networks) is cases = (cases.learn is n, each_learning P m networks is cases)
+each_learning : (P : Ask → Type 0) (format : Format) (m : Message) (networks : List ℕ) → service_of m.npdu.payload ≡ Some 513 → NetworkCases P format m
+    → AllByRecursion P (asks_of (map (λ n. record { asks = learn_ask format m n ∷ []; sends = [] }) networks))
+each_learning P format m [] is cases = tt
+each_learning P format m (n ∷ networks) is cases = (cases.learn is n, each_learning P format m networks is cases)
 
-each_question : (P : Ask → Type 0) (relay : Relay) (m : Message) (octets : List ℕ) → service_of m.npdu.payload ≡ Some 512 → NetworkCases P m
+each_question : (P : Ask → Type 0) (relay : Relay) (m : Message) (octets : List ℕ) → service_of m.npdu.payload ≡ Some 512 → NetworkCases P relay.format m
     → AllByRecursion P (asks_of (question_steps relay m octets))
 each_question P relay m [] is cases = (cases.question is None, tt)
 each_question P relay m (a ∷ []) is cases = tt
@@ -214,11 +243,11 @@ first_part : (x y : Bool) → (x && y) ≡ true → x ≡ true
 first_part true y e = refl
 first_part false y e = e
 
-pub each_network : (P : Ask → Type 0) (relay : Relay) (m : Message) → NetworkCases P m → AllByRecursion P (manage_asks relay m)
+pub each_network : (P : Ask → Type 0) (relay : Relay) (m : Message) → NetworkCases P relay.format m → AllByRecursion P (manage_asks relay m)
 each_network P relay m cases =
     let payload = m.npdu.payload in
     steps_if P (is_i_am_router m.npdu) _ _
-    (λ e. each_learning P m (named_networks m) (kind_service IAmRouterToNetwork payload (i_am e)) cases)
+    (λ e. each_learning P relay.format m (named_networks m) (kind_service IAmRouterToNetwork payload (i_am e)) cases)
     (steps_if P (is_who_is_router m.npdu) (question_steps relay m (payload_octets payload)) _
     (λ e. each_question P relay m (payload_octets payload) (kind_service WhoIsRouterToNetwork payload (first_part _ _ e)) cases)
     (steps_if P (is_what_is_network_number m.npdu) _ []

@@ -16,17 +16,19 @@ use Rattle.gw_npdu.specs.Reading.{npdu_at}
 use Rattle.gw_configuration.specs.declared.port.Port.{Port as ConfiguredPort}
 use Rattle.gw_relay.specs.Cast.{accepts, is_unregistered}
 use Rattle.gw_relay.specs.Claim.{claimed, link_source}
+use Rattle.gw_relay.specs.Entry.{admits}
 use Rattle.gw_relay.specs.History.{Acts as PortActs}
 use Rattle.gw_relay.specs.History.{all_after, ports_from}
 use Rattle.gw_relay.specs.Initial.{port_of}
 use Rattle.gw_relay.specs.Message.{Message, message_of}
-use Rattle.gw_relay.specs.State.{link_at}
+use Rattle.gw_relay.specs.State.{Relay, link_at}
 use Rattle.gw_relay.specs.declared.port.Port.{Port}
 use Rattle.gw_relay.specs.declared.port.PortState.{PortState}
 use Rattle.gw_rules.specs.Range.{holds}
+use Rattle.gw_rules.specs.declared.rule.Rule.{Rule}
 use Rattle.gw_rules.proofs.EachAsk.{each_weaker}
 use Rattle.gw_script.specs.Event.{Event, Datagram, Tick}
-use Rattle.gw_core.specs.Receive.{Received, claims_direct, comes_in, dropped, is_direct, managed, manages, message, npdu_of, payload_of, receive, receive_datagram, receive_frame, receive_npdu, receive_on, unregistered}
+use Rattle.gw_core.specs.Receive.{Received, admit, barred, claims_direct, comes_in, dropped, is_direct, managed, manages, message, npdu_of, payload_of, receive, receive_datagram, receive_frame, receive_npdu, receive_on, unregistered}
 use Rattle.gw_core.specs.State.{State, device_network}
 use Rattle.gw_shapes.specs.Pieces.{above, below, most}
 use Rattle.gw_shapes.specs.Shape.{IsWithin}
@@ -132,15 +134,16 @@ in_gap device ports n small other none =
 
 -- ---- what is received
 
--- of one of the ports, and from its network or from none of the direct ones
+-- of one of the ports; and from its network if it names no source, else from none of the direct ones
 pub record IsHeard (links : List PortState) (device : ℕ) (Is : Port → Type 0) (m : Message) : Type 0 where
   pub port : Is m.here.port
-  pub claim : (m.claim.net ≡ m.here.port.network) ⊎ (is_direct links device m.claim.net ≡ false)
+  pub claim : ((m.npdu.source ≡ None) × (m.claim.net ≡ m.here.port.network)) ⊎ (is_direct links device m.claim.net ≡ false)
 
 abbrev pub Heard : List PortState → ℕ → (Port → Type 0) → Received → Type 0
 Heard links device Is dropped = Unit {0}
 Heard links device Is (managed on from frame) = Is on.port
 Heard links device Is (unregistered m) = Unit {0}
+Heard links device Is (barred m) = IsHeard links device Is m
 Heard links device Is (message m) = IsHeard links device Is m
 
 undirect : (links : List PortState) (device : ℕ) (octets : List ℕ) (npdu : Fields) → npdu_of links device octets ≡ Some npdu
@@ -165,9 +168,9 @@ undirect links device octets npdu is = outer (nat_le (length octets) 1497) (npdu
 
 claim_by : (links : List PortState) (device : ℕ) (on : PortState) (from : BipAddr) (frame : Frame) (npdu : Fields) (source : Option Address)
     → npdu.source ≡ source → claims_direct links device source ≡ false
-    → ((claimed on.port.network (link_source from frame) npdu).net ≡ on.port.network)
+    → ((npdu.source ≡ None) × ((claimed on.port.network (link_source from frame) npdu).net ≡ on.port.network))
     ⊎ (is_direct links device (claimed on.port.network (link_source from frame) npdu).net ≡ false)
-claim_by links device on from frame npdu None is none = inl (rw is refl)
+claim_by links device on from frame npdu None is none = inl (is, rw is refl)
 claim_by links device on from frame npdu (Some s) is none = inr (rw is none)
 
 heard_if : (links : List PortState) (device : ℕ) (Is : Port → Type 0) (b : Bool) (m : Message) → IsHeard links device Is m
@@ -243,8 +246,22 @@ heard_on links device Is number from octets each =
     by None is = tt
     by (Some on) is = heard_datagram links device Is on from octets (is on refl)
 
+heard_admitted : (rules : List Rule) (relay : Relay) (links : List PortState) (device : ℕ) (Is : Port → Type 0) (received : Received)
+    → Heard links device Is received → Heard links device Is (admit rules relay received)
+heard_admitted rules relay links device Is dropped is = tt
+heard_admitted rules relay links device Is (managed on from frame) is = is
+heard_admitted rules relay links device Is (unregistered m) is = tt
+heard_admitted rules relay links device Is (barred m) is = is
+heard_admitted rules relay links device Is (message m) is = by (admits rules relay m)
+  where
+    by : (b : Bool) → Heard links device Is (if b then message m else barred m)
+    by true = is
+    by false = is
+
 pub heard_at : (w : State) (Is : Port → Type 0) (e : Event) → AllByRecursion (λ link. Is link.port) w.relay.links
     → Heard w.relay.links (device_network w.device) Is (receive w e)
 unfolding receive
-heard_at w Is (Datagram port from octets) each = heard_on w.relay.links (device_network w.device) Is port from octets each
+heard_at w Is (Datagram port from octets) each =
+    heard_admitted w.rules w.relay w.relay.links (device_network w.device) Is _
+    (heard_on w.relay.links (device_network w.device) Is port from octets each)
 heard_at w Is Tick each = tt
