@@ -1,6 +1,6 @@
 -- The asks of a message lie in the shapes of whence it comes.
-use Rattle.std.proofs.Common.{◌≡◌, ◌≤◌, sym, refl, subst, ℕ, Bool, true, false, List, [], ◌∷◌, ◌++◌, Option, Some, None, inl, inr, arith}
-use Rattle.std.specs.Prelude.{◌&&◌, if◌then◌else◌, IfSome}
+use Rattle.std.proofs.Common.{◌≡◌, ◌≤◌, sym, refl, subst, ℕ, Bool, true, false, List, [], ◌∷◌, Option, Some, None, inl, inr, arith}
+use Rattle.std.specs.Prelude.{if◌then◌else◌, IfSome}
 use Rattle.std.specs.List.{AllByRecursion}
 use Rattle.gw_addr.specs.declared.bip.BipAddr.{BipAddr}
 use Rattle.gw_addr.specs.Address.{big_endian, octets_of}
@@ -10,11 +10,10 @@ use Rattle.gw_rules.specs.declared.format.Format.{Format}
 use Rattle.gw_rules.specs.declared.format.Format.TheVariants.{One, Two, Three}
 use Rattle.gw_rules.specs.Format.{names_stations}
 use Rattle.gw_rules.specs.Ask.{Ask}
-use Rattle.gw_rules.specs.declared.field.FieldName.TheVariants.{SourceNetwork, SourceKey, DestinationNetwork, Service, ObjectType, Instance, Property, Priority, Sender, Station}
+use Rattle.gw_rules.specs.declared.field.FieldName.TheVariants.{SourceKey, DestinationNetwork, Service, ObjectType, Instance, Property, Priority, Sender, Station}
 use Rattle.gw_rules.specs.declared.operation.Operation.{Operation}
 use Rattle.gw_rules.specs.declared.operation.Operation.TheVariants as operations
 use Rattle.gw_rules.specs.declared.rule.Rule.{Rule}
-use Rattle.gw_rules.specs.Operation.{operation_number}
 use Rattle.gw_rules.proofs.EachAsk.{each_weaker}
 use Rattle.gw_objects.specs.Objects.{Database}
 use Rattle.gw_relay.specs.Cast.{cast_ask}
@@ -137,11 +136,11 @@ named_cases format device from to m operation network comes is bound_to = record
 
 -- ---- the relay's asks
 
-cast_behind : (format : Format) (device : ℕ) (from : Origin) (m : Message) → Comes format from m → names_stations format ≡ true
+cast_follows : (format : Format) (device : ℕ) (from : Origin) (m : Message) → Comes format from m → names_stations format ≡ true
     → NamedCases (Lies format device from) (cast_ask format m)
-cast_behind One device from m comes e = absurd cc
-cast_behind Two device from m comes e = absurd cc
-cast_behind Three device from m comes e =
+cast_follows One device from m comes e = absurd cc
+cast_follows Two device from m comes e = absurd cc
+cast_follows Three device from m comes e =
     named_cases Three device from perhaps m operations.Cast (table.bound_for m.npdu) comes refl (λ small. anything (table.bound_for m.npdu) small)
 
 cast_cases : (format : Format) (device : ℕ) (from : Origin) (m : Message) → Comes format from m → CastCases (Lies format device from) format m
@@ -150,7 +149,7 @@ cast_cases format device from m comes = record {
       (lies_by (aimed format (bound from operations.Cast perhaps perhaps)) (cast_ask format m)
       (exactly 1) comes.port comes.network (anything _ (small SourceKey)) (anything _ (small DestinationNetwork)) (anything _ (small Service))
       refl refl refl refl (sent format from.sender m.from comes.sender (small Sender)) (at_station format m.npdu (small Station))));
-  behind = cast_behind format device from m comes;
+  follows = cast_follows format device from m comes;
 }
 
 network_cases : (format : Format) (device : ℕ) (from : Origin) (m : Message) → Comes format from m
@@ -170,12 +169,12 @@ network_cases format device from m comes = record {
       refl refl refl refl (sent format from.sender m.from comes.sender (small Sender)) refl))))));
 }
 
-route_behind : (format : Format) (device : ℕ) (from : Origin) (m : Message) (network : ℕ) → Comes format from m → JudgesRequests format
+route_follows : (format : Format) (device : ℕ) (from : Origin) (m : Message) (network : ℕ) → Comes format from m → JudgesRequests format
     → NamedCases (Lies format device from) (route_ask format m (Some network))
-route_behind One device from m network comes judges = absurd judges
-route_behind Two device from m network comes judges =
+route_follows One device from m network comes judges = absurd judges
+route_follows Two device from m network comes judges =
     named_cases Two device from some m operations.Route (Some network) comes refl (λ small. within_some network small)
-route_behind Three device from m network comes judges =
+route_follows Three device from m network comes judges =
     named_cases Three device from perhaps m operations.Route (Some network) comes refl (λ small. anything (Some network) small)
 
 route_cases : (format : Format) (device : ℕ) (from : Origin) (m : Message) → Comes format from m → RouteCases (Lies format device from) format m
@@ -185,7 +184,7 @@ route_cases format device from m comes = record {
       (exactly 2) comes.port comes.network (anything _ (small SourceKey)) (within_some network (small DestinationNetwork))
       (anything _ (small Service)) refl refl refl refl
       (sent format from.sender m.from comes.sender (small Sender)) (at_station format m.npdu (small Station)))));
-  behind = λ network judges. route_behind format device from m network comes judges;
+  follows = λ network judges. route_follows format device from m network comes judges;
 }
 
 -- ---- the device's asks

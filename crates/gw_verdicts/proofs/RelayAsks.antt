@@ -139,18 +139,18 @@ each_payload : (P : Ask → Type 0) (route : Ask) (payload : Payload) → NamedC
 each_payload P route (message m) cases is = tt
 each_payload P route (apdu octets) cases is = each_apdu P route (apdu_at octets) cases is
 
-each_behind : (P : Ask → Type 0) (format : Format) (route : Ask) (payload : Payload) → (JudgesRequests format → NamedCases P route)
+each_following : (P : Ask → Type 0) (format : Format) (route : Ask) (payload : Payload) → (JudgesRequests format → NamedCases P route)
     → route.service ≡ service_of payload → AllByRecursion P (named_asks format route payload)
-each_behind P One route payload cases is = tt
-each_behind P Two route payload cases is = each_payload P route payload (cases tt) is
-each_behind P Three route payload cases is = each_payload P route payload (cases tt) is
+each_following P One route payload cases is = tt
+each_following P Two route payload cases is = each_payload P route payload (cases tt) is
+each_following P Three route payload cases is = each_payload P route payload (cases tt) is
 
 -- ---- distribution
 
 -- it holds of the ask of a broadcast, and of those after it
 pub record CastCases (P : Ask → Type 0) (format : Format) (m : Message) : Type 0 where
   pub cast : P (cast_ask format m)
-  pub behind : names_stations format ≡ true → NamedCases P (cast_ask format m)
+  pub follows : names_stations format ≡ true → NamedCases P (cast_ask format m)
 
 pub each_cast : (P : Ask → Type 0) (format : Format) (m : Message) → CastCases P format m → AllByRecursion P (cast_asks format m)
 unfolding cast_asks
@@ -158,7 +158,7 @@ each_cast P format m cases =
     each_if P (goes_on m.here m.from m.frame && is_broadcast m.frame) _ [] (λ e. (
       cases.cast,
       each_if P (names_stations format) _ []
-          (λ t. each_behind P format (cast_ask format m) m.npdu.payload (λ judges. cases.behind t) refl) (λ f. tt),
+          (λ t. each_following P format (cast_ask format m) m.npdu.payload (λ judges. cases.follows t) refl) (λ f. tt),
     )) (λ e. tt)
 
 -- ---- routing
@@ -166,12 +166,12 @@ each_cast P format m cases =
 -- it holds of each ask for a network, and of those after it
 pub record RouteCases (P : Ask → Type 0) (format : Format) (m : Message) : Type 0 where
   pub route : (network : ℕ) → P (route_ask format m (Some network))
-  pub behind : (network : ℕ) → JudgesRequests format → NamedCases P (route_ask format m (Some network))
+  pub follows : (network : ℕ) → JudgesRequests format → NamedCases P (route_ask format m (Some network))
 
 each_forward : (P : Ask → Type 0) (format : Format) (m : Message) (network : ℕ) → RouteCases P format m
     → AllByRecursion P (forward_asks format (route_ask format m (Some network)) m.npdu.payload)
 each_forward P format m network cases =
-    (cases.route network, each_behind P format (route_ask format m (Some network)) m.npdu.payload (cases.behind network) refl)
+    (cases.route network, each_following P format (route_ask format m (Some network)) m.npdu.payload (cases.follows network) refl)
 
 each_one : (P : Ask → Type 0) (format : Format) (m : Message) (network : ℕ) → bound_for m.npdu ≡ Some network → RouteCases P format m
     → AllByRecursion P (forward_asks format (route_ask format m (bound_for m.npdu)) m.npdu.payload ++ [])

@@ -42,7 +42,7 @@ use Rattle.gw_shapes.specs.Shapes.{claim_shapes, enter_shapes, foreign, foreign_
 use Rattle.gw_shapes.specs.declared.side.Side.{Side}
 use Rattle.gw_shapes.proofs.Lying.{in_front, in_rest}
 use Rattle.gw_verdicts.proofs.Parts.{each_claimed, each_entry}
-use Rattle.gw_verdicts.proofs.Raised.{Comes, Lies, claim_lies, enter_lies, link_lies, message_lies}
+use Rattle.gw_verdicts.proofs.Raised.{Comes, claim_lies, enter_lies, link_lies, message_lies}
 use Rattle.gw_verdicts.proofs.Whence.{Heard, InPorts, IsHeard, WithinOne, all_links, apart, heard_at, in_gap, port_bounds}
 
 -- ---- in the list of all shapes

@@ -1,6 +1,6 @@
 -- A line of the log tells which rule denied it.
 use Rattle.std.proofs.Common.{◌≡◌, ◌∙◌, ◌⊎◌, inl, inr, sym, ap, refl, subst, ℕ, ◌+◌, ◌-◌, ◌≤◌, Bool, true, false, List, [], ◌∷◌, ◌++◌, length, Option, Some, None, Result, Ok, Err, arith, length-append}
-use Rattle.std.specs.Prelude.{◌==◌, not, ◌&&◌, if◌then◌else◌, slice_get, codes, filter, map}
+use Rattle.std.specs.Prelude.{◌==◌, not, if◌then◌else◌, slice_get, codes, filter, map}
 use Rattle.std.specs.Int.{w16, to_be_bytes}
 use Rattle.std.specs.List.{AllByRecursion}
 use Rattle.std.specs.Option.{option_and_then, option_map}
@@ -21,11 +21,10 @@ use Rattle.gw_bvll.specs.Reading.{bvll_at}
 use Rattle.gw_npdu.specs.Npdu.{Fields}
 use Rattle.gw_objects.specs.Objects.{Database}
 use Rattle.gw_rules.specs.declared.format.Format.{Format}
-use Rattle.gw_relay.specs.Cast.{accepts, cast_ask, is_unregistered}
+use Rattle.gw_relay.specs.Cast.{accepts, is_unregistered}
 use Rattle.gw_relay.specs.Entry.{admits, entry_asks}
 use Rattle.gw_relay.specs.Asks as table
 use Rattle.gw_relay.specs.Message.{Message, message_of}
-use Rattle.gw_relay.specs.Route.{route_ask}
 use Rattle.gw_relay.specs.State.{Relay, link_at}
 use Rattle.gw_relay.specs.declared.port.PortState.{PortState}
 use Rattle.gw_rules.specs.Ask.{Ask}
@@ -123,13 +122,13 @@ named_so format m operation network = record {
 cast_so : (format : Format) (m : Message) → CastCases (so m) format m
 cast_so format m = record {
   cast = record { port = refl; network = refl; key = refl; station = no_station format m.from _ };
-  behind = λ e. named_so format m operations.Cast (table.bound_for m.npdu);
+  follows = λ e. named_so format m operations.Cast (table.bound_for m.npdu);
 }
 
 route_so : (format : Format) (m : Message) → RouteCases (so m) format m
 route_so format m = record {
   route = λ network. record { port = refl; network = refl; key = refl; station = no_station format m.from _ };
-  behind = λ network judges. named_so format m operations.Route (Some network);
+  follows = λ network judges. named_so format m operations.Route (Some network);
 }
 
 device_so : (format : Format) (d : Database) (m : Message) → DeviceCases (so m) d (context_of format (device_network d) m)
