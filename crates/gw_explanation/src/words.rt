@@ -110,7 +110,10 @@ fn name_at(place: Place, top: &Table) -> Option<&str>
     ensures { option_map (λ n. n.now) result ≡ name_at place (table_view top.now) }
 {
     match place {
-        Place::Object(_) | Place::Set(_) | Place::Rule(_) => string(member(table_at(place, top)?, "name")?),
+        Place::Object(_) | Place::Set(_) | Place::Rule(_) => string(member(
+            table_at(place, top)?,
+            "name",
+        )?),
         _ => None,
     }
 }

@@ -6,6 +6,7 @@ use std::alloc::AllocError;
 
 /// The first octet that is no control character, and the control character behind the others.
 const SPACE: u8 = 32;
+
 const DELETE: u8 = 127;
 
 /// Appends a text in quotes, with an escape in the place of each quote, backslash and control character.

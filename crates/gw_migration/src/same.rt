@@ -151,9 +151,15 @@ fn have_same_ranges(rule: &Rule, other: &Rule) -> bool
     let (some, others) = (&rule.ranges, &other.ranges);
     are_same(some.operation.as_slice(), others.operation.as_slice())
         && are_same(some.port.as_slice(), others.port.as_slice())
-        && are_same(some.source_network.as_slice(), others.source_network.as_slice())
+        && are_same(
+            some.source_network.as_slice(),
+            others.source_network.as_slice(),
+        )
         && are_same(some.source_key.as_slice(), others.source_key.as_slice())
-        && are_same(some.destination_network.as_slice(), others.destination_network.as_slice())
+        && are_same(
+            some.destination_network.as_slice(),
+            others.destination_network.as_slice(),
+        )
         && are_same(some.service.as_slice(), others.service.as_slice())
         && are_same(some.object_type.as_slice(), others.object_type.as_slice())
         && are_same(some.instance.as_slice(), others.instance.as_slice())

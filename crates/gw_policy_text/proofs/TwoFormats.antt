@@ -107,13 +107,13 @@ same_policy : (format : Format) → names_stations format ≡ false → (top : M
 same_policy format other top =
     without_sets format other top
     ∙ bind_same (whole (list_at 0 512 (codes "rule") top)) _ _ (λ tables.
-      ap (λ (r : Find (List Rule)). r >>= λ read. whole (policy_of format read) >>= λ rules. whole (each (note_in format) tables) >>= λ notes. Ok (record { rules = rules; notes = notes; sets = [] }))
-      (same_rules format other [] 0 tables ∙ no_front (each_at (two.rule_in format) 0 tables))
-      ∙ bind_same (each_at (two.rule_in format) 0 tables) _ _ (λ read.
-        ap (λ (r : Read (List Rule)). whole r >>= λ rules. whole (each (note_in format) tables) >>= λ notes. Ok (record { rules = rules; notes = notes; sets = [] }))
-        (same_policy_of format other read)
-        ∙ ap (λ (n : Read (List (List ℕ))). whole (two.policy_of read) >>= λ rules. whole n >>= λ notes. Ok (record { rules = rules; notes = notes; sets = [] }))
-        (same_notes format other tables)))
+    ap (λ (r : Find (List Rule)). r >>= λ read. whole (policy_of format read) >>= λ rules. whole (each (note_in format) tables) >>= λ notes. Ok (record { rules = rules; notes = notes; sets = [] }))
+    (same_rules format other [] 0 tables ∙ no_front (each_at (two.rule_in format) 0 tables))
+    ∙ bind_same (each_at (two.rule_in format) 0 tables) _ _ (λ read.
+    ap (λ (r : Read (List Rule)). whole r >>= λ rules. whole (each (note_in format) tables) >>= λ notes. Ok (record { rules = rules; notes = notes; sets = [] }))
+    (same_policy_of format other read)
+    ∙ ap (λ (n : Read (List (List ℕ))). whole (two.policy_of read) >>= λ rules. whole n >>= λ notes. Ok (record { rules = rules; notes = notes; sets = [] }))
+    (same_notes format other tables)))
 
 same_ports : (format : Format) → names_stations format ≡ false → (top : Members) → ports_at format (codes "port") top ≡ two.ports_at top
 same_ports format other top =

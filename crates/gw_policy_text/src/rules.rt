@@ -20,15 +20,12 @@ ghost use Rattle.gw_policy_text.specs.Parts.{within};
 ghost use Rattle.gw_policy_text.specs.Policy.{crowd, crowded, crowded_at, fields_of, long_ranges_at, ranges_at, rule_in, rule_of, rule_parts, rules_behind, short_ranges_at, station_ranges_at};
 
 use crate::reading::{at, key_of, list_at};
-use gw_config_tables::items;
-use gw_config_tables::MAX_ITEMS;
 use gw_config_tables::range::range;
 use gw_config_tables::tables::{rule_located, scalar_of};
 use gw_config_tables::value::{self, table};
+use gw_config_tables::{MAX_ITEMS, items};
 use gw_configuration::{ConfigFault, Format, Located, Place, Scalar, Shape};
-use gw_rules::{
-    FieldName, Fields, MAX_LONG_RANGES, MAX_RANGES, MAX_RANGES_IN_ALL, Ranges, Rule,
-};
+use gw_rules::{FieldName, Fields, MAX_LONG_RANGES, MAX_RANGES, MAX_RANGES_IN_ALL, Ranges, Rule};
 use std::alloc::Global;
 use toml::{Table, Value};
 
@@ -118,8 +115,13 @@ fn put_ranges(
     ranges.port = ranges_at(alloc, format, sets, FieldName::Port, table)?;
     ranges.source_network = ranges_at(alloc, format, sets, FieldName::SourceNetwork, table)?;
     ranges.source_key = ranges_at(alloc, format, sets, FieldName::SourceKey, table)?;
-    ranges.destination_network =
-        ranges_at(alloc, format, sets, FieldName::DestinationNetwork, table)?;
+    ranges.destination_network = ranges_at(
+        alloc,
+        format,
+        sets,
+        FieldName::DestinationNetwork,
+        table,
+    )?;
     ranges.service = ranges_at(alloc, format, sets, FieldName::Service, table)?;
     ranges.object_type = ranges_at(alloc, format, sets, FieldName::ObjectType, table)?;
     ranges.instance = ranges_at(alloc, format, sets, FieldName::Instance, table)?;

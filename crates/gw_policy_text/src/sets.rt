@@ -38,12 +38,7 @@ pub(crate) fn sets<'a>(
 }
 
 /// The set that a value says, at this position.
-fn set<'a>(
-    alloc: Global,
-    rules: &[Value],
-    set: usize,
-    value: &'a Value,
-) -> Result<Set, Located<'a>>
+fn set<'a>(alloc: Global, rules: &[Value], set: usize, value: &'a Value) -> Result<Set, Located<'a>>
     ensures { Finds (λ s. s) result (set_in (map view rules.now) set (view value.now)) }
 {
     set_of_table(alloc, rules, set, table(value)?)

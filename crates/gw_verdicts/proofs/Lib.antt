@@ -1,5 +1,6 @@
 pub mod DeviceAsks
 pub mod FoundLaw
+pub mod Parts
 pub mod Raised
 pub mod RelayAsks
 pub mod ShapeLaw

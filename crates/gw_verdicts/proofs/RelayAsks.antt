@@ -17,13 +17,13 @@ use Rattle.gw_npdu.specs.declared.kind.MessageKind.{MessageKind}
 use Rattle.gw_npdu.specs.declared.kind.MessageKind.TheVariants.{IAmRouterToNetwork, WhatIsNetworkNumber, WhoIsRouterToNetwork}
 use Rattle.gw_npdu.specs.Kind.{kind_number}
 use Rattle.gw_npdu.specs.Npdu.{Destination, Payload, apdu, message, payload_octets}
+use Rattle.gw_rules.specs.declared.format.Format.{Format}
+use Rattle.gw_rules.specs.declared.format.Format.TheVariants.{One, Two, Three}
 use Rattle.gw_routes.specs.Table.{way}
 use Rattle.gw_routes.specs.declared.route.Way.{Way}
 use Rattle.gw_routes.specs.declared.route.Way.TheVariants as ways
 use Rattle.gw_rules.specs.Ask.{Ask}
 use Rattle.gw_rules.specs.Format.{names_stations}
-use Rattle.gw_rules.specs.declared.format.Format.{Format}
-use Rattle.gw_rules.specs.declared.format.Format.TheVariants.{One, Two, Three}
 use Rattle.gw_rules.specs.declared.operation.Operation.TheVariants as operations
 use Rattle.gw_rules.proofs.EachAsk.{each_both}
 use Rattle.gw_services.specs.Choices.{read_property, read_property_multiple, write_property}
@@ -35,13 +35,13 @@ use Rattle.gw_services.specs.Write.{Write, write_at}
 use Rattle.gw_services.specs.declared.fault.BodyFault.{BodyFault}
 use Rattle.gw_tags.specs.Object.{Object}
 use Rattle.gw_relay.specs.Asks.{bound_for, service_of}
-use Rattle.gw_relay.specs.Cast.{carried_asks, cast_ask, cast_asks, goes_on, is_broadcast}
+use Rattle.gw_relay.specs.Cast.{cast_ask, cast_asks, goes_on, is_broadcast}
 use Rattle.gw_relay.specs.Manage.{is_i_am_router, is_what_is_network_number, is_who_is_router, learn_ask, manage_asks, named_networks, network_ask, question_of, question_steps}
 use Rattle.gw_relay.specs.Message.{Message}
 use Rattle.gw_relay.specs.Named.{apdu_asks, body_asks, forward_asks, header_asks, multi_asks, named_ask, named_asks, payload_asks, read_asks, reference_ask, request_asks, segment_asks, unnamed_ask, write_asks}
 use Rattle.gw_relay.specs.Route.{copy, is_kind, is_local, leaves, others, route_ask, route_asks, steps_by}
 use Rattle.gw_relay.specs.State.{Relay}
-use Rattle.gw_relay.specs.Steps.{Step, asks_of, step}
+use Rattle.gw_relay.specs.Steps.{Step, asks_of}
 use Rattle.gw_relay.specs.declared.port.PortState.{PortState}
 
 each_if : (P : Ask → Type 0) (b : Bool) (xs ys : List Ask) → (b ≡ true → AllByRecursion P xs) → (b ≡ false → AllByRecursion P ys)
@@ -49,9 +49,15 @@ each_if : (P : Ask → Type 0) (b : Bool) (xs ys : List Ask) → (b ≡ true →
 each_if P true xs ys f g = f refl
 each_if P false xs ys f g = g refl
 
--- ---- behind a `route` ask
+-- ---- what is asked after a `route` or `cast` ask
 
--- it holds of each ask that can stand behind one, by the service of that
+-- a format in which requests that are passed on are judged by what they name
+abbrev pub JudgesRequests : Format → Type 0
+JudgesRequests One = ⊥
+JudgesRequests Two = Unit {0}
+JudgesRequests Three = Unit {0}
+
+-- it holds of each ask that can come after one, by the service of that
 pub record NamedCases (P : Ask → Type 0) (route : Ask) : Type 0 where
   pub unnamed_read : (service : ℕ) → route.service ≡ Some service → 12 ≤ service → service ≤ 14 → P (unnamed_ask route operations.Read)
   pub named_read : (service : ℕ) → route.service ≡ Some service → 12 ≤ service → service ≤ 14 → (object : Object) (p : ℕ)
@@ -133,45 +139,39 @@ each_payload : (P : Ask → Type 0) (route : Ask) (payload : Payload) → NamedC
 each_payload P route (message m) cases is = tt
 each_payload P route (apdu octets) cases is = each_apdu P route (apdu_at octets) cases is
 
--- a format in which requests are judged by what they name
-abbrev pub judges : Format → Bool
-judges One = false
-judges _ = true
-
-each_behind : (P : Ask → Type 0) (format : Format) (route : Ask) (payload : Payload) → (judges format ≡ true → NamedCases P route)
+each_following : (P : Ask → Type 0) (format : Format) (route : Ask) (payload : Payload) → (JudgesRequests format → NamedCases P route)
     → route.service ≡ service_of payload → AllByRecursion P (named_asks format route payload)
-each_behind P One route payload cases is = tt
-each_behind P Two route payload cases is = each_payload P route payload (cases refl) is
-each_behind P Three route payload cases is = each_payload P route payload (cases refl) is
+each_following P One route payload cases is = tt
+each_following P Two route payload cases is = each_payload P route payload (cases tt) is
+each_following P Three route payload cases is = each_payload P route payload (cases tt) is
 
--- ---- broadcasts
+-- ---- distribution
 
--- it holds of the ask for one, and of those behind it in format 3
+-- it holds of the ask of a broadcast, and of those after it
 pub record CastCases (P : Ask → Type 0) (format : Format) (m : Message) : Type 0 where
   pub cast : P (cast_ask format m)
-  pub behind : names_stations format ≡ true → NamedCases P (cast_ask format m)
-
-each_carried : (P : Ask → Type 0) (format : Format) (m : Message) → CastCases P format m → AllByRecursion P (carried_asks format m)
-each_carried P One m cases = tt
-each_carried P Two m cases = tt
-each_carried P Three m cases = each_behind P Three (cast_ask Three m) m.npdu.payload (λ e. cases.behind refl) refl
+  pub follows : names_stations format ≡ true → NamedCases P (cast_ask format m)
 
 pub each_cast : (P : Ask → Type 0) (format : Format) (m : Message) → CastCases P format m → AllByRecursion P (cast_asks format m)
 unfolding cast_asks
 each_cast P format m cases =
-    each_if P (goes_on m.here m.from m.frame && is_broadcast m.frame) _ [] (λ e. (cases.cast, each_carried P format m cases)) (λ e. tt)
+    each_if P (goes_on m.here m.from m.frame && is_broadcast m.frame) _ [] (λ e. (
+      cases.cast,
+      each_if P (names_stations format) _ []
+          (λ t. each_following P format (cast_ask format m) m.npdu.payload (λ judges. cases.follows t) refl) (λ f. tt),
+    )) (λ e. tt)
 
 -- ---- routing
 
--- it holds of each ask for a network, and of those behind it
+-- it holds of each ask for a network, and of those after it
 pub record RouteCases (P : Ask → Type 0) (format : Format) (m : Message) : Type 0 where
   pub route : (network : ℕ) → P (route_ask format m (Some network))
-  pub behind : (network : ℕ) → judges format ≡ true → NamedCases P (route_ask format m (Some network))
+  pub follows : (network : ℕ) → JudgesRequests format → NamedCases P (route_ask format m (Some network))
 
 each_forward : (P : Ask → Type 0) (format : Format) (m : Message) (network : ℕ) → RouteCases P format m
     → AllByRecursion P (forward_asks format (route_ask format m (Some network)) m.npdu.payload)
 each_forward P format m network cases =
-    (cases.route network, each_behind P format (route_ask format m (Some network)) m.npdu.payload (cases.behind network) refl)
+    (cases.route network, each_following P format (route_ask format m (Some network)) m.npdu.payload (cases.follows network) refl)
 
 each_one : (P : Ask → Type 0) (format : Format) (m : Message) (network : ℕ) → bound_for m.npdu ≡ Some network → RouteCases P format m
     → AllByRecursion P (forward_asks format (route_ask format m (bound_for m.npdu)) m.npdu.payload ++ [])
@@ -224,7 +224,7 @@ kind_service kind (apdu octets) e = absurd cc
 kind_service kind (message m) e = ap (λ (n : ℕ). Some (512 + n)) (eqb-true m.kind (kind_number kind) e)
 
 each_learning : (P : Ask → Type 0) (format : Format) (m : Message) (networks : List ℕ) → service_of m.npdu.payload ≡ Some 513 → NetworkCases P format m
-    → AllByRecursion P (asks_of (map (λ n. step (learn_ask format m n) []) networks))
+    → AllByRecursion P (asks_of (map (λ n. record { asks = learn_ask format m n ∷ []; sends = [] }) networks))
 each_learning P format m [] is cases = tt
 each_learning P format m (n ∷ networks) is cases = (cases.learn is n, each_learning P format m networks is cases)
 

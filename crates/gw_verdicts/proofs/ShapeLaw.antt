@@ -1,25 +1,30 @@
 -- Every ask that a gateway raises lies in a shape of its configuration.
 use Rattle.std.proofs.Common.{◌≡◌, ◌≢◌, ◌∙◌, inl, inr, sym, ap, refl, subst, ℕ, ◌+◌, ◌≤◌, Bool, true, false, List, [], ◌∷◌, ◌++◌, length, nat_le, Option, Some, None, arith}
-use Rattle.std.specs.Prelude.{◌==◌, IfSome}
+use Rattle.std.specs.Prelude.{◌==◌, ◌&&◌, ◌||◌, not, IfSome}
 use Rattle.std.specs.List.{AllByRecursion, flat_map, list_any}
+use Rattle.std.specs.Option.{option_map_or}
 use Rattle.std.proofs.lemmas.Bool.{both_ways, eqb-false, le-leb, leb-true, or_parts}
 use Rattle.gw_addr.specs.declared.bip.BipAddr.{BipAddr}
 use Rattle.gw_addr.specs.Station.{key_of}
 use Rattle.gw_bvll.specs.Bvll.{Message as Frame}
+use Rattle.gw_npdu.specs.Npdu.{Address}
 use Rattle.gw_objects.specs.declared.configured.Configured.{Configured}
 use Rattle.gw_configuration.specs.Configuration.{Configuration}
+use Rattle.gw_rules.specs.declared.format.Format.{Format}
 use Rattle.gw_configuration.specs.declared.port.Port.{Port as ConfiguredPort}
 use Rattle.gw_relay.specs.Asks as table
-use Rattle.gw_relay.specs.Entry.{claim_asks, enter_asks, entry_asks}
+use Rattle.gw_relay.specs.Entry.{claim_ask, comes_by_route, enter_ask, enters, entry_asks, is_stranger, speaks_for_others}
 use Rattle.gw_relay.specs.History.{all_after, ports_from}
 use Rattle.gw_relay.specs.Message.{Message}
 use Rattle.gw_relay.specs.declared.port.Port.{Port}
 use Rattle.gw_relay.specs.declared.port.PortState.{PortState}
+use Rattle.gw_relay.specs.State.{Relay}
+use Rattle.gw_relay.specs.Stations.{is_station}
 use Rattle.gw_rules.specs.Ask.{Ask, IsFrom}
+use Rattle.gw_rules.specs.Format.{names_stations}
 use Rattle.gw_rules.specs.declared.field.FieldName.TheVariants.{SourceNetwork}
 use Rattle.gw_rules.specs.RuleList.{first}
-use Rattle.gw_rules.specs.declared.format.Format.{Format}
-use Rattle.gw_rules.proofs.EachAsk.{each_both, each_weaker}
+use Rattle.gw_rules.proofs.EachAsk.{each_weaker}
 use Rattle.gw_script.specs.Event.{Event}
 use Rattle.gw_core.specs.Asks.{asks, asks_for}
 use Rattle.gw_core.specs.History.{port_acts, state_after}
@@ -28,6 +33,7 @@ use Rattle.gw_core.specs.State.{State, device_network}
 use Rattle.gw_core.specs.declared.event.Counts.{Counts}
 use Rattle.gw_core.proofs.FormatLemmas.{format_stays}
 use Rattle.gw_core.proofs.HistoryLemmas.{configuration_stays, ports_stay}
+use Rattle.gw_core.proofs.RespondLemmas.{four_none}
 use Rattle.gw_core.proofs.StandLemmas.{acts_leave_the_tables}
 use Rattle.gw_verdicts.specs.Laws.{AsksLieInShapes, IsOfNumbers, NeverFirstNeverDecides}
 use Rattle.gw_shapes.specs.Pieces.{most}
@@ -35,13 +41,15 @@ use Rattle.gw_shapes.specs.Shape.{IsWithin, LiesInOne, Shape}
 use Rattle.gw_shapes.specs.Shapes.{claim_shapes, enter_shapes, foreign, foreign_shapes, gaps, own, own_shapes, shapes, shapes_from, shapes_of, shapes_within, table_shapes}
 use Rattle.gw_shapes.specs.declared.side.Side.{Side}
 use Rattle.gw_shapes.proofs.Lying.{in_front, in_rest}
-use Rattle.gw_verdicts.proofs.Raised.{Comes, claim_lies, claim_of_claim, claims_nothing, each_barred, each_entry, enter_lies, keyed, link_lies, message_lies, message_of_claim}
+use Rattle.gw_verdicts.proofs.Parts.{each_claimed, each_entry}
+use Rattle.gw_verdicts.proofs.Raised.{Comes, claim_lies, enter_lies, link_lies, message_lies}
 use Rattle.gw_verdicts.proofs.Whence.{Heard, InPorts, IsHeard, WithinOne, all_links, apart, heard_at, in_gap, port_bounds}
 
 -- ---- in the list of all shapes
 
 in_own : (format : Format) (device number : ℕ) (ports : List ConfiguredPort) (port : Port) (ask : Ask) → InPorts number ports port
-    → LiesInOne (shapes_within format device (own format port.number port.network)) ask → LiesInOne (own_shapes format device number ports) ask
+    → LiesInOne (shapes_within format device (own format port.number port.network)) ask
+    → LiesInOne (own_shapes format device number ports) ask
 in_own format device number [] port ask there lies = absurd there
 in_own format device number (p ∷ ports) port ask (inl is) lies =
     let at = subst (λ (q : Port). LiesInOne (shapes_within format device (own format q.number q.network)) ask) is lies in
@@ -50,15 +58,25 @@ in_own format device number (p ∷ ports) port ask (inr later) lies =
     in_rest (shapes_within format device (own format number p.network)) (own_shapes format device (number + 1) ports) ask
     (in_own format device (number + 1) ports port ask later lies)
 
--- a gap that has the network, and what lies in its shapes lies in those of all gaps
-in_side : (sides : List Side) (n : ℕ) → WithinOne sides n
-    → (side : Side) × (IsWithin side (Some n))
-    × ((make : Side → List Shape) (ask : Ask) → LiesInOne (make side) ask → LiesInOne (flat_map make sides) ask)
-in_side [] n is = absurd is
-in_side (side ∷ sides) n (inl here) = (side, here, λ make ask lies. in_front (make side) (flat_map make sides) ask lies)
-in_side (side ∷ sides) n (inr later) =
-    let found = in_side sides n later in
-    (found.0, found.1, λ make ask lies. in_rest (make side) (flat_map make sides) ask (found.2 make ask lies))
+-- the gap that a number is in, whose shapes are among those of all
+record InGap (make : Side → List Shape) (sides : List Side) (n : ℕ) : Type 0 where
+  side : Side
+  within : IsWithin side (Some n)
+  lies : (ask : Ask) → LiesInOne (make side) ask → LiesInOne (flat_map make sides) ask
+
+gap_of : (make : Side → List Shape) (sides : List Side) (n : ℕ) → WithinOne sides n → InGap make sides n
+gap_of make [] n is = absurd is
+gap_of make (side ∷ sides) n (inl here) = record {
+  side = side;
+  within = here;
+  lies = λ ask lies. in_front (make side) (flat_map make sides) ask lies;
+}
+gap_of make (side ∷ sides) n (inr later) =
+    let gap = gap_of make sides n later in record {
+      side = gap.side;
+      within = gap.within;
+      lies = λ ask lies. in_rest (make side) (flat_map make sides) ask (gap.lies ask lies);
+    }
 
 -- ---- of what is received
 
@@ -68,10 +86,10 @@ LiesThere format device ports ask = IsOfNumbers ask → LiesInOne (shapes_of for
 abbrev others : Format → ℕ → List ConfiguredPort → List Shape
 others format device ports = flat_map (foreign_shapes format device (length ports)) (gaps device ports)
 
--- what comes from the network of a port
-there_own : (format : Format) (device : ℕ) (ports : List ConfiguredPort) (port : Port) → InPorts 1 ports port
-    → (ask : Ask) → LiesInOne (shapes_within format device (own format port.number port.network)) ask → LiesInOne (shapes_of format device ports) ask
-there_own format device ports port there ask lies =
+-- what lies in the shapes of a port's own network
+here_lies : (format : Format) (device : ℕ) (ports : List ConfiguredPort) (port : Port) (ask : Ask) → InPorts 1 ports port
+    → LiesInOne (shapes_within format device (own format port.number port.network)) ask → LiesInOne (shapes_of format device ports) ask
+here_lies format device ports port ask there lies =
     in_front (own_shapes format device 1 ports) (others format device ports) ask (in_own format device 1 ports port ask there lies)
 
 managed_lies : (format : Format) (device : ℕ) (ports : List ConfiguredPort) (port : Port) (from : BipAddr) (frame : Frame) → InPorts 1 ports port
@@ -79,30 +97,77 @@ managed_lies : (format : Format) (device : ℕ) (ports : List ConfiguredPort) (p
 managed_lies format device ports port from frame there =
     let at = own format port.number port.network in
     each_weaker (λ ask. IsOfNumbers ask → LiesInOne (table_shapes format at) ask) (LiesThere format device ports)
-    (λ ask lies small. there_own format device ports port there ask
+    (λ ask lies small. here_lies format device ports port ask there
     (in_front (table_shapes format at) (enter_shapes format at ++ shapes_from format device at) ask (lies small)))
     (table.link_asks format port from frame) (link_lies format port from frame)
 
--- a station that enters is of the port's network
-enters_there : (w : State) (ports : List ConfiguredPort) (m : Message) → InPorts 1 ports m.here.port
-    → AllByRecursion (LiesThere w.relay.format (device_network w.device) ports) (enter_asks w.relay.format m)
-enters_there w ports m there =
+-- whoever enters a port
+stranger_names : (format : Format) (m : Message) → is_stranger format m ≡ true → names_stations format ≡ true
+stranger_names format m e =
+    by (enters m.frame) (names_stations format) (length m.here.stations == 0) (is_station m.here.port m.here.stations m.link)
+    _ e
+  where
+    by : (enters names none station registered : Bool) → (enters && not (not names || none || station || registered)) ≡ true → names ≡ true
+    by enters true none station registered e = refl
+    by true false none station registered e = absurd cc
+    by false false none station registered e = absurd cc
+
+entering_lies : (format : Format) (device : ℕ) (ports : List ConfiguredPort) (m : Message) → InPorts 1 ports m.here.port
+    → is_stranger format m ≡ true → LiesThere format device ports (enter_ask format m)
+entering_lies format device ports m there e small =
+    let port = m.here.port in
+    let at = own format port.number port.network in
+    here_lies format device ports port (enter_ask format m) there
+    (in_rest (table_shapes format at) (enter_shapes format at ++ shapes_from format device at) (enter_ask format m)
+    (in_front (enter_shapes format at) (shapes_from format device at) (enter_ask format m)
+    (enter_lies format at m (stranger_names format m e) (omega arith, omega arith) (omega arith, omega arith) refl small)))
+
+-- from a station of a port's own network
+own_lies : (w : State) (ports : List ConfiguredPort) (m : Message) → InPorts 1 ports m.here.port → m.claim.net ≡ m.here.port.network
+    → AllByRecursion (LiesThere w.relay.format (device_network w.device) ports) (entry_asks w.rules w.relay m)
+    → AllByRecursion (LiesThere w.relay.format (device_network w.device) ports) (asks_for w.rules w.relay w.device (message m))
+own_lies w ports m there is entered =
     let format = w.relay.format in
     let device = device_network w.device in
-    let at = own format m.here.port.number m.here.port.network in
-    each_weaker (λ ask. IsOfNumbers ask → LiesInOne (enter_shapes format at) ask) (LiesThere format device ports)
-    (λ ask lies small. there_own format device ports m.here.port there ask
+    let port = m.here.port in
+    let at = own format port.number port.network in
+    let comes : Comes format at m = record { port = (omega arith, omega arith); network = (omega (arith, is), omega (arith, is)); sender = refl } in
+    message_lies w.rules w.relay w.device at m (LiesThere format device ports) comes
+    (λ ask lies small. here_lies format device ports port ask there
     (in_rest (table_shapes format at) (enter_shapes format at ++ shapes_from format device at) ask
-    (in_front (enter_shapes format at) (shapes_from format device at) ask (lies small))))
-    (enter_asks format m) (enter_lies format m)
+    (in_rest (enter_shapes format at) (shapes_from format device at) ask (lies small)))) entered
 
--- ---- whence a message comes
+-- from another network
+comes_foreign : (format : Format) (ports : List ConfiguredPort) (m : Message) (side : Side) → InPorts 1 ports m.here.port
+    → IsWithin side (Some m.claim.net) → Comes format (foreign format (length ports) side) m
+comes_foreign format ports m side there within =
+    let bounds = port_bounds 1 ports m.here.port there in
+    let low = bounds.0 in
+    let high = bounds.1 in record { port = (low, omega (arith, high)); network = within; sender = refl }
 
--- from the network of its port, from another one, or from one that no ask of the code can name
-data Whence (w : State) (ports : List ConfiguredPort) (m : Message) : Type 0 where
-  within : m.npdu.source ≡ None → m.claim.net ≡ m.here.port.network → Whence w ports m
-  beyond : WithinOne (gaps (device_network w.device) ports) m.claim.net → Whence w ports m
-  nowhere : nat_le m.claim.net most ≡ false → Whence w ports m
+foreign_lies : (w : State) (ports : List ConfiguredPort) (m : Message) → InPorts 1 ports m.here.port
+    → WithinOne (gaps (device_network w.device) ports) m.claim.net
+    → AllByRecursion (LiesThere w.relay.format (device_network w.device) ports) (entry_asks w.rules w.relay m)
+    → AllByRecursion (LiesThere w.relay.format (device_network w.device) ports) (asks_for w.rules w.relay w.device (message m))
+foreign_lies w ports m there is entered =
+    let format = w.relay.format in
+    let device = device_network w.device in
+    let gap = gap_of (foreign_shapes format device (length ports)) (gaps device ports) m.claim.net is in
+    let at = foreign format (length ports) gap.side in
+    message_lies w.rules w.relay w.device at m (LiesThere format device ports) (comes_foreign format ports m gap.side there gap.within)
+    (λ ask lies small. in_rest (own_shapes format device 1 ports) (others format device ports) ask
+    (gap.lies ask (in_rest (claim_shapes format at) (shapes_from format device at) ask (lies small)))) entered
+
+claiming_lies : (format : Format) (device : ℕ) (ports : List ConfiguredPort) (m : Message) → InPorts 1 ports m.here.port
+    → names_stations format ≡ true → m.claim.net ≢ device → AllByRecursion (λ p. m.claim.net ≢ p.network) ports
+    → LiesThere format device ports (claim_ask format m)
+claiming_lies format device ports m there names other none small =
+    let gap = gap_of (foreign_shapes format device (length ports)) (gaps device ports) m.claim.net
+    (in_gap device ports m.claim.net (small SourceNetwork) other none) in
+    let at = foreign format (length ports) gap.side in
+    in_rest (own_shapes format device 1 ports) (others format device ports) (claim_ask format m)
+    (gap.lies (claim_ask format m) (in_front (claim_shapes format at) (shapes_from format device at) (claim_ask format m)
+    (claim_lies format at m names (comes_foreign format ports m gap.side there gap.within) small)))
 
 -- an ask of a source of more than 64 bits is none of the code's
 too_great : (n : ℕ) (key : Option ℕ) (ask : Ask) → nat_le n most ≡ false → IsFrom n key ask → IsOfNumbers ask → ⊥
@@ -112,101 +177,72 @@ too_great n key ask e from small =
     let t = le-leb n most at in
     both_ways (nat_le n most) e t
 
-comes_within : (format : Format) (m : Message) → m.claim.net ≡ m.here.port.network
-    → Comes format (own format m.here.port.number m.here.port.network) m
-comes_within format m is = record {
-  port = (omega arith, omega arith);
-  network = (omega (arith, is), omega (arith, is));
-  sender = keyed format m.from;
-}
-
-comes_beyond : (format : Format) (ports : List ConfiguredPort) (m : Message) (side : Side) → InPorts 1 ports m.here.port
-    → IsWithin side (Some m.claim.net) → Comes format (foreign format (length ports) side) m
-comes_beyond format ports m side there is =
-    let bounds = port_bounds 1 ports m.here.port there in
-    let low = bounds.0 in
-    let high = bounds.1 in
-    record { port = (low, omega (arith, high)); network = is; sender = keyed format m.from }
-
-claims_there : (w : State) (ports : List ConfiguredPort) (m : Message) → InPorts 1 ports m.here.port → Whence w ports m
-    → AllByRecursion (LiesThere w.relay.format (device_network w.device) ports) (claim_asks w.relay m)
-claims_there w ports m there (within none is) =
-    subst (AllByRecursion (LiesThere w.relay.format (device_network w.device) ports)) (sym (claims_nothing w.relay m none)) tt
-claims_there w ports m there (beyond gap) =
-    let format = w.relay.format in
-    let device = device_network w.device in
-    let found = in_side (gaps device ports) m.claim.net gap in
-    let at = foreign format (length ports) found.0 in
-    each_weaker (λ ask. IsOfNumbers ask → LiesInOne (claim_shapes format at) ask) (LiesThere format device ports)
-    (λ ask lies small. in_rest (own_shapes format device 1 ports) (others format device ports) ask
-    (found.2 (foreign_shapes format device (length ports)) ask
-    (in_front (claim_shapes format at) (shapes_from format device at) ask (lies small))))
-    (claim_asks w.relay m) (claim_lies w.relay at m (comes_beyond format ports m found.0 there found.1))
-claims_there w ports m there (nowhere e) =
-    claim_of_claim (LiesThere w.relay.format (device_network w.device) ports) w.relay m
-    (λ ask is small. absurd (too_great m.claim.net (key_of m.claim.mac) ask e is small))
-
-entry_there : (w : State) (ports : List ConfiguredPort) (m : Message) → InPorts 1 ports m.here.port → Whence w ports m
+claimed_lies : (w : State) (ports : List ConfiguredPort) (m : Message) (b : Bool) → nat_le m.claim.net most ≡ b
+    → InPorts 1 ports m.here.port → m.claim.net ≢ device_network w.device → AllByRecursion (λ p. m.claim.net ≢ p.network) ports
     → AllByRecursion (LiesThere w.relay.format (device_network w.device) ports) (entry_asks w.rules w.relay m)
-entry_there w ports m there comes =
-    each_entry (LiesThere w.relay.format (device_network w.device) ports) w.rules w.relay m (enters_there w ports m there) (claims_there w ports m there comes)
-
-message_there : (w : State) (ports : List ConfiguredPort) (m : Message) → InPorts 1 ports m.here.port → Whence w ports m
     → AllByRecursion (LiesThere w.relay.format (device_network w.device) ports) (asks_for w.rules w.relay w.device (message m))
-message_there w ports m there (within none is) =
-    let format = w.relay.format in
-    let device = device_network w.device in
-    let at = own format m.here.port.number m.here.port.network in
-    message_lies (LiesThere format device ports) w.rules w.relay w.device at m (comes_within format m is)
-    (λ ask lies small. there_own format device ports m.here.port there ask
-    (in_rest (table_shapes format at) (enter_shapes format at ++ shapes_from format device at) ask
-    (in_rest (enter_shapes format at) (shapes_from format device at) ask (lies small))))
-    (entry_there w ports m there (within none is))
-message_there w ports m there (beyond gap) =
-    let format = w.relay.format in
-    let device = device_network w.device in
-    let found = in_side (gaps device ports) m.claim.net gap in
-    let at = foreign format (length ports) found.0 in
-    message_lies (LiesThere format device ports) w.rules w.relay w.device at m (comes_beyond format ports m found.0 there found.1)
-    (λ ask lies small. in_rest (own_shapes format device 1 ports) (others format device ports) ask
-    (found.2 (foreign_shapes format device (length ports)) ask
-    (in_rest (claim_shapes format at) (shapes_from format device at) ask (lies small))))
-    (entry_there w ports m there (beyond gap))
-message_there w ports m there (nowhere e) =
-    message_of_claim (LiesThere w.relay.format (device_network w.device) ports) w.rules w.relay w.device m
-    (λ ask is small. absurd (too_great m.claim.net (key_of m.claim.mac) ask e is small)) (entry_there w ports m there (nowhere e))
+claimed_lies w ports m true e there other none entered =
+    foreign_lies w ports m there (in_gap (device_network w.device) ports m.claim.net (leb-true m.claim.net most e) other none) entered
+claimed_lies w ports m false e there other none entered =
+    each_claimed (LiesThere w.relay.format (device_network w.device) ports) w.rules w.relay w.device m
+    (λ ask is small. absurd (too_great m.claim.net (key_of m.claim.mac) ask e is small)) entered
 
-whence : (w : State) (ports : List ConfiguredPort) (m : Message) → IsHeard w.relay.links (device_network w.device) (InPorts 1 ports) m
-    → ((n : ℕ) → list_any (λ link. link.port.network == n) w.relay.links ≡ false → AllByRecursion (λ p. n ≢ p.network) ports)
-    → Whence w ports m
-whence w ports m heard none = elim heard.claim [
-  | inl is ↦ within is.0 is.1
-  | inr other ↦
-      let parts = or_parts (m.claim.net == device_network w.device) (list_any (λ link. link.port.network == m.claim.net) w.relay.links) other in
-      by (nat_le m.claim.net most) refl (eqb-false m.claim.net (device_network w.device) parts.0) (none m.claim.net parts.1)
-]
+-- no link is of a network, so no port is
+abbrev Apart : State → List ConfiguredPort → Type 0
+Apart w ports = (n : ℕ) → list_any (λ link. link.port.network == n) w.relay.links ≡ false → AllByRecursion (λ p. n ≢ p.network) ports
+
+-- a message that names no source speaks for nobody else
+silent_claim : (relay : Relay) (m : Message) → m.npdu.source ≡ None → speaks_for_others relay m ≡ true → ⊥
+silent_claim relay m is e = by (names_stations relay.format) m.npdu.source is e
   where
-    by : (b : Bool) → nat_le m.claim.net most ≡ b → m.claim.net ≢ device_network w.device → AllByRecursion (λ p. m.claim.net ≢ p.network) ports
-        → Whence w ports m
-    by true e apart none = beyond (in_gap (device_network w.device) ports m.claim.net (leb-true m.claim.net most e) apart none)
-    by false e apart none = nowhere e
+    by : (names : Bool) (source : Option Address) → source ≡ None
+        → (names && option_map_or (λ s. not (comes_by_route relay m s)) source false) ≡ true → ⊥
+    by true None is e = absurd cc
+    by false None is e = absurd cc
+    by names (Some s) is e = absurd cc
+
+speaker_names : (relay : Relay) (m : Message) → speaks_for_others relay m ≡ true → names_stations relay.format ≡ true
+speaker_names relay m e = by (names_stations relay.format) _ e
+  where
+    by : (names rest : Bool) → (names && rest) ≡ true → names ≡ true
+    by true rest e = refl
+    by false rest e = absurd cc
+
+entry_lies : (w : State) (ports : List ConfiguredPort) (m : Message)
+    → IsHeard w.relay.links (device_network w.device) (InPorts 1 ports) m → Apart w ports
+    → AllByRecursion (LiesThere w.relay.format (device_network w.device) ports) (entry_asks w.rules w.relay m)
+entry_lies w ports m heard apart =
+    let format = w.relay.format in
+    let device = device_network w.device in
+    each_entry (LiesThere format device ports) w.rules w.relay m (λ e. entering_lies format device ports m heard.port e)
+    (λ e. elim heard.claim [
+      | inl none ↦ absurd (silent_claim w.relay m none.0 e)
+      | inr other ↦
+          let parts = or_parts (m.claim.net == device) (list_any (λ link. link.port.network == m.claim.net) w.relay.links) other in
+          claiming_lies format device ports m heard.port (speaker_names w.relay m e) (eqb-false m.claim.net device parts.0)
+          (apart m.claim.net parts.1)
+    ])
 
 received_lies : (w : State) (ports : List ConfiguredPort) (received : Received)
-    → Heard w.relay.links (device_network w.device) (InPorts 1 ports) received
-    → ((n : ℕ) → list_any (λ link. link.port.network == n) w.relay.links ≡ false → AllByRecursion (λ p. n ≢ p.network) ports)
+    → Heard w.relay.links (device_network w.device) (InPorts 1 ports) received → Apart w ports
     → AllByRecursion (LiesThere w.relay.format (device_network w.device) ports) (asks_for w.rules w.relay w.device received)
-received_lies w ports dropped heard none = tt
-received_lies w ports (unregistered m) heard none = tt
-received_lies w ports (managed on sender frame) heard none =
+received_lies w ports dropped heard apart = tt
+received_lies w ports (unregistered m) heard apart = tt
+received_lies w ports (managed on sender frame) heard apart =
+    let format = w.relay.format in
+    let P = LiesThere format (device_network w.device) ports in
+    let raised = table.link_asks format on.port sender frame in
+    subst (AllByRecursion P) (sym (four_none raised)) (managed_lies format (device_network w.device) ports on.port sender frame heard)
+received_lies w ports (barred m) heard apart =
     let P = LiesThere w.relay.format (device_network w.device) ports in
-    let raised = table.link_asks w.relay.format on.port sender frame in
-    let both = each_both P in
-    both (raised ++ [] ++ [] ++ []) [] (both (raised ++ [] ++ []) [] (both (raised ++ []) [] (both raised []
-    (managed_lies w.relay.format (device_network w.device) ports on.port sender frame heard) tt) tt) tt) tt
-received_lies w ports (barred m) heard none =
-    each_barred (LiesThere w.relay.format (device_network w.device) ports) w.rules w.relay w.device m
-    (entry_there w ports m heard.port (whence w ports m heard none))
-received_lies w ports (message m) heard none = message_there w ports m heard.port (whence w ports m heard none)
+    subst (AllByRecursion P) (sym (four_none (entry_asks w.rules w.relay m))) (entry_lies w ports m heard apart)
+received_lies w ports (message m) heard apart = elim heard.claim [
+  | inl is ↦ own_lies w ports m heard.port is.1 (entry_lies w ports m heard apart)
+  | inr other ↦
+      let parts = or_parts (m.claim.net == device_network w.device) (list_any (λ link. link.port.network == m.claim.net) w.relay.links) other in
+      claimed_lies w ports m (nat_le m.claim.net most) refl heard.port (eqb-false m.claim.net (device_network w.device) parts.0)
+      (apart m.claim.net parts.1) (entry_lies w ports m heard apart)
+]
 
 -- ---- the laws
 

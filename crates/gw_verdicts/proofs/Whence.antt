@@ -28,7 +28,7 @@ use Rattle.gw_rules.specs.Range.{holds}
 use Rattle.gw_rules.specs.declared.rule.Rule.{Rule}
 use Rattle.gw_rules.proofs.EachAsk.{each_weaker}
 use Rattle.gw_script.specs.Event.{Event, Datagram, Tick}
-use Rattle.gw_core.specs.Receive.{Received, admit, barred, claims_direct, comes_in, dropped, is_direct, managed, manages, message, npdu_of, payload_of, receive, receive_datagram, receive_frame, receive_npdu, receive_on, receive_payload, unregistered}
+use Rattle.gw_core.specs.Receive.{Received, admit, barred, claims_direct, comes_in, dropped, is_direct, managed, manages, message, npdu_of, payload_of, receive, receive_datagram, receive_frame, receive_npdu, receive_on, unregistered}
 use Rattle.gw_core.specs.State.{State, device_network}
 use Rattle.gw_shapes.specs.Pieces.{above, below, most}
 use Rattle.gw_shapes.specs.Shape.{IsWithin}
@@ -134,7 +134,7 @@ in_gap device ports n small other none =
 
 -- ---- what is received
 
--- of one of the ports, and from its network and of no source, or from none of the direct ones
+-- of one of the ports; and from its network if it names no source, else from none of the direct ones
 pub record IsHeard (links : List PortState) (device : ℕ) (Is : Port → Type 0) (m : Message) : Type 0 where
   pub port : Is m.here.port
   pub claim : ((m.npdu.source ≡ None) × (m.claim.net ≡ m.here.port.network)) ⊎ (is_direct links device m.claim.net ≡ false)
@@ -195,25 +195,20 @@ heard_npdu links device Is on from frame octets is = by (npdu_of links device oc
           claim = claim_by links device on from frame npdu npdu.source refl (none npdu refl);
         })
 
-heard_payload : (links : List PortState) (device : ℕ) (Is : Port → Type 0) (on : PortState) (from : BipAddr) (frame : Frame) → Is on.port
-    → Heard links device Is (receive_payload links device on from frame)
-heard_payload links device Is on from frame is = by (accepts on from frame) (payload_of frame)
-  where
-    by : (heard : Bool) (payload : Option (List ℕ)) → Heard links device Is (if not heard then dropped else (elim payload [
-      | Some octets ↦ receive_npdu links device on from frame octets
-      | None ↦ dropped
-    ]))
-    by false payload = tt
-    by true None = tt
-    by true (Some octets) = heard_npdu links device Is on from frame octets is
-
 heard_frame : (links : List PortState) (device : ℕ) (Is : Port → Type 0) (on : PortState) (from : BipAddr) (frame : Frame) → Is on.port
     → Heard links device Is (receive_frame links device on from frame)
-heard_frame links device Is on from frame is = by (manages frame)
+heard_frame links device Is on from frame is = by (manages frame) (accepts on from frame) (payload_of frame)
   where
-    by : (manages : Bool) → Heard links device Is (if manages then managed on from frame else receive_payload links device on from frame)
-    by true = is
-    by false = heard_payload links device Is on from frame is
+    by : (manages heard : Bool) (payload : Option (List ℕ)) → Heard links device Is (if manages then managed on from frame
+        else if not heard then dropped
+        else (elim payload [
+          | Some octets ↦ receive_npdu links device on from frame octets
+          | None ↦ dropped
+        ]))
+    by true heard payload = is
+    by false false payload = tt
+    by false true None = tt
+    by false true (Some octets) = heard_npdu links device Is on from frame octets is
 
 heard_datagram : (links : List PortState) (device : ℕ) (Is : Port → Type 0) (on : PortState) (from : BipAddr) (octets : List ℕ) → Is on.port
     → Heard links device Is (receive_datagram links device on from octets)
@@ -251,21 +246,22 @@ heard_on links device Is number from octets each =
     by None is = tt
     by (Some on) is = heard_datagram links device Is on from octets (is on refl)
 
-heard_admitted : (rules : List Rule) (relay : Relay) (device : ℕ) (Is : Port → Type 0) (received : Received)
-    → Heard relay.links device Is received → Heard relay.links device Is (admit rules relay received)
-heard_admitted rules relay device Is dropped heard = tt
-heard_admitted rules relay device Is (managed on from frame) heard = heard
-heard_admitted rules relay device Is (unregistered m) heard = tt
-heard_admitted rules relay device Is (barred m) heard = heard
-heard_admitted rules relay device Is (message m) heard = by (admits rules relay m)
+heard_admitted : (rules : List Rule) (relay : Relay) (links : List PortState) (device : ℕ) (Is : Port → Type 0) (received : Received)
+    → Heard links device Is received → Heard links device Is (admit rules relay received)
+heard_admitted rules relay links device Is dropped is = tt
+heard_admitted rules relay links device Is (managed on from frame) is = is
+heard_admitted rules relay links device Is (unregistered m) is = tt
+heard_admitted rules relay links device Is (barred m) is = is
+heard_admitted rules relay links device Is (message m) is = by (admits rules relay m)
   where
-    by : (b : Bool) → Heard relay.links device Is (if b then message m else barred m)
-    by true = heard
-    by false = heard
+    by : (b : Bool) → Heard links device Is (if b then message m else barred m)
+    by true = is
+    by false = is
 
 pub heard_at : (w : State) (Is : Port → Type 0) (e : Event) → AllByRecursion (λ link. Is link.port) w.relay.links
     → Heard w.relay.links (device_network w.device) Is (receive w e)
 unfolding receive
 heard_at w Is (Datagram port from octets) each =
-    heard_admitted w.rules w.relay (device_network w.device) Is _ (heard_on w.relay.links (device_network w.device) Is port from octets each)
+    heard_admitted w.rules w.relay w.relay.links (device_network w.device) Is _
+    (heard_on w.relay.links (device_network w.device) Is port from octets each)
 heard_at w Is Tick each = tt

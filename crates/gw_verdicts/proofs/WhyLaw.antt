@@ -1,5 +1,5 @@
 -- A line of the log tells which rule denied it.
-use Rattle.std.proofs.Common.{◌≡◌, ◌∙◌, ◌⊎◌, inl, inr, sym, ap, refl, ℕ, ◌+◌, ◌-◌, ◌≤◌, Bool, true, false, List, [], ◌∷◌, ◌++◌, length, Option, Some, None, Result, Ok, Err, arith, length-append}
+use Rattle.std.proofs.Common.{◌≡◌, ◌∙◌, ◌⊎◌, inl, inr, sym, ap, refl, subst, ℕ, ◌+◌, ◌-◌, ◌≤◌, Bool, true, false, List, [], ◌∷◌, ◌++◌, length, Option, Some, None, Result, Ok, Err, arith, length-append}
 use Rattle.std.specs.Prelude.{◌==◌, not, if◌then◌else◌, slice_get, codes, filter, map}
 use Rattle.std.specs.Int.{w16, to_be_bytes}
 use Rattle.std.specs.List.{AllByRecursion}
@@ -12,7 +12,6 @@ use Rattle.gw_audit.specs.Entry.{IsLineOf, IsShowable, TellsAsk, ask_shown, show
 use Rattle.gw_audit.specs.declared.denial.Denial.{Denial}
 use Rattle.gw_audit.specs.declared.entry.ShownAsk.{ShownAsk}
 use Rattle.gw_audit.specs.declared.entry.Stations.{Stations}
-use Rattle.gw_audit.specs.Line.{stations_of}
 use Rattle.gw_audit.specs.internal.Reading.{told_by}
 use Rattle.gw_audit.proofs.TellingLemmas.{line_again, shown_again, told_again}
 use Rattle.gw_bvll.specs.declared.fault.BvllFault.{BvllFault}
@@ -21,42 +20,42 @@ use Rattle.gw_bvll.specs.Bvll as bvll
 use Rattle.gw_bvll.specs.Reading.{bvll_at}
 use Rattle.gw_npdu.specs.Npdu.{Fields}
 use Rattle.gw_objects.specs.Objects.{Database}
+use Rattle.gw_rules.specs.declared.format.Format.{Format}
 use Rattle.gw_relay.specs.Cast.{accepts, is_unregistered}
+use Rattle.gw_relay.specs.Entry.{admits, entry_asks}
 use Rattle.gw_relay.specs.Asks as table
-use Rattle.gw_relay.specs.Asks.{bound_for, passing_ask, sender_of, station_key, station_of}
-use Rattle.gw_relay.specs.Entry.{admits, claim_ask, enter_ask, entry_asks, is_stranger, speaks_for_others}
 use Rattle.gw_relay.specs.Message.{Message, message_of}
 use Rattle.gw_relay.specs.State.{Relay, link_at}
 use Rattle.gw_relay.specs.declared.port.PortState.{PortState}
 use Rattle.gw_rules.specs.Ask.{Ask}
-use Rattle.gw_rules.specs.Authorizer.{denied_of, refusal}
-use Rattle.gw_rules.specs.RuleList.{allows, first}
-use Rattle.gw_rules.specs.declared.format.Format.{Format}
-use Rattle.gw_rules.specs.declared.format.Format.TheVariants.{One, Two, Three}
+use Rattle.gw_rules.specs.Format.{names_stations}
 use Rattle.gw_rules.specs.declared.operation.Operation.{Operation}
 use Rattle.gw_rules.specs.declared.operation.Operation.TheVariants as operations
+use Rattle.gw_rules.specs.Authorizer.{denied_of, refusal}
+use Rattle.gw_rules.specs.RuleList.{allows, first}
 use Rattle.gw_rules.specs.declared.refusal.Refusal.{Refusal}
 use Rattle.gw_rules.specs.declared.rule.Rule.{Rule}
-use Rattle.gw_rules.proofs.EachAsk.{each_both, each_weaker}
+use Rattle.gw_rules.proofs.EachAsk.{each_weaker}
 use Rattle.gw_rules.proofs.First.{first_iff}
 use Rattle.gw_script.specs.Event.{Event, Datagram, Tick}
 use Rattle.gw_core.specs.Asks.{apdu_asks, asks_for}
 use Rattle.gw_core.specs.Denials.{default_name, denials_at, denials_for, denials_from, name_at, rule_name}
 use Rattle.gw_core.specs.Effects.{effects_at}
 use Rattle.gw_core.specs.History.{state_after}
-use Rattle.gw_core.specs.Receive.{Origin, Received, admit, barred, comes_in, dropped, managed, manages, message, message_origin, node_origin, npdu_of, payload_of, receive, receive_datagram, receive_frame, receive_npdu, receive_on, receive_payload, source_of, unregistered}
+use Rattle.gw_core.specs.Receive.{Origin, Received, admit, barred, comes_in, dropped, managed, manages, message, message_origin, node_origin, npdu_of, payload_of, receive, receive_datagram, receive_frame, receive_npdu, receive_on, source_of, unregistered}
 use Rattle.gw_core.specs.Reply.{apdu_for, context_of}
 use Rattle.gw_core.specs.State.{State, device_network}
 use Rattle.gw_verdicts.specs.Laws.{IsSent, NamesTheRule, WhyNamesTheRule, denied_by}
 use Rattle.gw_core.specs.Explained.{by_text}
 use Rattle.gw_verdicts.specs.Why.{answer, answer_to}
 use Rattle.gw_verdicts.proofs.DeviceAsks.{DeviceCases, each_device}
+use Rattle.gw_verdicts.proofs.Parts.{each_entry, each_part}
 use Rattle.gw_verdicts.proofs.RelayAsks.{CastCases, NamedCases, NetworkCases, RouteCases, each_cast, each_network, each_route}
-use Rattle.gw_verdicts.proofs.Raised.{each_barred, each_entry, each_part}
+use Rattle.gw_core.proofs.RespondLemmas.{four_none}
 
 -- ---- the origin of an ask
 
--- an ask has the port and the source of what it comes from, and names a station only if it has a sender
+-- an ask has the port and the source of what it comes from, and a station only with a sender
 record Carries (from : Origin) (ask : Ask) : Type 0 where
   port : ask.port ≡ Some from.port
   network : ask.source_network ≡ Some (source_of from ask).net
@@ -69,25 +68,30 @@ six a is = omega (arith, length-append a.ip (to_be_bytes w16 a.udp), is.four)
 key_is : (a : BipAddr) → IsAddress a → Some (big_endian (octets_of a)) ≡ key_of (octets_of a)
 key_is a is = rw (eq-eqb (length (octets_of a)) 6 (six a is)) refl
 
--- an ask of a message has its station under the format alone that has its sender
-stationed : (format : Format) (m : Message) → sender_of format m.from ≡ None → station_of format m.npdu ≡ None
-stationed One m none = refl
-stationed Two m none = refl
-stationed Three m none = absurd cc
+-- without a sender there is no station
+absent_too : (b : Bool) (key : ℕ) (value : Option ℕ) → (if b then Some key else None) ≡ None → (if b then value else None) ≡ None
+absent_too true key value e = absurd cc
+absent_too false key value e = refl
 
-deleted : (format : Format) (from address : BipAddr) → sender_of format from ≡ None → station_key format address ≡ None
-deleted One from address none = refl
-deleted Two from address none = refl
-deleted Three from address none = absurd cc
+no_station : (format : Format) (from : BipAddr) (value : Option ℕ) → table.sender_of format from ≡ None
+    → (if names_stations format then value else None) ≡ None
+no_station format from value e = absent_too (names_stations format) (big_endian (octets_of from)) value e
 
 by_link : (format : Format) (on : PortState) (sender : BipAddr) (frame : Frame) → IsAddress sender
     → AllByRecursion (Carries (node_origin on sender)) (table.link_asks format on.port sender frame)
-by_link format on sender (bvll.write_bdt entries) is = (record { port = refl; network = refl; key = key_is sender is; station = λ none. refl }, tt)
-by_link format on sender bvll.read_bdt is = (record { port = refl; network = refl; key = key_is sender is; station = λ none. refl }, tt)
-by_link format on sender (bvll.register time_to_live) is = (record { port = refl; network = refl; key = key_is sender is; station = λ none. refl }, tt)
-by_link format on sender bvll.read_fdt is = (record { port = refl; network = refl; key = key_is sender is; station = λ none. refl }, tt)
-by_link format on sender (bvll.delete address) is =
-    (record { port = refl; network = refl; key = key_is sender is; station = deleted format sender address }, tt)
+by_link format on sender (bvll.write_bdt entries) is = (record { port = refl; network = refl; key = key_is sender is; station = λ e. refl }, tt)
+by_link format on sender bvll.read_bdt is = (record { port = refl; network = refl; key = key_is sender is; station = λ e. refl }, tt)
+by_link format on sender (bvll.register time_to_live) is = (record { port = refl; network = refl; key = key_is sender is; station = λ e. refl }, tt)
+by_link format on sender bvll.read_fdt is = (record { port = refl; network = refl; key = key_is sender is; station = λ e. refl }, tt)
+by_link format on sender (bvll.delete address) is = (
+  record {
+    port = refl;
+    network = refl;
+    key = key_is sender is;
+    station = λ e. no_station format sender (Some (big_endian (octets_of address))) e;
+  },
+  tt,
+)
 by_link format on sender (bvll.result_code code) is = tt
 by_link format on sender (bvll.read_bdt_ack entries) is = tt
 by_link format on sender (bvll.forwarded originator npdu) is = tt
@@ -101,38 +105,39 @@ so m = Carries (message_origin m)
 
 network_so : (format : Format) (m : Message) → NetworkCases (so m) format m
 network_so format m = record {
-  learn = λ is network. record { port = refl; network = refl; key = refl; station = λ none. refl };
-  question = λ is network. record { port = refl; network = refl; key = refl; station = λ none. refl };
-  number = λ is. record { port = refl; network = refl; key = refl; station = λ none. refl };
+  learn = λ is network. record { port = refl; network = refl; key = refl; station = λ e. refl };
+  question = λ is network. record { port = refl; network = refl; key = refl; station = λ e. refl };
+  number = λ is. record { port = refl; network = refl; key = refl; station = λ e. refl };
 }
 
-named_so : (format : Format) (m : Message) (operation : Operation) (to : Option ℕ) → NamedCases (so m) (passing_ask format operation m to)
-named_so format m operation to = record {
-  unnamed_read = λ service is low high. record { port = refl; network = refl; key = refl; station = stationed format m };
-  named_read = λ service is low high object p. record { port = refl; network = refl; key = refl; station = stationed format m };
-  unnamed_write = λ is. record { port = refl; network = refl; key = refl; station = stationed format m };
-  named_write = λ is object p priority. record { port = refl; network = refl; key = refl; station = stationed format m };
+named_so : (format : Format) (m : Message) (operation : Operation) (network : Option ℕ)
+    → NamedCases (so m) (table.passing_ask format operation m network)
+named_so format m operation network = record {
+  unnamed_read = λ service is low high. record { port = refl; network = refl; key = refl; station = no_station format m.from _ };
+  named_read = λ service is low high object p. record { port = refl; network = refl; key = refl; station = no_station format m.from _ };
+  unnamed_write = λ is. record { port = refl; network = refl; key = refl; station = no_station format m.from _ };
+  named_write = λ is object p priority. record { port = refl; network = refl; key = refl; station = no_station format m.from _ };
 }
 
 cast_so : (format : Format) (m : Message) → CastCases (so m) format m
 cast_so format m = record {
-  cast = record { port = refl; network = refl; key = refl; station = stationed format m };
-  behind = λ e. named_so format m operations.Cast (bound_for m.npdu);
+  cast = record { port = refl; network = refl; key = refl; station = no_station format m.from _ };
+  follows = λ e. named_so format m operations.Cast (table.bound_for m.npdu);
 }
 
 route_so : (format : Format) (m : Message) → RouteCases (so m) format m
 route_so format m = record {
-  route = λ network. record { port = refl; network = refl; key = refl; station = stationed format m };
-  behind = λ network judged. named_so format m operations.Route (Some network);
+  route = λ network. record { port = refl; network = refl; key = refl; station = no_station format m.from _ };
+  follows = λ network judges. named_so format m operations.Route (Some network);
 }
 
 device_so : (format : Format) (d : Database) (m : Message) → DeviceCases (so m) d (context_of format (device_network d) m)
 device_so format d m = record {
-  read = λ object p. record { port = refl; network = refl; key = refl; station = λ none. refl };
-  multi = λ object p. record { port = refl; network = refl; key = refl; station = λ none. refl };
-  write = λ object p priority. record { port = refl; network = refl; key = refl; station = λ none. refl };
-  who_is = λ object p. record { port = refl; network = refl; key = refl; station = λ none. refl };
-  who_has = λ object p. record { port = refl; network = refl; key = refl; station = λ none. refl };
+  read = λ object p. record { port = refl; network = refl; key = refl; station = λ e. refl };
+  multi = λ object p. record { port = refl; network = refl; key = refl; station = λ e. refl };
+  write = λ object p priority. record { port = refl; network = refl; key = refl; station = λ e. refl };
+  who_is = λ object p. record { port = refl; network = refl; key = refl; station = λ e. refl };
+  who_has = λ object p. record { port = refl; network = refl; key = refl; station = λ e. refl };
 }
 
 apdu_so : (rules : List Rule) (format : Format) (d : Database) (m : Message) (apdu : Option (List ℕ))
@@ -141,23 +146,18 @@ apdu_so rules format d m None = tt
 apdu_so rules format d m (Some octets) =
     each_device (so m) rules d (context_of format (device_network d) m) octets (device_so format d m)
 
--- an ask that may be raised
-one_so : (m : Message) (b : Bool) (ask : Ask) → so m ask → AllByRecursion (so m) (if b then ask ∷ [] else [])
-one_so m true ask is = (is, tt)
-one_so m false ask is = tt
-
+-- an ask to enter is of the link source
 entry_so : (rules : List Rule) (relay : Relay) (m : Message) → AllByRecursion (so m) (entry_asks rules relay m)
 entry_so rules relay m =
-    each_entry (so m) rules relay m
-    (one_so m (is_stranger relay.format m) (enter_ask relay.format m) (record { port = refl; network = refl; key = refl; station = λ none. refl }))
-    (one_so m (speaks_for_others relay m) (claim_ask relay.format m) (record { port = refl; network = refl; key = refl; station = λ none. refl }))
+    each_entry (so m) rules relay m (λ e. record { port = refl; network = refl; key = refl; station = λ e. refl })
+    (λ e. record { port = refl; network = refl; key = refl; station = λ e. refl })
 
 message_so : (rules : List Rule) (relay : Relay) (d : Database) (m : Message) → AllByRecursion (so m) (asks_for rules relay d (message m))
 message_so rules relay d m =
-    let format = relay.format in
-    each_part (so m) rules relay d m (entry_so rules relay m) (each_cast (so m) format m (cast_so format m))
-    (each_route (so m) relay m (route_so format m)) (each_network (so m) relay m (network_so format m))
-    (apdu_so rules format d m (apdu_for (device_network d) m.npdu))
+    let P = so m in
+    each_part P rules relay d m (entry_so rules relay m) (each_cast P relay.format m (cast_so relay.format m))
+    (each_route P relay m (route_so relay.format m)) (each_network P relay m (network_so relay.format m))
+    (apdu_so rules relay.format d m (apdu_for (device_network d) m.npdu))
 
 -- ---- what is received comes from an address
 
@@ -185,25 +185,20 @@ sent_npdu links device on from frame octets = by (npdu_of links device octets)
     by None = tt
     by (Some npdu) = sent_if (is_unregistered on from frame) (message_of on from frame npdu)
 
-sent_payload : (links : List PortState) (device : ℕ) (on : PortState) (from : BipAddr) (frame : Frame)
-    → SentBy (receive_payload links device on from frame)
-sent_payload links device on from frame = by (accepts on from frame) (payload_of frame)
-  where
-    by : (heard : Bool) (payload : Option (List ℕ)) → SentBy (if not heard then dropped else (elim payload [
-      | Some octets ↦ receive_npdu links device on from frame octets
-      | None ↦ dropped
-    ]))
-    by false payload = tt
-    by true None = tt
-    by true (Some octets) = sent_npdu links device on from frame octets
-
 sent_frame : (links : List PortState) (device : ℕ) (on : PortState) (from : BipAddr) (frame : Frame) → IsAddress from
     → SentBy (receive_frame links device on from frame)
-sent_frame links device on from frame is = by (manages frame)
+sent_frame links device on from frame is = by (manages frame) (accepts on from frame) (payload_of frame)
   where
-    by : (manages : Bool) → SentBy (if manages then managed on from frame else receive_payload links device on from frame)
-    by true = is
-    by false = sent_payload links device on from frame
+    by : (manages heard : Bool) (payload : Option (List ℕ)) → SentBy (if manages then managed on from frame
+        else if not heard then dropped
+        else (elim payload [
+          | Some octets ↦ receive_npdu links device on from frame octets
+          | None ↦ dropped
+        ]))
+    by true heard payload = is
+    by false false payload = tt
+    by false true None = tt
+    by false true (Some octets) = sent_npdu links device on from frame octets
 
 sent_datagram : (links : List PortState) (device : ℕ) (on : PortState) (from : BipAddr) (octets : List ℕ) → IsAddress from
     → SentBy (receive_datagram links device on from octets)
@@ -229,11 +224,11 @@ sent_on links device number from octets is = by (link_at links number)
     by (Some on) = sent_datagram links device on from octets is
 
 sent_admitted : (rules : List Rule) (relay : Relay) (received : Received) → SentBy received → SentBy (admit rules relay received)
-sent_admitted rules relay dropped sent = tt
-sent_admitted rules relay (managed on from frame) sent = sent
-sent_admitted rules relay (unregistered m) sent = tt
-sent_admitted rules relay (barred m) sent = tt
-sent_admitted rules relay (message m) sent = by (admits rules relay m)
+sent_admitted rules relay dropped is = tt
+sent_admitted rules relay (managed on from frame) is = is
+sent_admitted rules relay (unregistered m) is = tt
+sent_admitted rules relay (barred m) is = tt
+sent_admitted rules relay (message m) is = by (admits rules relay m)
   where
     by : (b : Bool) → SentBy (if b then message m else barred m)
     by true = tt
@@ -271,33 +266,44 @@ refused_so rules from [] each = tt
 refused_so rules from (ask ∷ asks) each =
     refused_if rules from ask (filter (λ a. not (allows rules a)) asks) (allows rules ask) refl each.0 (refused_so rules from asks each.1)
 
--- the sender and the station of an ask are those of the stations that are shown
-sender_shown : (sender station : Option ℕ) → option_map (λ (s : Stations). s.sender) (option_map (λ n. record { sender = n; station = station }) sender) ≡ sender
-sender_shown None station = refl
-sender_shown (Some n) station = refl
+-- the stations that are shown are those of the ask
+abbrev both : Option ℕ → Option ℕ → Option Stations
+both sender station = option_map (λ n. record { sender = n; station = station }) sender
 
-station_shown : (sender station : Option ℕ) → (sender ≡ None → station ≡ None)
-    → option_and_then (λ (s : Stations). s.station) (option_map (λ n. record { sender = n; station = station }) sender) ≡ station
-station_shown None station none = sym (none refl)
-station_shown (Some n) station none = refl
+sender_again : (sender station : Option ℕ) → option_map (λ (s : Stations). s.sender) (both sender station) ≡ sender
+sender_again None station = refl
+sender_again (Some n) station = refl
+
+station_again : (sender station : Option ℕ) → (sender ≡ None → station ≡ None)
+    → option_and_then (λ (s : Stations). s.station) (both sender station) ≡ station
+station_again None station none = sym (none refl)
+station_again (Some n) station none = refl
 
 -- an ask that carries its origin is the one that is shown
-shown_so : (number tick : ℕ) (from : Origin) (ask : Ask) (rule : List ℕ) → Carries from ask
-    → ask_shown (shown_ask (record { number = number; tick = tick; port = from.port; source = source_of from ask; ask = ask; rule = rule })) ≡ ask
+shown_so : (number tick : ℕ) (from : Origin) (ask : Ask) (rule : List ℕ) → Carries from ask → ask_shown (shown_ask (record {
+  number = number;
+  tick = tick;
+  port = from.port;
+  source = source_of from ask;
+  ask = ask;
+  rule = rule;
+})) ≡ ask
 shown_so number tick from ask rule carries =
     let source = source_of from ask in
-    ap (λ (s : Option ℕ). record (ask) {
-      port = Some from.port;
+    let sender = option_map (λ (s : Stations). s.sender) (both ask.sender ask.station) in
+    let station = option_and_then (λ (s : Stations). s.station) (both ask.sender ask.station) in
+    ap (λ (p : Option ℕ). record (ask) {
+      port = p;
       source_network = Some source.net;
       source_key = key_of source.mac;
-      sender = s;
-      station = option_and_then (λ (x : Stations). x.station) (stations_of ask);
-    }) (sender_shown ask.sender ask.station)
-    ∙ ap (λ (s : Option ℕ). record (ask) { port = Some from.port; source_network = Some source.net; source_key = key_of source.mac; station = s })
-    (station_shown ask.sender ask.station carries.station)
-    ∙ ap (λ (p : Option ℕ). record (ask) { port = p; source_network = Some source.net; source_key = key_of source.mac }) (sym carries.port)
-    ∙ ap (λ (n : Option ℕ). record (ask) { source_network = n; source_key = key_of source.mac }) (sym carries.network)
-    ∙ ap (λ (k : Option ℕ). record (ask) { source_key = k }) (sym carries.key)
+      sender = sender;
+      station = station;
+    }) (sym carries.port)
+    ∙ ap (λ (n : Option ℕ). record (ask) { source_network = n; source_key = key_of source.mac; sender = sender; station = station })
+    (sym carries.network)
+    ∙ ap (λ (k : Option ℕ). record (ask) { source_key = k; sender = sender; station = station }) (sym carries.key)
+    ∙ ap (λ (s : Option ℕ). record (ask) { sender = s; station = station }) (sender_again ask.sender ask.station)
+    ∙ ap (λ (s : Option ℕ). record (ask) { station = s }) (station_again ask.sender ask.station carries.station)
 
 denials_so : (rules : List Rule) (number tick : ℕ) (from : Origin) (refusals : List Refusal) → AllByRecursion (IsRefusedSo rules from) refusals
     → AllByRecursion (IsDeniedSo rules) (denials_from rules number tick from refusals)
@@ -311,25 +317,25 @@ denials_so rules number tick from (r ∷ rs) each = (
   denials_so rules (number + 1) tick from rs each.1,
 )
 
-asked_so : (w : State) (from : Origin) (received : Received) → AllByRecursion (Carries from) (asks_for w.rules w.relay w.device received)
+-- its denials are of asks that carry their origin
+origin_so : (w : State) (received : Received) (from : Origin) → AllByRecursion (Carries from) (asks_for w.rules w.relay w.device received)
     → AllByRecursion (IsDeniedSo w.rules)
     (denials_from w.rules (w.denials + 1) w.ticks from (denied_of w.rules (asks_for w.rules w.relay w.device received)))
-asked_so w from received each =
+origin_so w received from each =
     denials_so w.rules (w.denials + 1) w.ticks from (denied_of w.rules (asks_for w.rules w.relay w.device received))
     (refused_so w.rules from (asks_for w.rules w.relay w.device received) each)
 
 received_so : (w : State) (received : Received) → SentBy received → AllByRecursion (IsDeniedSo w.rules) (denials_for w received)
 received_so w dropped sent = tt
 received_so w (managed on from frame) sent =
-    let raised = table.link_asks w.relay.format on.port from frame in
-    let both = each_both (Carries (node_origin on from)) in
-    asked_so w (node_origin on from) (managed on from frame)
-    (both (raised ++ [] ++ [] ++ []) [] (both (raised ++ [] ++ []) [] (both (raised ++ []) [] (both raised []
-    (by_link w.relay.format on from frame sent) tt) tt) tt) tt)
+    let P = Carries (node_origin on from) in
+    origin_so w (managed on from frame) (node_origin on from)
+    (subst (AllByRecursion P) (sym (four_none (table.link_asks w.relay.format on.port from frame))) (by_link w.relay.format on from frame sent))
 received_so w (unregistered m) sent = tt
 received_so w (barred m) sent =
-    asked_so w (message_origin m) (barred m) (each_barred (so m) w.rules w.relay w.device m (entry_so w.rules w.relay m))
-received_so w (message m) sent = asked_so w (message_origin m) (message m) (message_so w.rules w.relay w.device m)
+    origin_so w (barred m) (message_origin m)
+    (subst (AllByRecursion (so m)) (sym (four_none (entry_asks w.rules w.relay m))) (entry_so w.rules w.relay m))
+received_so w (message m) sent = origin_so w (message m) (message_origin m) (message_so w.rules w.relay w.device m)
 
 denied_so : (w : State) (e : Event) → IsSent e → AllByRecursion (IsDeniedSo w.rules) (effects_at w e).denials
 unfolding effects_at denials_at
