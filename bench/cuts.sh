@@ -3,6 +3,7 @@
 # and sees that the gateway answers as another one does.
 #
 #     YARDSTICK=PROGRAM bench/cuts.sh      # another gateway's `replay --config FILE`
+#     CONFIG=FILE bench/cuts.sh            # those of the cases under this policy too
 #
 # Without a yardstick it sees that each is taken, and that nothing is answered to a datagram whose length field isn't its length.
 #
@@ -13,14 +14,14 @@ top=$(cd "$(dirname "$0")/.." && pwd)
 program=${BACGW:-$top/crates/bacgw/out/bacgw}
 [ -x "$program" ] || { echo "build bacgw first: ./bacgw prove" >&2; exit 1; }
 
-exec python3 - "$top" "$program" "${YARDSTICK:-}" <<'PYTHON'
+exec python3 - "$top" "$program" "${YARDSTICK:-}" "${CONFIG:-}" <<'PYTHON'
 import re
 import subprocess
 import sys
 import tempfile
 from pathlib import Path
 
-top, program, yardstick = Path(sys.argv[1]), sys.argv[2], sys.argv[3]
+top, program, yardstick, policy = Path(sys.argv[1]), sys.argv[2], sys.argv[3], sys.argv[4]
 LINE = re.compile(r"^([12]) (\d+\.\d+\.\d+\.\d+:\d+) ([0-9A-Fa-f]+)$")
 SHORTEST_HEADER = 4
 
@@ -30,7 +31,10 @@ def worked():
     for path in sorted(top.glob("examples/*.script")):
         config = path.with_suffix(".toml")
         yield config.read_text() if config.exists() else None, path.read_text().splitlines()
-    yield None, [line for path in sorted(top.glob("crates/gw_*_vectors/stdin")) for line in path.read_text().splitlines()]
+    of_cases = [line for path in sorted(top.glob("crates/gw_*_vectors/stdin")) for line in path.read_text().splitlines()]
+    yield None, of_cases
+    if policy:
+        yield Path(policy).read_text(), of_cases
 
 
 def with_length(octets):

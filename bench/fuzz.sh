@@ -5,6 +5,7 @@
 #     bench/fuzz.sh [DATAGRAMS [SEED]]        # a million datagrams, seed 1, unless told otherwise
 #     YARDSTICK=PROGRAM bench/fuzz.sh         # compares with another gateway's `replay --config FILE` in the place of the trial
 #     FORMAT=2 bench/fuzz.sh                  # under the second format of the policy
+#     FORMAT=3 bench/fuzz.sh                  # under the third: with stations, forged claims and strangers
 #
 # A datagram is cut, lengthened, spliced with another, or gets other bits, octets or repeated parts; two in three get the length of
 # their BVLL put right, and every fourth comes as it is worked. They come in scripts of a thousand, or of so many that the output is
@@ -42,6 +43,7 @@ OWN_KINDS = [
     *(f"sent broadcast network message {kind}" for kind in ["00", "01", "13"]),
     *(f"denied {operation}" for operation in [
         "read", "write", "list", "route", "cast", "network", "learn", "register", "delete", "read-table", "write-table"]),
+    *(f"denied {operation}" for operation in (["enter", "claim"] if format == "3" else [])),
 ]
 LINE = re.compile(r"^([12]) (\d+\.\d+\.\d+\.\d+:\d+) ([0-9A-Fa-f]+)$")
 
@@ -54,7 +56,33 @@ worked = sorted({
 })
 # One that may nothing, so that each operation is denied too.
 STRANGER = "192.168.1.66:47808"
-STATIONS = sorted({address for _, address, _ in worked})
+# Two that belong to no port of the third format: the first one may enter there, the second one mayn't.
+OUTSIDERS = ["172.16.0.9:47808", "203.0.113.9:47808"]
+STATIONS = sorted({address for _, address, _ in worked}) + (OUTSIDERS if format == "3" else [])
+# What the third format says of who is who: the stations of each port, who else may enter, and which claims are taken.
+OF_PORT = {port: f'stations = ["192.168.{port}.0/24"]\n' if format == "3" else "" for port in (1, 2)}
+OF_ENTRY = f"""[[rule]]
+name = "outsider"
+allow = false
+operation = ["enter"]
+sender = ["{OUTSIDERS[1]}", "192.168.0.0/16"]
+[[rule]]
+name = "forger"
+allow = false
+operation = ["claim"]
+port = [2]
+[[rule]]
+name = "elsewhere"
+allow = false
+operation = ["route", "cast"]
+station = ["10.0.0.0/8", "192.168.2.99"]
+[[rule]]
+name = "no-write-spreads"
+allow = false
+operation = ["write"]
+destination = [[0, 99], [101, 65535]]
+sender = ["192.168.2.0/24"]
+""" if format == "3" else ""
 # The objects that the worked datagrams name, two hidden from all.
 CONFIGURATION = f"""format = {format}
 [device]
@@ -72,7 +100,7 @@ database = 1
 network = 1
 address = "192.168.1.10:47808"
 broadcast = "192.168.1.255:47808"
-[[port.peer]]
+{OF_PORT[1]}[[port.peer]]
 address = "192.168.1.10:47808"
 mask = "255.255.255.255"
 [[port.peer]]
@@ -82,7 +110,7 @@ mask = "255.255.255.255"
 network = 2
 address = "192.168.2.10:47808"
 broadcast = "192.168.2.255:47808"
-[[route]]
+{OF_PORT[2]}[[route]]
 network = 300
 port = 2
 next = "192.168.2.20:47808"
@@ -129,7 +157,7 @@ allow = false
 operation = ["read", "write", "list"]
 object_type = [5]
 instance = [[2, 9]]
-[[rule]]
+{OF_ENTRY}[[rule]]
 name = "all"
 allow = true
 """

@@ -3,6 +3,7 @@
 # datagrams, and compares what the events that both have do, but for the numbers of denials.
 #
 #     bench/leaks.sh [PAIRS [SEED]]      # 1200 pairs, seed 1, unless told otherwise
+#     FORMAT=3 bench/leaks.sh            # under the third format of the policy: with stations, strangers and forged claims
 #
 # A third of the pairs leaves out writes of an object that the policy hides from some sources, and compares the events of those
 # sources (hidden); a third leaves out writes of an object, and compares every event but the reads of it that are allowed (unread);
@@ -14,10 +15,10 @@
 set -euo pipefail
 
 top=$(cd "$(dirname "$0")/.." && pwd)
-program=$top/crates/bacgw/out/bacgw
+program=${BACGW:-$top/crates/bacgw/out/bacgw}
 [ -x "$program" ] || { echo "build bacgw first: ./bacgw prove" >&2; exit 1; }
 
-exec python3 - "$program" "${1:-1200}" "${2:-1}" <<'PYTHON'
+exec python3 - "$program" "${1:-1200}" "${2:-1}" "${FORMAT:-1}" <<'PYTHON'
 import random
 import re
 import subprocess
@@ -25,7 +26,7 @@ import sys
 import tempfile
 from dataclasses import dataclass
 
-program, pairs, seed = sys.argv[1], int(sys.argv[2]), int(sys.argv[3])
+program, pairs, seed, format = sys.argv[1], int(sys.argv[2]), int(sys.argv[3]), sys.argv[4]
 chance = random.Random(seed)
 
 DEVICE_NETWORK = 100
@@ -47,10 +48,11 @@ class Station:
     host: int
     net: int = 0
     mac: str = ""
+    subnet: str = ""
 
     @property
     def address(self):
-        return f"192.168.{self.port}.{self.host}:47808"
+        return f"{self.subnet or f'192.168.{self.port}'}.{self.host}:47808"
 
     @property
     def network(self):
@@ -58,7 +60,7 @@ class Station:
 
     @property
     def octets(self):
-        return self.mac if self.net else f"C0A8{self.port:02X}{self.host:02X}BAC0"
+        return self.mac if self.net else bytes(map(int, self.address.split(":")[0].split("."))).hex().upper() + "BAC0"
 
     @property
     def key(self):
@@ -71,6 +73,8 @@ class Station:
 
 STATIONS = [Station(1, 5), Station(1, 6), Station(2, 5), Station(2, 7), Station(1, 20, 500, "07"),
             Station(1, 20, 500, "C0A80909BAC0"), Station(2, 21, 501, "0809")]
+# Strangers, one that speaks for a network too, and one that speaks for a network whose router is another.
+STATIONS += [Station(1, 9, subnet="172.16.0"), Station(2, 9, 500, "07", "172.16.0"), Station(2, 7, 300, "05")] if format == "3" else []
 
 
 @dataclass
@@ -124,7 +128,7 @@ def write(station, kind, instance, values):
 
 
 def other(station):
-    near = Station(station.port, station.host)
+    near = Station(station.port, station.host, subnet=station.subnet)
     return chance.choice([
         lambda: event(near, 0x05, f"{chance.randint(0, 60):04X}", operation="register"),
         lambda: event(near, 0x08, chance.choice(STATIONS[:4]).octets, operation="delete"),
@@ -164,10 +168,11 @@ def rule(name, allow, **fields):
 
 
 def configuration(rules):
-    text = (f'format = 1\n[device]\nnetwork = {DEVICE_NETWORK}\ninstance = 1234\nname = "gw"\nvendor = 999\nvendor_name = "Example"\n'
+    text = (f'format = {format}\n[device]\nnetwork = {DEVICE_NETWORK}\ninstance = 1234\nname = "gw"\nvendor = 999\nvendor_name = "Example"\n'
             'model = "gw-1"\nfirmware = "1"\nsoftware = "1"\nrevision = 12\ndatabase = 1\n')
     for port in (1, 2):
         text += f'[[port]]\nnetwork = {port}\naddress = "192.168.{port}.10:47808"\nbroadcast = "192.168.{port}.255:47808"\n'
+        text += f'stations = ["192.168.{port}.0/24"]\n' if format == "3" else ""
     text += '[[route]]\nnetwork = 300\nport = 2\nnext = "192.168.2.20:47808"\n'
     for number, (kind, instance, lines, _) in enumerate(OBJECTS):
         text += f'[[object]]\ntype = {kind}\ninstance = {instance}\nname = "o{number}"\n{lines}\n'
@@ -177,6 +182,11 @@ def configuration(rules):
 def some_rules():
     """Rules that deny this and that, in front of one that allows all."""
     rules = []
+    if format == "3":
+        operations = chance.choice(['["enter"]', '["claim"]', '["enter", "claim"]', '["route", "cast"]'])
+        rules.append(rule("entry", chance.choice(["true", "false"]), operation=operations,
+                          sender=chance.choice([None, '["172.16.0.0/16"]', '["192.168.1.0/24"]', '["192.168.2.7"]']),
+                          station=chance.choice([None, None, '["192.168.0.0/16"]'])))
     for number in range(chance.randint(0, 3)):
         kind, instance, _, _ = chance.choice(OBJECTS)
         rules.append(rule(f"r{number}", chance.choice(["true", "false"]),

@@ -1,5 +1,5 @@
 #!/usr/bin/env bash
-# Judges requests that are routed: plays random ones, whole and broken, under random policies of both formats, and compares what
+# Judges requests that are routed: plays random ones, whole and broken, under random policies of all formats, and compares what
 # `bacgw replay` prints with what a second reading of the rules says, here, from docs/spec/policy.md, routing.md, services.md and tags.md.
 #
 #     bench/routed.sh [SCRIPTS [SEED]]      # 600 scripts of twelve datagrams, seed 1, unless told otherwise
@@ -14,6 +14,7 @@ program=${PROGRAM:-$top/crates/bacgw/out/bacgw}
 [ -x "$program" ] || { echo "build bacgw first: ./bacgw prove" >&2; exit 1; }
 
 exec python3 - "$program" "${1:-600}" "${2:-1}" <<'PYTHON'
+import ipaddress
 import json
 import random
 import subprocess
@@ -240,8 +241,8 @@ def frame(function, npdu):
 class Gateway:
     """A gateway without peers, foreign devices and objects, as far as messages go through it."""
 
-    def __init__(self, form, rules):
-        self.form, self.rules, self.denials = form, rules, 0
+    def __init__(self, form, rules, stations):
+        self.form, self.rules, self.stations, self.denials = form, rules, stations, 0
 
     def denying(self, ask):
         """The name of the rule that denies the ask, or none."""
@@ -256,7 +257,7 @@ class Gateway:
         for ask, name in zip(asks, by):
             if name:
                 self.denials += 1
-                self.lines.append(f"deny {self.denials} 0 {denial(ask, name)}")
+                self.lines.append(f"deny {self.denials} 0 {denial(ask, name)}" + (stations_of(ask) if self.form == 3 else ""))
         return not any(by)
 
     def send(self, port, to, function, npdu):
@@ -271,16 +272,40 @@ class Gateway:
         self.lines, self.sends = [], []
         network, octets = m.source
         key = octets if len(octets) == 6 else None
-        self.base = {"port": m.port, "source_network": network, "station": octets, "source": key, "service": service_of(m.apdu)}
-        if m.is_broadcast:
-            self.allowed([{**self.base, "operation": "cast", "destination": m.network}])
-        self.route(m)
+        self.base = {"port": m.port, "source_network": network, "by": octets, "source": key, "service": service_of(m.apdu)}
+        if self.form == 3:
+            self.base |= {"sender": m.sender, "station": m.station if len(m.station) == 6 else None}
+        if self.form < 3 or self.enters(m):
+            if m.is_broadcast:
+                self.spreads(m)
+            self.route(m)
         return self.lines + self.sends + ["end"]
+
+    def belongs(self, port, octets):
+        """Whether an address is a station of a port; nobody is registered here."""
+        if self.stations[port] is None:
+            return True
+        return octets != station(port, 10) and octets[:4] != station(port, 255)[:4] and holds(self.stations[port], octets)
+
+    def enters(self, m):
+        """Whether the sender may enter, and may speak for the source that it claims."""
+        ask = {"port": m.port, "sender": m.sender}
+        by_sender = {"source_network": m.port, "by": m.sender, "source": m.sender}
+        if not self.belongs(m.port, m.sender) and not self.allowed([{**ask, **by_sender, "operation": "enter"}]):
+            return False
+        by_route = m.claim and m.claim[0] == FAR_NETWORK and (m.port, m.sender.hex().upper()) == (2, NEXT)
+        by_claim = {field: self.base[field] for field in ("source_network", "by", "source")}
+        return not m.claim or by_route or self.allowed([{**ask, **by_claim, "operation": "claim"}])
+
+    def spreads(self, m):
+        """Whether the policy lets the message go to the peers and the foreign devices, of which there are none."""
+        cast = {**self.base, "operation": "cast", "destination": m.network}
+        return self.allowed([cast] + (named_asks(cast, m.apdu) if self.form == 3 else []))
 
     def goes_to(self, network, m):
         """Whether the policy lets the message go to this network."""
         route = {**self.base, "operation": "route", "destination": network}
-        return self.allowed([route] + (named_asks(route, m.apdu) if self.form == 2 else []))
+        return self.allowed([route] + (named_asks(route, m.apdu) if self.form > 1 else []))
 
     def route(self, m):
         others, hops = [it for it in PORTS if it != m.port], max(m.hops - 1, 0)
@@ -294,7 +319,7 @@ class Gateway:
         elif m.network in PORTS and not m.station:
             self.spread([m.network], onward(m, None))
         elif m.network in PORTS:
-            if len(m.station) == 6:
+            if len(m.station) == 6 and (self.form < 3 or self.belongs(m.network, m.station)):
                 self.send(m.network, m.station, 0x0A, onward(m, None))
         elif m.network == FAR_NETWORK:
             if hops:
@@ -317,6 +342,10 @@ def holds(items, value):
     if value is None:
         return False
     for item in items:
+        if isinstance(value, bytes) and isinstance(item, str):
+            if ipaddress.ip_address(value[:4]) in ipaddress.ip_network(item):
+                return True
+            continue
         low, high = item if isinstance(item, list) else (item, item)
         if low == value or (isinstance(value, int) and low <= value <= high):
             return True
@@ -326,9 +355,14 @@ def holds(items, value):
 def denial(ask, name):
     shown = lambda field: "-" if ask.get(field) is None else ask[field]
     return (
-        f"{ask['port']} {ask['source_network']}:{ask['station'].hex().upper()} {ask['operation']} dst={shown('destination')} "
+        f"{ask['port']} {ask['source_network']}:{ask['by'].hex().upper()} {ask['operation']} dst={shown('destination')} "
         f"svc={shown('service')} obj={shown('object_type')},{shown('instance')} prop={shown('property')} prio={shown('priority')} rule={name}"
     )
+
+
+def stations_of(ask):
+    """What a line says more in the third format."""
+    return f" sender={ask['sender'].hex().upper()} station={ask['station'].hex().upper() if ask.get('station') else '-'}"
 
 
 # ---- what is played
@@ -403,10 +437,11 @@ def some_apdu():
 
 def some_message():
     network = chance.choice(PORTS + [FAR_NETWORK, 400, EVERYWHERE])
-    octets = b"" if network == EVERYWHERE else chance.choice([b"", b"\x07", station(2, 5), station(2, 5)])
-    claim = chance.choice([None, None, None, (500, b"\x07"), (500, station(9, 9))])
-    hops = chance.choice([255, 255, 0, 1, 2])
-    return Message(chance.choice(PORTS), chance.choice([5, 7]), chance.random() < 0.3, network, octets, hops, claim, some_apdu())
+    there = station(2, 5) if chance.random() < 0.7 else station(chance.choice(PORTS), chance.choice([4, 6, 7, 10, 255]))
+    octets = b"" if network == EVERYWHERE else chance.choice([b"", b"\x07", there, there])
+    claim = chance.choice([None, None, None, (500, b"\x07"), (500, station(9, 9)), (FAR_NETWORK, b"\x09")])
+    hops, host = chance.choice([255, 255, 0, 1, 2]), chance.choice([5, 5, 7, 7, 20])
+    return Message(chance.choice(PORTS), host, chance.random() < 0.3, network, octets, hops, claim, some_apdu())
 
 
 FIELDS = {
@@ -421,27 +456,40 @@ FIELDS = {
     "property": (0.2, [85, 28, 8, [0, 100]]),
     "priority": (0.1, [8, 16, [1, 16]]),
 }
+# Those that the third format has beside them, and what an operation may be there.
+STATION_FIELDS = {
+    "operation": (0.6, ["read", "write", "route", "cast", "enter", "claim"]),
+    "sender": (0.15, [station(1, 7), station(2, 5), "192.168.1.0/24", "192.168.2.4/30", "192.168.0.0/16"]),
+    "station": (0.15, [station(2, 5), station(3, 7), "192.168.2.0/24", "192.168.0.0/16", "0.0.0.0/0"]),
+}
 
 
-def some_rule(number):
+def some_rule(form, number):
     fields = {}
-    for field, (often, items) in FIELDS.items():
+    for field, (often, items) in {**FIELDS, **(STATION_FIELDS if form == 3 else {})}.items():
         if chance.random() < often:
             fields[field] = chance.sample(items, chance.choice([1, 1, 2]))
     return {"name": f"r{number}", "allow": chance.random() < 0.6, "fields": fields}
 
 
-def some_rules():
-    rules = [some_rule(number) for number in range(chance.choice([0, 1, 2, 4, 6, 40]))]
+def some_rules(form):
+    rules = [some_rule(form, number) for number in range(chance.choice([0, 1, 2, 4, 6, 40]))]
     return rules + ([{"name": "all", "allow": True, "fields": {}}] if chance.random() < 0.5 else [])
 
 
-def text_of(form, rules):
+def some_stations(form):
+    """The subnets of each port, or none: everybody is a station of such a port."""
+    some = lambda port: chance.choice([None, [f"192.168.{port}.0/24"], [f"192.168.{port}.4/31", f"192.168.{port}.20/32"], ["10.0.0.0/8"]])
+    return {port: some(port) if form == 3 else None for port in PORTS}
+
+
+def text_of(form, rules, stations):
     """The configuration as a text."""
     text = f'format = {form}\n[device]\nnetwork = {DEVICE_NETWORK}\ninstance = 1234\nname = "gw"\nvendor = 999\nvendor_name = "Example"\n'
     text += 'model = "gw-1"\nfirmware = "1"\nsoftware = "1"\nrevision = 12\ndatabase = 1\n'
     for port in PORTS:
         text += f'[[port]]\nnetwork = {port}\naddress = "{address(station(port, 10))}"\nbroadcast = "{address(station(port, 255))}"\n'
+        text += f"stations = {json.dumps(stations[port])}\n" if stations[port] else ""
     text += f'[[route]]\nnetwork = {FAR_NETWORK}\nport = 2\nnext = "{address(bytes.fromhex(NEXT))}"\n'
     for rule in rules:
         text += f'[[rule]]\nname = "{rule["name"]}"\nallow = {str(rule["allow"]).lower()}\n'
@@ -460,11 +508,12 @@ def replayed(text, lines):
 
 agreed, kinds = 0, Counter()
 for number in range(scripts):
-    form, rules = chance.choice([1, 2, 2, 2]), some_rules()
+    form = chance.choice([1, 2, 2, 3, 3, 3])
+    rules, stations = some_rules(form), some_stations(form)
     messages = [some_message() for _ in range(12)]
-    gateway = Gateway(form, rules)
+    gateway = Gateway(form, rules, stations)
     wanted = [line for message in messages for line in gateway.take(message)]
-    lines, text = [message.line() for message in messages], text_of(form, rules)
+    lines, text = [message.line() for message in messages], text_of(form, rules, stations)
     if replayed(text, lines) == wanted:
         agreed += 1
     else:
@@ -472,6 +521,7 @@ for number in range(scripts):
     kinds["sends"] += sum(line.startswith("send") for line in wanted)
     kinds["denials of a way"] += sum(" route " in line for line in wanted)
     kinds["of a property"] += sum(" obj=" in line and " obj=-" not in line for line in wanted)
+    kinds["of an entry"] += sum(" enter " in line or " claim " in line for line in wanted)
     kinds["of what names none"] += sum((" read " in line or " write " in line) and " obj=-" in line for line in wanted)
 print(f"{agreed} of {scripts} scripts agreed: " + ", ".join(f"{count} {kind}" for kind, count in kinds.items()))
 sys.exit(0 if agreed == scripts else 1)
