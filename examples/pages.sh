@@ -1,8 +1,9 @@
 #!/usr/bin/env bash
 # Checks what the pages name: each target of a link and each section that one leads to, each crate and path in
-# backticks, each item `gw_X::..::NAME`, each definition that docs/DEFINITIONS.md quotes, which stands in the file
-# beside it with that type, and by keys.sh the keys of the man page. It wants python3 and no built program. The last line
-# says how many agreed.
+# backticks, each item `gw_X::..::NAME`, each name in backticks in docs/spec/ and docs/DEFINITIONS.md, which must be in
+# the code of some crate, each definition that docs/DEFINITIONS.md quotes, which must be in the file beside it with that
+# type, and by keys.sh the keys of the man page. It wants python3 and no built program. The last line says how many
+# agreed.
 set -euo pipefail
 exec python3 - "$(cd "$(dirname "$0")/.." && pwd)" <<'END'
 import glob, os, re, subprocess, sys
@@ -97,6 +98,24 @@ def check_item(page, name):
     say(there, page, f"no {item} in {crate}")
 
 
+def code_words():
+    """Each word in the sources, definitions and proofs of the crates, without their comments."""
+    words = set()
+    for file in [file for folder in FOLDERS[:3] for file in glob.glob(f"crates/*/{folder}/**/*.[ar]*t", recursive=True)]:
+        mark = "--" if file.endswith(".antt") else "//"
+        words.update(re.findall(r"\w+", re.sub(rf"(^|\s){mark}.*$", "", open(file).read(), flags=re.M)))
+    return words
+
+
+def check_words(page, text, words):
+    """A name in backticks, as `link_answer`, `RuleList::hides`, a key `stations?` or the front `encode_..` of names."""
+    for name in re.findall(r"`([^`\n]+)`", text):
+        if re.fullmatch(r"[A-Za-z]\w+(::\w+)*\??", name):
+            say(set(re.findall(r"\w+", name)) <= words, page, f"no name {name} in crates/")
+        elif re.fullmatch(r"\w+\.\.", name):
+            say(any(word.startswith(name[:-2]) for word in words), page, f"no name {name} in crates/")
+
+
 def plain(signature):
     """A type without the names of its parameters, its implicit ones and its spaces."""
     signature = re.sub(r"\{[^{}]*\}(\s*→)?", "", signature)
@@ -163,10 +182,13 @@ def check_definition(page, name, quoted, files):
     say(quoted in types, page, f"{name} in {where} is {types[0]} and not {quoted}")
 
 
+WORDS = code_words()
 for page in PAGES:
     text = without_blocks(open(page).read())
     check_links(page, text)
     check_names(page, text)
+    if page.startswith("docs/spec/") or page == "docs/DEFINITIONS.md":
+        check_words(page, text, WORDS)
 check_definitions()
 keys = subprocess.run(["examples/keys.sh"], capture_output=True, text=True)
 say(keys.returncode == 0, "man/bacgw.1", "\n" + keys.stdout + keys.stderr)
