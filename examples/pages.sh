@@ -1,8 +1,8 @@
 #!/usr/bin/env bash
 # Checks what the pages name: each target of a link and each section that one leads to, each crate and path in
 # backticks, each item `gw_X::..::NAME`, each definition that docs/DEFINITIONS.md quotes, which stands in the file
-# beside it with that type, and by keys.sh the keys of the man page. It wants python3 and no built program. The last line
-# says how many agreed.
+# beside it with that type, by keys.sh the keys of the man page, and by pics.sh the tables of docs/PICS.md. It wants
+# python3 and no built program. The last line says how many agreed.
 set -euo pipefail
 exec python3 - "$(cd "$(dirname "$0")/.." && pwd)" <<'END'
 import glob, os, re, subprocess, sys
@@ -170,6 +170,8 @@ for page in PAGES:
 check_definitions()
 keys = subprocess.run(["examples/keys.sh"], capture_output=True, text=True)
 say(keys.returncode == 0, "man/bacgw.1", "\n" + keys.stdout + keys.stderr)
+pics = subprocess.run(["examples/pics.sh", "--check"], capture_output=True, text=True)
+say(pics.returncode == 0, "docs/PICS.md", "\n" + pics.stdout + pics.stderr)
 print(f"{agreed} agreed, {failed} failed")
 sys.exit(failed > 0)
 END
