@@ -1,8 +1,8 @@
 #!/usr/bin/env bash
 # Checks what the pages name: each target of a link and each section that one leads to, each crate and path in
 # backticks, each item `gw_X::..::NAME`, each definition that docs/DEFINITIONS.md quotes, which stands in the file
-# beside it with that type, by keys.sh the keys of the man page, and by pics.sh the tables of docs/PICS.md. It wants
-# python3 and no built program. The last line says how many agreed.
+# beside it with that type, by keys.sh the keys of the man page, by pics.sh the tables of docs/PICS.md, and each case
+# that docs/BTL.md names. It wants python3 and no built program. The last line says how many agreed.
 set -euo pipefail
 exec python3 - "$(cd "$(dirname "$0")/.." && pwd)" <<'END'
 import glob, os, re, subprocess, sys
@@ -163,11 +163,21 @@ def check_definition(page, name, quoted, files):
     say(quoted in types, page, f"{name} in {where} is {types[0]} and not {quoted}")
 
 
+def check_cases():
+    """The sections of cases that the tables of docs/BTL.md name in italics, of frames where (F) is before one."""
+    page = "docs/BTL.md"
+    for frames, name in re.findall(r"(\(F\) )?(?<!\*)\*([^*\n]+)\*(?!\*)", open(page).read()):
+        crate = "gw_frame_vectors" if frames else "gw_gateway_vectors"
+        lines = open(f"crates/{crate}/stdin").read().split("\n")
+        say(f"== {name}" in lines or f"== script {name}" in lines, page, f"no case {name} in {crate}")
+
+
 for page in PAGES:
     text = without_blocks(open(page).read())
     check_links(page, text)
     check_names(page, text)
 check_definitions()
+check_cases()
 keys = subprocess.run(["examples/keys.sh"], capture_output=True, text=True)
 say(keys.returncode == 0, "man/bacgw.1", "\n" + keys.stdout + keys.stderr)
 pics = subprocess.run(["examples/pics.sh", "--check"], capture_output=True, text=True)
