@@ -2,8 +2,8 @@
 # Checks what the pages name: each target of a link and each section that one leads to, each crate and path in
 # backticks, each item `gw_X::..::NAME`, each name in backticks in docs/spec/ and docs/DEFINITIONS.md, which must be in
 # the code of some crate, each definition that docs/DEFINITIONS.md quotes, which must be in the file beside it with that
-# type, and by keys.sh the keys of the man page. It wants python3 and no built program. The last line says how many
-# agreed.
+# type, by keys.sh the keys of the man page, by pics.sh the tables of docs/PICS.md, and each case that docs/BTL.md names.
+# It wants python3 and no built program. The last line says how many agreed.
 set -euo pipefail
 exec python3 - "$(cd "$(dirname "$0")/.." && pwd)" <<'END'
 import glob, os, re, subprocess, sys
@@ -182,6 +182,15 @@ def check_definition(page, name, quoted, files):
     say(quoted in types, page, f"{name} in {where} is {types[0]} and not {quoted}")
 
 
+def check_cases():
+    """The sections of cases that the tables of docs/BTL.md name in italics, of frames where (F) is before one."""
+    page = "docs/BTL.md"
+    for frames, name in re.findall(r"(\(F\) )?(?<!\*)\*([^*\n]+)\*(?!\*)", open(page).read()):
+        crate = "gw_frame_vectors" if frames else "gw_gateway_vectors"
+        lines = open(f"crates/{crate}/stdin").read().split("\n")
+        say(f"== {name}" in lines or f"== script {name}" in lines, page, f"no case {name} in {crate}")
+
+
 WORDS = code_words()
 for page in PAGES:
     text = without_blocks(open(page).read())
@@ -190,8 +199,11 @@ for page in PAGES:
     if page.startswith("docs/spec/") or page == "docs/DEFINITIONS.md":
         check_words(page, text, WORDS)
 check_definitions()
+check_cases()
 keys = subprocess.run(["examples/keys.sh"], capture_output=True, text=True)
 say(keys.returncode == 0, "man/bacgw.1", "\n" + keys.stdout + keys.stderr)
+pics = subprocess.run(["examples/pics.sh", "--check"], capture_output=True, text=True)
+say(pics.returncode == 0, "docs/PICS.md", "\n" + pics.stdout + pics.stderr)
 print(f"{agreed} agreed, {failed} failed")
 sys.exit(failed > 0)
 END

@@ -1,7 +1,18 @@
 # Completions of bacgw for bash.
 _bacgw() {
-    local word=${COMP_WORDS[COMP_CWORD]} before=${COMP_WORDS[COMP_CWORD - 1]} options
+    local word=${COMP_WORDS[COMP_CWORD]} before=${COMP_WORDS[COMP_CWORD - 1]} equals='' options
     COMPREPLY=()
+    # OPTION=VALUE comes as three words, unless COMP_WORDBREAKS lacks the "=".
+    if [ "$word" = = ]; then
+        equals=yes word=''
+    elif [ "$before" = = ]; then
+        equals=yes before=${COMP_WORDS[COMP_CWORD - 2]}
+    elif [[ $word == --*=* ]]; then
+        case $word in
+            --config=* | --log=*) mapfile -t COMPREPLY < <(compgen -f -P "${word%%=*}=" -- "${word#*=}") ;;
+        esac
+        return
+    fi
     if [ "$COMP_CWORD" = 1 ]; then
         options='check replay run why log help --help --version'
     else
@@ -9,6 +20,7 @@ _bacgw() {
             --config | --log) compopt -o default; return ;;
             --turns | --stats | --start) return ;;
         esac
+        if [ "$equals" ]; then return; fi
         case ${COMP_WORDS[1]} in
             check) options='--config --explain --lint --help' ;;
             replay) options='--config --explain --help' ;;
