@@ -26,11 +26,11 @@ first_number test x xs =
     position_from-zero test (x ∷ xs)
     ∙ ap (cond (test x) (Some 0)) (later test 0 xs ∙ ap (option_map (λ n. n + 1)) (sym (position_from-zero test xs)))
 
-behind : (rule : Rule) (rules : List Rule) (o : Option ℕ)
+one_more : (rule : Rule) (rules : List Rule) (o : Option ℕ)
     → option_map_or (allows_at (rule ∷ rules)) (option_map (λ n. n + 1) (option_map (λ n. n + 1) o)) false
     ≡ option_map_or (allows_at rules) (option_map (λ n. n + 1) o) false
-behind rule rules None = refl
-behind rule rules (Some k) =
+one_more rule rules None = refl
+one_more rule rules (Some k) =
     let one : k + 1 + 1 - 1 ≡ suc (k + 1 - 1) = omega arith in
     ap (λ n. option_map_or (λ (r : Rule). r.allow) (slice_get (rule ∷ rules) n) false) one
 
@@ -45,4 +45,4 @@ decided_allows (rule ∷ rules) ask =
         → (b : Bool) → (if b then rule.allow else decided rules false ask)
         ≡ option_map_or (allows_at (rule ∷ rules)) (option_map (λ n. n + 1) (cond b (Some 0) (option_map (λ n. n + 1) (position (λ r. matches r ask) rules)))) false
     by e true = refl
-    by e false = e ∙ sym (behind rule rules (position (λ r. matches r ask) rules))
+    by e false = e ∙ sym (one_more rule rules (position (λ r. matches r ask) rules))

@@ -1,10 +1,10 @@
 -- What a step of a comparison keeps.
-use Rattle.std.proofs.Common.{◌≡◌, ◌∙◌, sym, ap, refl, ℕ, ◌+◌, ◌<◌, Bool, true, false, cond, ◌&&◌, ◌||◌, List, [], ◌∷◌, ◌++◌, length, get_or, take, Option, Some, None, add-one, arith}
+use Rattle.std.proofs.Common.{◌≡◌, ◌∙◌, sym, ap, refl, ℕ, ◌+◌, ◌<◌, Bool, true, false, cond, ◌&&◌, ◌||◌, List, [], ◌∷◌, ◌++◌, length, get_or, take, Option, Some, None, add-one, arith, inl, inr}
 use Rattle.std.specs.Prelude.{not, if◌then◌else◌, reverse, slice_get}
 use Rattle.std.specs.List.{AllByRecursion, flat_map, list_all, list_any}
 use Rattle.std.specs.Option.{option_to_list}
 use Rattle.std.proofs.Math.Seq.{take-suc}
-use Rattle.std.proofs.lemmas.Bool.{and_from, and_parts, both_ways}
+use Rattle.std.proofs.lemmas.Bool.{and_parts, both_ways, or_cases}
 use Rattle.std.proofs.lemmas.List.{reverse-append}
 use Rattle.std.proofs.lemmas.List.Folds.{list_any-append}
 use Rattle.gw_rules.specs.Ask.{Ask}
@@ -67,15 +67,6 @@ left_out shapes old new found left region same was = record {
   asks = was.asks;
 }
 
--- so if no shape meets it
-pub left_apart : (shapes : List Region) (old new : List Rule) (found : List Found) (left : List Region) (region : Region)
-    → ((ask : Ask) → (lies region ask && lies_in_one shapes ask) ≡ false)
-    → IsComparison shapes old new found (left ++ region ∷ []) → IsComparison shapes old new found left
-left_apart shapes old new found left region apart was =
-    left_out shapes old new found left region
-    (λ ask in_shape there. absurd (both_ways (lies region ask && lies_in_one shapes ask) (apart ask) (and_from (lies region ask) (lies_in_one shapes ask) there in_shape)))
-    was
-
 with_unlike : (f l r d : Bool) → (r ≡ true → d ≡ true) → (f || ((l || r) && d)) ≡ ((f || r) || (l && d))
 with_unlike true l r d e = refl
 with_unlike false true true d e = e refl
@@ -130,15 +121,6 @@ in_parts shapes old new found left outer rule region within parted was = record 
         ∙ ap (λ b. (lies_in_one left ask || (lies region ask && not (matches rule ask))) || b) (parted.inner ask)
         ∙ put_together (lies_in_one left ask) (lies region ask) (matches rule ask)
 
--- at first nothing is found, and the region has every ask of the shapes
-pub started : (shapes : List Region) (old new : List Rule) (start : Region)
-    → ((ask : Ask) → lies_in_one shapes ask ≡ true → lies start ask ≡ true) → IsComparison shapes old new [] (start ∷ [])
-started shapes old new start over = record {
-  exact = λ ask in_shape. sym (ap (λ b. (b || false) && differs old new ask) (over ask in_shape));
-  verdicts = tt;
-  asks = tt;
-}
-
 -- ---- the same rule
 
 all_same : (one two : FieldName → Bool) → ((field : FieldName) → one field ≡ two field) → (fields : List FieldName) → list_all one fields ≡ list_all two fields
@@ -176,13 +158,24 @@ unlike_never true true e = refl
 unlike_never true false e = e
 unlike_never false b e = sym e
 
-pub exact_finished : (shapes : List Region) (old new : List Rule) (found : List Found) → IsComparison shapes old new found []
-    → (ask : Ask) → lies_in_one shapes ask ≡ true → differs old new ask ≡ is_found found ask
-exact_finished shapes old new found is ask there = is.exact ask there ∙ or_none (is_found found ask)
+-- an ask that isn't left
+pub exact_known : (shapes : List Region) (old new : List Rule) (found : List Found) (left : List Region) → IsComparison shapes old new found left
+    → (ask : Ask) → lies_in_one shapes ask ≡ true → lies_in_one left ask ≡ false → differs old new ask ≡ is_found found ask
+exact_known shapes old new found left is ask there known =
+    is.exact ask there ∙ ap (λ b. is_found found ask || (b && differs old new ask)) known ∙ or_none (is_found found ask)
 
 pub alike_finished : (shapes : List Region) (old new : List Rule) → IsComparison shapes old new [] []
     → (ask : Ask) → lies_in_one shapes ask ≡ true → allows old ask ≡ allows new ask
-alike_finished shapes old new is ask there = unlike_never (allows old ask) (allows new ask) (exact_finished shapes old new [] is ask there)
+alike_finished shapes old new is ask there = unlike_never (allows old ask) (allows new ask) (exact_known shapes old new [] [] is ask there refl)
+
+-- an ask of a region that was found
+pub found_differs : (old new : List Rule) (found : List Found) → AllByRecursion (λ f. AreUnlike old new f.region f.allows) found
+    → (ask : Ask) → is_found found ask ≡ true → differs old new ask ≡ true
+found_differs old new [] verdicts ask t = absurd (both_ways false refl t)
+found_differs old new (f ∷ fs) verdicts ask t = elim (or_cases (lies f.region ask) (is_found fs ask) t) [
+  | inl there ↦ let at = verdicts.0 ask there in unlike_not (allows old ask) (allows new ask) (at.0 ∙ ap not (sym at.1))
+  | inr later ↦ found_differs old new fs verdicts.1 ask later
+]
 
 pub was_decided : (shapes : List Region) (old new : List Rule) (found : List Found)
     → AllByRecursion (λ f. AreUnlike old new f.region f.allows) found

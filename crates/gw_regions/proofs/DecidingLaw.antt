@@ -1,4 +1,4 @@
--- Rules that stand apart, cover all, or say what is said anyway may be left out.
+-- Rules that match nothing of a region, all of it, or say what is said anyway may be left out.
 use Rattle.std.proofs.Common.{◌≡◌, ◌∙◌, sym, ap, refl, subst, ℕ, ◌+◌, ◌≤◌, ◌<◌, Bool, true, false, cond, ◌==◌, List, [], ◌∷◌, ◌++◌, length, drop, get_or, Option, Some, None, arith}
 use Rattle.std.specs.Prelude.{if◌then◌else◌, reverse, slice_get}
 use Rattle.std.specs.List.{flat_map}
@@ -12,17 +12,17 @@ use Rattle.gw_regions.proofs.AllowsLaw.{decided_allows}
 use Rattle.gw_regions.specs.Regions.{Region, lies}
 use Rattle.gw_regions.specs.Deciding.{AllowsIn, DecidesIn, decided, decided_by, rules_at}
 
--- the rule at a place, and those behind it
+-- the rule at a place, and those after it
 next : (rules : List Rule) (place : ℕ) (rule : Rule) → place < length rules → rule ≡ get_or rules place rule → drop place rules ≡ rule ∷ drop (place + 1) rules
 next rules place rule within is = drop_more rules place rule within ∙ ap (λ (r : Rule). r ∷ drop (place + 1) rules) (sym is)
 
 -- one that matches nothing there
 pub taken_apart : (rules : List Rule) (region : Region) (place : ℕ) (rule : Rule) (places : List ℕ) (otherwise : Bool) → place < length rules → rule ≡ get_or rules place rule
     → ((ask : Ask) → lies region ask ≡ true → matches rule ask ≡ false) → DecidesIn rules region (place + 1) places otherwise → DecidesIn rules region place places otherwise
-taken_apart rules region place rule places otherwise within is apart behind ask there =
+taken_apart rules region place rule places otherwise within is apart later ask there =
     ap (λ (rs : List Rule). decided rs false ask) (next rules place rule within is)
     ∙ ap (λ b. if b then rule.allow else decided (drop (place + 1) rules) false ask) (apart ask there)
-    ∙ behind ask there
+    ∙ later ask there
 
 -- one that matches all
 pub taken_whole : (rules : List Rule) (region : Region) (place : ℕ) (rule : Rule) → place < length rules → rule ≡ get_or rules place rule
@@ -34,9 +34,9 @@ taken_whole rules region place rule within is whole ask there =
 -- one that says what is said anyway
 pub taken_idle : (rules : List Rule) (region : Region) (place : ℕ) (rule : Rule) → place < length rules → rule ≡ get_or rules place rule
     → DecidesIn rules region (place + 1) [] rule.allow → DecidesIn rules region place [] rule.allow
-taken_idle rules region place rule within is behind ask there =
+taken_idle rules region place rule within is later ask there =
     ap (λ (rs : List Rule). decided rs false ask) (next rules place rule within is)
-    ∙ ap (λ b. if matches rule ask then rule.allow else b) (behind ask there)
+    ∙ ap (λ b. if matches rule ask then rule.allow else b) (later ask there)
     ∙ both (matches rule ask)
   where
     both : (c : Bool) → (if c then rule.allow else rule.allow) ≡ rule.allow
@@ -53,9 +53,9 @@ pushed rules place rule places within is =
 -- any other
 pub taken : (rules : List Rule) (region : Region) (place : ℕ) (rule : Rule) (places : List ℕ) (otherwise : Bool) → place < length rules → rule ≡ get_or rules place rule
     → DecidesIn rules region (place + 1) places otherwise → DecidesIn rules region place (places ++ place ∷ []) otherwise
-taken rules region place rule places otherwise within is behind ask there =
+taken rules region place rule places otherwise within is later ask there =
     ap (λ (rs : List Rule). decided rs false ask) (next rules place rule within is)
-    ∙ ap (λ b. if matches rule ask then rule.allow else b) (behind ask there)
+    ∙ ap (λ b. if matches rule ask then rule.allow else b) (later ask there)
     ∙ sym (ap (λ (rs : List Rule). decided rs otherwise ask) (pushed rules place rule places within is))
 
 -- at first no rule is left

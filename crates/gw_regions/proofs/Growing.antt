@@ -61,34 +61,3 @@ pub last_end : {A : Type 0} (test : ℕ → A → Bool) (items : List A) (place 
     → ((n : ℕ) → list_any (test n) (take place items) ≡ true → n ≤ last)
     → (n : ℕ) → list_any (test n) items ≡ true → n ≤ last
 last_end test items place last ends before n t = before n (ap (list_any (test n)) (take_all place items ends) ∙ t)
-
--- ---- the first that is made of the items
-
-unmade : (xs : List Range) → first_number xs ≡ None → xs ≡ []
-unmade [] e = refl
-unmade (x ∷ xs) e = absurd cc
-
-begun : (xs ys : List Range) (n : ℕ) → first_number xs ≡ Some n → first_number (xs ++ ys) ≡ Some n
-begun [] ys n e = absurd cc
-begun (x ∷ xs) ys n e = e
-
-pub skip_made : {A : Type 0} (make : A → List Range) (items : List A) (place : ℕ) (d : A) (all : Option ℕ) → place < length items
-    → first_number (make (get_or items place d)) ≡ None
-    → first_number (flat_map make (drop place items)) ≡ all → first_number (flat_map make (drop (place + 1) items)) ≡ all
-skip_made make items place d all within none is =
-    sym (ap (λ xs. first_number (flat_map make xs)) (next_item items place d within)
-    ∙ ap (λ xs. first_number (xs ++ flat_map make (drop (place + 1) items))) (unmade (make (get_or items place d)) none))
-    ∙ is
-
-pub stop_made : {A : Type 0} (make : A → List Range) (items : List A) (place : ℕ) (d : A) (all : Option ℕ) (n : ℕ) → place < length items
-    → first_number (make (get_or items place d)) ≡ Some n
-    → first_number (flat_map make (drop place items)) ≡ all → Some n ≡ all
-stop_made make items place d all n within some is =
-    sym (ap (λ xs. first_number (flat_map make xs)) (next_item items place d within)
-    ∙ begun (make (get_or items place d)) (flat_map make (drop (place + 1) items)) n some)
-    ∙ is
-
-pub none_made : {A : Type 0} (make : A → List Range) (items : List A) (place : ℕ) (all : Option ℕ) → length items ≤ place
-    → first_number (flat_map make (drop place items)) ≡ all → None ≡ all
-none_made make items place all ends is =
-    sym (ap (λ xs. first_number (flat_map make xs)) (drop_all place items ends)) ∙ is

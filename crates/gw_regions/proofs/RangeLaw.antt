@@ -194,9 +194,9 @@ pub any_fails : {A : Type 0} (test : A → Bool) → ((x : A) → test x ≡ fal
 any_fails test e [] = refl
 any_fails test e (x ∷ xs) = ap (λ b. b || list_any test xs) (e x) ∙ any_fails test e xs
 
-any_behind : {A : Type 0} (test : A → Bool) (c : Bool) (xs : List A) → list_any (λ x. test x && c) xs ≡ (list_any test xs && c)
-any_behind test true xs = any_same (λ x. test x && true) test (λ x. and_all (test x)) xs ∙ sym (and_all (list_any test xs))
-any_behind test false xs = any_fails (λ x. test x && false) (λ x. and_none (test x)) xs ∙ sym (and_none (list_any test xs))
+any_with : {A : Type 0} (test : A → Bool) (c : Bool) (xs : List A) → list_any (λ x. test x && c) xs ≡ (list_any test xs && c)
+any_with test true xs = any_same (λ x. test x && true) test (λ x. and_all (test x)) xs ∙ sym (and_all (list_any test xs))
+any_with test false xs = any_fails (λ x. test x && false) (λ x. and_none (test x)) xs ∙ sym (and_none (list_any test xs))
 
 any_front : {A : Type 0} (c : Bool) (test : A → Bool) (xs : List A) → list_any (λ x. c && test x) xs ≡ (c && list_any test xs)
 any_front true test xs = refl
@@ -213,13 +213,13 @@ pub shared_law : (n : ℕ) (xs ys : List Range) → list_any (holds n) (shared x
 shared_law n xs ys =
     flat_any (holds n) (shared_with ys) xs
     ∙ any_same (λ x. list_any (holds n) (shared_with ys x)) (λ x. holds n x && list_any (holds n) ys) (λ x. with_law n ys x) xs
-    ∙ any_behind (holds n) (list_any (holds n) ys) xs
+    ∙ any_with (holds n) (list_any (holds n) ys) xs
 
 one_law : (n : ℕ) (xs : List Range) (y : Range) → list_any (holds n) (without_one xs y) ≡ (list_any (holds n) xs && not (holds n y))
 one_law n xs y =
     flat_any (holds n) (outside y) xs
     ∙ any_same (λ x. list_any (holds n) (outside y x)) (λ x. holds n x && not (holds n y)) (λ x. outside_law n y x) xs
-    ∙ any_behind (holds n) (not (holds n y)) xs
+    ∙ any_with (holds n) (not (holds n y)) xs
 
 neither : (a b c : Bool) → ((a && not b) && not c) ≡ (a && not (b || c))
 neither true true c = refl

@@ -23,16 +23,16 @@ use Rattle.gw_regions.proofs.ValueLaw.{admitted_law, empty_law, refused_law}
 -- ---- one field
 
 -- one test of many that is passed where it was passed and another one is, too
-changed : (front : List Bool) (x y b : Bool) (behind : List Bool) → y ≡ (x && b)
-    → list_all (λ t. t) (front ++ y ∷ behind) ≡ (list_all (λ t. t) (front ++ x ∷ behind) && b)
-changed [] x y b behind e = ap (λ c. c && list_all (λ t. t) behind) e ∙ by x b
+changed : (front : List Bool) (x y b : Bool) (rest : List Bool) → y ≡ (x && b)
+    → list_all (λ t. t) (front ++ y ∷ rest) ≡ (list_all (λ t. t) (front ++ x ∷ rest) && b)
+changed [] x y b rest e = ap (λ c. c && list_all (λ t. t) rest) e ∙ by x b
   where
-    by : (x b : Bool) → ((x && b) && list_all (λ t. t) behind) ≡ ((x && list_all (λ t. t) behind) && b)
+    by : (x b : Bool) → ((x && b) && list_all (λ t. t) rest) ≡ ((x && list_all (λ t. t) rest) && b)
     by false b = refl
-    by true true = sym (and_all (list_all (λ t. t) behind))
-    by true false = sym (and_none (list_all (λ t. t) behind))
-changed (true ∷ front) x y b behind e = changed front x y b behind e
-changed (false ∷ front) x y b behind e = refl
+    by true true = sym (and_all (list_all (λ t. t) rest))
+    by true false = sym (and_none (list_all (λ t. t) rest))
+changed (true ∷ front) x y b rest e = changed front x y b rest e
+changed (false ∷ front) x y b rest e = refl
 
 -- the tests by which an ask lies in a region
 abbrev tests : Region → Ask → List Bool

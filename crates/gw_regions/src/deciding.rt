@@ -2,8 +2,8 @@
 ghost use Rattle.std.specs.Prelude.{◌≡◌, ◌+◌, ◌<◌, ◌≤◌, IfOk, OnOk, length};
 ghost use Rattle.gw_regions.specs.Deciding.{AllowsIn, DecidesIn};
 
+use crate::coverage::{Coverage, coverage_of};
 use crate::region::Region;
-use crate::standing::{Standing, standing_of};
 use gw_rules::Rule;
 use std::alloc::{AllocError, Global};
 
@@ -15,7 +15,7 @@ pub(crate) struct Deciding {
     pub otherwise: bool,
 }
 
-/// Takes the rule at a place in front of those behind it.
+/// Takes the rule at a place that comes before those that are taken.
 fn take_rule(
     deciding: &mut Deciding,
     rules: &[Rule],
@@ -28,13 +28,13 @@ fn take_rule(
         DecidesIn rules.now region.now place deciding.new.places.items deciding.new.otherwise) }
 {
     let rule = &rules[place];
-    match standing_of(rule, region) {
-        Standing::Apart => {}
-        Standing::Whole => {
+    match coverage_of(rule, region) {
+        Coverage::Nothing => {}
+        Coverage::All => {
             deciding.places.clear();
             deciding.otherwise = rule.allow;
         }
-        Standing::Partly => {
+        Coverage::Perhaps => {
             if !deciding.places.is_empty() || rule.allow != deciding.otherwise {
                 deciding.places.push(place)?;
             }
@@ -55,8 +55,8 @@ pub(crate) fn deciding_of(
         places: Vec::new(alloc),
         otherwise: false,
     };
-    for behind in 0..rules.len() {
-        take_rule(&mut made, rules, rules.len() - 1 - behind, region)?;
+    for count in 0..rules.len() {
+        take_rule(&mut made, rules, rules.len() - 1 - count, region)?;
     }
     Ok(made)
 }

@@ -7,12 +7,12 @@
 
 mod comparing;
 mod comparison;
+mod coverage;
 mod deciding;
 pub mod laws;
 mod meeting;
 mod ranges;
 mod region;
-mod standing;
 mod values;
 
 pub use comparing::{MAX_STEPS, compare};

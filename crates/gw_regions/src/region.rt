@@ -74,7 +74,7 @@ fn set(region: &mut Region, field: FieldName, values: Values)
     }
 }
 
-/// Puts the region with other values for a field behind the pieces, where there are some.
+/// Puts the region with other values for a field after the pieces, if it has some.
 fn push_piece(
     alloc: Global,
     out: &mut Vec<Region>,
@@ -113,7 +113,7 @@ fn part_at(
 }
 
 /// Parts a region by a rule: what is left of it are the asks that the rule matches, and those that it
-/// doesn't match are put in pieces behind the ones that are there.
+/// doesn't match are put in pieces after those that are there.
 pub fn part(
     alloc: Global,
     out: &mut Vec<Region>,

@@ -1,4 +1,4 @@
--- A rule that is seen to stand apart matches nothing of a region, and one that is seen to cover it all of it.
+-- A rule that meets no value of a field matches nothing of a region, and one that covers every field matches all of it.
 use Rattle.std.proofs.Common.{◌≡◌, ◌∙◌, sym, ap, refl, ℕ, ◌≤◌, Bool, true, false, ◌&&◌, ◌||◌, ◌==◌, List, [], ◌∷◌, length, Option, Some, None, arith, nat_le, inl, inr}
 use Rattle.std.specs.Prelude.{not}
 use Rattle.std.specs.List.{list_all, list_any}
@@ -12,7 +12,7 @@ use Rattle.gw_rules.specs.declared.range.Range.{Range}
 use Rattle.gw_rules.specs.declared.rule.Rule.{Rule}
 use Rattle.gw_rules.proofs.EachField.{each_field_at, each_field_from}
 use Rattle.gw_regions.specs.Regions.{Region, lies}
-use Rattle.gw_regions.specs.Standing.{covers, holds_all, is_within, meets, overlap, overlaps}
+use Rattle.gw_regions.specs.Coverage.{covers, holds_all, is_within, meets, overlap, overlaps}
 use Rattle.gw_regions.specs.Values.{has}
 use Rattle.gw_regions.specs.declared.values.Values.{Values}
 use Rattle.gw_regions.proofs.RangeLaw.{held, hold}

@@ -1,26 +1,26 @@
-//! How a rule stands to a region.
+//! How much of a region a rule matches.
 ghost use Rattle.std.specs.Prelude.{◌≡◌, ◌≤◌, ◌&&◌, true, false, not, nat_le};
 ghost use Rattle.std.specs.List.{list_all, list_any};
 ghost use Rattle.gw_rules.specs.Ask.{Ask};
 ghost use Rattle.gw_rules.specs.Fields.{value_of};
 ghost use Rattle.gw_rules.specs.Rule.{each_field, matches, ranges_of};
 ghost use Rattle.gw_regions.specs.Regions.{lies};
-ghost use Rattle.gw_regions.specs.Standing.{covers, holds_all, is_within, meets, overlap, overlaps};
-ghost use Rattle.gw_regions.specs.declared.standing.Standing.{Standing};
+ghost use Rattle.gw_regions.specs.Coverage.{covers, holds_all, is_within, meets, overlap, overlaps};
+ghost use Rattle.gw_regions.specs.declared.coverage.Coverage.{Coverage};
 
 use crate::region::Region;
 use crate::values::Values;
 use gw_rules::{FieldName, Range, Rule};
 
-/// How a rule stands to a region.
+/// How much of a region a rule matches.
 #[derive(Clone, Copy)]
-pub(crate) enum Standing {
+pub(crate) enum Coverage {
     /// It matches none of its asks.
-    Apart,
-    /// Perhaps some.
-    Partly,
+    Nothing,
+    /// It may match some.
+    Perhaps,
     /// It matches all of them.
-    Whole,
+    All,
 }
 
 fn overlap(a: &Range, b: &Range) -> bool
@@ -85,19 +85,19 @@ fn covers_each(rule: &Rule, region: &Region) -> bool
     FieldName::ALL.iter().all(|field| covers(region.get(*field), rule.ranges(*field).as_slice()))
 }
 
-/// How a rule is seen to stand to a region.
-#[tactic(auto, using(crate::proofs::StandingLaw::apart_law, crate::proofs::StandingLaw::whole_law))]
-pub(crate) fn standing_of(rule: &Rule, region: &Region) -> Standing
-    ensures apart { result ≡ Standing.Apart →
+/// How much of a region a rule matches, as far as a look at its ranges tells.
+#[tactic(auto, using(crate::proofs::CoverageLaw::apart_law, crate::proofs::CoverageLaw::whole_law))]
+pub(crate) fn coverage_of(rule: &Rule, region: &Region) -> Coverage
+    ensures apart { result ≡ Coverage.Nothing →
         (ask : Ask) → lies region.now ask ≡ true → matches rule.now ask ≡ false }
-    ensures whole { result ≡ Standing.Whole →
+    ensures whole { result ≡ Coverage.All →
         (ask : Ask) → lies region.now ask ≡ true → matches rule.now ask ≡ true }
 {
     if !meets_each(rule, region) {
-        return Standing::Apart;
+        return Coverage::Nothing;
     }
     if covers_each(rule, region) {
-        return Standing::Whole;
+        return Coverage::All;
     }
-    Standing::Partly
+    Coverage::Perhaps
 }

@@ -1,4 +1,4 @@
--- How ranges of a rule are seen to stand to the values of a region.
+-- Whether the ranges of a rule admit some values of a region, or all of them.
 use Rattle.std.specs.Prelude.{Bool, not, ◌&&◌, ◌||◌, ◌==◌, nat_le, List, length}
 use Rattle.std.specs.List.{list_all, list_any}
 use Rattle.gw_rules.specs.declared.range.Range.{Range}
