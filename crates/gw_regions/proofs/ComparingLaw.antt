@@ -1,7 +1,7 @@
 -- What a step of a comparison keeps.
-use Rattle.std.proofs.Common.{◌≡◌, ◌∙◌, sym, ap, refl, ℕ, ◌+◌, ◌<◌, Bool, true, false, cond, ◌&&◌, ◌||◌, List, [], ◌∷◌, ◌++◌, length, get_or, take, Option, Some, None, add-one, arith, inl, inr}
+use Rattle.std.proofs.Common.{◌≡◌, ◌∙◌, sym, ap, refl, ℕ, ◌+◌, ◌<◌, Bool, true, false, ◌&&◌, ◌||◌, List, [], ◌∷◌, ◌++◌, length, get_or, take, Option, Some, add-one, arith, inl, inr}
 use Rattle.std.specs.Prelude.{not, if◌then◌else◌, reverse, slice_get}
-use Rattle.std.specs.List.{AllByRecursion, flat_map, list_all, list_any}
+use Rattle.std.specs.List.{AllByRecursion, list_all}
 use Rattle.std.specs.Option.{option_to_list}
 use Rattle.std.proofs.Math.Seq.{take-suc}
 use Rattle.std.proofs.lemmas.Bool.{and_parts, both_ways, or_cases}
@@ -18,8 +18,8 @@ use Rattle.gw_rules.specs.declared.field.TheConstants.FieldName.{ALL}
 use Rattle.gw_rules.specs.declared.range.Range.{Range}
 use Rattle.gw_rules.specs.declared.rule.Rule.{Rule}
 use Rattle.gw_rules.specs.RuleList.{allows}
-use Rattle.gw_regions.specs.Comparing.{AreAlike, AreSame, AreUnlike, IsComparison, WasDecided, differs, is_found, unlike}
-use Rattle.gw_regions.specs.Deciding.{DecidesIn, decided, decided_by, rules_at}
+use Rattle.gw_regions.specs.Comparing.{AreSame, AreUnlike, IsComparison, WasDecided, differs, is_found, unlike}
+use Rattle.gw_regions.specs.Deciding.{decided, decided_by, rules_at}
 use Rattle.gw_regions.specs.Regions.{IsParted, Region, lies, lies_in_one}
 use Rattle.gw_regions.specs.declared.comparison.Found.{Found}
 use Rattle.gw_regions.proofs.RangeLaw.{or_none}

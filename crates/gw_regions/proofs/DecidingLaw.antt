@@ -1,16 +1,15 @@
 -- Rules that match nothing of a region, all of it, or say what is said anyway may be left out.
-use Rattle.std.proofs.Common.{◌≡◌, ◌∙◌, sym, ap, refl, subst, ℕ, ◌+◌, ◌≤◌, ◌<◌, Bool, true, false, cond, ◌==◌, List, [], ◌∷◌, ◌++◌, length, drop, get_or, Option, Some, None, arith}
+use Rattle.std.proofs.Common.{◌≡◌, ◌∙◌, sym, ap, refl, ℕ, ◌+◌, ◌<◌, Bool, true, false, List, [], ◌∷◌, ◌++◌, length, drop, get_or, Option, Some, arith}
 use Rattle.std.specs.Prelude.{if◌then◌else◌, reverse, slice_get}
-use Rattle.std.specs.List.{flat_map}
 use Rattle.std.specs.Option.{option_to_list}
-use Rattle.std.proofs.lemmas.List.{append-nil, drop_all, drop_more, nil_from_length, reverse-append}
+use Rattle.std.proofs.lemmas.List.{drop_all, drop_more, reverse-append}
 use Rattle.std.proofs.lemmas.Option.{slice_get-get_or}
 use Rattle.gw_rules.specs.Ask.{Ask}
 use Rattle.gw_rules.specs.Rule.{matches}
 use Rattle.gw_rules.specs.declared.rule.Rule.{Rule}
 use Rattle.gw_regions.proofs.AllowsLaw.{decided_allows}
 use Rattle.gw_regions.specs.Regions.{Region, lies}
-use Rattle.gw_regions.specs.Deciding.{AllowsIn, DecidesIn, decided, decided_by, rules_at}
+use Rattle.gw_regions.specs.Deciding.{AllowsIn, DecidesIn, decided, rules_at}
 
 -- the rule at a place, and those after it
 next : (rules : List Rule) (place : ℕ) (rule : Rule) → place < length rules → rule ≡ get_or rules place rule → drop place rules ≡ rule ∷ drop (place + 1) rules

@@ -1,13 +1,11 @@
 -- How lists grow by what is made of each item, and how what is left shrinks.
-use Rattle.std.proofs.Common.{◌≡◌, ◌∙◌, ap, refl, sym, ℕ, zero, suc, ◌+◌, ◌<◌, ◌≤◌, Bool, true, ◌||◌, add-one, append_assoc, drop, drop-cons, get_or, length, take, List, [], ◌∷◌, ◌++◌, Option, Some, None, inl, inr, arith}
+use Rattle.std.proofs.Common.{◌≡◌, ◌∙◌, ap, sym, ℕ, zero, suc, ◌+◌, ◌<◌, ◌≤◌, Bool, true, ◌||◌, add-one, append_assoc, drop, drop-cons, get_or, length, take, List, [], ◌∷◌, ◌++◌, inl, inr, arith}
 use Rattle.std.proofs.Math.Seq.{take-suc}
 use Rattle.std.proofs.lemmas.Grind.{flat_map-append}
-use Rattle.std.proofs.lemmas.List.{append-nil, drop_all, take_all}
+use Rattle.std.proofs.lemmas.List.{append-nil, take_all}
 use Rattle.std.proofs.lemmas.Bool.{or_cases, or_left, or_right}
 use Rattle.std.proofs.lemmas.List.Folds.{list_any-append}
 use Rattle.std.specs.List.{flat_map, list_any}
-use Rattle.gw_rules.specs.declared.range.Range.{Range}
-use Rattle.gw_regions.specs.Ranges.{first_number}
 use Rattle.gw_regions.proofs.RangeLaw.{or_none}
 
 pub flat_step : {A B : Type 0} (make : A → List B) (items : List A) (place : ℕ) (d : A) (before out new : List B) → place < length items

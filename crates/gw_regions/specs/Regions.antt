@@ -5,7 +5,6 @@ use Rattle.gw_rules.specs.Ask.{Ask}
 use Rattle.gw_rules.specs.Fields.{value_of, with_value}
 use Rattle.gw_rules.specs.Rule.{each_field, matches, ranges_of}
 use Rattle.gw_rules.specs.declared.field.FieldName.{FieldName}
-use Rattle.gw_rules.specs.declared.field.TheConstants.FieldName.{ALL}
 use Rattle.gw_rules.specs.declared.fields.Fields.{Fields}
 use Rattle.gw_rules.specs.declared.rule.Rule.{Rule}
 use Rattle.gw_regions.specs.Values.{admitted, has, is_empty, refused}

@@ -1,4 +1,4 @@
-use Rattle.std.proofs.Common.{◌≡◌, ◌<◌, ℕ, arith}
+use Rattle.std.proofs.Common.{arith}
 use Rattle.gw_regions.proofs.ComparingLaw.{same_matches}
 use Rattle.gw_regions.proofs.comparing.same_fields.Goals as goal
 

@@ -1,4 +1,4 @@
-use Rattle.std.proofs.Common.{◌≡◌, ◌≤◌, arith, length}
+use Rattle.std.proofs.Common.{arith}
 use Rattle.std.proofs.lemmas.List.{ext_get_or}
 use Rattle.gw_regions.specs.Ranges.{between}
 use Rattle.gw_regions.proofs.comparing.same_ranges.Goals as goal

@@ -1,4 +1,4 @@
-use Rattle.std.proofs.Common.{◌≡◌, ◌∙◌, ◌++◌, ◌∷◌, [], List, Ok, ap, sym, subst}
+use Rattle.std.proofs.Common.{◌∙◌, ◌++◌, ◌∷◌, [], List, Ok, ap, sym, subst}
 use Rattle.gw_regions.specs.Comparing.{IsComparison}
 use Rattle.gw_regions.specs.Regions.{Region}
 use Rattle.gw_regions.specs.declared.comparison.Found.{Found}

@@ -1,4 +1,4 @@
-use Rattle.std.proofs.Common.{◌≡◌, ℕ, ◌+◌, ◌-◌, ◌<◌, subst, sym, length, arith}
+use Rattle.std.proofs.Common.{◌≡◌, ℕ, ◌+◌, ◌-◌, subst, length, arith}
 use Rattle.gw_regions.specs.Deciding.{DecidesIn}
 use Rattle.gw_regions.proofs.DecidingLaw.{all_taken}
 use Rattle.gw_regions.proofs.deciding.deciding_of.Goals as goal

@@ -1,4 +1,4 @@
-use Rattle.std.proofs.Common.{◌≡◌, ◌∙◌, ap, sym}
+use Rattle.std.proofs.Common.{◌∙◌, ap, sym}
 use Rattle.std.proofs.lemmas.Bool.{and_from, and_parts}
 use Rattle.gw_regions.specs.Regions.{Region, lies, lies_in_one}
 use Rattle.gw_regions.proofs.Growing.{any_at}

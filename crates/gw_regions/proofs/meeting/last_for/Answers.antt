@@ -1,4 +1,4 @@
-use Rattle.std.proofs.Common.{◌≡◌, ◌∙◌, ◌≤◌, ap, arith, Some}
+use Rattle.std.proofs.Common.{◌∙◌, ◌≤◌, ap, arith, Some}
 use Rattle.std.specs.List.{list_any}
 use Rattle.gw_rules.specs.Fields.{value_of}
 use Rattle.gw_rules.specs.Range.{holds}
