@@ -1,0 +1,9 @@
+pub mod AllowsLaw
+pub mod ComparingLaw
+pub mod CoverageLaw
+pub mod DecidingLaw
+pub mod Growing
+pub mod MeetingLaw
+pub mod RangeLaw
+pub mod RegionLaw
+pub mod ValueLaw

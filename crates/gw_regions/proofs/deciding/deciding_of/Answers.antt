@@ -1,0 +1,22 @@
+use Rattle.std.proofs.Common.{◌≡◌, ℕ, ◌+◌, ◌-◌, subst, length, arith}
+use Rattle.gw_regions.specs.Deciding.{DecidesIn}
+use Rattle.gw_regions.proofs.DecidingLaw.{all_taken}
+use Rattle.gw_regions.proofs.deciding.deciding_of.Goals as goal
+
+pub loop-count-preserved : goal.loop-count-preserved
+loop-count-preserved c =
+    let rules = c.args.rules.now in
+    let region = c.args.region.now in
+    let within = c.loop-count-test.true in
+    let made = c.loop-count.made in
+    let next = c.take_rule.new.deciding in
+    let one : length rules - c.loop-count.count ≡ length rules - 1 - c.loop-count.count + 1 = omega arith in
+    let two : length rules - 1 - c.loop-count.count ≡ length rules - (c.loop-count.count + 1) = omega arith in
+    let before = subst (λ (n : ℕ). DecidesIn rules region n made.places.items made.otherwise) one c.loop-count.invariant in
+    subst (λ (n : ℕ). DecidesIn rules region n next.places.items next.otherwise) two (c.in_ok-take_rule.ensures before)
+
+pub returns : goal.returns
+returns c =
+    let all : length c.args.rules.now - c.loop-count.count ≡ 0 = omega (arith, c.loop-count-test.false) in
+    all_taken c.args.rules.now c.args.region.now (length c.args.rules.now - c.loop-count.count) c.loop-count.made.places.items
+    c.loop-count.made.otherwise all c.loop-count.invariant

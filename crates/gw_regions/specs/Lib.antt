@@ -1,0 +1,7 @@
+pub mod Comparing
+pub mod Coverage
+pub mod Deciding
+pub mod Meeting
+pub mod Ranges
+pub mod Regions
+pub mod Values

@@ -1,0 +1,34 @@
+-- Sets of values that a field of an ask may have.
+use Rattle.std.specs.Prelude.{ℕ, Bool, false, not, ◌&&◌, ◌==◌, if◌then◌else◌, List, [], length, Option, Some, None}
+use Rattle.std.specs.List.{list_any}
+use Rattle.gw_rules.specs.Range.{holds}
+use Rattle.gw_rules.specs.declared.range.Range.{Range}
+use Rattle.gw_regions.specs.Ranges.{first_number, shared, without}
+use Rattle.gw_regions.specs.declared.values.Values.{Values}
+
+-- the field may be so
+abbrev pub has : Values → Option ℕ → Bool
+has values None = values.absent
+has values (Some number) = list_any (holds number) values.ranges
+
+-- no field is so
+abbrev pub is_empty : Values → Bool
+is_empty values = not values.absent && (length values.ranges == 0)
+
+-- what of the values the ranges of a rule admit, and what they don't
+abbrev pub admitted : Values → List Range → Values
+admitted values ranges =
+    if length ranges == 0 then values else record { absent = false; ranges = shared values.ranges ranges }
+
+abbrev pub refused : Values → List Range → Values
+refused values ranges =
+    if length ranges == 0 then record { absent = false; ranges = [] }
+    else record { absent = values.absent; ranges = without values.ranges ranges }
+
+-- a value that both have, if there is one
+abbrev pub common : Values → Values → Option ℕ
+common a b = if a.absent && b.absent then None else first_number (shared a.ranges b.ranges)
+
+-- both have a value
+abbrev pub shares : Values → Values → Bool
+shares a b = has a (common a b) && has b (common a b)

@@ -1,0 +1,280 @@
+//! What two policies decide otherwise.
+ghost use Rattle.std.specs.Prelude.{◌≡◌, ◌++◌, ◌∷◌, ◌&&◌, [], ℕ, Bool, true, Ok, IfOk, OnOk, List, length};
+ghost use Rattle.gw_rules.specs.Ask.{Ask};
+ghost use Rattle.gw_rules.specs.Rule.{matches};
+ghost use Rattle.gw_regions.specs.Comparing.{AreAlike, AreSame, AreUnlike, IsComparison};
+ghost use Rattle.gw_regions.specs.Deciding.{decided_by};
+ghost use Rattle.gw_regions.specs.Regions.{Region as SpecRegion, lies, lies_in_one};
+ghost use Rattle.gw_regions.specs.declared.comparison.Found.{Found as SpecFound};
+ghost use Rattle.gw_rules.specs.declared.rule.Rule.{Rule as SpecRule};
+
+use crate::comparison::{Comparison, Taken};
+use crate::deciding::{Deciding, deciding_of};
+use crate::meeting::{ask_within, region_over};
+use crate::region::{Region, part};
+use gw_rules::{FieldName, Range, Rule};
+use std::alloc::{AllocError, Global};
+
+/// How many steps a comparison is given: enough for two policies of 512 rules that people write.
+pub const MAX_STEPS: u32 = 65_536;
+
+fn same_ranges(a: &[Range], b: &[Range]) -> bool
+    ensures { result ≡ true → a.now ≡ b.now }
+{
+    if a.len() != b.len() {
+        return false;
+    }
+    for place in 0..a.len() {
+        if a[place].low != b[place].low || a[place].high != b[place].high {
+            return false;
+        }
+    }
+    true
+}
+
+/// Whether two rules say the same, and are seen to match the same asks.
+fn same(a: &Rule, b: &Rule) -> bool
+    ensures says { result ≡ true → a.now.allow ≡ b.now.allow }
+    ensures matches { result ≡ true → (ask : Ask) → matches a.now ask ≡ matches b.now ask }
+{
+    a.allow == b.allow && same_fields(a, b)
+}
+
+fn same_fields(a: &Rule, b: &Rule) -> bool
+    ensures { result ≡ true → (ask : Ask) → matches a.now ask ≡ matches b.now ask }
+{
+    for field in FieldName::ALL.iter() {
+        if !same_ranges(a.ranges(*field).as_slice(), b.ranges(*field).as_slice()) {
+            return false;
+        }
+    }
+    true
+}
+
+fn same_at(old: &[Rule], a: usize, new: &[Rule], b: usize) -> bool
+    ensures { result ≡ true → AreSame old.now a new.now b }
+{
+    let Some(one) = old.get(a) else {
+        return false;
+    };
+    let Some(two) = new.get(b) else {
+        return false;
+    };
+    same(one, two)
+}
+
+/// Whether two policies are seen to decide alike.
+fn are_same(old: &[Rule], p: &Deciding, new: &[Rule], q: &Deciding) -> bool
+    ensures { result ≡ true → (ask : Ask) →
+        decided_by old.now p.now.places.items p.now.otherwise ask
+        ≡ decided_by new.now q.now.places.items q.now.otherwise ask }
+{
+    if p.places.len() != q.places.len() || p.otherwise != q.otherwise {
+        return false;
+    }
+    for index in 0..p.places.len() {
+        if !same_at(old, p.places[index], new, q.places[index]) {
+            return false;
+        }
+    }
+    true
+}
+
+/// What a look at a region comes to.
+#[derive(Clone, Copy)]
+enum Look {
+    /// The two policies decide each of its asks alike.
+    Alike,
+    /// They decide each otherwise, and this is what the new one says.
+    Unlike(bool),
+    /// It is to be parted by the old rule at this place.
+    PartByOld(usize),
+    /// It is to be parted by the new rule at this place.
+    PartByNew(usize),
+}
+
+/// By which rule to part a region: the first in which the two policies aren't seen to be the same.
+fn choice(old: &[Rule], p: &Deciding, new: &[Rule], q: &Deciding) -> Look
+    ensures part { (allows : Bool) → ¬ (result ≡ Look.Unlike allows) }
+    ensures open { ¬ (result ≡ Look.Alike) }
+{
+    let mut a = p.places.len();
+    let mut b = q.places.len();
+    for _ in 0..old.len() {
+        if a == 0 || b == 0 || !same_at(old, p.places[a - 1], new, q.places[b - 1]) {
+            break;
+        }
+        a -= 1;
+        b -= 1;
+    }
+    if 0 < b {
+        return Look::PartByNew(q.places[b - 1]);
+    }
+    if 0 < a {
+        return Look::PartByOld(p.places[a - 1]);
+    }
+    match p.places.last() {
+        Some(place) => Look::PartByOld(*place),
+        None => Look::PartByOld(0),
+    }
+}
+
+/// What two policies decide in a region.
+fn look_at(alloc: Global, old: &[Rule], new: &[Rule], region: &Region) -> Result<Look, AllocError>
+    ensures alike { result ≡ Ok Look.Alike → AreAlike old.now new.now region.now }
+    ensures unlike { (allows : Bool) → result ≡ Ok (Look.Unlike allows) →
+        AreUnlike old.now new.now region.now allows }
+{
+    let p = deciding_of(alloc, old, region)?;
+    let q = deciding_of(alloc, new, region)?;
+    if are_same(old, &p, new, &q) {
+        return Ok(Look::Alike);
+    }
+    if p.places.is_empty() && q.places.is_empty() && p.otherwise != q.otherwise {
+        return Ok(Look::Unlike(q.otherwise));
+    }
+    Ok(choice(old, &p, new, &q))
+}
+
+/// Parts a region by a rule, and puts all parts back.
+fn part_back(
+    alloc: Global,
+    left: &mut Vec<Region>,
+    mut region: Region,
+    rule: &Rule,
+) -> Result<(), AllocError>
+    ensures { OnOk result ((shapes : List SpecRegion) (old new : List SpecRule) (found : List SpecFound) →
+        IsComparison shapes old new found (left.old.items ++ region ∷ []) →
+        IsComparison shapes old new found left.new.items) }
+{
+    part(alloc, left, rule, &mut region)?;
+    left.push(region)?;
+    Ok(())
+}
+
+/// Puts a region back as it is.
+fn put_back(left: &mut Vec<Region>, region: Region) -> Result<(), AllocError>
+    ensures { OnOk result (left.new.items ≡ left.old.items ++ region ∷ []) }
+{
+    left.push(region)?;
+    Ok(())
+}
+
+/// Parts a region by the rule at a place, if there is one, and puts all parts back.
+fn put_parts(
+    alloc: Global,
+    left: &mut Vec<Region>,
+    region: Region,
+    rules: &[Rule],
+    place: usize,
+) -> Result<(), AllocError>
+    ensures { OnOk result ((shapes : List SpecRegion) (old new : List SpecRule) (found : List SpecFound) →
+        IsComparison shapes old new found (left.old.items ++ region ∷ []) →
+        IsComparison shapes old new found left.new.items) }
+{
+    match rules.get(place) {
+        Some(rule) => part_back(alloc, left, region, rule),
+        None => put_back(left, region),
+    }
+}
+
+/// Parts a region that was taken up, and puts all parts back.
+fn put_taken(
+    alloc: Global,
+    comparison: &mut Comparison,
+    taken: Taken,
+    rules: &[Rule],
+    place: usize,
+) -> Result<(), AllocError>
+    ensures { OnOk result ((shapes : List SpecRegion) (old new : List SpecRule) →
+        IsComparison shapes old new comparison.old.found.items (comparison.old.left.items ++ taken.region ∷ []) →
+        IsComparison shapes old new comparison.new.found.items comparison.new.left.items) }
+{
+    put_parts(
+        alloc,
+        &mut comparison.left,
+        taken.into_region(),
+        rules,
+        place,
+    )?;
+    Ok(())
+}
+
+/// Looks at a region that was taken up.
+fn settle(
+    alloc: Global,
+    old: &[Rule],
+    new: &[Rule],
+    taken: Taken,
+    comparison: &mut Comparison,
+) -> Result<(), AllocError>
+    ensures { OnOk result ((shapes : List SpecRegion) →
+        (lies taken.region taken.ask && lies_in_one shapes taken.ask) ≡ true →
+        IsComparison shapes old.now new.now comparison.old.found.items
+        (comparison.old.left.items ++ taken.region ∷ []) →
+        IsComparison shapes old.now new.now comparison.new.found.items comparison.new.left.items) }
+{
+    match look_at(alloc, old, new, &taken.region)? {
+        Look::Alike => Ok(()),
+        Look::Unlike(allows) => {
+            comparison.put_found(taken.into_found(allows))?;
+            Ok(())
+        }
+        Look::PartByOld(place) => {
+            put_taken(alloc, comparison, taken, old, place)?;
+            Ok(())
+        }
+        Look::PartByNew(place) => {
+            put_taken(alloc, comparison, taken, new, place)?;
+            Ok(())
+        }
+    }
+}
+
+/// Takes the last of the regions that are left, and looks at it if a shape meets it.
+fn step(
+    alloc: Global,
+    old: &[Rule],
+    new: &[Rule],
+    shapes: &[Region],
+    comparison: &mut Comparison,
+) -> Result<(), AllocError>
+    ensures { OnOk result (
+        IsComparison shapes.now old.now new.now comparison.old.found.items comparison.old.left.items →
+        IsComparison shapes.now old.now new.now comparison.new.found.items comparison.new.left.items) }
+{
+    let Some(region) = comparison.take_last() else {
+        return Ok(());
+    };
+    match ask_within(&region, shapes) {
+        None => Ok(()),
+        Some(ask) => {
+            settle(alloc, old, new, Taken { region, ask }, comparison)?;
+            Ok(())
+        }
+    }
+}
+
+/// Compares two policies over the asks of these shapes, in at most so many steps. What is found are
+/// regions in which every ask is decided otherwise, each with one of its asks that lies in a shape. An ask
+/// of the shapes is decided otherwise exactly if it lies in one of these regions, or in one that is left
+/// and is decided otherwise there. If none is left, all are found. An `Err` if there is no memory.
+pub fn compare(
+    alloc: Global,
+    old: &[Rule],
+    new: &[Rule],
+    shapes: &[Region],
+    steps: u32,
+) -> Result<Comparison, AllocError>
+    ensures { IfOk result (λ c. IsComparison shapes.now old.now new.now c.found.items c.left.items) }
+{
+    let start = region_over(alloc, shapes)?;
+    let mut comparison = Comparison::new(alloc, start)?;
+    for _ in 0..steps {
+        if comparison.left.is_empty() {
+            break;
+        }
+        step(alloc, old, new, shapes, &mut comparison)?;
+    }
+    Ok(comparison)
+}

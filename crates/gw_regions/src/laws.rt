@@ -1,0 +1,43 @@
+//! Laws of comparisons. The functions do nothing: their contracts are the laws.
+ghost use Rattle.std.specs.Prelude.{◌≡◌, List, [], true, false};
+ghost use Rattle.std.specs.List.{AllByRecursion};
+ghost use Rattle.gw_rules.specs.Ask.{Ask};
+ghost use Rattle.gw_rules.specs.RuleList.{allows};
+ghost use Rattle.gw_rules.specs.declared.rule.Rule.{Rule};
+ghost use Rattle.gw_regions.specs.Comparing.{IsComparison, WasDecided, differs, is_found};
+ghost use Rattle.gw_regions.specs.Regions.{Region, lies_in_one};
+ghost use Rattle.gw_regions.specs.declared.comparison.Found.{Found};
+
+use crate::MAX_STEPS;
+
+/// An ask of the shapes that lies in no region that is left is decided otherwise exactly if it lies in one
+/// that was found. So if none is left, all that is decided otherwise is found. If none was found either,
+/// the two policies decide each ask of the shapes alike.
+pub fn exact()
+    ensures known { (shapes : List Region) (old new : List Rule) (found : List Found) (left : List Region) →
+        IsComparison shapes old new found left → (ask : Ask) → lies_in_one shapes ask ≡ true →
+        lies_in_one left ask ≡ false → differs old new ask ≡ is_found found ask }
+    ensures finished { (shapes : List Region) (old new : List Rule) (found : List Found) →
+        IsComparison shapes old new found [] → (ask : Ask) → lies_in_one shapes ask ≡ true →
+        differs old new ask ≡ is_found found ask }
+    ensures alike { (shapes : List Region) (old new : List Rule) →
+        IsComparison shapes old new [] [] → (ask : Ask) → lies_in_one shapes ask ≡ true →
+        allows old ask ≡ allows new ask }
+{}
+
+/// However many steps there were: an ask of a region that was found is decided otherwise, whether or not it
+/// lies in a shape; and each such region has an ask of the shapes, which the old and the new policy decide
+/// as the region says.
+pub fn found()
+    ensures differs { (shapes : List Region) (old new : List Rule) (found : List Found) (left : List Region) →
+        IsComparison shapes old new found left → (ask : Ask) → is_found found ask ≡ true →
+        differs old new ask ≡ true }
+    ensures asks { (shapes : List Region) (old new : List Rule) (found : List Found) (left : List Region) →
+        IsComparison shapes old new found left →
+        AllByRecursion (λ f. WasDecided shapes old new f) found }
+{}
+
+/// The limit is 65,536 steps.
+pub fn limits()
+    ensures { MAX_STEPS ≡ 65536 }
+{}

@@ -1,0 +1,21 @@
+//! Regions of asks, and what two policies decide otherwise.
+//!
+//! A region has a set of values for each of the twelve fields. A rule parts it exactly: into the asks that
+//! the rule matches, and pieces of those that it doesn't. So a comparison finds the regions in which one
+//! policy allows what the other denies.
+#![tactic(auto)]
+
+mod comparing;
+mod comparison;
+mod coverage;
+mod deciding;
+pub mod laws;
+mod meeting;
+mod ranges;
+mod region;
+mod values;
+
+pub use comparing::{MAX_STEPS, compare};
+pub use comparison::{Comparison, Found};
+pub use region::{Region, lies, part};
+pub use values::Values;

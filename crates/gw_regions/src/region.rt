@@ -1,0 +1,143 @@
+//! Regions of asks, and how a rule parts one.
+ghost use Rattle.std.specs.Prelude.{◌≡◌, ◌++◌, List, IfOk, OnOk};
+ghost use Rattle.std.specs.List.{list_any};
+ghost use Rattle.gw_rules.specs.Fields.{value_of, with_value};
+ghost use Rattle.gw_rules.specs.Rule.{each_field};
+ghost use Rattle.gw_rules.specs.declared.field.TheConstants.FieldName.{ALL};
+ghost use Rattle.gw_regions.specs.Regions.{IsParted, inside, inside_at, lies, piece, piece_at, pieces};
+ghost use Rattle.gw_regions.specs.Regions.{Region as SpecRegion};
+
+use crate::Values;
+use gw_rules::{Ask, FieldName, Fields, Rule};
+use std::alloc::{AllocError, Global};
+
+/// A set of values for each of the twelve fields: an ask lies in it if each field is one of its values.
+pub type Region = Fields<Values>;
+
+/// Whether an ask lies in a region.
+pub fn lies(region: &Region, ask: &Ask) -> bool
+    ensures { result ≡ lies region.now ask.now }
+{
+    FieldName::ALL
+        .iter()
+        .all(|field| region.get(*field).has(*ask.get(*field)))
+}
+
+fn copy_region(alloc: Global, region: &Region) -> Result<Region, AllocError>
+    ensures { IfOk result (λ copied. copied ≡ region.now) }
+{
+    let operation = region.operation.copy(alloc)?;
+    let port = region.port.copy(alloc)?;
+    let source_network = region.source_network.copy(alloc)?;
+    let source_key = region.source_key.copy(alloc)?;
+    let destination_network = region.destination_network.copy(alloc)?;
+    let service = region.service.copy(alloc)?;
+    let object_type = region.object_type.copy(alloc)?;
+    let instance = region.instance.copy(alloc)?;
+    let property = region.property.copy(alloc)?;
+    let priority = region.priority.copy(alloc)?;
+    let sender = region.sender.copy(alloc)?;
+    let station = region.station.copy(alloc)?;
+    Ok(Fields {
+        operation,
+        port,
+        source_network,
+        source_key,
+        destination_network,
+        service,
+        object_type,
+        instance,
+        property,
+        priority,
+        sender,
+        station,
+    })
+}
+
+/// Gives a field other values.
+fn set(region: &mut Region, field: FieldName, values: Values)
+    ensures { region.new ≡ with_value field values region.old }
+{
+    match field {
+        FieldName::Operation => region.operation = values,
+        FieldName::Port => region.port = values,
+        FieldName::SourceNetwork => region.source_network = values,
+        FieldName::SourceKey => region.source_key = values,
+        FieldName::DestinationNetwork => region.destination_network = values,
+        FieldName::Service => region.service = values,
+        FieldName::ObjectType => region.object_type = values,
+        FieldName::Instance => region.instance = values,
+        FieldName::Property => region.property = values,
+        FieldName::Priority => region.priority = values,
+        FieldName::Sender => region.sender = values,
+        FieldName::Station => region.station = values,
+    }
+}
+
+/// Puts the region with other values for a field after the pieces, if it has some.
+fn push_piece(
+    alloc: Global,
+    out: &mut Vec<Region>,
+    field: FieldName,
+    region: &Region,
+    values: Values,
+) -> Result<(), AllocError>
+    ensures { OnOk result (out.new.items ≡ out.old.items ++ piece field region.now values) }
+{
+    if values.is_empty() {
+        return Ok(());
+    }
+    let mut made = copy_region(alloc, region)?;
+    set(&mut made, field, values);
+    out.push(made)?;
+    Ok(())
+}
+
+fn part_at(
+    alloc: Global,
+    out: &mut Vec<Region>,
+    field: FieldName,
+    rule: &Rule,
+    region: &mut Region,
+) -> Result<(), AllocError>
+    ensures pieces { OnOk result
+        (out.new.items ≡ out.old.items ++ piece_at field rule.now region.old) }
+    ensures inside { OnOk result (region.new ≡ inside_at field rule.now region.old) }
+{
+    let ranges = rule.ranges(field).as_slice();
+    let outer = region.get(field).refused(alloc, ranges)?;
+    push_piece(alloc, out, field, region, outer)?;
+    let inner = region.get(field).admitted(alloc, ranges)?;
+    set(region, field, inner);
+    Ok(())
+}
+
+/// Parts a region by a rule: what is left of it are the asks that the rule matches, and those that it
+/// doesn't match are put in pieces after those that are there.
+pub fn part(
+    alloc: Global,
+    out: &mut Vec<Region>,
+    rule: &Rule,
+    region: &mut Region,
+) -> Result<(), AllocError>
+    ensures parted { OnOk result ((outer : List SpecRegion) × (out.new.items ≡ out.old.items ++ outer)
+        × IsParted rule.now region.old region.new outer) }
+{
+    part_fields(alloc, out, rule, region)?;
+    Ok(())
+}
+
+fn part_fields(
+    alloc: Global,
+    out: &mut Vec<Region>,
+    rule: &Rule,
+    region: &mut Region,
+) -> Result<(), AllocError>
+    ensures pieces { OnOk result (out.new.items ≡ out.old.items ++ pieces ALL rule.now region.old) }
+    ensures inside { OnOk result (region.new ≡ inside ALL rule.now region.old) }
+{
+    for field in FieldName::ALL.iter() {
+        part_at(alloc, out, *field, rule, region)?;
+    }
+    Ok(())
+}
