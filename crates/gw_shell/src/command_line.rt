@@ -37,7 +37,8 @@ const LINT: &str = "lint";
 
 const MIGRATE: &str = "migrate";
 
-const CHECK_MIGRATE: &str = "Prints the configuration in format 3 instead; without --explain and --lint";
+const CHECK_MIGRATE: &str =
+    "Prints the configuration in format 3 instead; without --explain and --lint";
 
 const REPLAY_EXPLAIN: &str = "Also prints each ask, and which rule decides it";
 
