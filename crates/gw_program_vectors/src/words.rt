@@ -2,6 +2,7 @@
 
 use gw_audit::Moment;
 use gw_configuration::ConfigFault;
+use gw_migration::MigrationFault;
 use gw_script::LineFlaw;
 use gw_shell::{Choice, Fault, RunOptions, choice_of, end};
 use itoa::Buffer;
@@ -48,6 +49,7 @@ fn put_choice(
             put_flag(out, " explain", *explains)?;
             put_flag(out, " lint", *lints)
         }
+        Ok(Choice::Migrate(file)) => put(out, &["migrate ", file.as_str()]),
         Ok(Choice::Replay { file, explains }) => {
             put(out, &["replay"])?;
             put_flag(out, " explain", *explains)?;
@@ -110,6 +112,8 @@ pub fn faults(alloc: Global, out: &mut Vec<u8>) -> io::Result<()> {
         Fault::CommandLine,
         Fault::Unreadable,
         Fault::Configuration(ConfigFault::UnknownKey),
+        Fault::Migration(MigrationFault::Already),
+        Fault::Migration(MigrationFault::Unlike),
         Fault::Line(1),
         Fault::Line(u64::MAX),
         Fault::FlawedLine(2, LineFlaw::Long),

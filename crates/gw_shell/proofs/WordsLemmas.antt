@@ -1,6 +1,6 @@
 -- What the program makes of words, from what a parse of them gives.
 use Rattle.std.proofs.Common.{◌≡◌, ◌≢◌, ◌∙◌, ◌⊎◌, ℕ, IfSome, IsSomeAnd, inl, inr, refl, sym, ap, subst, rules, true, false, Bool, List, Option, Some, None, Result, Ok, Err, codes, [], ◌∷◌, option_map, Box}
-use Rattle.std.specs.Prelude.{⊤}
+use Rattle.std.specs.Prelude.{⊤, MatchResult}
 use Rattle.clap.specs.Words.{IsAmong, Kinds, Row, Text, fault_of, is_simple, is_simple_and_free}
 use Rattle.std.specs.Box.{box_value}
 use Rattle.clap.specs.Simple.{subcommand_rows}
@@ -11,7 +11,7 @@ use Rattle.clap.specs.declared.error.kind.ErrorKind.TheVariants as parse
 use Rattle.clap.proofs.OnLiterals.{clap_on_literals}
 use Rattle.clap.proofs.ValueTestLemmas.{accepts-Accepts}
 use Rattle.clap.specs.declared.builder.value_parser.ValueParser.TheVariants.{Unsigned}
-use Rattle.gw_shell.specs.CommandLine.{AreNoOptions, Asks, AsksNothing, Call, call_by, called, commands, most_seconds, most_turns, CallsCheck, CallsExplain, CallsLint, CallsLog, CallsLogSince, CallsReplay, CallsReplayExplained, CallsRun, CallsRunWhole, CallsWhy, IsAnswer, IsCheck, IsChosen, IsLog, IsLogSince, IsNoStart, IsRefusal, IsReplay, IsPeriod, IsServing, IsShown, IsStart, IsTurns, IsWhy}
+use Rattle.gw_shell.specs.CommandLine.{AreFlags, AreMixed, AreNoOptions, Asks, AsksNothing, Call, call_by, called, commands, most_seconds, most_turns, CallsCheck, CallsExplain, CallsLint, CallsLog, CallsLogSince, CallsMigrate, CallsReplay, CallsReplayExplained, CallsRun, CallsRunWhole, CallsWhy, IsAnswer, IsCheck, IsChosen, IsLog, IsLogSince, IsMigration, IsNoStart, IsRefusal, IsReplay, IsPeriod, IsServing, IsShown, IsStart, IsTurns, IsWhy, is_mixed}
 use Rattle.gw_audit.specs.declared.moment.Moment.{Moment}
 use Rattle.gw_audit.proofs.MomentExamples.{morning, morning_is_read, morning_is_told, morning_text}
 use Rattle.gw_shell.specs.declared.command_line.Choice.{Choice}
@@ -41,6 +41,7 @@ mistake_among kinds k (inr among) other = among
 -- what is made of a failed parse answers the kinds of fault that it may have
 pub refusal_answers : (words : List Text) (k : ErrorKind) (r : Result Choice Fault) → (k ≡ parse.OutOfMemory) ⊎ IsAmong k (fault_of commands words) → IsRefusal k r → IsAnswer words r
 refusal_answers words k (Ok (choice.Check file explains lints)) among is = absurd is
+refusal_answers words k (Ok (choice.Migrate file)) among is = absurd is
 refusal_answers words k (Ok (choice.Replay file explains)) among is = absurd is
 refusal_answers words k (Ok (choice.Run options)) among is = absurd is
 refusal_answers words k (Ok (choice.Why file)) among is = absurd is
@@ -51,6 +52,7 @@ refusal_answers words k (Ok (choice.Usage text)) among is = (k, mistake_among (f
 refusal_answers words k (Err fault.CommandLine) among is = inl (k, mistake_among (fault_of commands words) k among is.2, is)
 refusal_answers words k (Err fault.Memory) among is = tt
 refusal_answers words k (Err fault.Unreadable) among is = absurd is
+refusal_answers words k (Err (fault.Migration why)) among is = absurd is
 refusal_answers words k (Err (fault.Configuration f)) among is = absurd is
 refusal_answers words k (Err (fault.Line n)) among is = absurd is
 refusal_answers words k (Err (fault.FlawedLine n flaw)) among is = absurd is
@@ -68,6 +70,7 @@ in_nothing (Some c) holds = absurd holds
 -- what is chosen of words that the parser takes answers them
 pub taken_answers : (words : List Text) (r : Result Choice Fault) → fault_of commands words ≡ [] → IsChosen (called words) r → IsAnswer words r
 taken_answers words (Ok (choice.Check file explains lints)) none is = (none, is)
+taken_answers words (Ok (choice.Migrate file)) none is = (none, is)
 taken_answers words (Ok (choice.Replay file explains)) none is = (none, is)
 taken_answers words (Ok (choice.Run options)) none is = (none, is)
 taken_answers words (Ok (choice.Why file)) none is = (none, is)
@@ -77,6 +80,7 @@ taken_answers words (Ok (choice.Usage text)) none is = in_nothing (called words)
 taken_answers words (Err fault.CommandLine) none is = inr (none, is)
 taken_answers words (Err fault.Memory) none is = tt
 taken_answers words (Err fault.Unreadable) none is = absurd is
+taken_answers words (Err (fault.Migration why)) none is = absurd is
 taken_answers words (Err (fault.Configuration f)) none is = absurd is
 taken_answers words (Err (fault.Line n)) none is = absurd is
 taken_answers words (Err (fault.FlawedLine n flaw)) none is = absurd is
@@ -92,7 +96,7 @@ some_same x y e = cc
 -- the call of a command rests on the values of its options alone
 pub same_call : (name : Text) (one other : Text → Option Text) → ((id : Text) → one id ≡ other id) → call_by name one ≡ call_by name other
 same_call name one other same =
-    rw (same (codes "config"), same (codes "log"), same (codes "turns"), same (codes "stats"), same (codes "start"), same (codes "explain"), same (codes "lint"), same (codes "verbose")) refl
+    rw (same (codes "config"), same (codes "log"), same (codes "turns"), same (codes "stats"), same (codes "start"), same (codes "explain"), same (codes "lint"), same (codes "migrate"), same (codes "verbose")) refl
 
 -- the call that a parse entered, by its name and its rows
 pub entered_call : {Z : Type 0} (s : Option (Box SubCommand Z)) (name : Text) (rows : List Row)
@@ -103,6 +107,9 @@ entered_call (Some b) name rows named has =
     let same_name = some_same _ _ named in
     let same_rows = some_same _ _ has in
     rw (same_name, same_rows) refl
+
+no_truth : false ≡ true → ⊥
+no_truth e = search rules
 
 no_kind : (kinds : Kinds) (k : ErrorKind) → kinds ≡ [] → IsAmong k kinds → ⊥
 no_kind [] k none among = among
@@ -143,13 +150,14 @@ log_why e = search rules
 pub run_asks_nothing : (name : Text) (value : Text → Option Text) (f : Fault) → name ≡ codes "run" → AreNoOptions value f → IsChosen (Some (call_by name value)) (Err f)
 run_asks_nothing name value fault.CommandLine named nothing = record {
   replay = λ e. run_replay (sym named ∙ e);
-  check = λ file e has. run_check (sym named ∙ e);
+  check = λ file e has. absurd (run_check (sym named ∙ e));
   run = λ file n period e has turns. nothing n period turns;
   why = λ file e has. why_run (sym e ∙ named);
   log = λ start e began. log_run (sym e ∙ named);
 }
 run_asks_nothing name value fault.Memory named nothing = tt
 run_asks_nothing name value fault.Unreadable named nothing = absurd nothing
+run_asks_nothing name value (fault.Migration why) named nothing = absurd nothing
 run_asks_nothing name value (fault.Configuration f) named nothing = absurd nothing
 run_asks_nothing name value (fault.Line n) named nothing = absurd nothing
 run_asks_nothing name value (fault.FlawedLine n flaw) named nothing = absurd nothing
@@ -159,13 +167,44 @@ run_asks_nothing name value fault.Log named nothing = absurd nothing
 run_asks_nothing name value (fault.Socket port) named nothing = absurd nothing
 run_asks_nothing name value fault.CountEnd named nothing = absurd nothing
 
+-- a call of `check` whose flags ask for something asks for that
+pub check_asks : (name file : Text) (value : Text → Option Text) (choice : Choice) → name ≡ codes "check" → value (codes "config") ≡ Some file
+    → AreFlags file value choice → IsChosen (Some (call_by name value)) (Ok choice)
+check_asks name file value (choice.Check chosen explains lints) named has flags =
+    (named, has ∙ ap Some (sym flags.0), flags.1, flags.2, flags.3)
+check_asks name file value (choice.Migrate chosen) named has flags = (named, has ∙ ap Some (sym flags.0), flags.1, flags.2)
+check_asks name file value (choice.Replay chosen explains) named has flags = absurd flags
+check_asks name file value (choice.Run options) named has flags = absurd flags
+check_asks name file value (choice.Why chosen) named has flags = absurd flags
+check_asks name file value (choice.Log start) named has flags = absurd flags
+check_asks name file value (choice.Help text) named has flags = absurd flags
+check_asks name file value (choice.Usage text) named has flags = absurd flags
+
+-- one whose flags are mixed asks for nothing
+pub check_asks_nothing : (name : Text) (value : Text → Option Text) (f : Fault) → name ≡ codes "check" → AreMixed value f
+    → IsChosen (Some (call_by name value)) (Err f)
+check_asks_nothing name value f named mixed =
+    subst (λ (g : Fault). IsChosen (Some (call_by name value)) (Err g)) (sym mixed.0) (record {
+      replay = λ e. check_replay (sym named ∙ e);
+      check = λ file e has. mixed.1;
+      run = λ file n period e has turns seconds. run_check (sym e ∙ named);
+      why = λ file e has. why_check (sym e ∙ named);
+      log = λ start e began. log_check (sym e ∙ named);
+    })
+
+-- what `check` chooses of a file is what its call asks for
+pub check_chosen : (name file : Text) (value : Text → Option Text) (r : Result Choice Fault) → name ≡ codes "check"
+    → value (codes "config") ≡ Some file → MatchResult r (AreFlags file value) (AreMixed value) → IsChosen (Some (call_by name value)) r
+check_chosen name file value (Ok choice) named has is = check_asks name file value choice named has is
+check_chosen name file value (Err f) named has is = check_asks_nothing name value f named is
+
 -- a call of `log` whose text of the start tells no moment asks for nothing
 pub log_asks_nothing : (name : Text) (value : Text → Option Text) (f : Fault) → name ≡ codes "log" → IsNoStart (value (codes "start")) f
     → IsChosen (Some (call_by name value)) (Err f)
 log_asks_nothing name value f named nothing =
     subst (λ (g : Fault). IsChosen (Some (call_by name value)) (Err g)) (sym nothing.0) (record {
       replay = λ e. log_replay (sym named ∙ e);
-      check = λ file e has. log_check (sym named ∙ e);
+      check = λ file e has. absurd (log_check (sym named ∙ e));
       run = λ file n period e has turns seconds. log_run (sym named ∙ e);
       why = λ file e has. log_why (sym named ∙ e);
       log = λ start e began. nothing.1 start began;
@@ -188,6 +227,7 @@ IsOfCall c (Err _) = ⊥
 
 of_call : (words : List Text) (c : Call) (r : Result Choice Fault) → fault_of commands words ≡ [] → called words ≡ Some c → IsAnswer words r → IsOfCall c r
 of_call words c (Ok (choice.Check file explains lints)) none calls is = asked words c (choice.Check file explains lints) calls is.1
+of_call words c (Ok (choice.Migrate file)) none calls is = asked words c (choice.Migrate file) calls is.1
 of_call words c (Ok (choice.Replay file explains)) none calls is = asked words c (choice.Replay file explains) calls is.1
 of_call words c (Ok (choice.Run options)) none calls is = asked words c (choice.Run options) calls is.1
 of_call words c (Ok (choice.Why file)) none calls is = asked words c (choice.Why file) calls is.1
@@ -198,6 +238,7 @@ of_call words c (Err fault.CommandLine) none calls (inl is) = absurd (no_kind (f
 of_call words c (Err fault.CommandLine) none calls (inr is) = refused words c calls is.1
 of_call words c (Err fault.Memory) none calls is = tt
 of_call words c (Err fault.Unreadable) none calls is = absurd is
+of_call words c (Err (fault.Migration why)) none calls is = absurd is
 of_call words c (Err (fault.Configuration f)) none calls is = absurd is
 of_call words c (Err (fault.Line n)) none calls is = absurd is
 of_call words c (Err (fault.FlawedLine n flaw)) none calls is = absurd is
@@ -219,6 +260,7 @@ replay_call explains = record {
   start = None;
   explains = explains;
   lints = false;
+  migrates = false;
   verbose = false;
 }
 
@@ -246,6 +288,7 @@ calls_replay_explained program = refl
 
 replay_or_memory : (c : Call) (r : Result Choice Fault) → c.name ≡ codes "replay" → IsOfCall c r → IsReplay c.config c.explains r
 replay_or_memory c (Ok (choice.Check file explains lints)) named is = absurd (check_replay (sym is.0 ∙ named))
+replay_or_memory c (Ok (choice.Migrate file)) named is = absurd (check_replay (sym is.0 ∙ named))
 replay_or_memory c (Ok (choice.Replay file explains)) named is = (is.1, is.2)
 replay_or_memory c (Ok (choice.Run options)) named is = absurd (run_replay (sym is.0 ∙ named))
 replay_or_memory c (Ok (choice.Why file)) named is = absurd (why_replay (sym is.0 ∙ named))
@@ -255,6 +298,7 @@ replay_or_memory c (Ok (choice.Usage text)) named is = absurd is
 replay_or_memory c (Err fault.CommandLine) named is = absurd (is.replay named)
 replay_or_memory c (Err fault.Memory) named is = tt
 replay_or_memory c (Err fault.Unreadable) named is = absurd is
+replay_or_memory c (Err (fault.Migration why)) named is = absurd is
 replay_or_memory c (Err (fault.Configuration f)) named is = absurd is
 replay_or_memory c (Err (fault.Line n)) named is = absurd is
 replay_or_memory c (Err (fault.FlawedLine n flaw)) named is = absurd is
@@ -278,8 +322,8 @@ replay_explained_is_taken words r is call =
 
 -- ---- a call that checks a file
 
-abbrev check_call : Bool → Bool → Call
-check_call explains lints = record {
+abbrev check_call : (explains lints migrates : Bool) → Call
+check_call explains lints migrates = record {
   name = codes "check";
   config = Some (codes "site.toml");
   log = None;
@@ -288,6 +332,7 @@ check_call explains lints = record {
   start = None;
   explains = explains;
   lints = lints;
+  migrates = migrates;
   verbose = false;
 }
 
@@ -300,11 +345,14 @@ explain_words program = program ∷ codes "check" ∷ codes "--config" ∷ codes
 abbrev lint_words : Text → List Text
 lint_words program = program ∷ codes "check" ∷ codes "--config" ∷ codes "site.toml" ∷ codes "--lint" ∷ []
 
+abbrev migrate_words : Text → List Text
+migrate_words program = program ∷ codes "check" ∷ codes "--config" ∷ codes "site.toml" ∷ codes "--migrate" ∷ []
+
 check_no_fault : (program : Text) → fault_of commands (check_words program) ≡ []
 unfolding clap_on_literals
 check_no_fault program = refl
 
-calls_check : (program : Text) → called (check_words program) ≡ Some (check_call false false)
+calls_check : (program : Text) → called (check_words program) ≡ Some (check_call false false false)
 unfolding clap_on_literals
 calls_check program = refl
 
@@ -312,7 +360,7 @@ explain_no_fault : (program : Text) → fault_of commands (explain_words program
 unfolding clap_on_literals
 explain_no_fault program = refl
 
-calls_explain : (program : Text) → called (explain_words program) ≡ Some (check_call true false)
+calls_explain : (program : Text) → called (explain_words program) ≡ Some (check_call true false false)
 unfolding clap_on_literals
 calls_explain program = refl
 
@@ -320,47 +368,89 @@ lint_no_fault : (program : Text) → fault_of commands (lint_words program) ≡ 
 unfolding clap_on_literals
 lint_no_fault program = refl
 
-calls_lint : (program : Text) → called (lint_words program) ≡ Some (check_call false true)
+calls_lint : (program : Text) → called (lint_words program) ≡ Some (check_call false true false)
 unfolding clap_on_literals
 calls_lint program = refl
 
-check_or_memory : (c : Call) (file : Text) (r : Result Choice Fault) → c.name ≡ codes "check" → c.config ≡ Some file → IsOfCall c r → IsCheck file c.explains c.lints r
-check_or_memory c file (Ok (choice.Check name explains lints)) named has is = (some_same _ _ (sym is.1 ∙ has), is.2, is.3)
-check_or_memory c file (Ok (choice.Replay name explains)) named has is = absurd (check_replay (sym named ∙ is.0))
-check_or_memory c file (Ok (choice.Run options)) named has is = absurd (run_check (sym is.0 ∙ named))
-check_or_memory c file (Ok (choice.Why name)) named has is = absurd (why_check (sym is.0 ∙ named))
-check_or_memory c file (Ok (choice.Log start)) named has is = absurd (log_check (sym is.0 ∙ named))
-check_or_memory c file (Ok (choice.Help text)) named has is = absurd is
-check_or_memory c file (Ok (choice.Usage text)) named has is = absurd is
-check_or_memory c file (Err fault.CommandLine) named has is = absurd (is.check file named has)
-check_or_memory c file (Err fault.Memory) named has is = tt
-check_or_memory c file (Err fault.Unreadable) named has is = absurd is
-check_or_memory c file (Err (fault.Configuration f)) named has is = absurd is
-check_or_memory c file (Err (fault.Line n)) named has is = absurd is
-check_or_memory c file (Err (fault.FlawedLine n flaw)) named has is = absurd is
-check_or_memory c file (Err fault.Read) named has is = absurd is
-check_or_memory c file (Err fault.Write) named has is = absurd is
-check_or_memory c file (Err fault.Log) named has is = absurd is
-check_or_memory c file (Err (fault.Socket port)) named has is = absurd is
-check_or_memory c file (Err fault.CountEnd) named has is = absurd is
+migrate_no_fault : (program : Text) → fault_of commands (migrate_words program) ≡ []
+unfolding clap_on_literals
+migrate_no_fault program = refl
+
+calls_migrate : (program : Text) → called (migrate_words program) ≡ Some (check_call false false true)
+unfolding clap_on_literals
+calls_migrate program = refl
+
+not_mixed : (c : Call) → c.migrates ≡ false → is_mixed c ≡ true → ⊥
+not_mixed c no_migration mixed = search rules
+
+check_or_memory : (c : Call) (file : Text) (r : Result Choice Fault) → c.name ≡ codes "check" → c.config ≡ Some file → c.migrates ≡ false → IsOfCall c r → IsCheck file c.explains c.lints r
+check_or_memory c file (Ok (choice.Check name explains lints)) named has stays is = (some_same _ _ (sym is.1 ∙ has), is.2, is.3)
+check_or_memory c file (Ok (choice.Migrate name)) named has stays is = absurd (no_truth (sym stays ∙ is.2))
+check_or_memory c file (Ok (choice.Replay name explains)) named has stays is = absurd (check_replay (sym named ∙ is.0))
+check_or_memory c file (Ok (choice.Run options)) named has stays is = absurd (run_check (sym is.0 ∙ named))
+check_or_memory c file (Ok (choice.Why name)) named has stays is = absurd (why_check (sym is.0 ∙ named))
+check_or_memory c file (Ok (choice.Log start)) named has stays is = absurd (log_check (sym is.0 ∙ named))
+check_or_memory c file (Ok (choice.Help text)) named has stays is = absurd is
+check_or_memory c file (Ok (choice.Usage text)) named has stays is = absurd is
+check_or_memory c file (Err fault.CommandLine) named has stays is = absurd (not_mixed c stays (is.check file named has))
+check_or_memory c file (Err fault.Memory) named has stays is = tt
+check_or_memory c file (Err fault.Unreadable) named has stays is = absurd is
+check_or_memory c file (Err (fault.Migration why)) named has stays is = absurd is
+check_or_memory c file (Err (fault.Configuration f)) named has stays is = absurd is
+check_or_memory c file (Err (fault.Line n)) named has stays is = absurd is
+check_or_memory c file (Err (fault.FlawedLine n flaw)) named has stays is = absurd is
+check_or_memory c file (Err fault.Read) named has stays is = absurd is
+check_or_memory c file (Err fault.Write) named has stays is = absurd is
+check_or_memory c file (Err fault.Log) named has stays is = absurd is
+check_or_memory c file (Err (fault.Socket port)) named has stays is = absurd is
+check_or_memory c file (Err fault.CountEnd) named has stays is = absurd is
 
 pub check_is_taken : (words : List Text) (r : Result Choice Fault) → IsAnswer words r → CallsCheck words → IsCheck (codes "site.toml") false false r
 check_is_taken words r is call =
-    check_or_memory (check_call false false) (codes "site.toml") r refl refl
-    (of_call words (check_call false false) r (ap (λ (w : List Text). fault_of commands w) call.1 ∙ check_no_fault call.0)
+    check_or_memory (check_call false false false) (codes "site.toml") r refl refl refl
+    (of_call words (check_call false false false) r (ap (λ (w : List Text). fault_of commands w) call.1 ∙ check_no_fault call.0)
     (ap called call.1 ∙ calls_check call.0) is)
 
 pub explain_is_taken : (words : List Text) (r : Result Choice Fault) → IsAnswer words r → CallsExplain words → IsCheck (codes "site.toml") true false r
 explain_is_taken words r is call =
-    check_or_memory (check_call true false) (codes "site.toml") r refl refl
-    (of_call words (check_call true false) r (ap (λ (w : List Text). fault_of commands w) call.1 ∙ explain_no_fault call.0)
+    check_or_memory (check_call true false false) (codes "site.toml") r refl refl refl
+    (of_call words (check_call true false false) r (ap (λ (w : List Text). fault_of commands w) call.1 ∙ explain_no_fault call.0)
     (ap called call.1 ∙ calls_explain call.0) is)
 
 pub lint_is_taken : (words : List Text) (r : Result Choice Fault) → IsAnswer words r → CallsLint words → IsCheck (codes "site.toml") false true r
 lint_is_taken words r is call =
-    check_or_memory (check_call false true) (codes "site.toml") r refl refl
-    (of_call words (check_call false true) r (ap (λ (w : List Text). fault_of commands w) call.1 ∙ lint_no_fault call.0)
+    check_or_memory (check_call false true false) (codes "site.toml") r refl refl refl
+    (of_call words (check_call false true false) r (ap (λ (w : List Text). fault_of commands w) call.1 ∙ lint_no_fault call.0)
     (ap called call.1 ∙ calls_lint call.0) is)
+
+migrate_or_memory : (c : Call) (file : Text) (r : Result Choice Fault) → c.name ≡ codes "check" → c.config ≡ Some file → c.migrates ≡ true → is_mixed c ≡ false
+    → IsOfCall c r → IsMigration file r
+migrate_or_memory c file (Ok (choice.Check name explains lints)) named has goes alone is = absurd (no_truth (sym is.4 ∙ goes))
+migrate_or_memory c file (Ok (choice.Migrate name)) named has goes alone is = some_same _ _ (sym is.1 ∙ has)
+migrate_or_memory c file (Ok (choice.Replay name explains)) named has goes alone is = absurd (check_replay (sym named ∙ is.0))
+migrate_or_memory c file (Ok (choice.Run options)) named has goes alone is = absurd (run_check (sym is.0 ∙ named))
+migrate_or_memory c file (Ok (choice.Why name)) named has goes alone is = absurd (why_check (sym is.0 ∙ named))
+migrate_or_memory c file (Ok (choice.Log start)) named has goes alone is = absurd (log_check (sym is.0 ∙ named))
+migrate_or_memory c file (Ok (choice.Help text)) named has goes alone is = absurd is
+migrate_or_memory c file (Ok (choice.Usage text)) named has goes alone is = absurd is
+migrate_or_memory c file (Err fault.CommandLine) named has goes alone is = absurd (no_truth (sym alone ∙ is.check file named has))
+migrate_or_memory c file (Err fault.Memory) named has goes alone is = tt
+migrate_or_memory c file (Err fault.Unreadable) named has goes alone is = absurd is
+migrate_or_memory c file (Err (fault.Migration why)) named has goes alone is = absurd is
+migrate_or_memory c file (Err (fault.Configuration f)) named has goes alone is = absurd is
+migrate_or_memory c file (Err (fault.Line n)) named has goes alone is = absurd is
+migrate_or_memory c file (Err (fault.FlawedLine n flaw)) named has goes alone is = absurd is
+migrate_or_memory c file (Err fault.Read) named has goes alone is = absurd is
+migrate_or_memory c file (Err fault.Write) named has goes alone is = absurd is
+migrate_or_memory c file (Err fault.Log) named has goes alone is = absurd is
+migrate_or_memory c file (Err (fault.Socket port)) named has goes alone is = absurd is
+migrate_or_memory c file (Err fault.CountEnd) named has goes alone is = absurd is
+
+pub migrate_is_taken : (words : List Text) (r : Result Choice Fault) → IsAnswer words r → CallsMigrate words → IsMigration (codes "site.toml") r
+migrate_is_taken words r is call =
+    migrate_or_memory (check_call false false true) (codes "site.toml") r refl refl refl refl
+    (of_call words (check_call false false true) r (ap (λ (w : List Text). fault_of commands w) call.1 ∙ migrate_no_fault call.0)
+    (ap called call.1 ∙ calls_migrate call.0) is)
 
 -- ---- a call that serves the ports of a file
 
@@ -374,6 +464,7 @@ run_call log turns verbose stats = record {
   start = None;
   explains = false;
   lints = false;
+  migrates = false;
   verbose = verbose;
 }
 
@@ -420,6 +511,7 @@ a_minute = (accepts-Accepts false (Unsigned 1 most_seconds) (codes "60") refl, r
 run_or_memory : (c : Call) (file : Text) (n : ℕ) (period : Option ℕ) (r : Result Choice Fault) → c.name ≡ codes "run" → c.config ≡ Some file
     → IsTurns c.turns n → IsPeriod c.stats period → IsOfCall c r → IsServing file c.log n c.verbose period r
 run_or_memory c file n period (Ok (choice.Check name explains lints)) named has turns seconds is = absurd (run_check (sym named ∙ is.0))
+run_or_memory c file n period (Ok (choice.Migrate name)) named has turns seconds is = absurd (run_check (sym named ∙ is.0))
 run_or_memory c file n period (Ok (choice.Replay name explains)) named has turns seconds is = absurd (run_replay (sym named ∙ is.0))
 run_or_memory c file n period (Ok (choice.Run options)) named has turns seconds is =
     (some_same _ _ (sym is.1 ∙ has), is.2, turns_same c.turns options.turns n is.3 turns, is.4, period_same c.stats options.stats period is.5 seconds)
@@ -430,6 +522,7 @@ run_or_memory c file n period (Ok (choice.Usage text)) named has turns seconds i
 run_or_memory c file n period (Err fault.CommandLine) named has turns seconds is = absurd (is.run file n period named has turns seconds)
 run_or_memory c file n period (Err fault.Memory) named has turns seconds is = tt
 run_or_memory c file n period (Err fault.Unreadable) named has turns seconds is = absurd is
+run_or_memory c file n period (Err (fault.Migration why)) named has turns seconds is = absurd is
 run_or_memory c file n period (Err (fault.Configuration f)) named has turns seconds is = absurd is
 run_or_memory c file n period (Err (fault.Line m)) named has turns seconds is = absurd is
 run_or_memory c file n period (Err (fault.FlawedLine m flaw)) named has turns seconds is = absurd is
@@ -464,6 +557,7 @@ why_call = record {
   start = None;
   explains = false;
   lints = false;
+  migrates = false;
   verbose = false;
 }
 
@@ -480,6 +574,7 @@ calls_why program = refl
 
 why_or_memory : (c : Call) (file : Text) (r : Result Choice Fault) → c.name ≡ codes "why" → c.config ≡ Some file → IsOfCall c r → IsWhy file r
 why_or_memory c file (Ok (choice.Check name explains lints)) named has is = absurd (why_check (sym named ∙ is.0))
+why_or_memory c file (Ok (choice.Migrate name)) named has is = absurd (why_check (sym named ∙ is.0))
 why_or_memory c file (Ok (choice.Replay name explains)) named has is = absurd (why_replay (sym named ∙ is.0))
 why_or_memory c file (Ok (choice.Run options)) named has is = absurd (why_run (sym named ∙ is.0))
 why_or_memory c file (Ok (choice.Why name)) named has is = some_same _ _ (sym is.1 ∙ has)
@@ -489,6 +584,7 @@ why_or_memory c file (Ok (choice.Usage text)) named has is = absurd is
 why_or_memory c file (Err fault.CommandLine) named has is = absurd (is.why file named has)
 why_or_memory c file (Err fault.Memory) named has is = tt
 why_or_memory c file (Err fault.Unreadable) named has is = absurd is
+why_or_memory c file (Err (fault.Migration why)) named has is = absurd is
 why_or_memory c file (Err (fault.Configuration f)) named has is = absurd is
 why_or_memory c file (Err (fault.Line n)) named has is = absurd is
 why_or_memory c file (Err (fault.FlawedLine n flaw)) named has is = absurd is
@@ -516,6 +612,7 @@ log_call start = record {
   start = start;
   explains = false;
   lints = false;
+  migrates = false;
   verbose = false;
 }
 
@@ -550,6 +647,7 @@ IsTold given _ = ⊥
 log_or_memory : (c : Call) (start : Option Moment) (r : Result Choice Fault) → c.name ≡ codes "log" → IsStart c.start start → IsOfCall c r
     → IsTold c.start r
 log_or_memory c start (Ok (choice.Check name explains lints)) named began is = absurd (log_check (sym named ∙ is.0))
+log_or_memory c start (Ok (choice.Migrate name)) named began is = absurd (log_check (sym named ∙ is.0))
 log_or_memory c start (Ok (choice.Replay name explains)) named began is = absurd (log_replay (sym named ∙ is.0))
 log_or_memory c start (Ok (choice.Run options)) named began is = absurd (log_run (sym named ∙ is.0))
 log_or_memory c start (Ok (choice.Why name)) named began is = absurd (log_why (sym named ∙ is.0))
@@ -559,6 +657,7 @@ log_or_memory c start (Ok (choice.Usage text)) named began is = absurd is
 log_or_memory c start (Err fault.CommandLine) named began is = absurd (is.log start named began)
 log_or_memory c start (Err fault.Memory) named began is = tt
 log_or_memory c start (Err fault.Unreadable) named began is = absurd is
+log_or_memory c start (Err (fault.Migration why)) named began is = absurd is
 log_or_memory c start (Err (fault.Configuration f)) named began is = absurd is
 log_or_memory c start (Err (fault.Line n)) named began is = absurd is
 log_or_memory c start (Err (fault.FlawedLine n flaw)) named began is = absurd is
@@ -572,6 +671,7 @@ log_or_memory c start (Err fault.CountEnd) named began is = absurd is
 told_alone : (r : Result Choice Fault) → IsTold None r → IsLog r
 told_alone (Ok (choice.Log start)) is = is
 told_alone (Ok (choice.Check name explains lints)) is = absurd is
+told_alone (Ok (choice.Migrate name)) is = absurd is
 told_alone (Ok (choice.Replay name explains)) is = absurd is
 told_alone (Ok (choice.Run options)) is = absurd is
 told_alone (Ok (choice.Why name)) is = absurd is
@@ -580,6 +680,7 @@ told_alone (Ok (choice.Usage text)) is = absurd is
 told_alone (Err fault.Memory) is = tt
 told_alone (Err fault.CommandLine) is = absurd is
 told_alone (Err fault.Unreadable) is = absurd is
+told_alone (Err (fault.Migration why)) is = absurd is
 told_alone (Err (fault.Configuration f)) is = absurd is
 told_alone (Err (fault.Line n)) is = absurd is
 told_alone (Err (fault.FlawedLine n flaw)) is = absurd is
@@ -600,6 +701,7 @@ told_since : (r : Result Choice Fault) → IsTold (Some morning_text) r → IsLo
 told_since (Ok (choice.Log None)) is = absurd is
 told_since (Ok (choice.Log (Some m))) is = (morning_is_told m is, λ none. search rules)
 told_since (Ok (choice.Check name explains lints)) is = absurd is
+told_since (Ok (choice.Migrate name)) is = absurd is
 told_since (Ok (choice.Replay name explains)) is = absurd is
 told_since (Ok (choice.Run options)) is = absurd is
 told_since (Ok (choice.Why name)) is = absurd is
@@ -608,6 +710,7 @@ told_since (Ok (choice.Usage text)) is = absurd is
 told_since (Err fault.Memory) is = tt
 told_since (Err fault.CommandLine) is = absurd is
 told_since (Err fault.Unreadable) is = absurd is
+told_since (Err (fault.Migration why)) is = absurd is
 told_since (Err (fault.Configuration f)) is = absurd is
 told_since (Err (fault.Line n)) is = absurd is
 told_since (Err (fault.FlawedLine n flaw)) is = absurd is

@@ -1,7 +1,7 @@
 -- Which words the program takes. `fault_of` of the crate `clap` lists the kinds of fault that a parser finds at some
 -- words, and is empty where it takes them; `subcommand_of` has the command that they name and the rows of its
 -- options.
-use Rattle.std.specs.Prelude.{◌≡◌, ◌≢◌, ◌⊎◌, ⊤, ℕ, Bool, true, false, List, [], ◌∷◌, nat_eq, Option, Some, None, Result}
+use Rattle.std.specs.Prelude.{◌≡◌, ◌≢◌, ◌⊎◌, ◌&&◌, ◌||◌, ⊤, ℕ, Bool, true, false, List, [], ◌∷◌, nat_eq, Option, Some, None, Result}
 use Rattle.std.specs.Prelude.{Ok, Err, codes, option_map, string_bytes, IfSome, IsSomeAnd}
 use Rattle.std.specs.Cmp.Lexicographic.{pointwise}
 use Rattle.std.specs.Str.Parse.{digits_value, without_leading_plus}
@@ -42,9 +42,17 @@ check_of_file = with_rule (new_app (codes "check")) (record config { required = 
 abbrev pub lint : Rule
 lint = flag (codes "lint")
 
--- and may have to explain, and to say which rules never decide
+-- `--migrate`, which has no value
+abbrev pub migrate : Rule
+migrate = flag (codes "migrate")
+
+-- and may have to explain, and to say which rules never decide,
+abbrev pub check_of_explanation : App
+check_of_explanation = with_rule (with_rule check_of_file explain) lint
+
+-- or may have to be written in format 3
 abbrev pub check : App
-check = with_rule (with_rule check_of_file explain) lint
+check = with_rule check_of_explanation migrate
 
 -- `replay`, which may have a file, and may have to explain
 abbrev pub replay : App
@@ -115,6 +123,7 @@ pub record Call : Type 0 where
   pub start : Option Text
   pub explains : Bool
   pub lints : Bool
+  pub migrates : Bool
   pub verbose : Bool
 
 -- an option without a value has the text `true` where it is given
@@ -133,6 +142,7 @@ call_by name value = record {
   start = value (codes "start");
   explains = is_given (value (codes "explain"));
   lints = is_given (value (codes "lint"));
+  migrates = is_given (value (codes "migrate"));
   verbose = is_given (value (codes "verbose"));
 }
 
@@ -195,11 +205,34 @@ AreNoOptions value fault.CommandLine =
 AreNoOptions value fault.Memory = ⊤
 AreNoOptions value _ = ⊥
 
+-- a configuration is to be written in format 3 and also explained or searched
+abbrev pub is_mixed : Call → Bool
+is_mixed call = call.migrates && (call.explains || call.lints)
+
+-- what `check` is asked for of a file by the values of its options
+abbrev pub AreFlags : Text → (Text → Option Text) → Choice → Type 0
+AreFlags file value (choice.Check name explains lints) =
+    (string_bytes name ≡ file) × (explains ≡ is_given (value (codes "explain")))
+    × (lints ≡ is_given (value (codes "lint"))) × (is_given (value (codes "migrate")) ≡ false)
+AreFlags file value (choice.Migrate name) =
+    (string_bytes name ≡ file) × (is_given (value (codes "migrate")) ≡ true)
+    × ((is_given (value (codes "explain")) || is_given (value (codes "lint"))) ≡ false)
+AreFlags file value _ = ⊥
+
+-- They ask for nothing.
+abbrev pub AreMixed : (Text → Option Text) → Fault → Type 0
+AreMixed value f = (f ≡ fault.CommandLine)
+    × ((is_given (value (codes "migrate")) && (is_given (value (codes "explain")) || is_given (value (codes "lint"))))
+    ≡ true)
+
 -- what a call asks for
 abbrev pub Asks : Choice → Call → Type 0
 Asks (choice.Check file explains lints) call =
     (call.name ≡ codes "check") × (call.config ≡ Some (string_bytes file)) × (explains ≡ call.explains)
-    × (lints ≡ call.lints)
+    × (lints ≡ call.lints) × (call.migrates ≡ false)
+Asks (choice.Migrate file) call =
+    (call.name ≡ codes "check") × (call.config ≡ Some (string_bytes file)) × (call.migrates ≡ true)
+    × ((call.explains || call.lints) ≡ false)
 Asks (choice.Replay file explains) call =
     (call.name ≡ codes "replay") × (option_map string_bytes file ≡ call.config) × (explains ≡ call.explains)
 Asks (choice.Run options) call =
@@ -211,12 +244,13 @@ Asks (choice.Log start) call = (call.name ≡ codes "log") × IsStart call.start
 Asks (choice.Help text) call = ⊥
 Asks (choice.Usage text) call = ⊥
 
--- A call of `replay` asks for something, one of `check` or `why` where a file is named, one of `run` where a file is
+-- A call of `replay` asks for something, one of `check` where a file is named and `--migrate` is alone, one of `why`
+-- where a file is named, one of `run` where a file is
 -- named and the texts of the turns and of the seconds between two reports are such numbers, and one of `log` where
 -- the text of its start tells a moment; other calls ask for nothing.
 pub record AsksNothing (call : Call) : Type 0 where
   pub replay : call.name ≢ codes "replay"
-  pub check : (file : Text) → call.name ≡ codes "check" → call.config ≢ Some file
+  pub check : (file : Text) → call.name ≡ codes "check" → call.config ≡ Some file → is_mixed call ≡ true
   pub run : (file : Text) (n : ℕ) (period : Option ℕ) →
       call.name ≡ codes "run" → call.config ≡ Some file → IsTurns call.turns n →
       ¬ (IsPeriod call.stats period)
@@ -265,6 +299,7 @@ IsMistake words = (k : ErrorKind) × IsAmong k (fault_of commands words) × IsWr
 -- is made first
 abbrev pub IsAnswer : List Text → Result Choice Fault → Type 0
 IsAnswer words (Ok (choice.Check file explains lints)) = IsTaken words (Ok (choice.Check file explains lints))
+IsAnswer words (Ok (choice.Migrate file)) = IsTaken words (Ok (choice.Migrate file))
 IsAnswer words (Ok (choice.Replay file explains)) = IsTaken words (Ok (choice.Replay file explains))
 IsAnswer words (Ok (choice.Run options)) = IsTaken words (Ok (choice.Run options))
 IsAnswer words (Ok (choice.Why file)) = IsTaken words (Ok (choice.Why file))
@@ -297,6 +332,11 @@ CallsExplain words =
 abbrev pub CallsLint : List Text → Type 0
 CallsLint words = (program : Text)
     × (words ≡ program ∷ codes "check" ∷ codes "--config" ∷ codes "site.toml" ∷ codes "--lint" ∷ [])
+
+-- the words of a call that writes it in format 3
+abbrev pub CallsMigrate : List Text → Type 0
+CallsMigrate words = (program : Text)
+    × (words ≡ program ∷ codes "check" ∷ codes "--config" ∷ codes "site.toml" ∷ codes "--migrate" ∷ [])
 
 -- the words of a call that says which of its rules decide what
 abbrev pub CallsWhy : List Text → Type 0
@@ -333,6 +373,12 @@ IsCheck file is_explained is_linted (Ok (choice.Check chosen explains lints)) =
     (string_bytes chosen ≡ file) × (explains ≡ is_explained) × (lints ≡ is_linted)
 IsCheck file is_explained is_linted (Err fault.Memory) = ⊤
 IsCheck file is_explained is_linted _ = ⊥
+
+-- that file is written in format 3, or memory ran out
+abbrev pub IsMigration : Text → Result Choice Fault → Type 0
+IsMigration file (Ok (choice.Migrate chosen)) = string_bytes chosen ≡ file
+IsMigration file (Err fault.Memory) = ⊤
+IsMigration file _ = ⊥
 
 -- the rules of that file are asked, or memory ran out
 abbrev pub IsWhy : Text → Result Choice Fault → Type 0

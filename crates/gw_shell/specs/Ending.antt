@@ -9,6 +9,8 @@ use Rattle.gw_shell.specs.declared.fault.Fault.{Fault}
 use Rattle.gw_shell.specs.declared.fault.Fault.TheVariants as fault
 use Rattle.gw_configuration.specs.declared.fault.ConfigFault.{ConfigFault}
 use Rattle.gw_configuration.specs.declared.fault.ConfigFault.TheVariants as config
+use Rattle.gw_migration.specs.declared.fault.MigrationFault.{MigrationFault}
+use Rattle.gw_migration.specs.declared.fault.MigrationFault.TheVariants as migration
 use Rattle.gw_core.specs.declared.replaying.RunFault.{RunFault}
 use Rattle.gw_core.specs.declared.replaying.RunFault.TheVariants as run
 use Rattle.gw_core.specs.declared.serving.ServeFault.{ServeFault}
@@ -43,11 +45,18 @@ words_of flaw.Address = codes "behind its port stands no address and a space"
 words_of flaw.OddDigits = codes "its octets have an odd number of digits"
 words_of flaw.Digits = codes "its octets are no pairs of digits"
 
+-- why a configuration isn't written in format 3
+abbrev pub reason_of : MigrationFault → List ℕ
+reason_of migration.Already = codes "it is of format 3"
+reason_of migration.Unlike = codes "it has no text of format 3"
+reason_of migration.Memory = codes "out of memory"
+
 -- the line on standard error, without its line feed
 abbrev pub text_of : Fault → List ℕ
 text_of fault.CommandLine = codes "bacgw: bad command line"
 text_of fault.Unreadable = codes "bacgw: cannot read configuration"
 text_of (fault.Configuration f) = codes "bacgw: configuration: " ++ name_of f
+text_of (fault.Migration f) = codes "bacgw: migration: " ++ reason_of f
 text_of (fault.Line n) = codes "bacgw: line " ++ decimal n
 text_of (fault.FlawedLine n f) = codes "bacgw: line " ++ decimal n ++ codes ": " ++ words_of f
 text_of fault.Read = codes "bacgw: read failed"
@@ -62,6 +71,7 @@ abbrev pub status_of : Fault → ℕ
 status_of fault.CommandLine = 2
 status_of fault.Unreadable = 1
 status_of (fault.Configuration f) = 2
+status_of (fault.Migration f) = 2
 status_of (fault.Line n) = 2
 status_of (fault.FlawedLine n f) = 2
 status_of fault.Read = 1
@@ -75,6 +85,11 @@ status_of fault.CountEnd = 1
 abbrev pub fault_of_configuration : ConfigFault → Fault
 fault_of_configuration config.Memory = fault.Memory
 fault_of_configuration f = fault.Configuration f
+
+-- why a configuration isn't written in format 3, as the program tells it
+abbrev pub fault_of_migration : MigrationFault → Fault
+fault_of_migration migration.Memory = fault.Memory
+fault_of_migration f = fault.Migration f
 
 -- the fault of a run, as the program tells it
 abbrev pub fault_of : RunFault → Fault

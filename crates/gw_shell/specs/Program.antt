@@ -5,6 +5,9 @@ use Rattle.std.specs.Prelude.{string_bytes}
 use Rattle.std.specs.Io.KnownBytes.{Appends}
 use Rattle.gw_script.specs.Known.{OnKnown}
 use Rattle.gw_configuration.specs.Configuration.{Configuration}
+use Rattle.gw_migration.specs.Migration.{Migrates}
+use Rattle.gw_migration.specs.declared.fault.MigrationFault.TheVariants as migration
+use Rattle.gw_rules.specs.declared.format.Format.TheVariants as formats
 use Rattle.gw_shell.specs.declared.command_line.Choice.{Choice}
 use Rattle.gw_shell.specs.declared.command_line.Choice.TheVariants as choice
 use Rattle.gw_shell.specs.declared.fault.Fault.{Fault}
@@ -52,6 +55,24 @@ abbrev pub LeavesOfText : (explains lints : Bool) → Result (List ℕ) Fault �
 LeavesOfText explains lints text held holds outcome =
     (c : Result Configuration Fault) × IsConfigurationOf text c × LeavesChecked explains lints text held holds c outcome
 
+-- What `check --migrate` leaves of a configuration: a text that says it in format 3, of which a failed write may leave
+-- a front, and nothing at any other fault.
+abbrev pub LeavesInFormatThree : Option (List ℕ) → Option (List ℕ) → Configuration → Result (Unit {0}) Fault → Type 0
+LeavesInFormatThree held holds c (Ok done) = (text : List ℕ) × Migrates c text × Appends held holds text
+LeavesInFormatThree held holds c (Err fault.Write) = (text : List ℕ) × Migrates c text × AppendsFront held holds text
+LeavesInFormatThree held holds c (Err fault.Memory) = holds ≡ held
+LeavesInFormatThree held holds c (Err (fault.Migration f)) = holds ≡ held
+LeavesInFormatThree held holds c (Err _) = ⊥
+
+-- What it leaves of the configuration that was read: one that is of format 3 is the fault that it is. Where there is
+-- none the outcome is why.
+abbrev pub LeavesMigrated : Option (List ℕ) → Option (List ℕ) → Result Configuration Fault
+    → Result (Unit {0}) Fault → Type 0
+LeavesMigrated held holds (Ok c) outcome =
+    LeavesInFormatThree held holds c outcome
+    × (c.format ≡ formats.Three → outcome ≡ Err (fault.Migration migration.Already))
+LeavesMigrated held holds (Err f) outcome = (outcome ≡ Err f) × (holds ≡ held)
+
 -- What `replay` leaves under the configuration that was read. Where there is none the script isn't played, and the
 -- outcome is why.
 abbrev pub LeavesPlayed : Bool → Option (List ℕ) → Option (List ℕ) → Option (List ℕ)
@@ -78,6 +99,9 @@ abbrev pub LeavesOutput : {Log Sockets : Type 0} → (Reads : List ℕ → Resul
 LeavesOutput Reads machine input held holds told (Ok (choice.Check file explains lints)) outcome =
     (text : Result (List ℕ) Fault) × Reads (string_bytes file) text
     × LeavesOfText explains lints text held holds outcome
+LeavesOutput Reads machine input held holds told (Ok (choice.Migrate file)) outcome =
+    (c : Result Configuration Fault) × IsConfigured Reads (Some (string_bytes file)) c
+    × LeavesMigrated held holds c outcome
 LeavesOutput Reads machine input held holds told (Ok (choice.Replay file explains)) outcome =
     (c : Result Configuration Fault) × IsConfigured Reads (option_map string_bytes file) c
     × LeavesPlayed explains input held holds c outcome

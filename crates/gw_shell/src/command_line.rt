@@ -3,7 +3,7 @@
 ghost use Rattle.std.specs.Prelude.{◌≡◌, ◌<◌, Some, None, true, false, IfOk, IfSome, MatchResult, map, codes, option_map, string_bytes};
 ghost use Rattle.clap.specs.Words.{app_of, first_value, found_of, kind_of, rule_of, subcommand_rows_of};
 ghost use Rattle.clap.specs.declared.builder.command.Command.TheViews.{out-Command};
-ghost use Rattle.gw_shell.specs.CommandLine.{call_by, call_of, check, check_of_file, commands, flag, is_given, log_in_words, option, replay, run, run_of_files, run_of_turns, needed_config, why, AreOptions, CallsCheck, CallsExplain, CallsLint, CallsLog, CallsLogSince, CallsReplay, CallsReplayExplained, CallsRun, CallsRunWhole, CallsWhy, IsAnswer, IsCheck, IsChosen, IsLog, IsLogSince, IsNoPeriod, IsNoStart, IsNoTurns, AreNoOptions, IsPeriod, IsRefusal, IsReplay, IsServing, IsStart, IsTurns, IsWhy};
+ghost use Rattle.gw_shell.specs.CommandLine.{call_by, call_of, check, check_of_explanation, check_of_file, commands, flag, is_given, log_in_words, option, replay, run, run_of_files, run_of_turns, needed_config, why, AreFlags, AreMixed, AreOptions, CallsCheck, CallsExplain, CallsLint, CallsLog, CallsLogSince, CallsMigrate, CallsReplay, CallsReplayExplained, CallsRun, CallsRunWhole, CallsWhy, IsAnswer, IsCheck, IsChosen, IsLog, IsLogSince, IsMigration, IsNoPeriod, IsNoStart, IsNoTurns, AreNoOptions, IsPeriod, IsRefusal, IsReplay, IsServing, IsStart, IsTurns, IsWhy};
 
 use crate::fault::Fault;
 use crate::options::RunOptions;
@@ -32,6 +32,14 @@ const EXPLAIN: &str = "explain";
 
 const CHECK_EXPLAIN: &str = "Also prints where the fault is, or what the policy hides from whom";
 
+/// The options of `check` that search the rules, and that write the configuration in format 3.
+const LINT: &str = "lint";
+
+const MIGRATE: &str = "migrate";
+
+const CHECK_MIGRATE: &str =
+    "Prints the configuration in format 3 instead; without --explain and --lint";
+
 const REPLAY_EXPLAIN: &str = "Also prints each ask, and which rule decides it";
 
 /// What stands below the help on `run`.
@@ -56,6 +64,8 @@ pub enum Choice {
         explains: bool,
         lints: bool,
     },
+    /// Write the configuration in the file of this name in format 3.
+    Migrate(String),
     /// Play the script on standard input, under the configuration in the file of this name or the
     /// built-in one, and tell each ask with its rule if that is asked for.
     Replay {
@@ -81,7 +91,14 @@ fn make_check<'a>(alloc: Global) -> Result<Command<'a>, AllocError>
     ensures app { IfOk result (λ command. app_of command ≡ check) }
     ensures local { IfOk result (λ command. (out-Command command).has_globals ≡ false) }
 {
-    let lint = make_flag(alloc, "lint", "Also prints which rules never decide");
+    make_check_of_explanation(alloc)?.arg(make_flag(alloc, MIGRATE, CHECK_MIGRATE))
+}
+
+fn make_check_of_explanation<'a>(alloc: Global) -> Result<Command<'a>, AllocError>
+    ensures app { IfOk result (λ command. app_of command ≡ check_of_explanation) }
+    ensures local { IfOk result (λ command. (out-Command command).has_globals ≡ false) }
+{
+    let lint = make_flag(alloc, LINT, "Also prints which rules never decide");
     make_check_of_file(alloc)?
         .arg(make_flag(alloc, EXPLAIN, CHECK_EXPLAIN))?
         .arg(lint)
@@ -313,6 +330,27 @@ fn run_options(alloc: Global, matches: &ArgMatches<'_>, config: String) -> Resul
     })
 }
 
+/// What `check` asks for of the configuration in this file, by what its words match. `CommandLine` if it is
+/// to be written in format 3 and also explained or searched.
+fn check_choice(matches: &ArgMatches<'_>, file: String) -> Result<Choice, Fault>
+    ensures { let value = first_value (found_of matches.now) in
+        MatchResult result (AreFlags (string_bytes file) value) (AreMixed value) }
+{
+    let explains = is_given(matches, EXPLAIN);
+    let lints = is_given(matches, LINT);
+    if !is_given(matches, MIGRATE) {
+        return Ok(Choice::Check {
+            file,
+            explains,
+            lints,
+        });
+    }
+    if explains || lints {
+        return Err(Fault::CommandLine);
+    }
+    Ok(Choice::Migrate(file))
+}
+
 /// What the command of this name asks for, by what its words match.
 fn choice_for(alloc: Global, name: &str, matches: &ArgMatches<'_>) -> Result<Choice, Fault>
     ensures { IsChosen (Some (call_by name.now (first_value (found_of matches.now)))) result }
@@ -332,11 +370,7 @@ fn choice_for(alloc: Global, name: &str, matches: &ArgMatches<'_>) -> Result<Cho
         return Err(Fault::CommandLine);
     };
     if name == "check" {
-        return Ok(Choice::Check {
-            file,
-            explains: is_given(matches, EXPLAIN),
-            lints: is_given(matches, "lint"),
-        });
+        return check_choice(matches, file);
     }
     if name == "why" {
         return Ok(Choice::Why(file));
@@ -366,6 +400,7 @@ pub fn choice_of(alloc: Global, words: &[String]) -> Result<Choice, Fault>
     ensures check { CallsCheck (map string_bytes words.now) → IsCheck (codes "site.toml") false false result }
     ensures explain { CallsExplain (map string_bytes words.now) → IsCheck (codes "site.toml") true false result }
     ensures lint { CallsLint (map string_bytes words.now) → IsCheck (codes "site.toml") false true result }
+    ensures migrate { CallsMigrate (map string_bytes words.now) → IsMigration (codes "site.toml") result }
     ensures why { CallsWhy (map string_bytes words.now) → IsWhy (codes "site.toml") result }
     ensures log { CallsLog (map string_bytes words.now) → IsLog result }
     ensures log_since { CallsLogSince (map string_bytes words.now) →

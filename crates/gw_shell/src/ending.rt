@@ -4,11 +4,12 @@ ghost use Rattle.std.specs.Prelude.{◌≡◌, ◌++◌, ◌∷◌, [], codes, d
 ghost use Rattle.std.specs.Io.KnownBytes.{Appends};
 ghost use Rattle.std.specs.Process.{exit_status};
 ghost use Rattle.gw_shell.specs.declared.fault.Fault.TheVariants as fault;
-ghost use Rattle.gw_shell.specs.Ending.{error_text, name_of, status_after, text_of, usage_of, words_of};
+ghost use Rattle.gw_shell.specs.Ending.{error_text, name_of, reason_of, status_after, text_of, usage_of, words_of};
 
 use crate::command_line::Choice;
-use crate::fault::{Fault, name_of, words_of};
+use crate::fault::{Fault, name_of, reason_of, words_of};
 use gw_configuration::ConfigFault;
+use gw_migration::MigrationFault;
 use gw_script::{LineFlaw, OctetSink, WriteFailed, write_whole};
 use itoa::Buffer;
 use std::process::ExitCode;
@@ -45,6 +46,21 @@ fn write_configuration_fault<E: OctetSink>(
     write_whole(errors, b"\n")
 }
 
+/// Writes `bacgw: migration: ` and why a configuration isn't written in format 3, and a line feed.
+fn write_migration_fault<E: OctetSink>(
+    fault: MigrationFault,
+    errors: &mut E,
+) -> Result<(), WriteFailed>
+    ensures ok { let line = codes "bacgw: migration: " ++ reason_of fault ++ 10 ∷ [] in
+        OnOk result (Appends (E.held errors.old) (E.held errors.new) line) }
+    ensures sure { E.NeverFails errors.old → IsOk result }
+    ensures lasts { E.NeverFails errors.old → E.NeverFails errors.new }
+{
+    write_whole(errors, b"bacgw: migration: ")?;
+    write_whole(errors, reason_of(fault).as_bytes())?;
+    write_whole(errors, b"\n")
+}
+
 /// Writes the number of a line, and what is wrong with it.
 fn write_flaw<E: OctetSink>(number: u64, flaw: LineFlaw, errors: &mut E) -> Result<(), WriteFailed>
     ensures ok { OnOk result (Appends (E.held errors.old) (E.held errors.new)
@@ -67,6 +83,7 @@ fn write_fault<E: OctetSink>(fault: Fault, errors: &mut E) -> Result<(), WriteFa
         Fault::CommandLine => write_whole(errors, b"bacgw: bad command line\n"),
         Fault::Unreadable => write_whole(errors, b"bacgw: cannot read configuration\n"),
         Fault::Configuration(fault) => write_configuration_fault(fault, errors),
+        Fault::Migration(fault) => write_migration_fault(fault, errors),
         Fault::Line(number) => write_number("bacgw: line ", number, "\n", errors),
         Fault::FlawedLine(number, flaw) => write_flaw(number, flaw, errors),
         Fault::Read => write_whole(errors, b"bacgw: read failed\n"),

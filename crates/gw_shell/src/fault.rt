@@ -1,12 +1,13 @@
 //! Why the program ends without success, and its exit status.
 
 ghost use Rattle.std.specs.Prelude.{◌≡◌, ◌≢◌};
-ghost use Rattle.gw_shell.specs.Ending.{fault_of, fault_of_configuration, fault_of_opening, fault_of_serving, name_of, status_of, words_of};
+ghost use Rattle.gw_shell.specs.Ending.{fault_of, fault_of_configuration, fault_of_migration, fault_of_opening, fault_of_serving, name_of, reason_of, status_of, words_of};
 ghost use Rattle.gw_shell.specs.Lines.{fault_of_lines};
 ghost use Rattle.gw_shell.specs.declared.fault.Fault.TheVariants.{CommandLine, Memory};
 
 use gw_configuration::ConfigFault;
 use gw_core::{RunFault, ServeFault};
+use gw_migration::MigrationFault;
 use gw_script::{LineFlaw, LinesFault};
 use gw_system::{LogFailure, OpenFailure, SocketFailure};
 use std::alloc::AllocError;
@@ -21,6 +22,8 @@ pub enum Fault {
     Unreadable,
     /// What the file of the configuration says is none, and why.
     Configuration(ConfigFault),
+    /// The configuration isn't written in format 3, and why.
+    Migration(MigrationFault),
     /// Line `n` of the script, counted from 1, is no event; or line `n` of the asks is none; or line `n`
     /// of the log is too long.
     Line(u64),
@@ -59,6 +62,7 @@ impl Fault {
         match self {
             Fault::CommandLine
             | Fault::Configuration(_)
+            | Fault::Migration(_)
             | Fault::Line(_)
             | Fault::FlawedLine(_, _) => 2,
             Fault::Unreadable
@@ -88,6 +92,17 @@ pub fn name_of(fault: ConfigFault) -> &'static str
     }
 }
 
+/// Why a configuration isn't written in format 3.
+pub fn reason_of(fault: MigrationFault) -> &'static str
+    ensures { result.now ≡ reason_of fault }
+{
+    match fault {
+        MigrationFault::Already => "it is of format 3",
+        MigrationFault::Unlike => "it has no text of format 3",
+        MigrationFault::Memory => "out of memory",
+    }
+}
+
 /// What is wrong with a line.
 pub fn words_of(flaw: LineFlaw) -> &'static str
     ensures { result.now ≡ words_of flaw }
@@ -110,6 +125,17 @@ impl From<ConfigFault> for Fault {
         match fault {
             ConfigFault::Memory => Fault::Memory,
             _ => Fault::Configuration(fault),
+        }
+    }
+}
+
+impl From<MigrationFault> for Fault {
+    ghost from_gives = { λ migration fault. fault ≡ fault_of_migration migration };
+
+    fn from(fault: MigrationFault) -> Fault {
+        match fault {
+            MigrationFault::Memory => Fault::Memory,
+            _ => Fault::Migration(fault),
         }
     }
 }

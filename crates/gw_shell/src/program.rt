@@ -5,12 +5,14 @@ ghost use Rattle.std.specs.Io.Buffered.{writer_buffer, writer_contents};
 ghost use Rattle.std.specs.Io.KnownBytes.{Appends};
 ghost use Rattle.std.specs.Process.{exit_status};
 ghost use Rattle.gw_configuration.specs.Configuration.{Configuration};
+ghost use Rattle.gw_migration.specs.declared.fault.MigrationFault.TheVariants as migration;
+ghost use Rattle.gw_rules.specs.declared.format.Format.TheVariants as formats;
 ghost use Rattle.gw_shell.specs.CommandLine.{IsAnswer};
 ghost use Rattle.gw_shell.specs.Configured.{IsConfigurationOf};
 ghost use Rattle.gw_shell.specs.Ending.{FaultNote, IsExplainedBy};
 ghost use Rattle.gw_shell.specs.Files.{result_map};
 ghost use Rattle.gw_system.specs.Host.{OpensAtLine};
-ghost use Rattle.gw_shell.specs.Program.{AppendsFront, IsFlushed, IsFollowed, IsRun, LeavesAnswered, LeavesConfigured, LeavesOfText, LeavesOutput, LeavesPlayed};
+ghost use Rattle.gw_shell.specs.Program.{AppendsFront, IsFlushed, IsFollowed, IsRun, LeavesAnswered, LeavesConfigured, LeavesInFormatThree, LeavesMigrated, LeavesOfText, LeavesOutput, LeavesPlayed};
 ghost use Rattle.gw_shell.specs.Serving.{IsFlushedFor, LeavesRun, machine};
 ghost use Rattle.gw_shell.specs.declared.fault.Fault.{Fault};
 ghost use Rattle.gw_shell.specs.declared.fault.Fault.TheVariants as fault;
@@ -28,6 +30,7 @@ use crate::serving::serve_ports;
 use crate::telling;
 use gw_configuration::{Config, ConfigFault};
 use gw_explanation::{Explanation, explain};
+use gw_migration::migrate;
 use gw_script::{OctetSink, OctetSource, write_whole};
 use gw_system::Host;
 use std::alloc::{AllocError, Global};
@@ -151,6 +154,36 @@ fn check<W: Write + Drop>(
     }
 }
 
+/// Prints a configuration in format 3.
+fn print_migrated<W: Write + Drop>(
+    alloc: Global,
+    config: &Config,
+    output: &mut BufWriter<W>,
+) -> Result<(), Fault>
+    ensures output { let held = writer_contents W.contents output.old in
+        let holds = writer_contents W.contents output.new in
+        LeavesInFormatThree held holds config.now result }
+    ensures already { config.now.format ≡ formats.Three → result ≡ Err (fault.Migration migration.Already) }
+    ensures flush { OnOk result (writer_buffer output.new ≡ []) }
+{
+    let text = migrate(alloc, config)?;
+    print(&text, output)
+}
+
+/// Prints the configuration that was read in format 3.
+fn print_in_format_three<W: Write + Drop>(
+    alloc: Global,
+    config: Result<Config, Fault>,
+    output: &mut BufWriter<W>,
+) -> Result<(), Fault>
+    ensures output { LeavesMigrated (writer_contents W.contents output.old)
+        (writer_contents W.contents output.new) config result }
+    ensures flush { OnOk result (writer_buffer output.new ≡ []) }
+{
+    let config = config?;
+    print_migrated(alloc, &config, output)
+}
+
 /// Plays the script under a configuration, and tells its asks where that is asked for.
 fn play<R: OctetSource, W: Write + Drop>(
     alloc: Global,
@@ -243,6 +276,10 @@ fn follow<F: ConfigFiles, H: Host, R: OctetSource, W: Write + Drop, E: OctetSink
         ) => {
             let text = files.read(alloc, file);
             check(alloc, *explains, *lints, &text, output)
+        }
+        Ok(Choice::Migrate(file)) => {
+            let config = configuration_in(alloc, files, file);
+            print_in_format_three(alloc, config, output)
         }
         Ok(Choice::Replay { file, explains }) => {
             let config = configuration(alloc, files, file);

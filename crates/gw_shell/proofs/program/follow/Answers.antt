@@ -22,13 +22,23 @@ returns-in-Ok-Check-clause-followed g c =
     followed _ _ c.args.choice.now (Ok chosen) c.check.result is refl (text, reads, c.check.ensures.output)
     (λ never. appends_nothing (g.E.OctetSink.held c.args.errors.now))
 
+pub returns-in-Ok-Migrate-clause-followed : goal.returns-in-Ok-Migrate-clause-followed
+returns-in-Ok-Migrate-clause-followed g c =
+    let chosen = choice.Migrate c.in-Ok-Migrate.file in
+    let is : c.args.choice.now ≡ Ok chosen = search rules in
+    let config = c.configuration_in-config.result in
+    let configured = subst (λ (name : List ℕ). IsConfigured (g.F.ConfigFiles.Reads c.args.files.now) (Some name) config)
+    c.deref-in-Ok-Migrate.ensures c.configuration_in-config.ensures in
+    followed _ _ c.args.choice.now (Ok chosen) c.print_in_format_three.result is refl
+    (config, configured, c.print_in_format_three.ensures.output) (λ never. appends_nothing (g.E.OctetSink.held c.args.errors.now))
+
 pub returns-in-Ok-Why-clause-followed : goal.returns-in-Ok-Why-clause-followed
 returns-in-Ok-Why-clause-followed g c =
     let chosen = choice.Why c.in-Ok-Why.file in
     let is : c.args.choice.now ≡ Ok chosen = search rules in
-    let config = c.configuration_in-config.result in
+    let config = c.configuration_in-config-in-Ok-Why.result in
     let configured = subst (λ (name : List ℕ). IsConfigured (g.F.ConfigFiles.Reads c.args.files.now) (Some name) config)
-    c.deref-in-Ok-Why.ensures c.configuration_in-config.ensures in
+    c.deref-in-Ok-Why.ensures c.configuration_in-config-in-Ok-Why.ensures in
     followed _ _ c.args.choice.now (Ok chosen) c.answer.result is refl (config, configured, c.answer.ensures.output)
     (λ never. appends_nothing (g.E.OctetSink.held c.args.errors.now))
 
