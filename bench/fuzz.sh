@@ -80,7 +80,7 @@ station = ["10.0.0.0/8", "192.168.2.99"]
 name = "no-write-spreads"
 allow = false
 operation = ["write"]
-destination = [[0, 99], [101, 65535]]
+destination = [[1, 99], [101, 65535]]
 sender = ["192.168.2.0/24"]
 """ if format == "3" else ""
 # The objects that the worked datagrams name, two hidden from all.
@@ -286,7 +286,8 @@ with tempfile.TemporaryDirectory() as place:
         lines = [event() + "\n" for _ in range(EACH)]
         ran = subprocess.run([program, "replay", "--config", config], input="".join(lines), capture_output=True, text=True)
         if ran.returncode or ran.stdout.count("end\n") != EACH:
-            failures.append(f"{name}: the program ended with status {ran.returncode}")
+            failures.append(f"{name}: the program ended with status {ran.returncode}: {ran.stderr}")
+            break
         blocks = shown(ran.stdout)
         number += len(blocks)
         for block in blocks:
