@@ -20,6 +20,7 @@ Plays explains c script before (Ok done) after = RunsWhole (telling explains) c 
 Plays explains c script before (Err fault.CommandLine) after = ⊥
 Plays explains c script before (Err fault.Unreadable) after = ⊥
 Plays explains c script before (Err (fault.Configuration f)) after = ⊥
+Plays explains c script before (Err (fault.Migration f)) after = ⊥
 Plays explains c script before (Err (fault.Line n)) after =
     (explains ≡ false) × RunsToLine (telling explains) n c script before after
 Plays explains c script before (Err (fault.FlawedLine n f)) after =
