@@ -7,6 +7,7 @@ pub mod Denials
 pub mod Effects
 pub mod History
 pub mod View
+pub mod Drops
 pub mod Respond
 pub mod Setting
 pub mod Examples
