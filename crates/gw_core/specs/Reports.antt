@@ -77,10 +77,13 @@ drops_text t =
     field (codes " malformed=") t.malformed ++ field (codes " own_network=") t.own_network
     ++ field (codes " no_peer=") t.no_peer
 
--- the line of a report: its fields in this order, and a line feed
+-- how many weren't passed on, and a line feed
+abbrev pub tally_text : Tally → List ℕ
+tally_text t = refusals_text t ++ drops_text t ++ 10 ∷ []
+
+-- the line of a report: its fields in this order
 unfoldable pub report_line : Report → List ℕ
-report_line r =
-    events_text r ++ calls_text r ++ tables_text r ++ refusals_text r.tally ++ drops_text r.tally ++ 10 ∷ []
+report_line r = events_text r ++ calls_text r ++ tables_text r ++ tally_text r.tally
 
 -- ---- the reports of a run
 

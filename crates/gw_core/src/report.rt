@@ -1,12 +1,12 @@
 //! A report of serving: what was done so far and what the tables hold, and its line.
 
-ghost use Rattle.std.specs.Prelude.{◌≡◌, ◌+◌, ◌≤◌, ◌++◌, ◌∷◌, [], decimal, length, IsOk, OnOk};
+ghost use Rattle.std.specs.Prelude.{◌≡◌, ◌+◌, ◌≤◌, ◌++◌, decimal, length, IsOk, OnOk};
 ghost use Rattle.std.specs.Io.KnownBytes.{Appends};
 ghost use Rattle.gw_addr.specs.declared.TheConstants.{MAX_PORTS};
 ghost use Rattle.gw_bdt_fdt.specs.Peers.{peers};
 ghost use Rattle.gw_bdt_fdt.specs.declared.bdt.TheConstants.{MAX_ENTRIES};
 ghost use Rattle.gw_core.specs.ReportTurn.{HasGoneOn};
-ghost use Rattle.gw_core.specs.Reports.{calls_text, drops_text, events_text, field, peer_count, refusals_text, registrations, report_line, report_of, tables_text};
+ghost use Rattle.gw_core.specs.Reports.{calls_text, drops_text, events_text, field, peer_count, refusals_text, registrations, report_line, report_of, tables_text, tally_text};
 
 use crate::drops::Tally;
 use crate::event::Counts;
@@ -175,8 +175,7 @@ fn write_drops<S: OctetSink>(tally: &Tally, sink: &mut S) -> Result<(), WriteFai
 
 /// Writes how many datagrams weren't passed on, and ends the line.
 fn write_tally<S: OctetSink>(tally: &Tally, sink: &mut S) -> Result<(), WriteFailed>
-    ensures ok { OnOk result (Appends (S.held sink.old) (S.held sink.new)
-        (refusals_text tally.now ++ drops_text tally.now ++ 10 ∷ [])) }
+    ensures ok { OnOk result (Appends (S.held sink.old) (S.held sink.new) (tally_text tally.now)) }
     ensures sure { S.NeverFails sink.old → IsOk result }
     ensures lasts { S.NeverFails sink.old → S.NeverFails sink.new }
 {
