@@ -2,8 +2,8 @@ use Rattle.std.proofs.Common.{◌≡◌, ◌∙◌, ℕ, None, ap}
 use Rattle.gw_configuration.specs.Duplicates.{type_number}
 use Rattle.gw_rules.specs.Hides.{hides_from_network, may_match_some, must_match_all, reading}
 use Rattle.gw_rules.proofs.Hiding.{hides_iff}
-use Rattle.gw_shell.proofs.HiddenLemmas.{same_truth}
-use Rattle.gw_shell.proofs.hidden.is_hidden.Goals as goal
+use Rattle.gw_permissions.proofs.Truth.{same_truth}
+use Rattle.gw_permissions.proofs.objects.is_hidden.Goals as goal
 
 pub returns : goal.returns
 returns c =
