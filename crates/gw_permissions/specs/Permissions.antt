@@ -33,15 +33,15 @@ head_words Claim = []
 -- each ask for the deed is allowed by the rule, some may be, or none is by any
 abbrev pub every_words : Deed → List ℕ
 every_words (Enter port) = codes " lets every stranger enter\n"
-every_words Claim = codes " lets everyone speak for every network\n"
+every_words Claim = codes " lets everyone speak for every network behind a router\n"
 
 abbrev pub some_words : Deed → List ℕ
 some_words (Enter port) = codes " may let strangers enter\n"
-some_words Claim = codes " may let others speak for a network\n"
+some_words Claim = codes " may let others speak for a network behind a router\n"
 
 abbrev pub none_words : Deed → List ℕ
 none_words (Enter port) = codes "no rule lets a stranger enter\n"
-none_words Claim = codes "no rule lets others speak for a network\n"
+none_words Claim = codes "no rule lets others speak for a network behind a router\n"
 
 abbrev pub extent_words : Bool → Deed → List ℕ
 extent_words every deed = if every then every_words deed else some_words deed
@@ -181,7 +181,7 @@ plain_lines rules ports number object = flat_map (hidden_line rules number objec
 
 -- ---- the whole
 
--- the rules that may let others speak for a network
+-- the rules that may let others speak for a network behind a router
 abbrev pub claim_lines : Configuration → List ℕ
 claim_lines c = grant_lines Claim (claiming (length c.ports)) c.rules
 

@@ -49,7 +49,7 @@ fn every_words(deed: Deed) -> &'static [u8]
 {
     match deed {
         Deed::Enter(_) => b" lets every stranger enter\n",
-        Deed::Claim => b" lets everyone speak for every network\n",
+        Deed::Claim => b" lets everyone speak for every network behind a router\n",
     }
 }
 
@@ -59,7 +59,7 @@ fn some_words(deed: Deed) -> &'static [u8]
 {
     match deed {
         Deed::Enter(_) => b" may let strangers enter\n",
-        Deed::Claim => b" may let others speak for a network\n",
+        Deed::Claim => b" may let others speak for a network behind a router\n",
     }
 }
 
@@ -69,7 +69,7 @@ fn none_words(deed: Deed) -> &'static [u8]
 {
     match deed {
         Deed::Enter(_) => b"no rule lets a stranger enter\n",
-        Deed::Claim => b"no rule lets others speak for a network\n",
+        Deed::Claim => b"no rule lets others speak for a network behind a router\n",
     }
 }
 

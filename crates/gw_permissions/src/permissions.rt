@@ -24,7 +24,7 @@ use std::alloc::{AllocError, Global};
 /// network 2: no router speaks for it, since port 2 has it
 /// network 100: no router speaks for it, since the device has it
 /// network 300: the router 192.168.2.20:47808 on port 2 speaks for it
-/// rule 5 "plant" may let others speak for a network
+/// rule 5 "plant" may let others speak for a network behind a router
 /// object 2 (5,2) "door" is hidden from network 1: from whoever claims to be of it
 /// object 2 (5,2) "door": network 1 may read Object_List, which names it
 /// rule 5 "plant": the controllers behind the old router
