@@ -23,7 +23,7 @@ use crate::configured::{configuration, configuration_in, configuration_of};
 use crate::ending::{end, tell, usage_of};
 use crate::fault::Fault;
 use crate::files::ConfigFiles;
-use crate::hidden::checked_text;
+use crate::checked::checked_text;
 use crate::options::RunOptions;
 use crate::script::replay;
 use crate::serving::serve_ports;
