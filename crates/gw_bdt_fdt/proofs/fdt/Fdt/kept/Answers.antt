@@ -1,0 +1,11 @@
+use Rattle.std.proofs.Common.{rules, sym, ap, ◌∙◌, map}
+use Rattle.gw_bdt_fdt.specs.Kept.{are_restorable, kept, restored}
+use Rattle.gw_bdt_fdt.specs.Registrations.{Registrations}
+use Rattle.gw_bdt_fdt.proofs.Restoring.{back, restorable}
+use Rattle.gw_bdt_fdt.proofs.fdt.Fdt.kept.Goals as goal
+
+pub returns-clause-devices : goal.returns-clause-devices
+returns-clause-devices c = search rules
+
+pub returns-clause-back : goal.returns-clause-back
+returns-clause-back c = ap (restored c.args.self.now.ticks) (returns-clause-devices c) ∙ back c.args.self.now
