@@ -262,8 +262,15 @@ impl Fixed {
         ensures { result ≡ count_by (is_new (table_with self.now learned.now)) nets.now }
     {
         nets.iter()
-            .filter(|net| !self.has(**net) && !learned.contains_key(*net))
+            .filter(|net| self.is_new(learned, **net))
             .count()
+    }
+
+    /// Whether a network is new to the table.
+    fn is_new(&self, learned: &IndexMap<NetNum, Route>, net: NetNum) -> bool
+        ensures { result ≡ is_new (table_with self.now learned.now) net }
+    {
+        !self.has(net) && !learned.contains_key(&net)
     }
 
     /// Learns each of the networks that may be learned, for which there is room.
@@ -286,7 +293,7 @@ impl Fixed {
     {
         learnings
             .iter()
-            .filter(|(net, _)| !self.has(*net) && !learned.contains_key(net))
+            .filter(|learning| self.is_new(learned, learning.0))
             .count()
     }
 
