@@ -1,5 +1,5 @@
 -- Which values an object can hold, and when two values are the same.
-use Rattle.std.specs.Prelude.{◌≡◌, ◌↔◌, ◌&&◌, ℕ, nat_eq, nat_le, not, Bool, true, false, if◌then◌else◌, List, length, IsTrue}
+use Rattle.std.specs.Prelude.{◌≡◌, ◌↔◌, ◌&&◌, nat_eq, nat_le, not, Bool, true, false, if◌then◌else◌, length, IsTrue}
 use Rattle.std.specs.Cmp.Lexicographic.{pointwise}
 use Rattle.std.specs.Ordering.{int_eq}
 use Rattle.gw_objects.specs.declared.configured.Details.{Details}
