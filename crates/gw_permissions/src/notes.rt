@@ -10,11 +10,7 @@ use gw_rules::Rule;
 use std::alloc::AllocError;
 
 /// Appends the notes that aren't empty, each after its rule.
-pub(crate) fn put_notes(
-    out: &mut Vec<u8>,
-    rules: &[Rule],
-    notes: &[Text],
-) -> Result<(), AllocError>
+pub(crate) fn put_notes(out: &mut Vec<u8>, rules: &[Rule], notes: &[Text]) -> Result<(), AllocError>
     ensures { OnOk result
         (out.new.items ≡ out.old.items ++ in_order (note_line rules.now) 1 notes.now) }
 {
@@ -25,12 +21,7 @@ pub(crate) fn put_notes(
 }
 
 /// Appends the note of the rule of this number, if it has one.
-fn put_note(
-    out: &mut Vec<u8>,
-    rules: &[Rule],
-    number: usize,
-    note: &Text,
-) -> Result<(), AllocError>
+fn put_note(out: &mut Vec<u8>, rules: &[Rule], number: usize, note: &Text) -> Result<(), AllocError>
     ensures { OnOk result (out.new.items ≡ out.old.items ++ note_line rules.now number note.now) }
 {
     if note.as_str().is_empty() {
@@ -42,12 +33,7 @@ fn put_note(
     }
 }
 
-fn put_named(
-    out: &mut Vec<u8>,
-    number: usize,
-    rule: &Rule,
-    note: &Text,
-) -> Result<(), AllocError>
+fn put_named(out: &mut Vec<u8>, number: usize, rule: &Rule, note: &Text) -> Result<(), AllocError>
     ensures { OnOk result
         (out.new.items ≡ out.old.items ++ named_note number rule.now.name note.now) }
 {

@@ -16,8 +16,11 @@ use std::alloc::AllocError;
 const DEVICE: u64 = 8;
 /// The numbers of properties (clause 21).
 const OBJECT_LIST: u64 = 76;
+
 const PRESENT_VALUE: u64 = 85;
+
 const PRIORITY_ARRAY: u64 = 87;
+
 const RELINQUISH_DEFAULT: u64 = 104;
 
 /// An object of the device by its number, from 1, and a network whose claims are to read it.
@@ -84,7 +87,6 @@ fn put_readings(
     }
 }
 
-
 /// Appends that an object is hidden from every source of the network, and what names it there.
 fn put_hiding(out: &mut Vec<u8>, reader: &Reader<'_>) -> Result<(), AllocError>
     ensures { let object = reader.now.object.now in OnOk result (out.new.items ≡ out.old.items ++
@@ -102,7 +104,11 @@ fn put_told_lines(out: &mut Vec<u8>, reader: &Reader<'_>) -> Result<(), AllocErr
     ensures { OnOk result (out.new.items ≡ out.old.items ++
         told_lines reader.now.config.now reader.now.number reader.now.object.now reader.now.network) }
 {
-    if is_readable(reader.config, reader.network, point_of(reader.object, PRESENT_VALUE)) {
+    if is_readable(
+        reader.config,
+        reader.network,
+        point_of(reader.object, PRESENT_VALUE),
+    ) {
         return Ok(());
     }
     put_told(out, reader, PRIORITY_ARRAY, "Priority_Array")?;
@@ -118,7 +124,11 @@ fn put_told(
     ensures { OnOk result (out.new.items ≡ out.old.items ++ told_line reader.now.config.now
         reader.now.number reader.now.object.now reader.now.network property name.now) }
 {
-    if !is_readable(reader.config, reader.network, point_of(reader.object, property)) {
+    if !is_readable(
+        reader.config,
+        reader.network,
+        point_of(reader.object, property),
+    ) {
         return Ok(());
     }
     put_may(out, reader)?;
@@ -132,7 +142,11 @@ fn put_list(out: &mut Vec<u8>, reader: &Reader<'_>) -> Result<(), AllocError>
     ensures { OnOk result (out.new.items ≡ out.old.items ++
         list_line reader.now.config.now reader.now.number reader.now.object.now reader.now.network) }
 {
-    if !is_readable(reader.config, reader.network, object_list(reader.config.device())) {
+    if !is_readable(
+        reader.config,
+        reader.network,
+        object_list(reader.config.device()),
+    ) {
         return Ok(());
     }
     put_may(out, reader)?;

@@ -14,11 +14,7 @@ use gw_rules::Rule;
 use std::alloc::AllocError;
 
 /// Appends the lines of the ports in their order.
-pub(crate) fn put_ports(
-    out: &mut Vec<u8>,
-    rules: &[Rule],
-    ports: &[Port],
-) -> Result<(), AllocError>
+pub(crate) fn put_ports(out: &mut Vec<u8>, rules: &[Rule], ports: &[Port]) -> Result<(), AllocError>
     requires { length ports.now ≤ MAX_PORTS }
     ensures { OnOk result
         (out.new.items ≡ out.old.items ++ in_order (port_lines rules.now) 1 ports.now) }
@@ -30,12 +26,7 @@ pub(crate) fn put_ports(
 }
 
 /// Appends the lines of the port of this number.
-fn put_port(
-    out: &mut Vec<u8>,
-    rules: &[Rule],
-    number: usize,
-    port: &Port,
-) -> Result<(), AllocError>
+fn put_port(out: &mut Vec<u8>, rules: &[Rule], number: usize, port: &Port) -> Result<(), AllocError>
     ensures { OnOk result (out.new.items ≡ out.old.items ++ port_lines rules.now number port.now) }
 {
     put_number(out, "port ", number)?;

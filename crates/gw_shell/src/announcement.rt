@@ -47,7 +47,8 @@ pub fn startup_line(
 }
 
 /// What is written of a machine that routes IP from one interface to another, past the gateway.
-const ROUTES_IP: &str = "bacgw: net.ipv4.ip_forward isn't 0: hosts reach the other subnets past the gateway\n";
+const ROUTES_IP: &str =
+    "bacgw: net.ipv4.ip_forward isn't 0: hosts reach the other subnets past the gateway\n";
 
 /// What is written of a machine, by whether it routes IP.
 fn routing_note(routes: bool) -> &'static [u8]

@@ -28,8 +28,7 @@ returns-in-Err-Memory-clause-end g c =
     let told = g.W.Wire.calls c.args.wire.now in
     let tells = g.W.Wire.calls c.receive.new.wire in
     let came_in = arrives told tells c.in-Ok-Some.field-0 (Some c.in-Ok-Some.event) c.in-Ok-Some.field-0-is c.in-Ok-Some.ensures.calls in
-    let wants = c.in-Err-Memory.ensures.memory (ap Err c.in-Err-Memory.field-0-is) in
-    (
+    let wants = c.in-Err-Memory.ensures.memory (ap Err c.in-Err-Memory.field-0-is) in (
       lost_event event,
       lead_without _ _ (lost_event event) refl wants c.in-Err-Memory.ensures.err refl came_in,
       refl,
