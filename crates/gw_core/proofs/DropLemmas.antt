@@ -42,13 +42,14 @@ npdu_alike links device octets = by (nat_le (length octets) max_len) (npdu_at oc
     of : (npdu : Fields) (b : Bool) → is_some (if b then None else Some npdu) ≡ not (has_reason (if b then Some OwnNetwork else None))
     of npdu true = refl
     of npdu false = refl
+
     by : (b : Bool) (r : Result Fields NpduFault) → is_some (if b then (elim r [
-        | Ok npdu ↦ if claims_direct links device npdu.source then None else Some npdu
-        | Err fault ↦ None
-      ]) else None) ≡ not (has_reason (if b then (elim r [
-        | Ok npdu ↦ if claims_direct links device npdu.source then Some OwnNetwork else None
-        | Err fault ↦ Some Malformed
-      ]) else Some Malformed))
+      | Ok npdu ↦ if claims_direct links device npdu.source then None else Some npdu
+      | Err fault ↦ None
+    ]) else None) ≡ not (has_reason (if b then (elim r [
+      | Ok npdu ↦ if claims_direct links device npdu.source then Some OwnNetwork else None
+      | Err fault ↦ Some Malformed
+    ]) else Some Malformed))
     by true (Ok npdu) = of npdu (claims_direct links device npdu.source)
     by true (Err fault) = refl
     by false r = refl
@@ -60,10 +61,11 @@ heard_npdu links device on from frame octets = by (npdu_of links device octets) 
     of : (m : Message) (b : Bool) → is_dropped (if b then unregistered m else message m) ≡ false
     of m true = refl
     of m false = refl
+
     by : (n : Option Fields) (d : Option DropReason) → is_some n ≡ not (has_reason d) → is_dropped (elim n [
-        | Some npdu ↦ if is_unregistered on from frame then unregistered (message_of on from frame npdu) else message (message_of on from frame npdu)
-        | None ↦ dropped
-      ]) ≡ has_reason (either_drop d None)
+      | Some npdu ↦ if is_unregistered on from frame then unregistered (message_of on from frame npdu) else message (message_of on from frame npdu)
+      | None ↦ dropped
+    ]) ≡ has_reason (either_drop d None)
     by (Some npdu) None e = of (message_of on from frame npdu) (is_unregistered on from frame)
     by (Some npdu) (Some why) e = absurd (true≢false e)
     by None None e = absurd (true≢false (sym e))
@@ -78,12 +80,12 @@ of_payload : (links : List PortState) (device : ℕ) (on : PortState) (from : Bi
 of_payload links device on from frame = by (accepts on from frame) (payload_of frame)
   where
     by : (heard : Bool) (p : Option (List ℕ)) → is_dropped (if not heard then dropped else (elim p [
-        | Some octets ↦ receive_npdu links device on from frame octets
-        | None ↦ dropped
-      ])) ≡ has_reason (elim p [
-        | Some octets ↦ either_drop (npdu_drop links device octets) (if heard then None else Some NoPeer)
-        | None ↦ Some Ignored
-      ])
+      | Some octets ↦ receive_npdu links device on from frame octets
+      | None ↦ dropped
+    ])) ≡ has_reason (elim p [
+      | Some octets ↦ either_drop (npdu_drop links device octets) (if heard then None else Some NoPeer)
+      | None ↦ Some Ignored
+    ])
     by true (Some octets) = heard_npdu links device on from frame octets
     by true None = refl
     by false (Some octets) = unheard (npdu_drop links device octets)
@@ -103,12 +105,12 @@ of_datagram : (links : List PortState) (device : ℕ) (on : PortState) (from : B
 of_datagram links device on from octets = by (comes_in on.port.address from octets) (bvll_at octets)
   where
     by : (b : Bool) (r : Result Frame BvllFault) → is_dropped (if b then (elim r [
-        | Ok frame ↦ receive_frame links device on from frame
-        | Err fault ↦ dropped
-      ]) else dropped) ≡ has_reason (if b then (elim r [
-        | Ok frame ↦ frame_drop links device on from frame
-        | Err fault ↦ Some Malformed
-      ]) else Some (length_drop on.port.address from))
+      | Ok frame ↦ receive_frame links device on from frame
+      | Err fault ↦ dropped
+    ]) else dropped) ≡ has_reason (if b then (elim r [
+      | Ok frame ↦ frame_drop links device on from frame
+      | Err fault ↦ Some Malformed
+    ]) else Some (length_drop on.port.address from))
     by true (Ok frame) = of_frame links device on from frame
     by true (Err fault) = refl
     by false r = refl
@@ -118,12 +120,12 @@ of_port : (links : List PortState) (device number : ℕ) (from : BipAddr) (octet
 of_port links device number from octets = by (link_at links number)
   where
     by : (link : Option PortState) → is_dropped (elim link [
-        | Some on ↦ receive_datagram links device on from octets
-        | None ↦ dropped
-      ]) ≡ has_reason (elim link [
-        | Some on ↦ datagram_drop links device on from octets
-        | None ↦ Some Ignored
-      ])
+      | Some on ↦ receive_datagram links device on from octets
+      | None ↦ dropped
+    ]) ≡ has_reason (elim link [
+      | Some on ↦ datagram_drop links device on from octets
+      | None ↦ Some Ignored
+    ])
     by (Some on) = of_datagram links device on from octets
     by None = refl
 

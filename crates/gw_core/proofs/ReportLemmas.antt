@@ -108,7 +108,7 @@ tally_along w k (e ∷ first) later = tally_along (next w e) (with_tally k (tall
 tally_more : (w : State) (k : Tally) (turns : List Turn) (turn : Turn)
     → tally_from w k (events_of (turns ++ turn ∷ [])) ≡ tally_turn (state_from w (events_of turns)) (tally_from w k (events_of turns)) turn
 tally_more w k turns turn =
-    ap (tally_from w k) (flat_map_more turn_events [] turns turn) ∙ tally_along w k (events_of turns) (turn_events turn)
+    ap (tally_from w k) (sym (flat_map_more turn_events [] turns turn)) ∙ tally_along w k (events_of turns) (turn_events turn)
 
 -- those of one turn more
 reports_more : (seconds : ℕ) (start : Counts) (w : State) (s : Served) (k : Tally) (turns : List Turn) (turn : Turn)

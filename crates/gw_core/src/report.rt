@@ -78,12 +78,7 @@ fn peer_count(links: &[PortState]) -> u64
 }
 
 /// What is reported of a gateway that began with these counts, when so much was done.
-pub(crate) fn report_of(
-    start: Counts,
-    gateway: &Gateway,
-    served: &Served,
-    tally: Tally,
-) -> Report
+pub(crate) fn report_of(start: Counts, gateway: &Gateway, served: &Served, tally: Tally) -> Report
     requires since { HasGoneOn start gateway.now served.now }
     ensures { result ≡ report_of start gateway.now served.now tally }
 {

@@ -9,8 +9,8 @@ ghost use Rattle.gw_core.specs.Served.{IsServing};
 ghost use Rattle.gw_core.specs.Wire.{Tells, failures_of, receive_call};
 ghost use Rattle.gw_relay.specs.Sends.{sendings_of};
 
-use crate::fault::StepFault;
 use crate::drops::Tally;
+use crate::fault::StepFault;
 use crate::gateway::{Gateway, Taken};
 use crate::whole_run::take_event;
 use crate::wire::{Got, RECEIVE_ROOM, Wire, WireFault};
