@@ -299,11 +299,7 @@ impl Fixed {
     }
 
     /// Learns each of the networks by its own route if it may be learned, for which there is room.
-    fn learn_each_by(
-        &self,
-        learned: &mut IndexMap<NetNum, Route>,
-        learnings: &[(NetNum, Route)],
-    )
+    fn learn_each_by(&self, learned: &mut IndexMap<NetNum, Route>, learnings: &[(NetNum, Route)])
         requires limit { IsWithinLimit (table_with self.now learned.old) }
         requires room { growth (table_with self.now learned.old) (keys_of learnings.now) ≤
             spare learned.old }
