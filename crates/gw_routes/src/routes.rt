@@ -84,6 +84,7 @@ impl Routes {
     /// only fault is want of memory for the list, and none is wanted if nothing is learned.
     pub fn learned(&self, alloc: Global) -> Result<Vec<(NetNum, Route)>, AllocError>
         ensures learned { IfOk result (λ learned. learned.items ≡ self.now.learned) }
+        ensures few { length self.now.learned ≤ MAX_ROUTES }
         ensures none { self.now.learned ≡ [] → IsOk result }
     {
         let mut learned = Vec::with_capacity(alloc, self.learned.len())?;
