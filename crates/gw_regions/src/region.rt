@@ -55,7 +55,7 @@ fn copy_region(alloc: Global, region: &Region) -> Result<Region, AllocError>
 }
 
 /// Gives a field other values.
-fn set(region: &mut Region, field: FieldName, values: Values)
+pub(crate) fn set(region: &mut Region, field: FieldName, values: Values)
     ensures { region.new ≡ with_value field values region.old }
 {
     match field {
