@@ -1,5 +1,5 @@
 -- What two policies decide otherwise, and what a comparison finds of it.
-use Rattle.std.specs.Prelude.{◌≡◌, ℕ, Bool, true, false, not, ◌&&◌, ◌||◌, ◌==◌, if◌then◌else◌, List, Some, slice_get}
+use Rattle.std.specs.Prelude.{◌≡◌, ℕ, ◌+◌, Bool, true, false, not, ◌&&◌, ◌||◌, ◌==◌, if◌then◌else◌, List, [], ◌∷◌, drop, Some, slice_get}
 use Rattle.std.specs.List.{AllByRecursion, list_any}
 use Rattle.std.specs.Option.{option_map_or}
 use Rattle.gw_rules.specs.Ask.{Ask}
@@ -43,6 +43,16 @@ abbrev pub AreDeciders : List Rule → Region → List ℕ → Type 0
 AreDeciders rules region numbers =
     (ask : Ask) → lies region ask ≡ true → is_one_of numbers (decider rules ask) ≡ true
 
+-- the number of the first of these rules that matches, if so many are in front of them, or else 0
+abbrev pub number_from : ℕ → List Rule → Ask → ℕ
+number_from place [] ask = 0
+number_from place (rule ∷ rules) ask = if matches rule ask then place + 1 else number_from (place + 1) rules ask
+
+-- the first rule from a place on that matches an ask of a region is one of these
+abbrev pub DecideFrom : List Rule → Region → ℕ → List ℕ → Type 0
+DecideFrom rules region place numbers =
+    (ask : Ask) → lies region ask ≡ true → is_one_of numbers (number_from place (drop place rules) ask) ≡ true
+
 -- two policies decide an ask as is said of a region that was found, by the rules that are named
 pub record IsDecided (old new : List Rule) (f : Found) (ask : Ask) : Type 0 where
   pub by_old : allows old ask ≡ not f.allows
@@ -75,6 +85,8 @@ pub record WasDecided (shapes : List Region) (old new : List Rule) (f : Found) :
   pub in_shape : lies_in_one shapes f.ask ≡ true
   pub by_old : allows old f.ask ≡ not f.allows
   pub by_new : allows new f.ask ≡ f.allows
+  pub old_rule : is_one_of f.old_rules.items (decider old f.ask) ≡ true
+  pub new_rule : is_one_of f.new_rules.items (decider new f.ask) ≡ true
 
 -- the rules at two places match the same asks and say the same
 pub record AreSame (old : List Rule) (a : ℕ) (new : List Rule) (b : ℕ) : Type 0 where

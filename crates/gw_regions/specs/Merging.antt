@@ -19,10 +19,14 @@ abbrev pub AreUnited : List Range → List Range → List Range → Type 0
 AreUnited all xs ys =
     (number : ℕ) → list_any (holds number) all ≡ (list_any (holds number) xs || list_any (holds number) ys)
 
+-- in one field an ask has a value of the region, or this is the field that doesn't matter
+abbrev pub has_but : FieldName → FieldName → Region → Ask → Bool
+has_but field other region ask =
+    (field_number other == field_number field) || has (value_of other region) (value_of other ask)
+
 -- an ask lies in a region, whatever it has in this field
 abbrev pub lies_but : FieldName → Region → Ask → Bool
-lies_but field region ask =
-    each_field (λ other. (field_number other == field_number field) || has (value_of other region) (value_of other ask))
+lies_but field region ask = each_field (λ other. has_but field other region ask)
 
 -- two that were found say the same, and their regions differ in this field alone
 pub record AreJoint (field : FieldName) (one other : Found) : Type 0 where

@@ -8,7 +8,7 @@ ghost use Rattle.gw_regions.specs.Regions.{Region as SpecRegion, lies, lies_in_o
 ghost use Rattle.gw_regions.specs.declared.comparison.Found.{Found as SpecFound};
 ghost use Rattle.gw_rules.specs.declared.rule.Rule.{Rule as SpecRule};
 
-use crate::comparison::{Comparison, Says, Taken};
+use crate::comparison::{Comparison, Found, Taken};
 use crate::deciders::deciders_of;
 use crate::deciding::{Deciding, deciding_of};
 use crate::meeting::{ask_within, region_over};
@@ -188,25 +188,21 @@ fn put_taken(
     Ok(())
 }
 
-/// What is said of a region in which the new policy alone says this.
-fn says_of(
+/// A region in which the new policy alone says this, and the rules that decide there.
+fn found_of(
     alloc: Global,
     old: &[Rule],
     new: &[Rule],
-    region: &Region,
+    taken: Taken,
     allows: bool,
-) -> Result<Says, AllocError>
-    ensures allows { IfOk result (λ says. says.allows ≡ allows) }
-    ensures old { IfOk result (λ says. AreDeciders old.now region.now says.old_rules.items) }
-    ensures new { IfOk result (λ says. AreDeciders new.now region.now says.new_rules.items) }
+) -> Result<Found, AllocError>
+    ensures found { IfOk result (λ f. (f.region ≡ taken.region) × (f.ask ≡ taken.ask) × (f.allows ≡ allows)) }
+    ensures old { IfOk result (λ f. AreDeciders old.now taken.region f.old_rules.items) }
+    ensures new { IfOk result (λ f. AreDeciders new.now taken.region f.new_rules.items) }
 {
-    let old_rules = deciders_of(alloc, old, region)?;
-    let new_rules = deciders_of(alloc, new, region)?;
-    Ok(Says {
-        allows,
-        old_rules,
-        new_rules,
-    })
+    let old_rules = deciders_of(alloc, old, &taken.region)?;
+    let new_rules = deciders_of(alloc, new, &taken.region)?;
+    Ok(taken.into_found(allows, old_rules, new_rules))
 }
 
 /// Looks at a region that was taken up.
@@ -226,8 +222,8 @@ fn settle(
     match look_at(alloc, old, new, &taken.region)? {
         Look::Alike => Ok(()),
         Look::Unlike(allows) => {
-            let says = says_of(alloc, old, new, &taken.region, allows)?;
-            comparison.put_found(taken.into_found(says))?;
+            let found = found_of(alloc, old, new, taken, allows)?;
+            comparison.put_found(found)?;
             Ok(())
         }
         Look::PartByOld(place) => {

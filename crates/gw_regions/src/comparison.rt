@@ -66,40 +66,23 @@ impl Drop for Taken {
     }
 }
 
-/// What is said of a region that is found: whether the new policy allows it, and which rules decide.
-pub(crate) struct Says {
-    pub allows: bool,
-    pub old_rules: Vec<usize>,
-    pub new_rules: Vec<usize>,
-}
-
-impl Drop for Says {
-    fn drop(self) {
-        let Says {
-            allows: _,
-            old_rules: _,
-            new_rules: _,
-        } = self;
-    }
-}
-
 impl Taken {
-    /// Its region and ask, found.
-    pub(crate) fn into_found(self, says: Says) -> Found
+    /// Its region and ask, found; and which rules decide.
+    pub(crate) fn into_found(
+        self,
+        allows: bool,
+        old_rules: Vec<usize>,
+        new_rules: Vec<usize>,
+    ) -> Found
         ensures { result ≡ record {
             region = self.region;
             ask = self.ask;
-            allows = says.allows;
-            old_rules = says.old_rules;
-            new_rules = says.new_rules;
+            allows = allows;
+            old_rules = old_rules;
+            new_rules = new_rules;
         } }
     {
         let Taken { region, ask } = self;
-        let Says {
-            allows,
-            old_rules,
-            new_rules,
-        } = says;
         Found {
             region,
             ask,
@@ -131,6 +114,19 @@ impl Comparison {
             left,
             steps: 0,
         })
+    }
+
+    /// What it found, and what is left.
+    pub(crate) fn into_parts(self) -> (Vec<Found>, Vec<Region>)
+        ensures found { result.0.items ≡ self.found.items }
+        ensures left { result.1.items ≡ self.left.items }
+    {
+        let Comparison {
+            found,
+            left,
+            steps: _,
+        } = self;
+        (found, left)
     }
 
     /// Takes the last of the regions that are left.

@@ -1,7 +1,9 @@
 //! One region in the place of two that differ in one field alone.
-ghost use Rattle.std.specs.Prelude.{◌≡◌, ◌++◌, ◌∷◌, ◌<◌, [], true, IfOk, IfSome, List, OnOk, length, get_or};
+ghost use Rattle.std.specs.Prelude.{◌≡◌, ◌==◌, ◌++◌, ◌∷◌, ◌<◌, [], true, IfOk, IfSome, List, OnOk, length};
+ghost use Rattle.std.specs.List.{HoldsAt};
 ghost use Rattle.gw_rules.specs.Ask.{Ask as SpecAsk};
-ghost use Rattle.gw_regions.specs.Merging.{AreJoint, AreKept, IsJoined, lies_but};
+ghost use Rattle.gw_rules.specs.Field.{field_number};
+ghost use Rattle.gw_regions.specs.Merging.{AreJoint, AreKept, IsJoined, has_but, lies_but};
 ghost use Rattle.gw_regions.specs.declared.comparison.Found.{Found as SpecFound};
 
 use crate::Found;
@@ -9,12 +11,26 @@ use crate::region::{Region, set};
 use gw_rules::FieldName;
 use std::alloc::{AllocError, Global};
 
+/// Whether two names are of one field.
+pub(crate) fn is_same_field(a: FieldName, b: FieldName) -> bool
+    ensures { result ≡ (field_number a == field_number b) }
+{
+    a.number() == b.number()
+}
+
+/// Whether two regions are seen to have the same values in a field, or it is the one that doesn't matter.
+fn same_at(field: FieldName, other: FieldName, a: &Region, b: &Region) -> bool
+    ensures { result ≡ true → (ask : SpecAsk) → has_but field other a.now ask ≡ has_but field other b.now ask }
+{
+    is_same_field(other, field) || a.get(other).is_same(b.get(other))
+}
+
 /// Whether two regions are seen to have the same values in every other field.
 fn same_but(field: FieldName, a: &Region, b: &Region) -> bool
     ensures { result ≡ true → (ask : SpecAsk) → lies_but field a.now ask ≡ lies_but field b.now ask }
 {
     for other in FieldName::ALL.iter() {
-        if other.number() != field.number() && !a.get(*other).is_same(b.get(*other)) {
+        if !same_at(field, *other, a, b) {
             return false;
         }
     }
@@ -78,7 +94,7 @@ struct Partner {
 }
 
 fn partner_of(done: &[Found], found: &Found) -> Option<Partner>
-    ensures { IfSome result (λ p. (p.place < length done.now) × ((d : SpecFound) → AreJoint p.field found.now (get_or done.now p.place d))) }
+    ensures { IfSome result (λ p. (p.place < length done.now) × HoldsAt (AreJoint p.field found.now) done.now p.place) }
 {
     for place in 0..done.len() {
         if let Some(field) = joint_of(found, &done[place]) {
@@ -97,7 +113,9 @@ fn join(
 ) -> Result<Found, AllocError>
     ensures { IfOk result (λ both. AreJoint field one other → IsJoined both one other) }
 {
-    let values = one.region.get(field).united(alloc, other.region.get(field))?;
+    let here = one.region.get(field);
+    let there = other.region.get(field);
+    let values = here.united(alloc, there)?;
     set(&mut one.region, field, values);
     Ok(one)
 }

@@ -182,6 +182,7 @@ fn reaches(a: &Range, b: &Range) -> bool
 }
 
 /// One range in the place of two, if they overlap or one follows right after the other.
+#[tactic(auto, using(crate::proofs::JoiningLaw::none_before, crate::proofs::JoiningLaw::none_after, crate::proofs::JoiningLaw::both_held))]
 fn joined(a: &Range, b: &Range) -> Option<Range>
     ensures { IfSome result (λ range. (number : ℕ) →
         holds number range ≡ (holds number a.now || holds number b.now)) }
@@ -202,6 +203,7 @@ fn joined(a: &Range, b: &Range) -> Option<Range>
 
 /// Puts the lower one of two ranges after the others, and gives back the other one; or one in the place of
 /// both.
+#[tactic(auto, using(crate::proofs::JoiningLaw::carried_both, crate::proofs::JoiningLaw::carried_first, crate::proofs::JoiningLaw::carried_second))]
 fn put_lower(out: &mut Sequence<Range>, a: Range, b: Range) -> Result<Range, AllocError>
     ensures { IfOk result (λ rest. (number : ℕ) →
         (list_any (holds number) out.new || holds number rest)

@@ -3,7 +3,7 @@ ghost use Rattle.std.specs.Prelude.{◌≡◌, ◌<◌, [], IfOk};
 ghost use Rattle.gw_regions.specs.Comparing.{IsSummary};
 
 use crate::comparing::compare;
-use crate::comparison::{Comparison, Found};
+use crate::comparison::Found;
 use crate::merging::merge;
 use crate::region::Region;
 use crate::widening::widen_all;
@@ -43,7 +43,9 @@ pub fn summarize(
     ensures summary { IfOk result (λ s. IsSummary shapes.now old.now new.now s.found.items s.left.items) }
     ensures steps { IfOk result (λ s. s.steps < steps → s.left.items ≡ []) }
 {
-    let Comparison { found, left, steps: used } = compare(alloc, old, new, shapes, steps)?;
+    let comparison = compare(alloc, old, new, shapes, steps)?;
+    let used = comparison.steps;
+    let (found, left) = comparison.into_parts();
     let merged = merge(alloc, found)?;
     let wide = widen_all(alloc, shapes, merged)?;
     let found = merge(alloc, wide)?;

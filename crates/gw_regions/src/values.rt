@@ -5,7 +5,7 @@ ghost use Rattle.gw_rules.specs.Range.{admits, holds};
 ghost use Rattle.gw_regions.specs.Ranges.{first_number, shared};
 ghost use Rattle.gw_regions.specs.Values.{admitted, common, has, is_any, is_empty, refused, shares};
 
-use crate::coverage::holds_all;
+use crate::coverage::{holds_all, is_within_any};
 use crate::ranges::{common_number, copy, same_ranges, shared, united, without};
 use gw_addr::Sequence;
 use gw_rules::Range;
@@ -104,6 +104,7 @@ impl Values {
     }
 
     /// Whether they are seen to be the same.
+    #[tactic(auto, using(crate::proofs::ValueLaw::same_values))]
     pub(crate) fn is_same(&self, other: &Values) -> bool
         ensures { result ≡ true → (value : Option ℕ) → has self.now value ≡ has other.now value }
     {
@@ -112,14 +113,16 @@ impl Values {
     }
 
     /// Whether the others are seen to have all of them.
+    #[tactic(auto, using(crate::proofs::CoverageLaw::within_values))]
     pub(crate) fn is_within(&self, other: &Values) -> bool
         ensures { result ≡ true → (value : Option ℕ) → has self.now value ≡ true → has other.now value ≡ true }
     {
-        (!self.absent || other.absent)
+        implies(self.absent, other.absent)
             && holds_all(self.ranges.as_slice(), other.ranges.as_slice())
     }
 
     /// Those of both.
+    #[tactic(auto, using(crate::proofs::ValueLaw::united_values))]
     pub(crate) fn united(&self, alloc: Global, other: &Values) -> Result<Self, AllocError>
         ensures { IfOk result (λ all. (value : Option ℕ) →
             has all value ≡ (has self.now value || has other.now value)) }
@@ -146,7 +149,7 @@ impl Values {
     pub fn is_any(&self) -> bool
         ensures { result ≡ is_any self.now }
     {
-        self.absent && self.ranges.as_slice().iter().any(|range| ALL_NUMBERS.is_within(range))
+        self.absent && is_within_any(self.ranges.as_slice(), &ALL_NUMBERS)
     }
 
     /// These, and all others too.
@@ -164,6 +167,12 @@ impl Values {
         let value = self.common(other);
         self.has(value) && other.has(value)
     }
+}
+
+fn implies(one: bool, other: bool) -> bool
+    ensures { result ≡ (not one || other) }
+{
+    !one || other
 }
 
 fn any_holds(ranges: &[Range], number: u64) -> bool

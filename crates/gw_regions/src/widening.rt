@@ -4,21 +4,34 @@ ghost use Rattle.gw_rules.specs.Ask.{Ask as SpecAsk};
 ghost use Rattle.gw_rules.specs.Fields.{value_of};
 ghost use Rattle.gw_rules.specs.declared.rule.Rule.{Rule as SpecRule};
 ghost use Rattle.gw_regions.specs.Comparing.{IsSummary};
-ghost use Rattle.gw_regions.specs.Merging.{IsWide, lies_but};
+ghost use Rattle.gw_regions.specs.Merging.{IsWide, has_but, lies_but};
 ghost use Rattle.gw_regions.specs.Regions.{Region as SpecRegion, lies, lies_in_one};
 ghost use Rattle.gw_regions.specs.Values.{has};
 
 use crate::Found;
+use crate::merging::is_same_field;
 use crate::region::{Region, set};
 use gw_rules::FieldName;
 use std::alloc::{AllocError, Global};
+
+/// Whether the shape and the region have a value in common in a field, or it is the one that doesn't matter.
+fn meets_at(field: FieldName, other: FieldName, shape: &Region, region: &Region) -> bool
+    ensures { result ≡ false → (ask : SpecAsk) → lies shape.now ask ≡ true → has_but field other region.now ask ≡ false }
+{
+    if is_same_field(other, field) {
+        return true;
+    }
+    let here = shape.get(other);
+    let there = region.get(other);
+    here.shares(there)
+}
 
 /// Whether an ask of the shape may lie in the region but for this field, as far as a look tells.
 fn meets_but(field: FieldName, shape: &Region, region: &Region) -> bool
     ensures { result ≡ false → (ask : SpecAsk) → lies shape.now ask ≡ true → lies_but field region.now ask ≡ false }
 {
     for other in FieldName::ALL.iter() {
-        if other.number() != field.number() && !shape.get(*other).shares(region.get(*other)) {
+        if !meets_at(field, *other, shape, region) {
             return false;
         }
     }
@@ -26,11 +39,17 @@ fn meets_but(field: FieldName, shape: &Region, region: &Region) -> bool
 }
 
 /// Whether no ask of the shape is seen to be out of the region by this field alone.
+#[tactic(auto, using(crate::proofs::WideningLaw::free_apart))]
 fn is_free_of(field: FieldName, shape: &Region, region: &Region) -> bool
     ensures { result ≡ true → (ask : SpecAsk) → lies shape.now ask ≡ true → lies_but field region.now ask ≡ true →
         has (value_of field region.now) (value_of field ask) ≡ true }
 {
-    !meets_but(field, shape, region) || shape.get(field).is_within(region.get(field))
+    if !meets_but(field, shape, region) {
+        return true;
+    }
+    let here = shape.get(field);
+    let there = region.get(field);
+    here.is_within(there)
 }
 
 /// The same for all shapes.
@@ -55,7 +74,8 @@ fn free(
     ensures { OnOk result (IsWide shapes.now region.old region.new) }
 {
     if is_free(field, shapes, region) {
-        let values = region.get(field).freed(alloc)?;
+        let here = region.get(field);
+        let values = here.freed(alloc)?;
         set(region, field, values);
     }
     Ok(())
