@@ -88,15 +88,6 @@ covered v (r ∷ rs) x c h =
     by None h a c = absurd (both_ways v.absent a h)
     by (Some n) h a c = in_all n v.ranges (r ∷ rs) c h
 
--- values that are within others
-implied : (p q : Bool) → (not p || q) ≡ true → p ≡ true → q ≡ true
-implied true q e t = e
-implied false q e t = absurd (both_ways false refl t)
-
-pub within_values : (a b : Values) → (not a.absent || b.absent) ≡ true → holds_all a.ranges b.ranges ≡ true → (x : Option ℕ) → has a x ≡ true → has b x ≡ true
-within_values a b one all None h = implied a.absent b.absent one h
-within_values a b one all (Some n) h = in_all n a.ranges b.ranges all h
-
 -- anything
 pub any_absent : (v : Values) → is_any v ≡ true → has v None ≡ true
 any_absent v t = (and_parts v.absent (list_any (is_within all_numbers) v.ranges) t).0

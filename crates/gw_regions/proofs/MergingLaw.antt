@@ -109,7 +109,7 @@ joined_kept xs both one other is = record {
       };
 }
 
-either : (a b c : Bool) → ((a || b) && c) ≡ ((a && c) || (b && c))
+pub either : (a b c : Bool) → ((a || b) && c) ≡ ((a && c) || (b && c))
 either true true true = refl
 either true true false = refl
 either true false true = refl

@@ -60,7 +60,7 @@ pub(crate) fn is_within_any(ranges: &[Range], range: &Range) -> bool
     ranges.iter().any(|other| is_within(range, other))
 }
 
-pub(crate) fn holds_all(values: &[Range], ranges: &[Range]) -> bool
+fn holds_all(values: &[Range], ranges: &[Range]) -> bool
     ensures { result ≡ holds_all values.now ranges.now }
 {
     values.iter().all(|range| is_within_any(ranges, range))

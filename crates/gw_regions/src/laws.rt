@@ -42,7 +42,8 @@ pub fn found()
 /// What is said of a summary of a comparison: a comparison is a summary of itself. An ask of the shapes that
 /// lies in no region that is left is decided otherwise exactly if it lies in one that was found; if none is
 /// left and none found, the two policies decide each ask of the shapes alike. An ask of the shapes that lies
-/// in a region that was found is decided otherwise, and each such region has one.
+/// in a region that was found is decided otherwise, and each such region has one. A field that may be
+/// anything has each value: absent, or a number.
 pub fn summary()
     ensures compared { (shapes : List Region) (old new : List Rule) (found : List Found) (left : List Region) →
         IsComparison shapes old new found left → IsSummary shapes old new found left }
@@ -61,10 +62,6 @@ pub fn summary()
     ensures asks { (shapes : List Region) (old new : List Rule) (found : List Found) (left : List Region) →
         IsSummary shapes old new found left →
         AllByRecursion (λ f. WasDecided shapes old new f) found }
-{}
-
-/// A field that may be anything has each value: absent, or a number.
-pub fn anything()
     ensures absent { (values : Values) → is_any values ≡ true → has values None ≡ true }
     ensures number { (values : Values) → is_any values ≡ true → (number : ℕ) → number < 2 ^ 64 →
         has values (Some number) ≡ true }

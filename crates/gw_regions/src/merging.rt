@@ -1,8 +1,7 @@
 //! One region in the place of two that differ in one field alone.
-ghost use Rattle.std.specs.Prelude.{◌≡◌, ◌==◌, ◌++◌, ◌∷◌, ◌<◌, [], true, IfOk, IfSome, List, OnOk, length};
+ghost use Rattle.std.specs.Prelude.{◌≡◌, ◌++◌, ◌∷◌, ◌<◌, [], true, IfOk, IfSome, List, OnOk, length};
 ghost use Rattle.std.specs.List.{HoldsAt};
 ghost use Rattle.gw_rules.specs.Ask.{Ask as SpecAsk};
-ghost use Rattle.gw_rules.specs.Field.{field_number};
 ghost use Rattle.gw_regions.specs.Merging.{AreJoint, AreKept, IsJoined, has_but, lies_but};
 ghost use Rattle.gw_regions.specs.declared.comparison.Found.{Found as SpecFound};
 
@@ -11,18 +10,11 @@ use crate::region::{Region, set};
 use gw_rules::FieldName;
 use std::alloc::{AllocError, Global};
 
-/// Whether two names are of one field.
-pub(crate) fn is_same_field(a: FieldName, b: FieldName) -> bool
-    ensures { result ≡ (field_number a == field_number b) }
-{
-    a.number() == b.number()
-}
-
 /// Whether two regions are seen to have the same values in a field, or it is the one that doesn't matter.
 fn same_at(field: FieldName, other: FieldName, a: &Region, b: &Region) -> bool
     ensures { result ≡ true → (ask : SpecAsk) → has_but field other a.now ask ≡ has_but field other b.now ask }
 {
-    is_same_field(other, field) || a.get(other).is_same(b.get(other))
+    other.number() == field.number() || a.get(other).is_same(b.get(other))
 }
 
 /// Whether two regions are seen to have the same values in every other field.

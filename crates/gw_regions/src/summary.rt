@@ -11,6 +11,7 @@ use gw_rules::Rule;
 use std::alloc::{AllocError, Global};
 
 /// What a summary says: what it says of a region holds for the asks of the shapes that lie in it.
+#[derive(Drop)]
 pub struct Summary {
     /// In these regions every ask of the shapes is decided otherwise.
     pub found: Vec<Found>,
@@ -18,16 +19,6 @@ pub struct Summary {
     pub left: Vec<Region>,
     /// How many steps the comparison used.
     pub steps: u32,
-}
-
-impl Drop for Summary {
-    fn drop(self) {
-        let Summary {
-            found: _,
-            left: _,
-            steps: _,
-        } = self;
-    }
 }
 
 /// Compares two policies over the asks of these shapes as [`compare`] does, and makes the regions that it

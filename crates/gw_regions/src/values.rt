@@ -3,9 +3,9 @@ ghost use Rattle.std.specs.Prelude.{◌≡◌, ◌&&◌, ◌||◌, ℕ, Option, 
 ghost use Rattle.std.specs.List.{list_any};
 ghost use Rattle.gw_rules.specs.Range.{admits, holds};
 ghost use Rattle.gw_regions.specs.Ranges.{first_number, shared};
-ghost use Rattle.gw_regions.specs.Values.{admitted, common, has, is_any, is_empty, refused, shares};
+ghost use Rattle.gw_regions.specs.Values.{admitted, common, has, is_any, is_empty, others, refused, shares};
 
-use crate::coverage::{holds_all, is_within_any};
+use crate::coverage::is_within_any;
 use crate::ranges::{common_number, copy, same_ranges, shared, united, without};
 use gw_addr::Sequence;
 use gw_rules::Range;
@@ -112,15 +112,6 @@ impl Values {
             && same_ranges(self.ranges.as_slice(), other.ranges.as_slice())
     }
 
-    /// Whether the others are seen to have all of them.
-    #[tactic(auto, using(crate::proofs::CoverageLaw::within_values))]
-    pub(crate) fn is_within(&self, other: &Values) -> bool
-        ensures { result ≡ true → (value : Option ℕ) → has self.now value ≡ true → has other.now value ≡ true }
-    {
-        implies(self.absent, other.absent)
-            && holds_all(self.ranges.as_slice(), other.ranges.as_slice())
-    }
-
     /// Those of both.
     #[tactic(auto, using(crate::proofs::ValueLaw::united_values))]
     pub(crate) fn united(&self, alloc: Global, other: &Values) -> Result<Self, AllocError>
@@ -133,15 +124,14 @@ impl Values {
         })
     }
 
-    /// Absent, or any number.
-    pub fn any(alloc: Global) -> Result<Self, AllocError>
-        ensures { IfOk result (λ all. is_any all ≡ true) }
+    /// All others: absent, if these aren't, and the numbers below 2^64 that these don't have.
+    pub(crate) fn others(&self, alloc: Global) -> Result<Self, AllocError>
+        ensures { IfOk result (λ rest. rest ≡ others self.now) }
     {
-        let mut ranges = Sequence::new(alloc);
-        ranges.push(ALL_NUMBERS)?;
+        let all = [ALL_NUMBERS];
         Ok(Values {
-            absent: true,
-            ranges,
+            absent: !self.absent,
+            ranges: without(alloc, &all, self.ranges.as_slice())?,
         })
     }
 
@@ -152,14 +142,6 @@ impl Values {
         self.absent && is_within_any(self.ranges.as_slice(), &ALL_NUMBERS)
     }
 
-    /// These, and all others too.
-    pub(crate) fn freed(&self, alloc: Global) -> Result<Self, AllocError>
-        ensures { IfOk result (λ all. (value : Option ℕ) → has self.now value ≡ true → has all value ≡ true) }
-    {
-        let any = Values::any(alloc)?;
-        self.united(alloc, &any)
-    }
-
     /// Whether both have a value.
     pub(crate) fn shares(&self, other: &Values) -> bool
         ensures { result ≡ shares self.now other.now }
@@ -167,12 +149,6 @@ impl Values {
         let value = self.common(other);
         self.has(value) && other.has(value)
     }
-}
-
-fn implies(one: bool, other: bool) -> bool
-    ensures { result ≡ (not one || other) }
-{
-    !one || other
 }
 
 fn any_holds(ranges: &[Range], number: u64) -> bool

@@ -1,70 +1,17 @@
 //! Fields of a region of which no shape tells the difference.
-ghost use Rattle.std.specs.Prelude.{◌≡◌, true, false, IfOk, List, OnOk};
-ghost use Rattle.gw_rules.specs.Ask.{Ask as SpecAsk};
-ghost use Rattle.gw_rules.specs.Fields.{value_of};
+ghost use Rattle.std.specs.Prelude.{IfOk, List, OnOk};
 ghost use Rattle.gw_rules.specs.declared.rule.Rule.{Rule as SpecRule};
 ghost use Rattle.gw_regions.specs.Comparing.{IsSummary};
-ghost use Rattle.gw_regions.specs.Merging.{IsWide, has_but, lies_but};
-ghost use Rattle.gw_regions.specs.Regions.{Region as SpecRegion, lies, lies_in_one};
-ghost use Rattle.gw_regions.specs.Values.{has};
+ghost use Rattle.gw_regions.specs.Merging.{IsWide};
+ghost use Rattle.gw_regions.specs.Regions.{Region as SpecRegion};
 
 use crate::Found;
-use crate::merging::is_same_field;
-use crate::region::{Region, set};
+use crate::meeting::ask_within;
+use crate::region::{Region, set, with_values};
 use gw_rules::FieldName;
 use std::alloc::{AllocError, Global};
 
-/// Whether the shape and the region have a value in common in a field, or it is the one that doesn't matter.
-fn meets_at(field: FieldName, other: FieldName, shape: &Region, region: &Region) -> bool
-    ensures { result ≡ false → (ask : SpecAsk) → lies shape.now ask ≡ true → has_but field other region.now ask ≡ false }
-{
-    if is_same_field(other, field) {
-        return true;
-    }
-    let here = shape.get(other);
-    let there = region.get(other);
-    here.shares(there)
-}
-
-/// Whether an ask of the shape may lie in the region but for this field, as far as a look tells.
-fn meets_but(field: FieldName, shape: &Region, region: &Region) -> bool
-    ensures { result ≡ false → (ask : SpecAsk) → lies shape.now ask ≡ true → lies_but field region.now ask ≡ false }
-{
-    for other in FieldName::ALL.iter() {
-        if !meets_at(field, *other, shape, region) {
-            return false;
-        }
-    }
-    true
-}
-
-/// Whether no ask of the shape is seen to be out of the region by this field alone.
-#[tactic(auto, using(crate::proofs::WideningLaw::free_apart))]
-fn is_free_of(field: FieldName, shape: &Region, region: &Region) -> bool
-    ensures { result ≡ true → (ask : SpecAsk) → lies shape.now ask ≡ true → lies_but field region.now ask ≡ true →
-        has (value_of field region.now) (value_of field ask) ≡ true }
-{
-    if !meets_but(field, shape, region) {
-        return true;
-    }
-    let here = shape.get(field);
-    let there = region.get(field);
-    here.is_within(there)
-}
-
-/// The same for all shapes.
-fn is_free(field: FieldName, shapes: &[Region], region: &Region) -> bool
-    ensures { result ≡ true → (ask : SpecAsk) → lies_in_one shapes.now ask ≡ true → lies_but field region.now ask ≡ true →
-        has (value_of field region.now) (value_of field ask) ≡ true }
-{
-    for shape in shapes {
-        if !is_free_of(field, shape, region) {
-            return false;
-        }
-    }
-    true
-}
-
+/// Lets a field be anything, if no ask of a shape lies in the region but for this field alone.
 fn free(
     alloc: Global,
     field: FieldName,
@@ -73,10 +20,13 @@ fn free(
 ) -> Result<(), AllocError>
     ensures { OnOk result (IsWide shapes.now region.old region.new) }
 {
-    if is_free(field, shapes, region) {
-        let here = region.get(field);
-        let values = here.freed(alloc)?;
-        set(region, field, values);
+    let here = region.get(field);
+    let rest = here.others(alloc)?;
+    let wide = here.united(alloc, &rest)?;
+    let beyond = with_values(alloc, region, field, rest)?;
+    match ask_within(&beyond, shapes) {
+        None => set(region, field, wide),
+        Some(_) => {}
     }
     Ok(())
 }
@@ -104,16 +54,9 @@ pub(crate) fn widen_all(
     let mut rest = found;
     let mut done = Vec::new(alloc);
     while let Some(next) = rest.pop() {
-        let wide = widen_found(alloc, shapes, next)?;
+        let mut wide = next;
+        widen(alloc, shapes, &mut wide.region)?;
         done.push(wide)?;
     }
     Ok(done)
-}
-
-fn widen_found(alloc: Global, shapes: &[Region], mut found: Found) -> Result<Found, AllocError>
-    ensures said { IfOk result (λ wide. wide ≡ record found { region = wide.region }) }
-    ensures wide { IfOk result (λ wide. IsWide shapes.now found.region wide.region) }
-{
-    widen(alloc, shapes, &mut found.region)?;
-    Ok(found)
 }

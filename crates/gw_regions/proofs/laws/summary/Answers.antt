@@ -1,6 +1,7 @@
 use Rattle.std.proofs.Common.{[], refl}
 use Rattle.gw_regions.specs.Regions.{lies_in_one}
 use Rattle.gw_regions.proofs.ComparingLaw.{alike_finished, exact_known, found_differs, was_decided}
+use Rattle.gw_regions.proofs.CoverageLaw.{any_absent, any_number}
 use Rattle.gw_regions.proofs.MergingLaw.{summary_of}
 use Rattle.gw_regions.proofs.laws.summary.Goals as goal
 
@@ -12,4 +13,6 @@ returns c = record {
   alike = λ shapes. alike_finished (lies_in_one shapes) shapes;
   differs = λ shapes old new found left is ask in_shape there. found_differs (lies_in_one shapes) old new found is.verdicts ask in_shape there;
   asks = λ shapes old new found left is. was_decided (lies_in_one shapes) shapes old new found (λ ask in_shape. in_shape) is.verdicts is.asks;
+  absent = any_absent;
+  number = any_number;
 }

@@ -1,4 +1,4 @@
-use Rattle.std.proofs.Common.{◌∙◌, ◌++◌, List, subst, sym}
+use Rattle.std.proofs.Common.{◌∙◌, ◌++◌, List, refl, subst, sym}
 use Rattle.std.proofs.lemmas.List.{nil_from_length}
 use Rattle.gw_regions.specs.Comparing.{IsSummary}
 use Rattle.gw_regions.specs.declared.comparison.Found.{Found}
@@ -9,8 +9,8 @@ pub loop-next-preserved : goal.loop-next-preserved
 loop-next-preserved c = λ old new left was.
     let shapes = c.args.shapes.now in
     subst (λ (xs : List Found). IsSummary shapes old new (c.pop.new.self.items ++ xs) left) (sym c.in_ok-push.ensures.items)
-    (widen_step shapes old new left c.pop.new.self.items c.loop-next.done.items c.loop-next.rest.items c.in-Some.next c.in_ok-wide.wide
-    c.in-Some.ensures.items c.in_ok-wide.ensures.said c.in_ok-wide.ensures.wide (c.loop-next.invariant old new left was))
+    (widen_step shapes old new left c.pop.new.self.items c.loop-next.done.items c.loop-next.rest.items c.in-Some.next _
+    c.in-Some.ensures.items refl c.in_ok-widen.ensures (c.loop-next.invariant old new left was))
 
 pub returns : goal.returns
 returns c = λ old new left was.
