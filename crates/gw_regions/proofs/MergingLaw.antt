@@ -95,17 +95,19 @@ joined_kept xs both one other is = record {
         exact = λ ask in_shape. was.exact ask in_shape
             ∙ ap (λ b. b || (lies_in_one left ask && differs old new ask)) (sym (joined_asks xs both one other is ask));
         verdicts = all_from Said xs (both ∷ []) said.0 (
-        λ ask passes there. elim (or_cases (lies one.region ask) (lies other.region ask) (sym (is.regions ask) ∙ there)) [
-          | inl first ↦ as_one old new both one ask is.allows is.old_rules is.new_rules (said.1.0 ask passes first)
-          | inr second ↦ as_one old new both other ask (is.allows ∙ is.same_allows) (is.old_rules ∙ is.same_old_rules) (is.new_rules ∙ is.same_new_rules) (said.1.1.0 ask passes second)
-        ],
-        tt);
+          λ ask passes there. elim (or_cases (lies one.region ask) (lies other.region ask) (sym (is.regions ask) ∙ there)) [
+            | inl first ↦ as_one old new both one ask is.allows is.old_rules is.new_rules (said.1.0 ask passes first)
+            | inr second ↦ as_one old new both other ask (is.allows ∙ is.same_allows) (is.old_rules ∙ is.same_old_rules) (is.new_rules ∙ is.same_new_rules) (said.1.1.0 ask passes second)
+          ],
+          tt,
+        );
         asks = all_from Has xs (both ∷ []) had.0 (
-        let parts = and_parts (lies one.region one.ask) (lies_in_one shapes one.ask) had.1.0 in
-        ap (λ (a : Ask). lies both.region a && lies_in_one shapes a) is.ask
-        ∙ and_from (lies both.region one.ask) (lies_in_one shapes one.ask)
-        (is.regions one.ask ∙ or_left (lies one.region one.ask) (lies other.region one.ask) parts.0) parts.1,
-        tt);
+          let parts = and_parts (lies one.region one.ask) (lies_in_one shapes one.ask) had.1.0 in
+              ap (λ (a : Ask). lies both.region a && lies_in_one shapes a) is.ask
+              ∙ and_from (lies both.region one.ask) (lies_in_one shapes one.ask)
+              (is.regions one.ask ∙ or_left (lies one.region one.ask) (lies other.region one.ask) parts.0) parts.1,
+          tt,
+        );
       };
 }
 

@@ -8,6 +8,6 @@ pub returns-clause-ticks : goal.returns-clause-ticks
 returns-clause-ticks c =
     IfOk-weaker c.tables_of.result _ _
     (λ tables is.
-        have_seen c.args.self.now.counts.since c.counts.result.since c.args.ports.now c.ports.result.now tables.items is
-        (ap (λ (counts : SavedCounts). counts.since) c.counts.ensures.counts))
+    have_seen c.args.self.now.counts.since c.counts.result.since c.args.ports.now c.ports.result.now tables.items is
+    (ap (λ (counts : SavedCounts). counts.since) c.counts.ensures.counts))
     c.tables_of.ensures
