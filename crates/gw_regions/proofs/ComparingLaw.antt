@@ -207,8 +207,7 @@ pub was_decided : (test : Ask → Bool) (shapes : List Region) (old new : List R
 was_decided test shapes old new [] passes verdicts asks = tt
 was_decided test shapes old new (f ∷ fs) passes verdicts asks =
     let parts = and_parts (lies f.region f.ask) (lies_in_one shapes f.ask) asks.0 in
-    let is = verdicts.0 f.ask (passes f.ask parts.1) parts.0 in
-    (
+    let is = verdicts.0 f.ask (passes f.ask parts.1) parts.0 in (
       record { there = parts.0; in_shape = parts.1; by_old = is.by_old; by_new = is.by_new; old_rule = is.old_rule; new_rule = is.new_rule },
-      was_decided test shapes old new fs passes verdicts.1 asks.1
+      was_decided test shapes old new fs passes verdicts.1 asks.1,
     )

@@ -75,11 +75,11 @@ impl Taken {
         new_rules: Vec<usize>,
     ) -> Found
         ensures { result ≡ record {
-            region = self.region;
-            ask = self.ask;
-            allows = allows;
-            old_rules = old_rules;
-            new_rules = new_rules;
+          region = self.region;
+          ask = self.ask;
+          allows = allows;
+          old_rules = old_rules;
+          new_rules = new_rules;
         } }
     {
         let Taken { region, ask } = self;

@@ -97,12 +97,7 @@ fn partner_of(done: &[Found], found: &Found) -> Option<Partner>
 }
 
 /// One in the place of two.
-fn join(
-    alloc: Global,
-    field: FieldName,
-    mut one: Found,
-    other: Found,
-) -> Result<Found, AllocError>
+fn join(alloc: Global, field: FieldName, mut one: Found, other: Found) -> Result<Found, AllocError>
     ensures { IfOk result (λ both. AreJoint field one other → IsJoined both one other) }
 {
     let here = one.region.get(field);

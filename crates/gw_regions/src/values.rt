@@ -108,8 +108,7 @@ impl Values {
     pub(crate) fn is_same(&self, other: &Values) -> bool
         ensures { result ≡ true → (value : Option ℕ) → has self.now value ≡ has other.now value }
     {
-        self.absent == other.absent
-            && same_ranges(self.ranges.as_slice(), other.ranges.as_slice())
+        self.absent == other.absent && same_ranges(self.ranges.as_slice(), other.ranges.as_slice())
     }
 
     /// Those of both.

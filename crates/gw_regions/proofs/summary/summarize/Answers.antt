@@ -15,7 +15,7 @@ returns-clause-summary c =
     let rest = c.into_parts-found.result.1.items in
     let compared = summary_of shapes old new found left c.in_ok-comparison.ensures.comparison in
     let start = subst (λ (fs : List Found). IsSummary shapes old new fs rest) (sym c.into_parts-found.ensures.found)
-        (subst (λ (xs : List Region). IsSummary shapes old new found xs) (sym c.into_parts-found.ensures.left) compared) in
+    (subst (λ (xs : List Region). IsSummary shapes old new found xs) (sym c.into_parts-found.ensures.left) compared) in
     let merged = c.in_ok-merged.ensures.found (lies_in_one shapes) shapes old new rest start in
     let wide = c.in_ok-wide.ensures old new rest merged in
     c.in_ok-found.ensures.found (lies_in_one shapes) shapes old new rest wide
