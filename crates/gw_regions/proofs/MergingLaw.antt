@@ -1,7 +1,7 @@
 -- What was found may be put in another order, and one region in the place of two.
 use Rattle.std.proofs.Common.{◌≡◌, ◌∙◌, sym, ap, refl, subst, ℕ, ◌<◌, Bool, true, false, ◌&&◌, ◌||◌, List, [], ◌∷◌, ◌++◌, append_assoc, length, get_or, inl, inr}
 use Rattle.std.specs.Prelude.{not}
-use Rattle.std.specs.List.{AllByRecursion, list_all, list_any, swap_remove}
+use Rattle.std.specs.List.{AllByRecursion, swap_remove}
 use Rattle.std.specs.List.Sorted.{IsPermutation}
 use Rattle.std.proofs.lemmas.Bool.{and_from, and_parts, or_cases, or_left}
 use Rattle.std.proofs.lemmas.List.{append-nil}
@@ -9,19 +9,15 @@ use Rattle.std.proofs.lemmas.List.Elements.{All-from_recursion, recursion_from_A
 use Rattle.std.proofs.lemmas.List.Folds.{list_any-append}
 use Rattle.std.proofs.lemmas.List.Sorted.{All-permutation, IsPermutation-append_comm, IsPermutation-append_left, IsPermutation-append_right, IsPermutation-swap_remove, IsPermutation-sym, IsPermutation-to_front, IsPermutation-trans, list_any-IsPermutation}
 use Rattle.gw_rules.specs.Ask.{Ask}
-use Rattle.gw_rules.specs.Field.{field_number}
 use Rattle.gw_rules.specs.Fields.{value_of, with_value}
-use Rattle.gw_rules.specs.RuleList.{allows}
 use Rattle.gw_rules.specs.declared.field.FieldName.{FieldName}
-use Rattle.gw_rules.specs.declared.field.TheConstants.FieldName.{ALL}
 use Rattle.gw_rules.specs.declared.rule.Rule.{Rule}
 use Rattle.gw_regions.specs.Comparing.{IsComparison, IsDecided, IsFoundFor, IsSummary, decider, differs, is_found, is_one_of}
-use Rattle.gw_regions.specs.Merging.{AreJoint, AreKept, IsJoined, IsWide, lies_but}
+use Rattle.gw_regions.specs.Merging.{AreKept, IsJoined, IsWide, lies_but}
 use Rattle.gw_regions.specs.Regions.{Region, lies, lies_in_one}
 use Rattle.gw_regions.specs.Values.{has}
 use Rattle.gw_regions.specs.declared.comparison.Found.{Found}
 use Rattle.gw_regions.specs.declared.values.Values.{Values}
-use Rattle.gw_regions.proofs.RangeLaw.{or_none}
 use Rattle.gw_regions.proofs.RegionLaw.{lies_apart, lies_with}
 
 -- ---- lists of what was found

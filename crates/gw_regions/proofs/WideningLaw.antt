@@ -1,13 +1,10 @@
 -- Regions that are alike but for a field, and a field that may be anything since no ask of a shape tells.
-use Rattle.std.proofs.Common.{◌≡◌, ◌∙◌, sym, ap, refl, ℕ, ◌<◌, Bool, true, false, ◌&&◌, ◌||◌, ◌==◌, List, [], ◌∷◌, length, get_or, Option, inl, inr, arith, nat_lt, subst, take, ◌+◌}
-use Rattle.std.specs.List.{list_all}
-use Rattle.std.proofs.lemmas.Bool.{both_ways, false_from_ne_true, ltb-false, ltb-true, or_cases}
+use Rattle.std.proofs.Common.{◌≡◌, ◌∙◌, sym, ap, refl, ℕ, ◌<◌, Bool, true, false, ◌&&◌, ◌||◌, List, get_or, Option, arith, nat_lt, subst, ◌+◌}
+use Rattle.std.proofs.lemmas.Bool.{ltb-false, ltb-true}
 use Rattle.gw_rules.specs.Ask.{Ask}
-use Rattle.gw_rules.specs.Field.{field_number}
 use Rattle.gw_rules.specs.Fields.{value_of, with_value}
 use Rattle.gw_rules.specs.declared.field.FieldName.{FieldName}
 use Rattle.gw_rules.specs.declared.field.TheConstants.FieldName.{ALL}
-use Rattle.gw_rules.proofs.EachField.{each_field_at}
 use Rattle.gw_regions.specs.Merging.{IsWide, has_but, lies_but}
 use Rattle.gw_regions.specs.Regions.{Region, lies, lies_in_one}
 use Rattle.gw_regions.specs.Values.{has}

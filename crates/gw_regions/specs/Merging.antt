@@ -1,5 +1,5 @@
 -- Regions in the place of others: two that are made one, and one that is made wider.
-use Rattle.std.specs.Prelude.{◌≡◌, ℕ, Bool, true, ◌&&◌, ◌||◌, ◌==◌, List}
+use Rattle.std.specs.Prelude.{◌≡◌, ℕ, Bool, true, ◌||◌, ◌==◌, List}
 use Rattle.std.specs.List.{list_any}
 use Rattle.gw_rules.specs.Ask.{Ask}
 use Rattle.gw_rules.specs.Field.{field_number}
