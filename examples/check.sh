@@ -406,7 +406,7 @@ unsuspected() {
     status=$?
     sed '/: look at source_network: without source, /d; /^note: look at cast: /d' "$work/noted" > "$work/out"
     agrees "the lint of $1" 0 "$work/plain" /dev/null
-    same "the warnings of $1" "$("$program" check --config "$1" --explain | grep -v '^ok \|^object .* is hidden from network ')" ''
+    same "the warnings of $1" "$("$program" check --config "$1" --explain | grep '^warning: ')" ''
 }
 for file in "$here"/*.toml "$here"/format2/*.toml "$here/site/site.toml" "$here/../dist/site.toml"; do
     case ${file##*/} in

@@ -1,18 +1,15 @@
 //! What `run --verbose` tells at the start: one line on what is served.
 
-ghost use Rattle.std.specs.Prelude.{◌≡◌, ◌++◌, ◌≤◌, length, map, option_map, string_bytes, IfOk, OnOk};
+ghost use Rattle.std.specs.Prelude.{◌≡◌, ◌++◌, ◌≤◌, length, option_map, string_bytes, IfOk, OnOk};
 ghost use Rattle.gw_addr.specs.Address.{text_of};
 ghost use Rattle.gw_addr.specs.declared.TheConstants.{MAX_PORTS};
-ghost use Rattle.gw_shell.specs.Announcement.{announcement, device_text, log_text, objects_text, port_text, rules_text, shown, startup_line};
+ghost use Rattle.gw_shell.specs.Announcement.{announcement, device_text, log_text, objects_text, port_text, rules_text, startup_line};
 ghost use Rattle.gw_script.specs.Order.{in_order};
 
 use gw_addr::{BipAddr, put_decimal};
 use gw_configuration::{Config, Device, Port};
-use itoa::Integer;
+use gw_permissions::{put_number, put_shown};
 use std::alloc::{AllocError, Global};
-
-/// The one control character of ASCII behind the printed ones.
-const DELETE: u8 = 127;
 
 /// The line that tells what is served, with the log in the file of this name or on standard output.
 fn announcement(alloc: Global, config: &Config, log: &Option<String>) -> Result<Vec<u8>, AllocError>
@@ -76,15 +73,6 @@ fn put_ports(out: &mut Vec<u8>, ports: &[Port]) -> Result<(), AllocError>
     Ok(())
 }
 
-/// Appends a text and a number behind it in decimal digits. An `Err` only where a growth of memory
-/// was refused; then a front of them may stand behind what the buffer held.
-pub fn put_number<N: Integer>(out: &mut Vec<u8>, text: &str, number: N) -> Result<(), AllocError>
-    ensures { OnOk result (out.new.items ≡ out.old.items ++ text.now ++ N.text number) }
-{
-    out.extend_from_slice(text.as_bytes())?;
-    put_decimal(out, number)
-}
-
 /// Appends the device and its network.
 fn put_device(out: &mut Vec<u8>, device: &Device) -> Result<(), AllocError>
     ensures { OnOk result (out.new.items ≡ out.old.items ++ device_text device.now) }
@@ -117,27 +105,5 @@ fn put_log(out: &mut Vec<u8>, log: &Option<String>) -> Result<(), AllocError>
     match log {
         Some(name) => put_shown(out, name.as_bytes()),
         None => out.extend_from_slice(b"standard output"),
-    }
-}
-
-/// Appends a name, with a question mark in the place of each control character. An `Err` only where
-/// a growth of memory was refused; then a front of it may stand behind what the buffer held.
-pub fn put_shown(out: &mut Vec<u8>, name: &[u8]) -> Result<(), AllocError>
-    ensures { OnOk result (out.new.items ≡ out.old.items ++ map shown name.now) }
-{
-    for octet in name {
-        out.push(shown(*octet))?;
-    }
-    Ok(())
-}
-
-/// An octet as it is shown on a line.
-fn shown(octet: u8) -> u8
-    ensures { result ≡ shown octet }
-{
-    if octet < b' ' || octet == DELETE {
-        b'?'
-    } else {
-        octet
     }
 }

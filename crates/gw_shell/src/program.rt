@@ -18,12 +18,12 @@ ghost use Rattle.gw_shell.specs.declared.fault.Fault.{Fault};
 ghost use Rattle.gw_shell.specs.declared.fault.Fault.TheVariants as fault;
 
 use crate::asking::why;
+use crate::checked::checked_text;
 use crate::command_line::{Choice, choice_of};
 use crate::configured::{configuration, configuration_in, configuration_of};
 use crate::ending::{end, tell, usage_of};
 use crate::fault::Fault;
 use crate::files::ConfigFiles;
-use crate::hidden::checked_text;
 use crate::options::RunOptions;
 use crate::script::replay;
 use crate::serving::serve_ports;
