@@ -90,10 +90,12 @@ abbrev pub device_line : Device → List ℕ
 device_line device =
     codes "network " ++ decimal device.network ++ codes ": no router speaks for it, since the device has it\n"
 
+abbrev pub router_words : Route → List ℕ
+router_words route =
+    codes ": the router " ++ text_of route.next ++ codes " on port " ++ decimal route.port ++ codes " speaks for it\n"
+
 abbrev pub route_line : Route → List ℕ
-route_line route =
-    codes "network " ++ decimal route.network ++ codes ": the router " ++ text_of route.next ++ codes " on port "
-    ++ decimal route.port ++ codes " speaks for it\n"
+route_line route = (codes "network " ++ decimal route.network) ++ router_words route
 
 -- of the ports' networks, the device's, and those of the routes
 abbrev pub network_lines : Configuration → List ℕ
@@ -102,10 +104,16 @@ network_lines c = in_order own_line 1 c.ports ++ device_line c.device ++ flat_ma
 -- ---- objects
 
 -- an object by its number from 1, its type and instance, and its name
-abbrev pub object_words : ℕ → Object → List ℕ
-object_words number object =
+abbrev pub identifier_words : ℕ → Object → List ℕ
+identifier_words number object =
     codes "object " ++ decimal number ++ codes " (" ++ decimal (type_number object.value) ++ codes ","
-    ++ decimal object.instance ++ codes ") \"" ++ map shown object.name ++ codes "\""
+    ++ decimal object.instance ++ codes ") \""
+
+abbrev pub name_words : Object → List ℕ
+name_words object = map shown object.name ++ codes "\""
+
+abbrev pub object_words : ℕ → Object → List ℕ
+object_words number object = identifier_words number object ++ name_words object
 
 -- the policy hides the object from every source of the network
 abbrev pub is_hidden : List Rule → Object → ℕ → Bool
@@ -134,18 +142,24 @@ list_line c number object network =
     if is_readable c network (object_list c.device)
     then network_may number object network ++ codes "Object_List, which names it\n" else []
 
+abbrev pub property_words : List ℕ → List ℕ
+property_words name = codes "its " ++ name ++ codes ", though not its Present_Value\n"
+
 -- a property that tells what Present_Value is or may become can be read
 abbrev pub told_line : Configuration → ℕ → Object → ℕ → ℕ → List ℕ → List ℕ
 told_line c number object network property name =
     if is_readable c network (point_of object property)
-    then network_may number object network ++ codes "its " ++ name ++ codes ", though not its Present_Value\n" else []
+    then network_may number object network ++ property_words name else []
+
+abbrev pub property_lines : Configuration → ℕ → Object → ℕ → List ℕ
+property_lines c number object network =
+    told_line c number object network 87 (codes "Priority_Array")
+    ++ told_line c number object network 104 (codes "Relinquish_Default")
 
 -- and Present_Value (85) can't
 abbrev pub told_lines : Configuration → ℕ → Object → ℕ → List ℕ
 told_lines c number object network =
-    if is_readable c network (point_of object 85) then []
-    else told_line c number object network 87 (codes "Priority_Array")
-    ++ told_line c number object network 104 (codes "Relinquish_Default")
+    if is_readable c network (point_of object 85) then [] else property_lines c number object network
 
 -- what a network, and so whoever claims to be of it, may read of an object that is hidden, or whose Present_Value is
 abbrev pub reading_lines : Configuration → ℕ → Object → Port → List ℕ

@@ -3,9 +3,10 @@ ghost use Rattle.std.specs.Prelude.{◌≡◌, ◌++◌, ◌≤◌, codes, decim
 ghost use Rattle.std.specs.List.{flat_map};
 ghost use Rattle.gw_addr.specs.declared.TheConstants.{MAX_PORTS};
 ghost use Rattle.gw_script.specs.Order.{in_order};
-ghost use Rattle.gw_permissions.specs.Permissions.{device_line, network_lines, own_line, route_line};
+ghost use Rattle.gw_permissions.specs.Permissions.{device_line, network_lines, own_line, route_line, router_words};
 
 use crate::words::put_number;
+use gw_addr::put_slice;
 use gw_configuration::{Config, Device, Port, Route};
 use std::alloc::AllocError;
 
@@ -46,7 +47,7 @@ fn put_device(out: &mut Vec<u8>, device: &Device) -> Result<(), AllocError>
     ensures { OnOk result (out.new.items ≡ out.old.items ++ device_line device.now) }
 {
     put_network(out, device.network.get())?;
-    out.extend_from_slice(b": no router speaks for it, since the device has it\n")
+    put_slice(out, b": no router speaks for it, since the device has it\n")
 }
 
 fn put_routes(out: &mut Vec<u8>, routes: &[Route]) -> Result<(), AllocError>
@@ -62,6 +63,12 @@ fn put_route(out: &mut Vec<u8>, route: &Route) -> Result<(), AllocError>
     ensures { OnOk result (out.new.items ≡ out.old.items ++ route_line route.now) }
 {
     put_network(out, route.network.get())?;
+    put_router(out, route)
+}
+
+fn put_router(out: &mut Vec<u8>, route: &Route) -> Result<(), AllocError>
+    ensures { OnOk result (out.new.items ≡ out.old.items ++ router_words route.now) }
+{
     out.extend_from_slice(b": the router ")?;
     route.next.put_text(out)?;
     put_number(out, " on port ", route.port)?;

@@ -3,7 +3,7 @@ ghost use Rattle.std.specs.Prelude.{◌≡◌, ◌++◌, ◌≤◌, codes, lengt
 ghost use Rattle.std.specs.List.{flat_map};
 ghost use Rattle.gw_configuration.specs.Duplicates.{type_number};
 ghost use Rattle.gw_script.specs.Order.{in_order};
-ghost use Rattle.gw_permissions.specs.Permissions.{hidden_line, hidden_words, is_hidden, is_readable, list_line, network_may, object_lines, object_list, object_words, plain_lines, point_of, reading_lines, told_line, told_lines};
+ghost use Rattle.gw_permissions.specs.Permissions.{hidden_line, hidden_words, identifier_words, is_hidden, is_readable, list_line, name_words, network_may, object_lines, object_list, object_words, plain_lines, point_of, property_lines, property_words, reading_lines, told_line, told_lines};
 
 use crate::passing::may_pass;
 use crate::questions::{Point, reading};
@@ -14,13 +14,17 @@ use std::alloc::AllocError;
 
 /// The number of the Device object's type (clause 21).
 const DEVICE: u64 = 8;
-/// The numbers of properties (clause 21).
+
+/// The number of Object_List (clause 21).
 const OBJECT_LIST: u64 = 76;
 
+/// That of Present_Value.
 const PRESENT_VALUE: u64 = 85;
 
+/// That of Priority_Array.
 const PRIORITY_ARRAY: u64 = 87;
 
+/// That of Relinquish_Default.
 const RELINQUISH_DEFAULT: u64 = 104;
 
 /// An object of the device by its number, from 1, and a network whose claims are to read it.
@@ -111,6 +115,13 @@ fn put_told_lines(out: &mut Vec<u8>, reader: &Reader<'_>) -> Result<(), AllocErr
     ) {
         return Ok(());
     }
+    put_properties(out, reader)
+}
+
+fn put_properties(out: &mut Vec<u8>, reader: &Reader<'_>) -> Result<(), AllocError>
+    ensures { OnOk result (out.new.items ≡ out.old.items ++ property_lines reader.now.config.now
+        reader.now.number reader.now.object.now reader.now.network) }
+{
     put_told(out, reader, PRIORITY_ARRAY, "Priority_Array")?;
     put_told(out, reader, RELINQUISH_DEFAULT, "Relinquish_Default")
 }
@@ -131,7 +142,22 @@ fn put_told(
     ) {
         return Ok(());
     }
+    put_telling(out, reader, name)
+}
+
+/// Appends that this property of the object may be read.
+fn put_telling(out: &mut Vec<u8>, reader: &Reader<'_>, name: &str) -> Result<(), AllocError>
+    ensures { OnOk result (out.new.items ≡ out.old.items ++
+        (network_may reader.now.number reader.now.object.now reader.now.network
+        ++ property_words name.now)) }
+{
     put_may(out, reader)?;
+    put_property(out, name)
+}
+
+fn put_property(out: &mut Vec<u8>, name: &str) -> Result<(), AllocError>
+    ensures { OnOk result (out.new.items ≡ out.old.items ++ property_words name.now) }
+{
     out.extend_from_slice(b"its ")?;
     out.extend_from_slice(name.as_bytes())?;
     out.extend_from_slice(b", though not its Present_Value\n")
@@ -179,10 +205,22 @@ fn put_hidden(
 fn put_words(out: &mut Vec<u8>, number: usize, object: &Object) -> Result<(), AllocError>
     ensures { OnOk result (out.new.items ≡ out.old.items ++ object_words number object.now) }
 {
+    put_identifier(out, number, object)?;
+    put_name(out, object)
+}
+
+fn put_identifier(out: &mut Vec<u8>, number: usize, object: &Object) -> Result<(), AllocError>
+    ensures { OnOk result (out.new.items ≡ out.old.items ++ identifier_words number object.now) }
+{
     put_number(out, "object ", number)?;
     put_number(out, " (", type_number(&object.value))?;
     put_number(out, ",", object.instance.get())?;
-    out.extend_from_slice(b") \"")?;
+    out.extend_from_slice(b") \"")
+}
+
+fn put_name(out: &mut Vec<u8>, object: &Object) -> Result<(), AllocError>
+    ensures { OnOk result (out.new.items ≡ out.old.items ++ name_words object.now) }
+{
     put_shown(out, object.name.as_str().as_bytes())?;
     out.extend_from_slice(b"\"")
 }

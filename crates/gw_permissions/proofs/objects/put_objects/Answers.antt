@@ -1,7 +1,7 @@
-use Rattle.std.proofs.Common.{arith, length, rules, ◌≡◌, get_or, subst, ◌++◌, ◌+◌, sym}
+use Rattle.std.proofs.Common.{rules, ◌≡◌, get_or, subst, ◌++◌, ◌+◌, sym}
 use Rattle.gw_configuration.specs.declared.object.Object.{Object}
 use Rattle.gw_permissions.specs.Permissions.{object_lines}
-use Rattle.gw_script.proofs.Order.{in_order_end, in_order_none, in_order_step}
+use Rattle.gw_script.proofs.Order.{in_order_none, in_order_step}
 use Rattle.gw_permissions.proofs.objects.put_objects.Goals as goal
 
 pub loop-place-init : goal.loop-place-init
