@@ -119,11 +119,12 @@ IsWithin most number = IfSome number (λ n. (1 ≤ n) × (n ≤ most))
 now_within : (number most : ℕ) (ports : List ConfiguredPort) (s : SavedPort) → 1 ≤ number → number + length ports ≤ most + 1
     → IsWithin most (number_now number ports s)
 now_within number most [] s low high = tt
-now_within number most (p ∷ ports) s low high = by (is_port p s)
+now_within number most (p ∷ ports) s low high = by (is_port p s) (now_within (number + 1) most ports s (omega arith) (omega (arith, high)))
   where
-    by : (b : Bool) → IsWithin most (if b then Some number else number_now (number + 1) ports s)
-    by true = (low, omega (arith, high))
-    by false = now_within (number + 1) most ports s (omega arith) (omega (arith, high))
+    by : (b : Bool) → IsWithin most (number_now (number + 1) ports s)
+        → IsWithin most (if b then Some number else number_now (number + 1) ports s)
+    by true later = (low, omega (arith, high))
+    by false later = later
 
 found_within : (ports : List ConfiguredPort) (s : Option SavedPort) → IsWithin (length ports) (option_and_then (number_now 1 ports) s)
 found_within ports None = tt

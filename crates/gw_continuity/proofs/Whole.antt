@@ -4,13 +4,13 @@ use Rattle.std.specs.List.{AllByRecursion, list_any}
 use Rattle.std.proofs.lemmas.Bool.{or_parts}
 use Rattle.gw_configuration.specs.Configuration.{Configuration}
 use Rattle.gw_configuration.specs.Duplicates.{has_duplicates, has_twice, identifiers, networks, peer_addresses, port_addresses}
-use Rattle.gw_configuration.specs.declared.format.Format.{Format}
 use Rattle.gw_configuration.specs.declared.port.Port.{Port as ConfiguredPort}
 use Rattle.gw_objects.specs.declared.configured.Configured.{Configured}
 use Rattle.gw_objects.specs.Objects.{Slots, database_of}
 use Rattle.gw_relay.specs.Initial.{direct_of, routed_of}
 use Rattle.gw_relay.specs.declared.port.PortState.{PortState}
 use Rattle.gw_routes.specs.Table.{Routed, Table, is_fixed, table_of}
+use Rattle.gw_rules.specs.declared.format.Format.{Format}
 use Rattle.gw_rules.specs.declared.rule.Rule.{Rule}
 use Rattle.gw_core.specs.State.{State}
 use Rattle.gw_core.specs.History.{run_from, state_after}

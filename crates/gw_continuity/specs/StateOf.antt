@@ -43,9 +43,9 @@ AreBy ports routes = AllByRecursion (λ learned. (1 ≤ learned.1.port) × (lear
 -- A table of routes of so many ports has these direct networks and these configured routes. Its learned routes are by
 -- these ports, none is of a network that is direct or configured, none is of the same network as another, and with the
 -- configured ones they are at most 512.
-pub record IsTableOf (ports : ℕ) (direct : List ℕ) (configured : Routed) (t : Table) : Type 0 where
-  pub direct : t.direct ≡ direct
-  pub configured : t.configured ≡ configured
+pub record IsTableOf (ports : ℕ) (networks : List ℕ) (routes : Routed) (t : Table) : Type 0 where
+  pub direct : t.direct ≡ networks
+  pub configured : t.configured ≡ routes
   pub by : AreBy ports t.learned
   pub free : AllByRecursion (λ learned. IsFalse (is_fixed t learned.0)) t.learned
   pub once : IsDistinct nat_eq (keys_of t.learned)
