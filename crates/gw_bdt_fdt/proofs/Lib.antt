@@ -4,3 +4,4 @@ pub mod Words
 pub mod Rows
 pub mod Ends
 pub mod Entries
+pub mod Restoring

@@ -9,7 +9,7 @@ use Rattle.gw_addr.specs.declared.bip.BipAddr.{BipAddr}
 use Rattle.gw_bdt_fdt.specs.declared.leases.Lease.{Lease}
 use Rattle.gw_bdt_fdt.specs.declared.fdt.TheConstants.{GRACE, MAX_REGISTRATIONS}
 use Rattle.gw_bdt_fdt.specs.Registrations.{Registration, same, contains, has_room, with_registration, without, with_less, row_later, with_tick}
-use Rattle.gw_bdt_fdt.specs.Internal.{LeaseList, row_at, table_at, holds_at, AreKept}
+use Rattle.gw_bdt_fdt.specs.Internal.{LeaseList, row_at, table_at, holds_at, is_granted, AreKept}
 
 pub keyed : (t : ℕ) (es : LeaseList) → keys_of (map (row_at t) es) ≡ keys_of es
 keyed t [] = refl
@@ -85,6 +85,16 @@ hold-insert t (e ∷ es) a l lt hold = by (same a e.0) (hold-insert t es a l lt 
     by true rest = (lt-ltb t l.deadline lt, hold.1)
     by false rest = (hold.0, rest)
 
+granted-insert : (t : ℕ) (es : LeaseList) (a : BipAddr) (l : Lease) → l.deadline ≤ t + l.time_to_live + GRACE
+    → AllByRecursion (is_granted t) es → AllByRecursion (is_granted t) (insert_entry same es a l)
+granted-insert t [] a l le each = (le, tt)
+granted-insert t (e ∷ es) a l le each = by (same a e.0) (granted-insert t es a l le each.1)
+  where
+    by : (x : Bool) → AllByRecursion (is_granted t) (insert_entry same es a l)
+        → AllByRecursion (is_granted t) (if x then (e.0, l) ∷ es else e ∷ insert_entry same es a l)
+    by true rest = (le, each.1)
+    by false rest = (each.0, rest)
+
 -- leases stay kept where there is room for the one that is granted
 pub kept_registered : (t : ℕ) (es : LeaseList) (a : BipAddr) (ttl : ℕ)
     → has_room (table_at t es) a ≡ true
@@ -95,6 +105,7 @@ kept_registered t es a ttl room kept = record {
       (length-insert_entry es a (lease_of t ttl));
   below = kept.below;
   hold = hold-insert t es a (lease_of t ttl) (omega arith) kept.hold;
+  granted = granted-insert t es a (lease_of t ttl) (omega arith) kept.granted;
 }
   where
     by : (x : Bool) → x || nat_lt (length es) MAX_REGISTRATIONS ≡ true
@@ -128,6 +139,16 @@ hold-remove t (e ∷ es) a hold = by (same a e.0) (hold-remove t es a hold.1)
     by true rest = hold.1
     by false rest = (hold.0, rest)
 
+granted-remove : (t : ℕ) (es : LeaseList) (a : BipAddr) → AllByRecursion (is_granted t) es
+    → AllByRecursion (is_granted t) (remove_entry (same a) es)
+granted-remove t [] a each = tt
+granted-remove t (e ∷ es) a each = by (same a e.0) (granted-remove t es a each.1)
+  where
+    by : (x : Bool) → AllByRecursion (is_granted t) (remove_entry (same a) es)
+        → AllByRecursion (is_granted t) (cond x es (e ∷ remove_entry (same a) es))
+    by true rest = each.1
+    by false rest = (each.0, rest)
+
 few-remove : (es : LeaseList) (a : BipAddr) → length (remove_entry (same a) es) ≤ length es
 few-remove [] a = omega arith
 few-remove (e ∷ es) a = by (same a e.0) (few-remove es a)
@@ -141,6 +162,7 @@ kept_deleted t es a kept = record {
   few = omega (arith, few-remove es a, kept.few);
   below = kept.below;
   hold = hold-remove t es a kept.hold;
+  granted = granted-remove t es a kept.granted;
 }
 
 -- ---- a tick
@@ -181,6 +203,16 @@ hold-later t (e ∷ es) = by (holds_at t e) refl (hold-later t es)
     by true p rest = (p, rest)
     by false p rest = rest
 
+granted-later : (t : ℕ) (es : LeaseList) → AllByRecursion (is_granted t) es
+    → AllByRecursion (is_granted (t + 1)) (filter (holds_at (t + 1)) es)
+granted-later t [] each = tt
+granted-later t (e ∷ es) each = by (holds_at (t + 1) e) (granted-later t es each.1)
+  where
+    by : (x : Bool) → AllByRecursion (is_granted (t + 1)) (filter (holds_at (t + 1)) es)
+        → AllByRecursion (is_granted (t + 1)) (cond x (e ∷ filter (holds_at (t + 1)) es) (filter (holds_at (t + 1)) es))
+    by true rest = (omega (arith, each.0), rest)
+    by false rest = rest
+
 few-later : (t : ℕ) (es : LeaseList) → length (filter (holds_at t) es) ≤ length es
 few-later t [] = omega arith
 few-later t (e ∷ es) = by (holds_at t e) (few-later t es)
@@ -195,4 +227,5 @@ kept_later t es lt kept = record {
   few = omega (arith, few-later (t + 1) es, kept.few);
   below = omega (arith, lt);
   hold = hold-later (t + 1) es;
+  granted = granted-later t es kept.granted;
 }

@@ -1,5 +1,5 @@
 -- How registrations are kept: by the tick with which each ends.
-use Rattle.std.specs.Prelude.{◌≡◌, ℕ, ◌-◌, ◌^◌, ◌≤◌, ◌++◌, Bool, nat_lt, List, length, map, IsTrue}
+use Rattle.std.specs.Prelude.{◌≡◌, ℕ, ◌+◌, ◌-◌, ◌^◌, ◌≤◌, ◌++◌, Bool, nat_lt, List, length, map, IsTrue}
 use Rattle.std.specs.List.{AllByRecursion, IsDistinct, list_any}
 use Rattle.std.specs.Map.{keys_of}
 use Rattle.std.specs.Cmp.Lexicographic.{slice_cmp}
@@ -10,7 +10,8 @@ use Rattle.gw_addr.specs.declared.entry.BdtEntry.{BdtEntry}
 use Rattle.gw_bdt_fdt.specs.declared.bdt.Peers.{Peers}
 use Rattle.gw_bdt_fdt.specs.declared.fdt.Addresses.{Addresses}
 use Rattle.gw_bdt_fdt.specs.declared.leases.Lease.{Lease}
-use Rattle.gw_bdt_fdt.specs.declared.fdt.TheConstants.{MAX_REGISTRATIONS}
+use Rattle.gw_bdt_fdt.specs.declared.kept.KeptDevice.{KeptDevice}
+use Rattle.gw_bdt_fdt.specs.declared.fdt.TheConstants.{GRACE, MAX_REGISTRATIONS}
 use Rattle.gw_bdt_fdt.specs.Registrations.{same, Registration, Registrations}
 
 -- addresses, each with its lease, in order
@@ -29,11 +30,16 @@ table_at ticks leases = record { ticks = ticks; rows = map (row_at ticks) leases
 abbrev pub holds_at : ℕ → BipAddr × Lease → Bool
 holds_at ticks e = nat_lt ticks e.1.deadline
 
+-- a lease has no more ticks to come than its time to live and the grace
+abbrev pub is_granted : ℕ → BipAddr × Lease → Type 0
+is_granted ticks e = e.1.deadline ≤ ticks + e.1.time_to_live + GRACE
+
 -- what is kept of leases, so many ticks from the start on
 pub record AreKept (ticks : ℕ) (leases : LeaseList) : Type 0 where
   pub few : length leases ≤ MAX_REGISTRATIONS
   pub below : ticks ≤ 2 ^ 63
   pub hold : AllByRecursion (λ e. IsTrue (holds_at ticks e)) leases
+  pub granted : AllByRecursion (is_granted ticks) leases
 
 -- the entries that peers still give
 abbrev pub peers_left : Peers → List BdtEntry
@@ -42,6 +48,10 @@ peers_left p = p.before.now ++ p.behind.now
 -- the addresses that an iterator still gives
 abbrev pub addresses_left : Addresses → List BipAddr
 addresses_left a = a.keys
+
+-- an address with the lease of a device that was kept after so many ticks
+abbrev pub lease_kept : ℕ → KeptDevice → BipAddr × Lease
+lease_kept ticks d = (d.address, record { time_to_live = d.time_to_live; deadline = ticks + d.left })
 
 -- ---- the ordered set of ends
 

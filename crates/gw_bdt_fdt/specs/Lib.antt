@@ -3,3 +3,4 @@ pub mod History
 pub mod Peers
 pub mod Laws
 pub mod Internal
+pub mod Kept

@@ -9,7 +9,7 @@ ghost use Rattle.gw_bdt_fdt.specs.Peers.{are_too_many, has_twice, is_of, own_mas
 
 use crate::fault::BdtFault;
 use gw_addr::{BdtEntry, BipAddr};
-use std::alloc::Global;
+use std::alloc::{AllocError, Global};
 use std::marker::Model;
 
 /// How many entries a table has at most (a limit of our own).
@@ -79,6 +79,16 @@ impl Bdt {
         if repeats_address(&entries) {
             return Err(BdtFault::Duplicate);
         }
+        Ok(Bdt { entries })
+    }
+
+    /// An equal table. The only fault is want of memory for it, if it isn't empty.
+    pub fn copy(&self, alloc: Global) -> Result<Bdt, AllocError>
+        ensures equal { IfOk result (λ copy. copy ≡ self.now) }
+        ensures none { self.now ≡ [] → IsOk result }
+    {
+        let mut entries = Vec::new(alloc);
+        entries.extend_from_slice(self.entries.as_slice())?;
         Ok(Bdt { entries })
     }
 

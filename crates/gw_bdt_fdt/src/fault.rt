@@ -1,4 +1,4 @@
-//! Why entries are no table, and why a registration isn't granted or deleted.
+//! Why entries or devices are no table, and why a registration isn't granted or deleted.
 use thiserror::Error;
 
 /// Why entries are no broadcast distribution table.
@@ -32,4 +32,18 @@ pub enum DeleteFault {
     /// 2: it isn't registered.
     #[error("the foreign device is not registered")]
     Absent,
+}
+
+/// Why foreign devices that were kept can't be those of a table.
+#[derive(Clone, Copy, Debug, Error)]
+pub enum KeptFault {
+    /// 1: there are more than 128 (a limit of our own).
+    #[error("at most 128 foreign devices are registered")]
+    TooMany,
+    /// 2: a device has no tick to come, or more than its time to live and the grace.
+    #[error("a foreign device has no tick to come, or more than it was granted")]
+    Left,
+    /// 3: two devices have one address.
+    #[error("an address has two registrations")]
+    Twice,
 }

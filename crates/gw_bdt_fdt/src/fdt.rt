@@ -1,15 +1,17 @@
 //! The foreign device table (Annex J.5).
-ghost use Rattle.std.specs.Prelude.{◌≡◌, ◌<◌, ◌≤◌, ◌↔◌, ◌∷◌, ◌^◌, [], length, map};
-ghost use Rattle.std.specs.Prelude.{IsTrue, IsFalse, IfOk, IsOk, OnOk, OnErr, IsErrOf};
+ghost use Rattle.std.specs.Prelude.{◌≡◌, ◌+◌, ◌<◌, ◌≤◌, ◌↔◌, ◌∷◌, ◌^◌, [], length, map};
+ghost use Rattle.std.specs.Prelude.{true, IsTrue, IsFalse, IfOk, IsOk, OnOk, OnErr, IsErrOf};
 ghost use Rattle.std.specs.List.{IsDistinct};
 ghost use Rattle.std.specs.Map.{keys_of};
 ghost use Rattle.std.specs.Iterator.{YieldsFirstRef, item_count};
-ghost use Rattle.gw_bdt_fdt.specs.Internal.{AreKept, addresses_left, table_at};
+ghost use Rattle.gw_bdt_fdt.specs.Internal.{AreKept, addresses_left, lease_kept, table_at};
 ghost use Rattle.gw_bdt_fdt.specs.Registrations.{contains, has_room, no_registration, same, shown};
 ghost use Rattle.gw_bdt_fdt.specs.Registrations.{with_registration, with_tick, without};
+ghost use Rattle.gw_bdt_fdt.specs.Kept.{are_restorable, kept, restored};
 ghost use Rattle.gw_bdt_fdt.specs.History.{Delete, History, IsStateAfter, Register, Tick};
 
 use crate::fault::{DeleteFault, RegisterFault};
+use crate::kept::{KeptDevice, KeptDevices};
 use crate::leases::{Lease, Leases};
 use gw_addr::{BipAddr, FdtEntry};
 use indexmap::map::Keys;
@@ -168,6 +170,70 @@ impl Fdt {
             })?;
         }
         Ok(rows)
+    }
+
+    /// The foreign devices in their order, with the ticks that are left to each: as many as there
+    /// are, and not as [`Fdt::rows`] shows them. [`Fdt::restore`] makes an equal table of them. The only
+    /// fault is want of memory for the list, and none is wanted if nobody is registered.
+    pub fn kept(&self, alloc: Global) -> Result<KeptDevices, AllocError>
+        ensures devices { IfOk result (λ devices. devices ≡ map kept self.now.rows) }
+        ensures back { IfOk result (λ devices. restored self.now.ticks devices ≡ self.now) }
+        ensures none { self.now.rows ≡ [] → IsOk result }
+    {
+        let mut devices = Vec::with_capacity(alloc, self.leases.len())?;
+        for (address, lease) in self.leases.by_address() {
+            devices.push(KeptDevice {
+                address: *address,
+                time_to_live: lease.time_to_live,
+                left: lease.deadline - self.ticks,
+            })?;
+        }
+        Ok(KeptDevices::of_table(devices))
+    }
+
+    /// The table of these foreign devices, in their order, after so many ticks, at most 2 to the
+    /// power of 63. The only fault is want of memory, and none is wanted if there are no devices.
+    pub fn restore(
+        alloc: Global,
+        ticks: u64,
+        devices: &KeptDevices,
+    ) -> Result<Self, AllocError>
+        requires { ticks ≤ 2 ^ 63 }
+        ensures table { IfOk result (λ table. table ≡ restored ticks devices.now) }
+        ensures none { devices.now ≡ [] → IsOk result }
+    {
+        let leases = leases_of(alloc, ticks, devices.as_slice())?;
+        Ok(Fdt { leases, ticks })
+    }
+}
+
+/// The leases of devices that a table can have, after so many ticks. The only fault is want of memory.
+fn leases_of(
+    alloc: Global,
+    ticks: u64,
+    devices: &[KeptDevice],
+) -> Result<Leases, AllocError>
+    requires ticks { ticks ≤ 2 ^ 63 }
+    requires restorable { IsTrue (are_restorable devices.now) }
+    ensures leases { IfOk result (λ leases. leases ≡ map (lease_kept ticks) devices.now) }
+    ensures none { devices.now ≡ [] → IsOk result }
+{
+    let mut leases = Leases::new(alloc);
+    for device in devices {
+        leases.put(device.address, lease_kept(ticks, *device))?;
+    }
+    Ok(leases)
+}
+
+/// The lease of a device that was kept, after so many ticks.
+fn lease_kept(ticks: u64, device: KeptDevice) -> Lease
+    requires ticks { ticks ≤ 2 ^ 63 }
+    requires due { device.left ≤ device.time_to_live + GRACE }
+    ensures { result ≡ (lease_kept ticks device).1 }
+{
+    Lease {
+        time_to_live: device.time_to_live,
+        deadline: ticks + device.left,
     }
 }
 

@@ -1,11 +1,13 @@
 -- The tables of all links see the same ticks.
 use Rattle.std.proofs.Common.{◌≡◌, ◌∙◌, ap, refl, ℕ, zero, suc, ◌+◌, ◌-◌, Bool, true, false, List, [], ◌∷◌, map}
 use Rattle.std.specs.Prelude.{◌==◌, if◌then◌else◌}
+use Rattle.std.specs.List.{AllByRecursion}
 use Rattle.gw_addr.specs.declared.bip.BipAddr.{BipAddr}
 use Rattle.gw_addr.specs.declared.entry.BdtEntry.{BdtEntry}
 use Rattle.gw_bdt_fdt.specs.Registrations.{Registrations, contains, has_room, with_registration, without}
 use Rattle.gw_configuration.specs.declared.port.Port.{Port as ConfiguredPort}
-use Rattle.gw_relay.specs.Initial.{links_from}
+use Rattle.gw_bdt_fdt.specs.declared.tables.PortTables.{PortTables}
+use Rattle.gw_relay.specs.Initial.{links_from, links_with}
 use Rattle.gw_relay.specs.State.{changed_at, changed_of, deleted, link_later, links_after, registered}
 use Rattle.gw_relay.specs.declared.change.Change.{Change}
 use Rattle.gw_relay.specs.declared.change.Change.TheVariants.{Entries, Registration, Deletion, Learnings}
@@ -15,6 +17,12 @@ use Rattle.gw_relay.specs.internal.Ticks.{AreAlike}
 pub initial_alike : (number : ℕ) (ports : List ConfiguredPort) → AreAlike 0 (links_from number ports)
 initial_alike number [] = tt
 initial_alike number (p ∷ ports) = (refl, initial_alike (number + 1) ports)
+
+pub with_alike : (ticks number : ℕ) (ports : List ConfiguredPort) (tables : List PortTables)
+    → AllByRecursion (λ t. t.fdt.ticks ≡ ticks) tables → AreAlike ticks (links_with number ports tables)
+with_alike ticks number [] tables alike = tt
+with_alike ticks number (p ∷ ports) [] alike = tt
+with_alike ticks number (p ∷ ports) (t ∷ tables) alike = (alike.0, with_alike ticks (number + 1) ports tables alike.1)
 
 pub later_alike : (ticks : ℕ) (links : List PortState) → AreAlike ticks links → AreAlike (ticks + 1) (map link_later links)
 later_alike ticks [] alike = tt

@@ -1,11 +1,12 @@
 -- A relay as it is configured.
 use Rattle.std.specs.Prelude.{ℕ, ◌+◌, List, [], ◌∷◌, ◌++◌, map}
 use Rattle.gw_bdt_fdt.specs.Registrations.{no_registration}
+use Rattle.gw_bdt_fdt.specs.declared.tables.PortTables.{PortTables}
 use Rattle.gw_configuration.specs.Configuration.{Configuration}
 use Rattle.gw_configuration.specs.declared.port.Port.{Port as ConfiguredPort}
 use Rattle.gw_configuration.specs.declared.route.Route.{Route as ConfiguredRoute}
 use Rattle.gw_routes.specs.declared.route.Route.{Route}
-use Rattle.gw_routes.specs.Table.{table_of, route_by}
+use Rattle.gw_routes.specs.Table.{Routed, learned_by, table_of, route_by}
 use Rattle.gw_relay.specs.State.{Relay}
 use Rattle.gw_relay.specs.declared.port.PortState.{PortState}
 use Rattle.gw_relay.specs.declared.port.Port.{Port}
@@ -48,4 +49,31 @@ initial c = record {
   links = links_from 1 c.ports;
   routes = table_of (direct_of c) (map routed_of c.routes) [];
   ticks = 0;
+}
+
+-- ---- a relay that goes on
+
+-- a port of this number with tables that it had
+abbrev pub link_with : ℕ → ConfiguredPort → PortTables → PortState
+link_with number p t = record {
+  port = port_of number p;
+  stations = p.stations;
+  bdt = t.bdt;
+  fdt = t.fdt;
+}
+
+-- the ports with their numbers, counted on from one, each with the tables at its place
+abbrev pub links_with : ℕ → List ConfiguredPort → List PortTables → List PortState
+links_with number [] tables = []
+links_with number (p ∷ ports) [] = []
+links_with number (p ∷ ports) (t ∷ tables) = link_with number p t ∷ links_with (number + 1) ports tables
+
+-- a relay of this configuration that goes on with tables of its ports and with learned routes, after
+-- so many ticks: a route is passed over if its network is direct or configured, or the table is full
+abbrev pub resumed : Configuration → List PortTables → Routed → ℕ → Relay
+resumed c tables learned ticks = record {
+  format = c.format;
+  links = links_with 1 c.ports tables;
+  routes = learned_by (table_of (direct_of c) (map routed_of c.routes) []) learned;
+  ticks = ticks;
 }

@@ -1,15 +1,15 @@
-//! A relay as it is configured.
+//! A relay as it is configured, and one that goes on.
 
 ghost use Rattle.std.specs.Prelude.{◌≡◌, ◌++◌, ◌∷◌, ◌≤◌, [], length, map, IsFalse, IfOk, OnOk};
 ghost use Rattle.std.specs.List.{AllByRecursion};
 ghost use Rattle.gw_addr.specs.declared.TheConstants.{MAX_PORTS};
 ghost use Rattle.gw_bdt_fdt.specs.Peers.{has_twice};
 ghost use Rattle.gw_routes.specs.Table.{table_of};
-ghost use Rattle.gw_relay.specs.Initial.{direct_of, link_of, links_from, routed_of};
+ghost use Rattle.gw_relay.specs.Initial.{direct_of, link_of, link_with, links_from, links_with, routed_of};
 
 use crate::port::{Port, PortState};
 use gw_addr::NetNum;
-use gw_bdt_fdt::{Bdt, Fdt};
+use gw_bdt_fdt::{Bdt, Fdt, PortTables};
 use gw_configuration::{Config, Port as ConfiguredPort, Route as ConfiguredRoute};
 use gw_routes::{Route, Routes};
 use std::alloc::{AllocError, Global};
@@ -36,9 +36,40 @@ fn link_of(alloc: Global, number: u8, port: &ConfiguredPort) -> Result<PortState
     requires { IsFalse (has_twice port.now.peers) }
     ensures { IfOk result (λ link. link ≡ link_of number port.now) }
 {
-    let stations = port.stations.copy(alloc)?;
     let peers = Vec::from_slice(alloc, port.peers.as_slice())?;
     let bdt = Bdt::from_vec(peers).unwrap();
+    let fdt = Fdt::new(alloc);
+    link_with(alloc, number, port, PortTables { bdt, fdt })
+}
+
+/// The ports, each with the tables at its place.
+pub(crate) fn links_with(
+    alloc: Global,
+    ports: &[ConfiguredPort],
+    tables: Vec<PortTables>,
+) -> Result<Vec<PortState>, AllocError>
+    requires { length ports.now ≤ MAX_PORTS }
+    ensures { IfOk result (λ links. links.items ≡ links_with 1 ports.now tables.items) }
+{
+    let mut links = Vec::with_capacity(alloc, ports.len())?;
+    for (port, tables) in ports.iter().zip(tables) {
+        let number = links.len() as u8 + 1;
+        links.push(link_with(alloc, number, port, tables)?)?;
+    }
+    Ok(links)
+}
+
+/// A port of this number with these tables.
+fn link_with(
+    alloc: Global,
+    number: u8,
+    port: &ConfiguredPort,
+    tables: PortTables,
+) -> Result<PortState, AllocError>
+    ensures { IfOk result (λ link. link ≡ link_with number port.now tables) }
+{
+    let stations = port.stations.copy(alloc)?;
+    let (bdt, fdt) = tables.into_parts();
     Ok(PortState {
         port: Port {
             number,
@@ -48,7 +79,7 @@ fn link_of(alloc: Global, number: u8, port: &ConfiguredPort) -> Result<PortState
         },
         stations,
         bdt,
-        fdt: Fdt::new(alloc),
+        fdt,
     })
 }
 

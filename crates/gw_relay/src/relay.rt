@@ -1,6 +1,7 @@
 //! The relay: its state, what it answers to one event, and what it changes.
 
-ghost use Rattle.std.specs.Prelude.{◌≡◌, ◌<◌, ◌^◌, ℕ, [], false, List, map, IfOk, IsOk, OnOk, OnErr};
+ghost use Rattle.std.specs.Prelude.{◌≡◌, ◌<◌, ◌^◌, ℕ, [], false, List, length, map, IfOk, IsOk, OnOk, OnErr};
+ghost use Rattle.std.specs.List.{AllByRecursion};
 ghost use Rattle.std.specs.Option.{option_map};
 ghost use Rattle.gw_bvll.specs.Bvll.{view as frame_view};
 ghost use Rattle.gw_rules.specs.declared.rule.Rule.{Rule};
@@ -11,7 +12,7 @@ ghost use Rattle.gw_relay.specs.Manage.{manage_asks, manage_response};
 ghost use Rattle.gw_relay.specs.Message.{message_view};
 ghost use Rattle.gw_relay.specs.Response.{IsAdded};
 ghost use Rattle.gw_relay.specs.Route.{route_asks, route_response};
-ghost use Rattle.gw_relay.specs.Initial.{direct_of, initial, routed_of};
+ghost use Rattle.gw_relay.specs.Initial.{direct_of, initial, resumed, routed_of};
 ghost use Rattle.gw_routes.specs.History.{IsStateAfter};
 ghost use Rattle.gw_routes.specs.History.{History as Learned};
 ghost use Rattle.gw_routes.specs.Table.{Routed};
@@ -21,15 +22,17 @@ ghost use Rattle.gw_relay.specs.State.{after, at_port, later, link_at, wants_roo
 ghost use Rattle.gw_relay.specs.declared.port.Port.{Port};
 
 use crate::change::Change;
-use crate::initial::{links_of, routes_of};
+use crate::initial::{links_of, links_with, routes_of};
 use crate::links::{make, tick_each};
 use crate::message::{Message, TableMessage};
 use crate::port::{PortState, link_at};
 use crate::response::RelayResponse;
 use crate::sends::Sends;
 use crate::turn::Turn;
+use gw_addr::NetNum;
+use gw_bdt_fdt::PortTables;
 use gw_configuration::Config;
-use gw_routes::Routes;
+use gw_routes::{Route, Routes};
 use gw_rules::{Authorizer, Format, Judge};
 use std::alloc::{AllocError, Global};
 use std::marker::Model;
@@ -90,6 +93,32 @@ impl Relay {
             links,
             routes,
             ticks: 0,
+        })
+    }
+
+    /// A relay of this configuration that goes on: each port, in order, has the tables at its place,
+    /// which have seen so many ticks, and the routes are learned, each unless its network is direct
+    /// or configured, or the table is full. The only fault is want of memory.
+    pub fn resume(
+        alloc: Global,
+        config: &Config,
+        tables: Vec<PortTables>,
+        learned: &[(NetNum, Route)],
+        ticks: u64,
+    ) -> Result<Self, AllocError>
+        requires tables { length tables.items ≡ length config.now.ports }
+        requires ticks { AllByRecursion (λ t. t.fdt.ticks ≡ ticks) tables.items }
+        ensures { IfOk result
+            (λ relay. relay ≡ resumed config.now tables.items learned.now ticks) }
+    {
+        let links = links_with(alloc, config.ports(), tables)?;
+        let mut routes = routes_of(alloc, config)?;
+        routes.learn_by(learned)?;
+        Ok(Relay {
+            format: config.format(),
+            links,
+            routes,
+            ticks,
         })
     }
 

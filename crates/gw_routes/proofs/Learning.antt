@@ -7,8 +7,8 @@ use Rattle.std.proofs.lemmas.Bool.Decides.{Decides-eqb}
 use Rattle.std.proofs.lemmas.Map.Keys.{IsDistinct-push, IsDistinct-head, IsDistinct-tail}
 use Rattle.indexmap.specs.IndexMap.{insert_entry}
 use Rattle.gw_routes.specs.declared.route.Route.{Route}
-use Rattle.gw_routes.specs.Table.{Table, Routed, table_of, route_of, grants, with_learned, with_granted, with_each}
-use Rattle.gw_routes.specs.History.{History, with_network, networks_learned, last_learning, learned_after, IsStateAfter, history_with}
+use Rattle.gw_routes.specs.Table.{Table, Routed, table_of, route_of, grants, with_learned, with_granted, with_each, learned_by}
+use Rattle.gw_routes.specs.History.{History, with_network, networks_learned, last_learning, learned_after, IsStateAfter, history_with, history_by}
 
 pub own : (n : ℕ) → nat_eq n n ≡ true
 own n = (Decides-eqb n n).1 refl
@@ -120,4 +120,15 @@ after_each (n ∷ nets) t u direct configured h r e s =
   where
     by : (b : Bool) → IsStateAfter (if b then with_learned t n r else t) direct configured (if b then (n, r) ∷ h else h)
     by true = after_learning t (with_learned t n r) direct configured h n r refl s
+    by false = s
+
+pub after_by : (learnings : Routed) (t u : Table) (direct : List ℕ) (configured : Routed) (h : History)
+    → u ≡ learned_by t learnings → IsStateAfter t direct configured h → IsStateAfter u direct configured (history_by t learnings h)
+unfolding history_by
+after_by [] t u direct configured h e s = e ∙ s
+after_by (l ∷ learnings) t u direct configured h e s =
+    after_by learnings (with_granted t l.0 l.1) u direct configured (if grants t l.0 then l ∷ h else h) e (by (grants t l.0))
+  where
+    by : (b : Bool) → IsStateAfter (if b then with_learned t l.0 l.1 else t) direct configured (if b then l ∷ h else h)
+    by true = after_learning t (with_learned t l.0 l.1) direct configured h l.0 l.1 refl s
     by false = s

@@ -3,11 +3,11 @@ use Rattle.std.proofs.Common.{◌≡◌, ◌∙◌, ℕ, ◌+◌, ◌-◌, ◌<�
 use Rattle.std.proofs.Math.Seq.{drop-cons}
 use Rattle.std.proofs.lemmas.Bool.{ltb-true, and_parts, and_from, not-true, false_from_ne_true}
 use Rattle.std.proofs.lemmas.List.Sums.{sum_by-cons}
-use Rattle.std.specs.Map.{lookup}
+use Rattle.std.specs.Map.{keys_of, lookup}
 use Rattle.indexmap.specs.IndexMap.{insert_entry}
 use Rattle.gw_routes.specs.declared.route.Route.{Route}
 use Rattle.gw_routes.specs.declared.routes.TheConstants.{MAX_ROUTES}
-use Rattle.gw_routes.specs.Table.{Table, Routed, routes_held, is_fixed, is_learned, is_new, growth, with_learned, with_granted, with_each}
+use Rattle.gw_routes.specs.Table.{Table, Routed, routes_held, is_fixed, is_learned, is_new, growth, with_learned, with_granted, with_each, learned_by}
 use Rattle.gw_routes.specs.Internal.{places}
 
 -- a network that is learned stays learned
@@ -105,3 +105,23 @@ pub first_left : (nets : List ℕ) (i n : ℕ) → i < length nets → n ≡ get
 first_left nets i n h e =
     let next : suc i ≡ i + 1 = omega arith in
     drop-cons nets i n h ∙ (λ j. sym e j ∷ drop (next j) nets)
+
+-- ---- networks, each with its own route
+
+-- the count of keys that pass a test
+pub count_keys : (p : ℕ → Bool) (es : Routed) → count_by p (keys_of es) ≡ count_by (λ e. p e.0) es
+count_keys p [] = refl
+count_keys p (e ∷ es) =
+    count_by-cons p e.0 (keys_of es)
+    ∙ ap (λ n. cond (p e.0) 1 0 + n) (count_keys p es)
+    ∙ sym (sum_by-cons (λ x. cond (p x.0) 1 0) e es)
+
+pub first_by : (es : Routed) (i n : ℕ) (r : Route) → i < length es → (n, r) ≡ get_or es i (n, r)
+    → drop i es ≡ (n, r) ∷ drop (i + 1) es
+first_by es i n r h e =
+    let next : suc i ≡ i + 1 = omega arith in
+    drop-cons es i (n, r) h ∙ (λ j. sym e j ∷ drop (next j) es)
+
+pub by_left : (t u : Table) (n : ℕ) (r : Route) (es left : Routed) → es ≡ (n, r) ∷ left → u ≡ with_granted t n r
+    → learned_by u left ≡ learned_by t es
+by_left t u n r es left e s = ap (λ w. learned_by w left) s ∙ sym (ap (λ xs. learned_by t xs) e)

@@ -42,3 +42,11 @@ history_with t [] route h = h
 history_with t (net ∷ nets) route h =
     history_with (with_granted t net route) nets route
     (if grants t net then (net, route) ∷ h else h)
+
+-- the history once each network of a list was learned by its own route, one after the other, each if
+-- the table grants that
+unfoldable pub history_by : Table → Routed → History → History
+history_by t [] h = h
+history_by t (learning ∷ learnings) h =
+    history_by (with_granted t learning.0 learning.1) learnings
+    (if grants t learning.0 then learning ∷ h else h)

@@ -135,6 +135,12 @@ abbrev pub with_each : Table → List ℕ → Route → Table
 with_each t [] route = t
 with_each t (net ∷ nets) route = with_each (with_granted t net route) nets route
 
+-- the table once each network of a list was learned by its own route, one after the other, each if
+-- that is granted
+abbrev pub learned_by : Table → Routed → Table
+learned_by t [] = t
+learned_by t (learning ∷ learnings) = learned_by (with_granted t learning.0 learning.1) learnings
+
 -- a network is new to the table
 abbrev pub is_new : Table → ℕ → Bool
 is_new t net = not (is_fixed t net) && not (is_learned t net)

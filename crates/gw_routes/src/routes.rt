@@ -1,5 +1,5 @@
 //! The table of routes, and which way a network lies by it (clause 6).
-ghost use Rattle.std.specs.Prelude.{◌≡◌, ◌+◌, ◌≤◌, ◌<◌, ◌↔◌, ◌∷◌, ◌++◌, if◌then◌else◌};
+ghost use Rattle.std.specs.Prelude.{◌≡◌, ◌+◌, ◌-◌, ◌≤◌, ◌<◌, ◌↔◌, ◌∷◌, ◌++◌, if◌then◌else◌};
 ghost use Rattle.std.specs.Prelude.{[], ℕ, List, length, count_by, position};
 ghost use Rattle.std.specs.Prelude.{true, false, is_some, nat_eq};
 ghost use Rattle.std.specs.Prelude.{IsTrue, IsOk, IfOk, OnOk, OnErr, IfSome, IsErrOf};
@@ -9,7 +9,7 @@ ghost use Rattle.indexmap.specs.IndexMap.{get, spare, insert_entry, insert_all};
 ghost use Rattle.gw_routes.specs.Internal.{IsWithinLimit, has_fixed, places, table_with};
 ghost use Rattle.gw_routes.specs.Table.{are_distinct, direct_but, routed_but};
 ghost use Rattle.gw_routes.specs.Table.{grants, growth, has_room, is_fixed, is_full_for, is_new};
-ghost use Rattle.gw_routes.specs.Table.{route_by, with_each, with_granted, with_learned};
+ghost use Rattle.gw_routes.specs.Table.{learned_by, route_by, routes_held, with_each, with_granted, with_learned};
 
 use crate::fault::LearnFault;
 use crate::route::{EVERYWHERE, Route, Way};
@@ -49,8 +49,8 @@ impl Model for Routes {
 }
 
 impl Routes {
-    ghost use Rattle.gw_routes.specs.Table.{IsWayOf, Routed, reachable_from, routes_held, way};
-    ghost use Rattle.gw_routes.specs.History.{History, IsStateAfter, history_with};
+    ghost use Rattle.gw_routes.specs.Table.{IsWayOf, Routed, reachable_from, way};
+    ghost use Rattle.gw_routes.specs.History.{History, IsStateAfter, history_by, history_with};
 
     /// A table of these direct networks, which are the ports' in order of ports and then the
     /// device's, and of these configured routes in their order; nothing is learned. The only fault
@@ -78,6 +78,19 @@ impl Routes {
         ensures { result.now ≡ self.now.direct }
     {
         self.fixed.direct.as_slice()
+    }
+
+    /// The learned networks, each with its route, in the order in which they were first learned. The
+    /// only fault is want of memory for the list, and none is wanted if nothing is learned.
+    pub fn learned(&self, alloc: Global) -> Result<Vec<(NetNum, Route)>, AllocError>
+        ensures learned { IfOk result (λ learned. learned.items ≡ self.now.learned) }
+        ensures none { self.now.learned ≡ [] → IsOk result }
+    {
+        let mut learned = Vec::with_capacity(alloc, self.learned.len())?;
+        for (net, route) in &self.learned {
+            learned.push((*net, *route))?;
+        }
+        Ok(learned)
     }
 
     /// How many networks have a learned route, 0 to 512.
@@ -159,12 +172,44 @@ impl Routes {
         Ok(())
     }
 
+    /// Learns each network by its own route, in order, as learned routes that were kept. One that is
+    /// fixed or finds the table full is passed over (our own rule). The only fault is want of memory
+    /// for those that are new; then nothing changed, so all are learned or none.
+    pub fn learn_by(&mut self, learned: &[(NetNum, Route)]) -> Result<(), AllocError>
+        ensures rows { OnOk result (self.new ≡ learned_by self.old learned.now) }
+        ensures stands { OnOk result ((direct : List ℕ) (configured : Routed) (h : History) →
+            IsStateAfter self.old direct configured h → IsStateAfter self.new direct configured
+            (history_by self.old learned.now h)) }
+        // If none is new, or the table is full, there is no growth.
+        ensures no_growth { growth self.old (keys_of learned.now) ≡ 0 → IsOk result }
+        ensures err { OnErr result (self.new ≡ self.old) }
+        ensures limit { routes_held self.new ≤ MAX_ROUTES }
+    {
+        let needed = self.growth_by(learned);
+        self.learned.reserve(needed)?;
+        self.fixed.learn_each_by(&mut self.learned, learned);
+        Ok(())
+    }
+
     /// How many routes more the networks may need.
     fn growth(&self, nets: &[NetNum]) -> usize
         ensures { result ≡ growth self.now nets.now }
     {
-        let room = MAX_ROUTES - (self.fixed.configured.len() + self.learned.len());
-        self.fixed.new_among(&self.learned, nets).min(room)
+        self.fixed.new_among(&self.learned, nets).min(self.room())
+    }
+
+    /// How many routes more the networks with routes may need.
+    fn growth_by(&self, learnings: &[(NetNum, Route)]) -> usize
+        ensures { result ≡ growth self.now (keys_of learnings.now) }
+    {
+        self.fixed.new_by(&self.learned, learnings).min(self.room())
+    }
+
+    /// How many routes more the table may hold.
+    fn room(&self) -> usize
+        ensures { result ≡ MAX_ROUTES - routes_held self.now }
+    {
+        MAX_ROUTES - (self.fixed.configured.len() + self.learned.len())
     }
 
     /// The networks that lie another way than by this port, which a Who-Is-Router-To-Network without
@@ -217,8 +262,15 @@ impl Fixed {
         ensures { result ≡ count_by (is_new (table_with self.now learned.now)) nets.now }
     {
         nets.iter()
-            .filter(|net| !self.has(**net) && !learned.contains_key(*net))
+            .filter(|net| self.is_new(learned, **net))
             .count()
+    }
+
+    /// Whether a network is new to the table.
+    fn is_new(&self, learned: &IndexMap<NetNum, Route>, net: NetNum) -> bool
+        ensures { result ≡ is_new (table_with self.now learned.now) net }
+    {
+        !self.has(net) && !learned.contains_key(&net)
     }
 
     /// Learns each of the networks that may be learned, for which there is room.
@@ -231,6 +283,35 @@ impl Fixed {
     {
         for net in nets {
             self.learn_one(learned, *net, route);
+        }
+    }
+
+    /// How many of the networks with routes are new to the table.
+    fn new_by(&self, learned: &IndexMap<NetNum, Route>, learnings: &[(NetNum, Route)]) -> usize
+        ensures { result ≡
+            count_by (is_new (table_with self.now learned.now)) (keys_of learnings.now) }
+    {
+        learnings
+            .iter()
+            .filter(|learning| self.is_new(learned, learning.0))
+            .count()
+    }
+
+    /// Learns each of the networks by its own route if it may be learned, for which there is room.
+    fn learn_each_by(
+        &self,
+        learned: &mut IndexMap<NetNum, Route>,
+        learnings: &[(NetNum, Route)],
+    )
+        requires limit { IsWithinLimit (table_with self.now learned.old) }
+        requires room { growth (table_with self.now learned.old) (keys_of learnings.now) ≤
+            spare learned.old }
+        ensures limit { IsWithinLimit (table_with self.now learned.new) }
+        ensures rows { table_with self.now learned.new ≡
+            learned_by (table_with self.now learned.old) learnings.now }
+    {
+        for (net, route) in learnings {
+            self.learn_one(learned, *net, *route);
         }
     }
 
