@@ -11,7 +11,7 @@ use Rattle.gw_relay.specs.declared.change.Change.TheVariants.{Entries, Registrat
 use Rattle.gw_relay.specs.declared.port.PortState.{PortState}
 use Rattle.gw_core.specs.Effects.{change_at, changed, move_at}
 use Rattle.gw_core.specs.History.{next}
-use Rattle.gw_continuity.specs.Lasting.{lasting_move, lasts}
+use Rattle.gw_core.specs.Lasting.{lasting_move, lasts}
 use Rattle.gw_continuity.specs.Laws.{OnlyLastingChanges, entries_of}
 
 abbrev with_fdt : (Registrations → Registrations) → PortState → PortState

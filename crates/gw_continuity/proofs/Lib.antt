@@ -1,5 +1,4 @@
 pub mod Found
-pub mod Whence
 pub mod Links
 pub mod LinkMoves
 pub mod Routes

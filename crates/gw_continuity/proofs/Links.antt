@@ -17,9 +17,12 @@ use Rattle.gw_configuration.specs.declared.port.Port.{Port as ConfiguredPort}
 use Rattle.gw_relay.specs.Initial.{port_of}
 use Rattle.gw_relay.specs.declared.port.Port.{Port}
 use Rattle.gw_relay.specs.declared.port.PortState.{PortState}
-use Rattle.gw_continuity.specs.Saved.{SavedPort, kept, origin_port, row_of, saved_port}
-use Rattle.gw_continuity.specs.Carried.{entries_from, is_port, link_with, links_with, number_now, port_then, same_entry, tables_carried, tables_from}
-use Rattle.gw_continuity.specs.Resumed.{saved_ports}
+use Rattle.gw_bdt_fdt.specs.Kept.{kept, row_of}
+use Rattle.gw_saved.specs.Saved.{origin_port, saved_port}
+use Rattle.gw_saved.specs.declared.port.SavedPort.{SavedPort}
+use Rattle.gw_relay.specs.Initial.{link_with, links_with}
+use Rattle.gw_saved.specs.Carried.{entries_from, is_port, number_now, port_then, same_entry, tables_carried, tables_from}
+use Rattle.gw_core.specs.Resumed.{saved_ports}
 use Rattle.gw_continuity.specs.StateOf.{AreLinksOf}
 use Rattle.gw_continuity.proofs.Found.{AllApart, all_push, find_after}
 

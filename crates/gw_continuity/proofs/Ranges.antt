@@ -26,7 +26,7 @@ use Rattle.gw_priority.specs.History.{Act, Command, Relinquish, SetDefault}
 use Rattle.gw_tags.specs.Object.{Object}
 use Rattle.gw_tags.specs.Reading.{value_at}
 use Rattle.gw_tags.specs.Value.{Value, null, boolean, unsigned, signed, real, double, octet_string, character_string, bit_string, enumerated, date, time, object_id}
-use Rattle.gw_continuity.specs.Carried.{fits}
+use Rattle.gw_objects.specs.Values.{fits}
 use Rattle.gw_continuity.specs.StateOf.{AllInRange, AreInRange}
 use Rattle.gw_continuity.proofs.Values.{SlotFits}
 

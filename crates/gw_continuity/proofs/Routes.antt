@@ -13,8 +13,9 @@ use Rattle.gw_routes.specs.declared.route.Route.{Route}
 use Rattle.gw_routes.specs.declared.routes.TheConstants.{MAX_ROUTES}
 use Rattle.gw_routes.specs.Table.{Routed, Table, grants, has_room, is_fixed, is_learned, route_by, routes_held, table_of, with_each, with_granted, with_learned}
 use Rattle.gw_routes.proofs.Room.{length-insert_entry}
-use Rattle.gw_continuity.specs.Carried.{is_port, learned_by, number_now, port_then, route_from}
-use Rattle.gw_continuity.specs.Saved.{SavedPort}
+use Rattle.gw_routes.specs.Table.{learned_by}
+use Rattle.gw_saved.specs.Carried.{is_port, number_now, port_then, route_from}
+use Rattle.gw_saved.specs.declared.port.SavedPort.{SavedPort}
 use Rattle.gw_continuity.specs.StateOf.{AreBy, IsTableOf}
 
 -- ---- one route more

@@ -15,10 +15,10 @@ use Rattle.gw_core.specs.History.{acts_of, next, state_after, state_from, writte
 use Rattle.gw_core.specs.State.{State}
 use Rattle.gw_core.specs.declared.event.Counts.{Counts}
 use Rattle.gw_core.proofs.HistoryLemmas.{state_next}
-use Rattle.gw_continuity.specs.Carried.{routes_carried}
+use Rattle.gw_saved.specs.Carried.{routes_carried}
 use Rattle.gw_continuity.specs.Laws.{StatesAreCarried, StatesAreKept, StatesGoOn}
-use Rattle.gw_continuity.specs.Resumed.{carried}
-use Rattle.gw_continuity.specs.Saved.{Saved}
+use Rattle.gw_core.specs.Resumed.{carried}
+use Rattle.gw_saved.specs.Saved.{Saved}
 use Rattle.gw_continuity.specs.StateOf.{AllInRange, IsAccepted, IsStateOf, IsTableOf}
 use Rattle.gw_continuity.proofs.Learning.{table_stays}
 use Rattle.gw_continuity.proofs.LinkMoves.{format_moved, links_begin, links_numbered, links_stay}

@@ -16,8 +16,9 @@ use Rattle.gw_objects.specs.Objects.{Slots, default_of, details_of, type_of}
 use Rattle.gw_objects.specs.Objects.{same as same_object}
 use Rattle.gw_objects.specs.Property.{type_number as number_of}
 use Rattle.gw_priority.specs.Commandable.{no_command}
-use Rattle.gw_continuity.specs.Saved.{SavedObject, id_of, origin_object, saved_object, saved_objects}
-use Rattle.gw_continuity.specs.Carried.{default_from, fits, is_object, same_value, slot_from, slots_from, states_carried}
+use Rattle.gw_saved.specs.Saved.{SavedObject, id_of, origin_object, saved_object, saved_objects}
+use Rattle.gw_objects.specs.Values.{fits, same_value}
+use Rattle.gw_saved.specs.Carried.{default_from, is_object, slot_from, slots_from, states_carried}
 use Rattle.gw_continuity.specs.StateOf.{AllInRange, AreInRange, IsDefaultInRange}
 use Rattle.gw_continuity.proofs.Found.{AllApart, all_push, find_after}
 

@@ -14,9 +14,10 @@ use Rattle.gw_rules.specs.declared.format.Format.{Format}
 use Rattle.gw_rules.specs.declared.rule.Rule.{Rule}
 use Rattle.gw_core.specs.State.{State}
 use Rattle.gw_core.specs.History.{run_from, state_after}
-use Rattle.gw_continuity.specs.Carried.{is_object, is_port, learned_by, routes_carried}
+use Rattle.gw_routes.specs.Table.{learned_by}
+use Rattle.gw_saved.specs.Carried.{is_object, is_port, routes_carried}
 use Rattle.gw_continuity.specs.Laws.{HistoriesGoOn, NothingIsLost, RunsGoOn, ValuesStayInRange}
-use Rattle.gw_continuity.specs.Resumed.{saved}
+use Rattle.gw_core.specs.Resumed.{saved}
 use Rattle.gw_continuity.specs.StateOf.{IsAccepted, IsStateOf}
 use Rattle.gw_continuity.proofs.Found.{apart_none}
 use Rattle.gw_continuity.proofs.Links.{links_back}

@@ -7,9 +7,9 @@ use Rattle.gw_core.specs.State.{State}
 use Rattle.gw_core.specs.declared.event.Counts.{Counts}
 use Rattle.gw_relay.specs.declared.port.PortState.{PortState}
 use Rattle.gw_script.specs.Event.{Event}
-use Rattle.gw_continuity.specs.Lasting.{lasts}
-use Rattle.gw_continuity.specs.Resumed.{carried, saved}
-use Rattle.gw_continuity.specs.Saved.{Saved}
+use Rattle.gw_core.specs.Lasting.{lasts}
+use Rattle.gw_core.specs.Resumed.{carried, saved}
+use Rattle.gw_saved.specs.Saved.{Saved}
 use Rattle.gw_continuity.specs.StateOf.{AllInRange, IsStateOf}
 
 -- ---- states

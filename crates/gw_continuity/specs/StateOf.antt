@@ -11,7 +11,7 @@ use Rattle.gw_relay.specs.Initial.{direct_of, port_of, routed_of}
 use Rattle.gw_relay.specs.declared.port.PortState.{PortState}
 use Rattle.gw_routes.specs.Table.{Routed, Table, is_fixed, routes_held}
 use Rattle.gw_core.specs.State.{State}
-use Rattle.gw_continuity.specs.Carried.{fits}
+use Rattle.gw_objects.specs.Values.{fits}
 
 -- ---- what each configuration keeps
 

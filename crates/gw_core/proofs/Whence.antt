@@ -1,9 +1,7 @@
--- Stand-in: of gw_verdicts/proofs/Whence.antt what is about the gateway alone.
-use Rattle.std.proofs.Common.{◌≡◌, ◌≢◌, ◌∙◌, ◌⊎◌, inl, inr, sym, ap, refl, subst, ℕ, ◌+◌, ◌-◌, ◌≤◌, ◌<◌, Bool, true, false, List, [], ◌∷◌, ◌++◌, length, Option, Some, None, Result, Ok, Err, arith, nat_lt, nat_le, get_or}
+-- What is heard comes on one of the ports: from its own network, or from none of the direct ones.
+use Rattle.std.proofs.Common.{◌≡◌, ◌∙◌, ◌⊎◌, inl, inr, sym, ap, refl, subst, ℕ, ◌+◌, ◌-◌, ◌≤◌, Bool, true, false, List, [], ◌∷◌, length, Option, Some, None, Result, Ok, Err, arith, nat_le, get_or}
 use Rattle.std.specs.Prelude.{◌==◌, not, if◌then◌else◌, slice_get}
-use Rattle.std.specs.List.{AllByRecursion, flat_map, list_any}
-use Rattle.std.specs.Option.{option_to_list}
-use Rattle.std.proofs.lemmas.Bool.{eqb-false, lt-ltb, ltb-false, ltb-true, or_parts}
+use Rattle.std.specs.List.{AllByRecursion}
 use Rattle.std.proofs.lemmas.List.Elements.{All-from_recursion}
 use Rattle.std.proofs.lemmas.Option.{get_or_from_slice_get, slice_get_within}
 use Rattle.gw_addr.specs.declared.bip.BipAddr.{BipAddr}
@@ -24,12 +22,40 @@ use Rattle.gw_relay.specs.Message.{Message, message_of}
 use Rattle.gw_relay.specs.State.{Relay, link_at}
 use Rattle.gw_relay.specs.declared.port.Port.{Port}
 use Rattle.gw_relay.specs.declared.port.PortState.{PortState}
-use Rattle.gw_rules.specs.Range.{holds}
 use Rattle.gw_rules.specs.declared.rule.Rule.{Rule}
 use Rattle.gw_rules.proofs.EachAsk.{each_weaker}
 use Rattle.gw_script.specs.Event.{Event, Datagram, Tick}
 use Rattle.gw_core.specs.Receive.{Received, admit, barred, claims_direct, comes_in, dropped, is_direct, managed, manages, message, npdu_of, payload_of, receive, receive_datagram, receive_frame, receive_npdu, receive_on, unregistered}
 use Rattle.gw_core.specs.State.{State, device_network}
+
+-- ---- the ports
+
+-- one of the configured ports, with its number
+abbrev pub InPorts : ℕ → List ConfiguredPort → Port → Type 0
+InPorts number [] port = ⊥
+InPorts number (p ∷ ports) port = (port ≡ port_of number p) ⊎ InPorts (number + 1) ports port
+
+pub all_links : (number : ℕ) (ports : List ConfiguredPort) (acts : List PortActs)
+    → AllByRecursion (λ link. InPorts number ports link.port) (all_after (ports_from number ports) acts)
+all_links number [] acts = tt
+all_links number (p ∷ ports) [] = tt
+all_links number (p ∷ ports) (a ∷ acts) = (
+  inl refl,
+  each_weaker (λ (link : PortState). InPorts (number + 1) ports link.port) (λ (link : PortState). InPorts number (p ∷ ports) link.port)
+      (λ link there. inr there) (all_after (ports_from (number + 1) ports) acts) (all_links (number + 1) ports acts),
+)
+
+pub port_bounds : (number : ℕ) (ports : List ConfiguredPort) (port : Port) → InPorts number ports port
+    → (number ≤ port.number) × (port.number + 1 ≤ number + length ports)
+port_bounds number [] port there = absurd there
+port_bounds number (p ∷ ports) port (inl is) =
+    let at : port.number ≡ number = ap (λ (q : Port). q.number) is in
+    (omega (arith, at), omega (arith, at))
+port_bounds number (p ∷ ports) port (inr later) =
+    let next = port_bounds (number + 1) ports port later in
+    let low = next.0 in
+    let high = next.1 in
+    (omega arith, omega arith)
 
 -- ---- what is received
 
