@@ -26,3 +26,4 @@ pub mod RefusedLemmas
 pub mod ServedLemmas
 pub mod StationLemmas
 pub mod Whence
+pub mod Resuming

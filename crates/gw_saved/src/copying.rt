@@ -2,7 +2,7 @@
 ghost use Rattle.std.specs.Prelude.{◌≡◌, length, IfOk};
 ghost use Rattle.gw_priority.specs.declared.array.TheConstants.{PRIORITIES};
 
-use gw_addr::Sequence;
+use gw_addr::{BdtEntry, Sequence};
 use gw_configuration::Peers;
 use gw_objects::PropertyValue;
 use gw_priority::{PRIORITIES, PriorityArray};
@@ -13,11 +13,19 @@ use std::array;
 pub(crate) fn peers(alloc: Global, peers: &Peers) -> Result<Peers, AllocError>
     ensures { IfOk result (λ copy. copy ≡ peers.now) }
 {
-    let mut entries = Sequence::with_capacity(alloc, peers.as_slice().len())?;
-    for entry in peers.as_slice() {
-        entries.push(*entry)?;
-    }
+    let entries = entries(alloc, peers.as_slice())?;
     Ok(Peers::new(entries).unwrap())
+}
+
+/// The same entries.
+fn entries(alloc: Global, entries: &[BdtEntry]) -> Result<Sequence<BdtEntry>, AllocError>
+    ensures { IfOk result (λ copies. copies ≡ entries.now) }
+{
+    let mut copies = Sequence::with_capacity(alloc, entries.len())?;
+    for entry in entries {
+        copies.push(*entry)?;
+    }
+    Ok(copies)
 }
 
 /// The same slots and default. The only fault is want of memory.

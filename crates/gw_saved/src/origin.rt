@@ -150,12 +150,26 @@ impl Origin {
             objects.items ≡ saved_objects self.now.objects states.now) }
         ensures most { IfOk result (λ objects. length objects.items ≤ 256) }
     {
-        let mut objects = Vec::with_capacity(alloc, self.objects.len())?;
-        for (object, slots) in self.objects.iter().zip(states) {
-            objects.push(object.save(alloc, slots)?)?;
-        }
-        Ok(objects)
+        saved_objects(alloc, &self.objects, states)
     }
+}
+
+/// The value objects with the slots at their places.
+fn saved_objects(
+    alloc: Global,
+    objects: &[OriginObject],
+    states: &[PriorityArray<PropertyValue>],
+) -> Result<Vec<SavedObject>, AllocError>
+    ensures { IfOk result (λ saved. saved.items ≡ saved_objects objects.now states.now) }
+{
+    let mut saved = Vec::with_capacity(alloc, objects.len())?;
+    for (place, object) in objects.iter().enumerate() {
+        let Some(slots) = states.get(place) else {
+            return Ok(saved);
+        };
+        saved.push(object.save(alloc, slots)?)?;
+    }
+    Ok(saved)
 }
 
 /// The ports with their peers.

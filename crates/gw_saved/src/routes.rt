@@ -1,5 +1,5 @@
 //! Which learned routes a gateway takes over.
-ghost use Rattle.std.specs.Prelude.{◌≡◌, ◌≤◌, length, option_copied, option_map, IfOk};
+ghost use Rattle.std.specs.Prelude.{◌≡◌, ◌≤◌, length, filter_map, option_copied, option_map, IfOk};
 ghost use Rattle.gw_addr.specs.declared.TheConstants.{MAX_PORTS};
 ghost use Rattle.gw_saved.specs.Carried.{number_now, port_then, route_from, routes_carried};
 
@@ -21,14 +21,28 @@ impl Saved {
         requires few { length ports.now ≤ MAX_PORTS }
         ensures { IfOk result (λ routes. routes.items ≡ routes_carried ports.now self.now) }
     {
-        let mut routes = Vec::new(alloc);
-        for learned in self.routes() {
-            if let Some(route) = route_from(ports, self.ports(), *learned) {
-                routes.push(route)?;
-            }
-        }
-        Ok(routes)
+        routes_of(alloc, ports, self.ports(), self.routes())
     }
+}
+
+/// The routes by the ports that are still there.
+fn routes_of(
+    alloc: Global,
+    ports: &[Port],
+    saved: &[SavedPort],
+    learned: &[(NetNum, Route)],
+) -> Result<Vec<(NetNum, Route)>, AllocError>
+    requires few { length ports.now ≤ MAX_PORTS }
+    ensures { IfOk result (λ routes.
+        routes.items ≡ filter_map (route_from ports.now saved.now) learned.now) }
+{
+    let mut routes = Vec::new(alloc);
+    for one in learned {
+        if let Some(route) = route_from(ports, saved, *one) {
+            routes.push(route)?;
+        }
+    }
+    Ok(routes)
 }
 
 /// A route by the same port under the number that it has now, or none if the port isn't there any more.

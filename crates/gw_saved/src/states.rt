@@ -23,13 +23,25 @@ impl Saved {
     ) -> Result<Vec<PriorityArray<PropertyValue>>, AllocError>
         ensures states { IfOk result (λ states.
             states.items ≡ states_carried objects.now self.now.objects) }
+        ensures each { IfOk result (λ states. length states.items ≡ length objects.now) }
     {
-        let mut states = Vec::with_capacity(alloc, objects.len())?;
-        for object in objects {
-            states.push(slots_for(alloc, object, object_saved(self.objects(), object))?)?;
-        }
-        Ok(states)
+        states_of(alloc, objects, self.objects())
     }
+}
+
+/// The slots and the defaults of objects, of which these were saved.
+fn states_of(
+    alloc: Global,
+    objects: &[Object],
+    saved: &[SavedObject],
+) -> Result<Vec<PriorityArray<PropertyValue>>, AllocError>
+    ensures { IfOk result (λ states. states.items ≡ states_carried objects.now saved.now) }
+{
+    let mut states = Vec::with_capacity(alloc, objects.len())?;
+    for object in objects {
+        states.push(slots_for(alloc, object, object_saved(saved, object))?)?;
+    }
+    Ok(states)
 }
 
 /// Whether an object is the one that was saved.

@@ -1,5 +1,5 @@
 //! Which tables a port takes over.
-ghost use Rattle.std.specs.Prelude.{◌≡◌, ◌≤◌, ◌^◌, find, option_copied, IfOk, IsFalse};
+ghost use Rattle.std.specs.Prelude.{◌≡◌, ◌≤◌, ◌^◌, length, find, option_copied, IfOk, IsFalse};
 ghost use Rattle.std.specs.Cmp.Lexicographic.{pointwise};
 ghost use Rattle.std.specs.List.{AllByRecursion};
 ghost use Rattle.gw_bdt_fdt.specs.Peers.{has_twice};
@@ -19,14 +19,30 @@ impl Saved {
         requires once { AllByRecursion (λ p. IsFalse (has_twice p.peers)) ports.now }
         ensures tables { IfOk result (λ tables.
             tables.items ≡ tables_carried self.now.counts.since ports.now self.now.ports) }
+        ensures each { IfOk result (λ tables. length tables.items ≡ length ports.now) }
+        ensures ticks { IfOk result (λ tables.
+            AllByRecursion (λ t. t.fdt.ticks ≡ self.now.counts.since) tables.items) }
     {
-        let since = self.counts().since;
-        let mut tables = Vec::with_capacity(alloc, ports.len())?;
-        for port in ports {
-            tables.push(tables_for(alloc, since, port, port_saved(self.ports(), port))?)?;
-        }
-        Ok(tables)
+        tables_of(alloc, self.counts().since, ports, self.ports())
     }
+}
+
+/// The tables of ports after so many ticks, of which these were saved.
+fn tables_of(
+    alloc: Global,
+    ticks: u64,
+    ports: &[Port],
+    saved: &[SavedPort],
+) -> Result<Vec<PortTables>, AllocError>
+    requires ticks { ticks ≤ 2 ^ 63 }
+    requires once { AllByRecursion (λ p. IsFalse (has_twice p.peers)) ports.now }
+    ensures { IfOk result (λ tables. tables.items ≡ tables_carried ticks ports.now saved.now) }
+{
+    let mut tables = Vec::with_capacity(alloc, ports.len())?;
+    for port in ports {
+        tables.push(tables_for(alloc, ticks, port, port_saved(saved, port))?)?;
+    }
+    Ok(tables)
 }
 
 /// Whether a port is the one that was saved.
@@ -94,8 +110,8 @@ fn are_same(a: &[BdtEntry], b: &[BdtEntry]) -> bool
     if a.len() != b.len() {
         return false;
     }
-    for (one, other) in a.iter().zip(b) {
-        if !is_same(*one, *other) {
+    for (place, entry) in a.iter().enumerate() {
+        if !is_same(*entry, b[place]) {
             return false;
         }
     }
