@@ -45,3 +45,13 @@ announcement c log =
 abbrev pub startup_line : Bool → Configuration → Option (List ℕ) → List ℕ
 startup_line true c log = announcement c log
 startup_line false c log = []
+
+-- what is written at the start of a machine that routes IP itself
+abbrev pub routing_note : Bool → List ℕ
+routing_note true = codes "bacgw: net.ipv4.ip_forward isn't 0: hosts reach the other subnets past the gateway\n"
+routing_note false = []
+
+-- What may be written of a machine at the start: that it routes IP itself, if more is asked for.
+abbrev pub IsWarning : (RoutesIp : Bool → Type 0) → (is_verbose : Bool) → List ℕ → Type 0
+IsWarning RoutesIp true text = (routes : Bool) × RoutesIp routes × (text ≡ routing_note routes)
+IsWarning RoutesIp false text = text ≡ []

@@ -5,9 +5,11 @@ ghost use Rattle.gw_addr.specs.Address.{text_of};
 ghost use Rattle.gw_addr.specs.declared.TheConstants.{MAX_PORTS};
 ghost use Rattle.gw_shell.specs.Announcement.{announcement, device_text, log_text, objects_text, port_text, rules_text, shown, startup_line};
 ghost use Rattle.gw_script.specs.Order.{in_order};
+ghost use Rattle.gw_shell.specs.Announcement.{IsWarning, routing_note};
 
 use gw_addr::{BipAddr, put_decimal};
 use gw_configuration::{Config, Device, Port};
+use gw_system::Host;
 use itoa::Integer;
 use std::alloc::{AllocError, Global};
 
@@ -44,6 +46,27 @@ pub fn startup_line(
         announcement(alloc, config, log)
     } else {
         Ok(Vec::new(alloc))
+    }
+}
+
+/// What is written of a machine that routes IP from one interface to another, past the gateway.
+const ROUTES_IP: &str = "bacgw: net.ipv4.ip_forward isn't 0: hosts reach the other subnets past the gateway\n";
+
+/// What is written of a machine, by whether it routes IP.
+fn routing_note(routes: bool) -> &'static [u8]
+    ensures { result.now ≡ routing_note routes }
+{
+    if routes { ROUTES_IP.as_bytes() } else { b"" }
+}
+
+/// What is written of a machine at the start: that it routes IP past the gateway, if more is asked for.
+pub fn warning_of<H: Host>(host: &H, is_asked: bool) -> &'static [u8]
+    ensures { IsWarning (H.RoutesIp host.now) is_asked result.now }
+{
+    if is_asked {
+        routing_note(host.routes_ip())
+    } else {
+        b""
     }
 }
 

@@ -7,17 +7,17 @@ use Rattle.gw_core.specs.Receive.{receive}
 use Rattle.gw_core.specs.State.{State, device_network}
 use Rattle.gw_core.specs.View.{admitted_view}
 use Rattle.gw_core.proofs.DenialLemmas.{asks_received, denials_received}
-use Rattle.gw_core.proofs.EffectLemmas.{change_received, effects_are, effects_received, move_received, passes_end-within, passes_end-denials, received_as, sends_received}
+use Rattle.gw_core.proofs.EffectLemmas.{change_received, drop_as, effects_are, effects_received, move_received, passes_end-within, passes_end-denials, received_as, sends_received}
 use Rattle.gw_core.proofs.HistoryLemmas.{fault_of_call, moves_on}
 use Rattle.gw_core.proofs.SilenceLemmas.{unchanged}
-use Rattle.gw_core.proofs.gateway.Gateway.step.Goals as goal
+use Rattle.gw_core.proofs.gateway.Gateway.take.Goals as goal
 
 pub returns-in_err-sends-clause-count_end : goal.returns-in_err-sends-clause-count_end
 returns-in_err-sends-clause-count_end c =
     let w = c.args.self.now in
     let event = Datagram c.args.port c.args.from c.args.octets.now in
     let received : admitted_view w c.receive-received.result ≡ receive w event =
-    received_as w c.ports.result.now c.network_of-device.result c.args.port c.args.from c.args.octets.now _ c.receive-received.ensures
+    received_as w c.ports.result.now c.network_of-device.result c.args.port c.args.from c.args.octets.now _ c.receive-received.ensures.received
     (c.ports.ensures ∙ ap (λ (s : State). s.relay.links) c.now.view_is)
     (c.network_of-device.ensures ∙ ap (λ (s : State). device_network s.device) c.now.view_is) in
     let counted = denials_received w event (admitted_view w c.receive-received.result) received in
@@ -30,7 +30,7 @@ returns-in_err-sends-clause-silent c = λ none.
     let w = c.args.self.now in
     let event = Datagram c.args.port c.args.from c.args.octets.now in
     let received : admitted_view w c.receive-received.result ≡ receive w event =
-    received_as w c.ports.result.now c.network_of-device.result c.args.port c.args.from c.args.octets.now _ c.receive-received.ensures
+    received_as w c.ports.result.now c.network_of-device.result c.args.port c.args.from c.args.octets.now _ c.receive-received.ensures.received
     (c.ports.ensures ∙ ap (λ (s : State). s.relay.links) c.now.view_is)
     (c.network_of-device.ensures ∙ ap (λ (s : State). device_network s.device) c.now.view_is) in
     let ok = c.in_err-sends.ensures.silent (sym (asks_received w event _ received) ∙ none.0)
@@ -42,7 +42,7 @@ returns-clause-step c =
     let w = c.args.self.now in
     let event = Datagram c.args.port c.args.from c.args.octets.now in
     let received : admitted_view w c.receive-received.result ≡ receive w event =
-    received_as w c.ports.result.now c.network_of-device.result c.args.port c.args.from c.args.octets.now _ c.receive-received.ensures
+    received_as w c.ports.result.now c.network_of-device.result c.args.port c.args.from c.args.octets.now _ c.receive-received.ensures.received
     (c.ports.ensures ∙ ap (λ (s : State). s.relay.links) c.now.view_is)
     (c.network_of-device.ensures ∙ ap (λ (s : State). device_network s.device) c.now.view_is) in
     let counted = denials_received w event (admitted_view w c.receive-received.result) received in
@@ -62,9 +62,17 @@ returns-in_err-move_on-clause-silent c = λ none.
     let w = c.args.self.now in
     let event = Datagram c.args.port c.args.from c.args.octets.now in
     let received : admitted_view w c.receive-received.result ≡ receive w event =
-    received_as w c.ports.result.now c.network_of-device.result c.args.port c.args.from c.args.octets.now _ c.receive-received.ensures
+    received_as w c.ports.result.now c.network_of-device.result c.args.port c.args.from c.args.octets.now _ c.receive-received.ensures.received
     (c.ports.ensures ∙ ap (λ (s : State). s.relay.links) c.now.view_is)
     (c.network_of-device.ensures ∙ ap (λ (s : State). device_network s.device) c.now.view_is) in
     let ok = c.in_err-move_on.ensures.no_growth (c.in_ok-sends.ensures.change
     ∙ unchanged w.rules w.relay w.device _ (sym (asks_received w event _ received) ∙ none.0)) in
     absurd cc
+
+pub returns-clause-drop : goal.returns-clause-drop
+returns-clause-drop c =
+    let w = c.args.self.now in
+    c.drop_reason-drop.ensures
+    ∙ drop_as w c.ports.result.now c.network_of-device.result c.args.port c.args.from c.args.octets.now _ c.receive-received.ensures.drop
+    (c.ports.ensures ∙ ap (λ (s : State). s.relay.links) c.now.view_is)
+    (c.network_of-device.ensures ∙ ap (λ (s : State). device_network s.device) c.now.view_is)
