@@ -44,9 +44,10 @@ appended (e ∷ es) net route apart =
 before_it : (before : Routed) (e : ℕ × Route) (later : Routed) → IsDistinct nat_eq (keys_of (before ++ e ∷ later))
     → AllByRecursion (λ key. nat_eq key e.0 ≡ false) (keys_of before)
 before_it [] e later once = tt
-before_it (x ∷ before) e later once =
-    (at before (IsDistinct-head nat_eq x.0 (keys_of (before ++ e ∷ later)) once),
-    before_it before e later (IsDistinct-tail nat_eq x.0 (keys_of (before ++ e ∷ later)) once))
+before_it (x ∷ before) e later once = (
+  at before (IsDistinct-head nat_eq x.0 (keys_of (before ++ e ∷ later)) once),
+  before_it before e later (IsDistinct-tail nat_eq x.0 (keys_of (before ++ e ∷ later)) once),
+)
   where
     at : (more : Routed) → AllByRecursion (λ key. nat_eq x.0 key ≡ false) (keys_of (more ++ e ∷ later)) → nat_eq x.0 e.0 ≡ false
     at [] all = all.0

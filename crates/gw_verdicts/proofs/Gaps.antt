@@ -80,4 +80,3 @@ pub in_gap : (device : ℕ) (ports : List ConfiguredPort) (n : ℕ) → n ≤ mo
     → WithinOne (gaps device ports) n
 in_gap device ports n small other none =
     between ports (flat_map (split device) (some ∷ [])) n none (split_each device (some ∷ []) n other (inl (omega arith, small)))
-
