@@ -26,4 +26,5 @@ pub mod RelayAskLemmas
 pub mod RefusedLemmas
 pub mod ServedLemmas
 pub mod StationLemmas
+pub mod Whence
 pub mod Resuming
