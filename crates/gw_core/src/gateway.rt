@@ -177,8 +177,8 @@ impl Gateway {
         })
     }
 
-    /// What outlives it, where this was configured of it ([`Origin::of`] its configuration). The only fault
-    /// is want of memory.
+    /// What of it outlives it. The origin is that of its configuration ([`Origin::of`]). The only fault is
+    /// want of memory.
     pub fn save(&self, alloc: Global, origin: &Origin) -> Result<Saved, AllocError>
         ensures { IfOk result (λ saved. saved ≡ saved_of origin.now self.now) }
     {

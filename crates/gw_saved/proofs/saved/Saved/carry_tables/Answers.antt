@@ -1,7 +1,7 @@
 use Rattle.std.proofs.Common.{ap}
 use Rattle.std.proofs.lemmas.Result.{IfOk-weaker}
 use Rattle.gw_saved.proofs.Carrying.{have_seen}
-use Rattle.gw_saved.specs.Saved.{SavedCounts}
+use Rattle.gw_saved.specs.declared.counts.SavedCounts.{SavedCounts}
 use Rattle.gw_saved.proofs.saved.Saved.carry_tables.Goals as goal
 
 pub returns-clause-ticks : goal.returns-clause-ticks
