@@ -49,6 +49,13 @@ impl<T> PriorityArray<T> {
         }
     }
 
+    /// These slots, that of priority 1 first, and this default.
+    pub fn from_slots(slots: [Option<T>; PRIORITIES], default: T) -> Self
+        ensures { result ≡ record { slots = slots; default = default } }
+    {
+        PriorityArray { slots, default }
+    }
+
     /// The value that was commanded at this priority, or `None` where its slot is empty. The caller
     /// sees to it that the priority is 1 to 16.
     pub fn slot(&self, priority: u8) -> Option<&T>
