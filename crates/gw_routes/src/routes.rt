@@ -1,5 +1,5 @@
 //! The table of routes, and which way a network lies by it (clause 6).
-ghost use Rattle.std.specs.Prelude.{◌≡◌, ◌+◌, ◌≤◌, ◌<◌, ◌↔◌, ◌∷◌, ◌++◌, if◌then◌else◌};
+ghost use Rattle.std.specs.Prelude.{◌≡◌, ◌+◌, ◌-◌, ◌≤◌, ◌<◌, ◌↔◌, ◌∷◌, ◌++◌, if◌then◌else◌};
 ghost use Rattle.std.specs.Prelude.{[], ℕ, List, length, count_by, position};
 ghost use Rattle.std.specs.Prelude.{true, false, is_some, nat_eq};
 ghost use Rattle.std.specs.Prelude.{IsTrue, IsOk, IfOk, OnOk, OnErr, IfSome, IsErrOf};
@@ -185,7 +185,7 @@ impl Routes {
         ensures err { OnErr result (self.new ≡ self.old) }
         ensures limit { routes_held self.new ≤ MAX_ROUTES }
     {
-        let needed = self.fixed.new_by(&self.learned, learned).min(self.room());
+        let needed = self.growth_by(learned);
         self.learned.reserve(needed)?;
         self.fixed.learn_each_by(&mut self.learned, learned);
         Ok(())
@@ -196,6 +196,13 @@ impl Routes {
         ensures { result ≡ growth self.now nets.now }
     {
         self.fixed.new_among(&self.learned, nets).min(self.room())
+    }
+
+    /// How many routes more the networks with routes may need.
+    fn growth_by(&self, learnings: &[(NetNum, Route)]) -> usize
+        ensures { result ≡ growth self.now (keys_of learnings.now) }
+    {
+        self.fixed.new_by(&self.learned, learnings).min(self.room())
     }
 
     /// How many routes more the table may hold.
@@ -255,8 +262,15 @@ impl Fixed {
         ensures { result ≡ count_by (is_new (table_with self.now learned.now)) nets.now }
     {
         nets.iter()
-            .filter(|net| !self.has(**net) && !learned.contains_key(*net))
+            .filter(|net| self.is_new(learned, **net))
             .count()
+    }
+
+    /// Whether a network is new to the table.
+    fn is_new(&self, learned: &IndexMap<NetNum, Route>, net: NetNum) -> bool
+        ensures { result ≡ is_new (table_with self.now learned.now) net }
+    {
+        !self.has(net) && !learned.contains_key(&net)
     }
 
     /// Learns each of the networks that may be learned, for which there is room.
@@ -279,7 +293,7 @@ impl Fixed {
     {
         learnings
             .iter()
-            .filter(|(net, _)| !self.has(*net) && !learned.contains_key(net))
+            .filter(|learning| self.is_new(learned, learning.0))
             .count()
     }
 
