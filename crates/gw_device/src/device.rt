@@ -1,6 +1,6 @@
 //! The device, and what it answers.
 
-ghost use Rattle.std.specs.Prelude.{◌≡◌, ◌<◌, ◌++◌, ◌∷◌, [], List, None, length, IfOk, IsOk, OnOk};
+ghost use Rattle.std.specs.Prelude.{◌≡◌, ◌<◌, ◌++◌, ◌∷◌, [], List, None, length, vec_len, IfOk, IsOk, OnOk};
 ghost use Rattle.std.specs.Option.{option_map};
 ghost use Rattle.gw_objects.specs.declared.value.PropertyValue.{PropertyValue};
 ghost use Rattle.gw_objects.specs.History.{IsStateAfter, with_write};
@@ -22,7 +22,8 @@ ghost use Rattle.gw_device.specs.Write.{write_response};
 use crate::access::Access;
 use crate::{Change, Client, Context, Reply, Served};
 use gw_configuration::Config;
-use gw_objects::{Configured, ObjectDb};
+use gw_objects::{Configured, ObjectDb, PropertyValue};
+use gw_priority::PriorityArray;
 use gw_rules::{Asker, Authorizer, Judge};
 use gw_services::{ReadReq, WhoHas, WhoIs, WriteReq};
 use std::alloc::{AllocError, Global};
@@ -54,6 +55,30 @@ impl Device {
         Ok(Device {
             objects: ObjectDb::from_config(alloc, config)?,
         })
+    }
+
+    /// The device of a configuration, each value object with these slots and this default, in the
+    /// order of the configuration. The only fault is want of memory.
+    pub fn resume(
+        alloc: Global,
+        config: &Config,
+        states: Vec<PriorityArray<PropertyValue>>,
+    ) -> Result<Self, AllocError>
+        requires { vec_len states ≡ length config.now.objects }
+        ensures { IfOk result (λ device. device
+            ≡ record { configured = (database_of config.now).configured; states = states.items }) }
+    {
+        Ok(Device {
+            objects: ObjectDb::resume(alloc, config, states)?,
+        })
+    }
+
+    /// The slots and the default of each value object, in the order of the configuration.
+    pub fn states(&self) -> &[PriorityArray<PropertyValue>]
+        ensures states { result.now ≡ self.now.states }
+        ensures each { length self.now.states ≡ length self.now.configured.objects }
+    {
+        self.objects.states()
     }
 
     /// What is configured of the device and its objects.

@@ -4,3 +4,4 @@ pub mod Histories
 pub mod Places
 pub mod Others
 pub mod Priorities
+pub mod SameValues

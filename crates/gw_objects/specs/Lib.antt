@@ -1,6 +1,7 @@
 pub mod Property
 pub mod Identifier
 pub mod Objects
+pub mod Values
 pub mod Contents
 pub mod Answer
 pub mod Table

@@ -10,7 +10,7 @@ use gw_priority::PriorityArray;
 use std::alloc::{AllocError, Global};
 
 /// A text. The only fault is want of memory.
-fn text(alloc: Global, text: &Text) -> Result<Text, AllocError>
+pub(crate) fn text(alloc: Global, text: &Text) -> Result<Text, AllocError>
     ensures { IfOk result (λ copy. copy ≡ text.now) }
 {
     match Text::new(alloc, 0, text.as_str()) {
@@ -96,23 +96,6 @@ fn objects(alloc: Global, objects: &[Object]) -> Result<Sequence<ConfiguredObjec
     Ok(copies)
 }
 
-/// The default that a value object begins with.
-fn default(alloc: Global, value: &ObjectValue) -> Result<PropertyValue, AllocError>
-    ensures { IfOk result (λ default. default ≡ default_of value.now) }
-{
-    match value {
-        ObjectValue::BinaryValue { default, .. } => Ok(PropertyValue::Binary(*default)),
-        ObjectValue::MultiStateValue(value) => Ok(PropertyValue::State(u32::from(value.default()))),
-        ObjectValue::CharacterStringValue { default } => {
-            Ok(PropertyValue::Text(text(alloc, default)?))
-        }
-        ObjectValue::IntegerValue { default, .. } => Ok(PropertyValue::Integer(*default)),
-        ObjectValue::PositiveIntegerValue { default, .. } => {
-            Ok(PropertyValue::PositiveInteger(*default))
-        }
-    }
-}
-
 /// Empty slots with the default, for each value object in their order. `AllocError` where memory
 /// was refused.
 pub(crate) fn states(
@@ -124,7 +107,7 @@ pub(crate) fn states(
 {
     let mut states = Vec::with_capacity(alloc, objects.len())?;
     for one in objects {
-        states.push(PriorityArray::new(default(alloc, &one.value)?))?;
+        states.push(PriorityArray::new(PropertyValue::default_of(alloc, &one.value)?))?;
     }
     Ok(states)
 }

@@ -73,6 +73,29 @@ impl ObjectDb {
         Ok(ObjectDb { configured, states })
     }
 
+    /// The objects of a configuration, each value object with these slots and this default, in the
+    /// order of the configuration. The only fault is want of memory.
+    pub fn resume(
+        alloc: Global,
+        config: &Config,
+        states: Vec<PriorityArray<PropertyValue>>,
+    ) -> Result<Self, AllocError>
+        requires { vec_len states ≡ length config.now.objects }
+        ensures { IfOk result (λ db. db
+            ≡ record { configured = (database_of config.now).configured; states = states.items }) }
+    {
+        let configured = copying::configured(alloc, config)?;
+        Ok(ObjectDb { configured, states })
+    }
+
+    /// The slots and the default of each value object, in the order of the configuration.
+    pub fn states(&self) -> &[PriorityArray<PropertyValue>]
+        ensures states { result.now ≡ self.now.states }
+        ensures each { length self.now.states ≡ length self.now.configured.objects }
+    {
+        &self.states
+    }
+
     /// The type of the object, or `None` where there is no such object.
     pub fn find(&self, id: ObjectId) -> Option<ObjectType>
         ensures { result ≡ type_at self.now.configured (object_view id) }

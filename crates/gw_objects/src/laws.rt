@@ -2,6 +2,7 @@
 
 ghost use Rattle.std.specs.Prelude.{◌≡◌};
 ghost use Rattle.gw_objects.specs.Laws.{OthersReadAlike, WritesAreInPlace, WritesCanBeMade, WritesKeepAgreement, WritesLeaveOthers};
+ghost use Rattle.gw_objects.specs.Values.{SameValuesAreEqual};
 
 use crate::table::MAX_APDU;
 use crate::write::MAX_TEXT;
@@ -25,4 +26,9 @@ pub fn other_objects()
 /// reserved one, or sets a default (clause 19.2).
 pub fn priorities()
     ensures { WritesCanBeMade }
+{}
+
+/// Two values are the same exactly if they are equal.
+pub fn same_values()
+    ensures { SameValuesAreEqual }
 {}

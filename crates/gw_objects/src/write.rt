@@ -13,6 +13,7 @@ ghost use Rattle.gw_objects.specs.internal.Act.{act_view};
 
 use crate::database::{place_of, same};
 use crate::property::property_of;
+use crate::value::is_state;
 use crate::{
     Configured, ConfiguredObject, Details, ObjectType, Property, PropertyValue, WriteFault,
 };
@@ -272,7 +273,7 @@ fn binary(number: u32) -> Result<PropertyValue, WriteFault>
 fn state(count: u32, number: u32) -> Result<PropertyValue, WriteFault>
     ensures { result ≡ state_value count number }
 {
-    if 1 <= number && number <= count {
+    if is_state(count, number) {
         Ok(PropertyValue::State(number))
     } else {
         Err(WriteFault::OutOfRange)
