@@ -1,4 +1,5 @@
 //! The two tables of a broadcast manager.
+ghost use Rattle.std.specs.Prelude.{◌≡◌};
 
 use crate::bdt::Bdt;
 use crate::fdt::Fdt;
@@ -15,5 +16,15 @@ pub struct PortTables {
 impl Drop for PortTables {
     fn drop(self) {
         let PortTables { bdt: _, fdt: _ } = self;
+    }
+}
+
+impl PortTables {
+    /// The two tables.
+    pub fn into_parts(self) -> (Bdt, Fdt)
+        ensures { result ≡ (self.bdt, self.fdt) }
+    {
+        let PortTables { bdt, fdt } = self;
+        (bdt, fdt)
     }
 }

@@ -69,7 +69,7 @@ fn link_with(
     ensures { IfOk result (λ link. link ≡ link_with number port.now tables) }
 {
     let stations = port.stations.copy(alloc)?;
-    let PortTables { bdt, fdt } = tables;
+    let (bdt, fdt) = tables.into_parts();
     Ok(PortState {
         port: Port {
             number,
