@@ -25,3 +25,4 @@ pub mod RelayAskLemmas
 pub mod RefusedLemmas
 pub mod ServedLemmas
 pub mod StationLemmas
+pub mod Resuming

@@ -6,6 +6,8 @@ pub mod Asks
 pub mod Denials
 pub mod Effects
 pub mod History
+pub mod Resumed
+pub mod Lasting
 pub mod View
 pub mod Respond
 pub mod Setting

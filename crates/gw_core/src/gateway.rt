@@ -9,6 +9,7 @@ ghost use Rattle.gw_relay.specs.History.{initial_acts};
 ghost use Rattle.gw_relay.specs.State.{Commit, moved};
 ghost use Rattle.gw_core.specs.Effects.{changed};
 ghost use Rattle.gw_core.specs.Explained.{asks_text};
+ghost use Rattle.gw_core.specs.Resumed.{carried, saved_of};
 ghost use Rattle.gw_script.specs.Event.{Datagram, Tick};
 
 use crate::denial::denials_of;
@@ -18,6 +19,7 @@ use crate::explaining::put_verdicts;
 use crate::fault::StepFault;
 use crate::receive::{Arrival, Received, read_npdu, receive};
 use crate::respond::{network_of, respond};
+use crate::saving::saved_ports;
 use gw_addr::BipAddr;
 use gw_audit::Denials;
 use gw_configuration::Config;
@@ -26,6 +28,7 @@ use gw_npdu::NpduFault;
 use gw_relay::{Change as RelayChange, Relay, Sends, Turn};
 use gw_rule_index::Policy;
 use gw_rules::{Authorizer, Recorder};
+use gw_saved::{Origin, Saved, SavedCounts};
 use std::alloc::{AllocError, Global};
 use std::marker::Model;
 
@@ -132,6 +135,51 @@ impl Gateway {
             device,
             counts,
         })
+    }
+
+    /// A gateway of this configuration that takes over what was saved: of each port that is still there
+    /// its foreign devices, and its table of peers if the peers are still configured as they were; the
+    /// routes that were learned by such a port; of each object that is still there the values that are in
+    /// range, and its default if the default is still configured as it was; and the counts. The only fault
+    /// is want of memory.
+    pub fn resume(alloc: Global, config: Config, saved: &Saved) -> Result<Self, AllocError>
+        ensures { IfOk result (λ gateway. gateway ≡ carried config saved.now) }
+    {
+        let ports = config.ports();
+        let count = ports.len() as u8;
+        let counts = saved.counts();
+        let tables = saved.carry_tables(alloc, ports)?;
+        let learned = saved.carry_routes(alloc, ports)?;
+        let relay = Relay::resume(alloc, &config, tables, &learned, counts.since)?;
+        let states = saved.carry_states(alloc, config.objects())?;
+        let device = Device::resume(alloc, &config, states)?;
+        let policy = Policy::new(alloc, config.into_rules())?;
+        Ok(Gateway {
+            ports: count,
+            policy,
+            relay,
+            device,
+            counts: Counts {
+                ticks: counts.ticks,
+                denials: counts.denials,
+            },
+        })
+    }
+
+    /// What outlives it, where this was configured of it ([`Origin::of`] its configuration). The only fault
+    /// is want of memory.
+    pub fn save(&self, alloc: Global, origin: &Origin) -> Result<Saved, AllocError>
+        ensures { IfOk result (λ saved. saved ≡ saved_of origin.now self.now) }
+    {
+        let ports = saved_ports(alloc, origin.ports(), self.relay.ports())?;
+        let routes = self.relay.routes().learned(alloc)?;
+        let objects = origin.save_objects(alloc, self.device.states())?;
+        let counts = SavedCounts {
+            since: self.relay.ticks(),
+            ticks: self.counts.ticks,
+            denials: self.counts.denials,
+        };
+        Ok(Saved::new(ports, routes, objects, counts).unwrap())
     }
 
     /// How many ports there are, 1 to 8.

@@ -16,6 +16,7 @@ mod reply;
 mod report;
 mod reporting;
 mod respond;
+mod saving;
 mod serving;
 mod setting;
 mod shown;

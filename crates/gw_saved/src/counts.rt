@@ -1,4 +1,9 @@
 //! The counts of a gateway.
+ghost use Rattle.std.specs.Prelude.{◌≡◌};
+ghost use Rattle.gw_saved.specs.Saved.{are_countable};
+
+/// How far a gateway counts: to 2 to the power of 63.
+pub const MAX_COUNT: u64 = 1 << 63;
 
 /// How far a gateway had counted.
 #[derive(Clone, Copy, Debug)]
@@ -9,4 +14,13 @@ pub struct SavedCounts {
     pub ticks: u64,
     /// The number of its last denial, 0 if there was none.
     pub denials: u64,
+}
+
+impl SavedCounts {
+    /// Whether the tables have seen no more ticks than the gateway, and no count is past its end.
+    pub(crate) fn are_countable(self) -> bool
+        ensures { result ≡ are_countable self }
+    {
+        self.since <= self.ticks && self.ticks <= MAX_COUNT && self.denials <= MAX_COUNT
+    }
 }

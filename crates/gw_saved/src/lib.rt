@@ -2,16 +2,22 @@
 //! configuration takes over of that.
 #![tactic(auto)]
 
+mod copying;
 mod counts;
 mod fault;
+mod identity;
+pub mod laws;
 mod object;
 mod origin;
 mod port;
+mod routes;
 mod saved;
+mod states;
+mod tables;
 
-pub use counts::SavedCounts;
+pub use counts::{MAX_COUNT, SavedCounts};
 pub use fault::SavedFault;
 pub use object::SavedObject;
 pub use origin::{Origin, OriginObject, OriginPort};
 pub use port::SavedPort;
-pub use saved::{MAX_COUNT, Saved};
+pub use saved::Saved;

@@ -2,11 +2,15 @@
 ghost use Rattle.std.specs.Prelude.{◌≡◌, ◌≤◌, length, map, IfOk};
 ghost use Rattle.gw_addr.specs.declared.TheConstants.{MAX_PORTS};
 ghost use Rattle.gw_tags.specs.Object.{object_view};
-ghost use Rattle.gw_saved.specs.Saved.{origin_of};
+ghost use Rattle.gw_saved.specs.Saved.{origin_object, origin_of, origin_port, saved_object, saved_objects, saved_port};
 
-use gw_addr::{BipAddr, NetNum, Sequence};
-use gw_configuration::{Config, Peers};
+use crate::identity::id_of;
+use crate::{SavedObject, SavedPort, copying};
+use gw_addr::{BipAddr, NetNum};
+use gw_bdt_fdt::{Bdt, Fdt};
+use gw_configuration::{Config, Object, Peers, Port};
 use gw_objects::PropertyValue;
+use gw_priority::PriorityArray;
 use gw_tags::ObjectId;
 use std::alloc::{AllocError, Global};
 use std::marker::Model;
@@ -87,12 +91,44 @@ impl Model for Origin {
     ghost invariant = { λ o. (length o.ports.items ≤ MAX_PORTS) × (length o.objects.items ≤ 256) };
 }
 
+impl OriginPort {
+    /// The port with the tables that it has now. The only fault is want of memory.
+    pub fn save(&self, alloc: Global, bdt: &Bdt, fdt: &Fdt) -> Result<SavedPort, AllocError>
+        ensures { IfOk result (λ port. port ≡ saved_port self.now bdt.now fdt.now.rows) }
+    {
+        Ok(SavedPort {
+            network: self.network,
+            address: self.address,
+            peers: copying::peers(alloc, &self.peers)?,
+            entries: bdt.copy(alloc)?,
+            devices: fdt.kept(alloc)?,
+        })
+    }
+}
+
+impl OriginObject {
+    /// The object with the slots that it has now. The only fault is want of memory.
+    fn save(
+        &self,
+        alloc: Global,
+        slots: &PriorityArray<PropertyValue>,
+    ) -> Result<SavedObject, AllocError>
+        ensures { IfOk result (λ object. object ≡ saved_object self.now slots.now) }
+    {
+        let configured = self.default.copy(alloc)?;
+        let slots = copying::slots(alloc, slots)?;
+        Ok(SavedObject::new(self.object, configured, slots))
+    }
+}
+
 impl Origin {
     /// What is configured so in a configuration. The only fault is want of memory.
     pub fn of(alloc: Global, config: &Config) -> Result<Self, AllocError>
         ensures { IfOk result (λ origin. origin ≡ origin_of config.now) }
     {
-        Err(AllocError)
+        let ports = ports_of(alloc, config.ports())?;
+        let objects = objects_of(alloc, config.objects())?;
+        Ok(Origin { ports, objects })
     }
 
     /// The ports in order, at most 8.
@@ -102,4 +138,65 @@ impl Origin {
     {
         self.ports.as_slice()
     }
+
+    /// The value objects with the slots that they have now, which have the same order. The only fault is
+    /// want of memory.
+    pub fn save_objects(
+        &self,
+        alloc: Global,
+        states: &[PriorityArray<PropertyValue>],
+    ) -> Result<Vec<SavedObject>, AllocError>
+        ensures objects { IfOk result (λ objects.
+            objects.items ≡ saved_objects self.now.objects states.now) }
+        ensures most { IfOk result (λ objects. length objects.items ≤ 256) }
+    {
+        saved_objects(alloc, &self.objects, states)
+    }
+}
+
+/// The value objects with the slots at their places.
+fn saved_objects(
+    alloc: Global,
+    objects: &[OriginObject],
+    states: &[PriorityArray<PropertyValue>],
+) -> Result<Vec<SavedObject>, AllocError>
+    ensures { IfOk result (λ saved. saved.items ≡ saved_objects objects.now states.now) }
+{
+    let mut saved = Vec::with_capacity(alloc, objects.len())?;
+    for (place, object) in objects.iter().enumerate() {
+        let Some(slots) = states.get(place) else {
+            return Ok(saved);
+        };
+        saved.push(object.save(alloc, slots)?)?;
+    }
+    Ok(saved)
+}
+
+/// The ports with their peers.
+fn ports_of(alloc: Global, ports: &[Port]) -> Result<Vec<OriginPort>, AllocError>
+    ensures { IfOk result (λ origins. origins.items ≡ map origin_port ports.now) }
+{
+    let mut origins = Vec::with_capacity(alloc, ports.len())?;
+    for port in ports {
+        origins.push(OriginPort {
+            network: port.network,
+            address: port.address,
+            peers: copying::peers(alloc, &port.peers)?,
+        })?;
+    }
+    Ok(origins)
+}
+
+/// The value objects with their defaults.
+fn objects_of(alloc: Global, objects: &[Object]) -> Result<Vec<OriginObject>, AllocError>
+    ensures { IfOk result (λ origins. origins.items ≡ map origin_object objects.now) }
+{
+    let mut origins = Vec::with_capacity(alloc, objects.len())?;
+    for object in objects {
+        origins.push(OriginObject {
+            object: id_of(object),
+            default: PropertyValue::default_of(alloc, &object.value)?,
+        })?;
+    }
+    Ok(origins)
 }

@@ -8,9 +8,6 @@ use gw_configuration::MAX_OBJECTS;
 use gw_routes::{MAX_ROUTES, Route};
 use std::marker::Model;
 
-/// How far a gateway counts: 2 to the power of 63.
-pub const MAX_COUNT: u64 = 1 << 63;
-
 /// What of a gateway outlives it: each port with its two tables, the learned routes, each value object
 /// with its slots, and the counts. It has at most 8 ports, 512 routes and 256 objects. A route's port is
 /// the number of one of these ports, counted from 1. Contracts see the parts.
@@ -76,7 +73,7 @@ impl Saved {
         if !are_few(&ports, &routes, &objects) {
             return Err(SavedFault::TooMany);
         }
-        if !are_countable(counts) {
+        if !counts.are_countable() {
             return Err(SavedFault::Counts);
         }
         Ok(Saved {
@@ -128,11 +125,4 @@ fn are_few(ports: &[SavedPort], routes: &[(NetNum, Route)], objects: &[SavedObje
     ensures { result ≡ are_few ports.now routes.now objects.now }
 {
     ports.len() <= MAX_PORTS && routes.len() <= MAX_ROUTES && objects.len() <= MAX_OBJECTS
-}
-
-/// Whether the tables have seen no more ticks than the gateway, and no count is past its end.
-fn are_countable(counts: SavedCounts) -> bool
-    ensures { result ≡ are_countable counts }
-{
-    counts.since <= counts.ticks && counts.ticks <= MAX_COUNT && counts.denials <= MAX_COUNT
 }
