@@ -1,2 +1,9 @@
+pub mod WordLemmas
+pub mod BlockLemmas
+pub mod ExactLemmas
+pub mod LineLemmas
 pub mod PutLemmas
+pub mod StateLemmas
+pub mod PortLemmas
 pub mod SlotLemmas
+pub mod ObjectLemmas
