@@ -232,11 +232,11 @@ seconds() {
     awk -v s="$least" 'BEGIN { printf "%.3f", s / 1e6 }'
 }
 
-# row NAME OURS PLAIN: a line of the table, with the ratio of the two
+# row NAME OURS PLAIN LAST: a line of the table, with the ratio of the two
 row() {
     local ratio=-
     [ "$3" = "not measured" ] || ratio=$(awk -v a="$2" -v b="$3" 'BEGIN { if (b > 0) printf "%.2f", a / b; else printf "-" }')
-    echo "| $1 | $(grouped <<< "$2") | $(grouped <<< "$3") | $ratio |"
+    echo "| $1 | $(grouped <<< "$2") | $(grouped <<< "$3") | $ratio | $4 |"
 }
 
 if [ -n "$yardstick" ]; then
@@ -255,22 +255,25 @@ whole_misses() { each misses "$@" | sed 's/\..*//'; }
 each_allocation() { each allocations "$@"; }
 
 {
-    echo "| A line of this kind | bacgw | Plain Rust | Ratio |"
-    echo "|---|---|---|---|"
-    for kind in $kinds $mixes; do
-        row "instructions: ${name[$kind]}" "$(whole_instructions "$kind" "$program" replay)" "$(beside whole_instructions "$kind")"
-    done
-    for kind in $mixes; do
-        row "misses of the instruction cache: ${name[$kind]}" "$(whole_misses "$kind" "$program" replay)" "$(beside whole_misses "$kind")"
-    done
+    echo "| Instructions of a line | bacgw | Plain Rust | Ratio | Allocations |"
+    echo "|---|---|---|---|---|"
     for kind in $kinds; do
-        echo "| allocations: ${name[$kind]} | $(each_allocation "$kind" "$program" replay) | $(beside each_allocation "$kind") | |"
+        row "${name[$kind]}" "$(whole_instructions "$kind" "$program" replay)" "$(beside whole_instructions "$kind")" \
+            "$(each_allocation "$kind" "$program" replay)"
     done
     for kind in $mixes; do
-        row "seconds for 300,000 lines, least of $runs: ${name[$kind]}" "$(seconds "$kind" "$program" replay)" "$(beside seconds "$kind")"
+        row "${name[$kind]}" "$(whole_instructions "$kind" "$program" replay)" "$(beside whole_instructions "$kind")" ""
+    done
+    echo
+    echo "| Seconds for 300,000 lines, least of $runs | bacgw | Plain Rust | Ratio | Cache misses a line |"
+    echo "|---|---|---|---|---|"
+    for kind in $mixes; do
+        row "${name[$kind]}" "$(seconds "$kind" "$program" replay)" "$(beside seconds "$kind")" \
+            "$(whole_misses "$kind" "$program" replay), $(beside whole_misses "$kind")"
     done
     /usr/bin/time -o "$work/peak" -f %M "$program" replay < "$work/mix.300000" > /dev/null
-    echo "| peak memory over the mix of all, MiB | $(awk '{ printf "%.1f", $1 / 1024 }' "$work/peak") | | |"
+    echo
+    echo "Peak memory over the mix of all: $(awk '{ printf "%.1f", $1 / 1024 }' "$work/peak") MiB."
 } | tee "$work/table"
 
 if [ -n "$page" ]; then

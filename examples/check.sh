@@ -26,6 +26,8 @@ agrees() {
 # tells WHAT STATUS LINE: the last run told this line on standard error
 tells() {
     printf '%s\n' "$3" > "$work/line"
+    # `run --verbose` may warn of this machine: its routing is none of this test's business.
+    sed -i '/^bacgw: net\.ipv4\.ip_forward /d' "$work/err"
     if [ "$status" = "$2" ] && cmp -s "$work/err" "$work/line"; then
         passed=$((passed + 1))
     else
@@ -256,6 +258,12 @@ ran 0 "bacgw: serving port 1 at 127.1.0.2:47808, broadcast 127.1.0.255:47808; po
 same 'what stood in the log before a run' "$(cat "$work/log"; echo .)" 'a line of before
 .'
 
+# A log that is made is its owner's alone, and a symbolic link is not followed.
+ran 0 '' --config "$work/loopback.toml" --log "$work/made.log" --turns 1
+same 'who may read a log that was made' "$(stat -c %a "$work/made.log")" 600
+ln -s "$work/made.log" "$work/link.log"
+ran 1 'bacgw: log failed' --config "$work/loopback.toml" --log "$work/link.log" --turns 1
+
 # Where standard error is closed, what is told there doesn't land in the log.
 "$program" run --config "$work/loopback.toml" --log "$work/log" --turns 1 --verbose < /dev/null 2>&-
 same 'the status where standard error is closed' "$?" 0
@@ -406,7 +414,7 @@ unsuspected() {
     status=$?
     sed '/: look at source_network: without source, /d; /^note: look at cast: /d' "$work/noted" > "$work/out"
     agrees "the lint of $1" 0 "$work/plain" /dev/null
-    same "the warnings of $1" "$("$program" check --config "$1" --explain | grep -v '^ok \|^object .* is hidden from network ')" ''
+    same "the warnings of $1" "$("$program" check --config "$1" --explain | grep '^warning: ')" ''
 }
 for file in "$here"/*.toml "$here"/format2/*.toml "$here/site/site.toml" "$here/../dist/site.toml"; do
     case ${file##*/} in

@@ -11,7 +11,7 @@ complete -c bacgw -n "not __fish_seen_subcommand_from $commands" -a help -d 'Pri
 complete -c bacgw -n "not __fish_seen_subcommand_from $commands" -l version -d 'Prints the version'
 complete -c bacgw -l help -d 'Prints help'
 complete -c bacgw -n '__fish_seen_subcommand_from check replay run why' -l config -r -F -d 'The configuration, in TOML'
-complete -c bacgw -n '__fish_seen_subcommand_from check' -l explain -d 'Also prints where the fault is, or what is hidden'
+complete -c bacgw -n '__fish_seen_subcommand_from check' -l explain -d 'Also prints where the fault is, or who may do what'
 complete -c bacgw -n '__fish_seen_subcommand_from check' -l lint -d 'Also prints which rules never decide'
 complete -c bacgw -n '__fish_seen_subcommand_from replay' -l explain -d 'Also prints each ask and its rule'
 complete -c bacgw -n '__fish_seen_subcommand_from run' -l log -r -F -d 'What the log is appended to'

@@ -120,9 +120,18 @@ dropped() {
     if in_gateway nft list table ip bacgw | grep -F -- "$1" | grep -q 'packets [1-9]'; then echo yes; else echo no; fi
 }
 
-serve
+# warned: whether the gateway warned at its start that the machine routes
+warned() {
+    if grep -q '^bacgw: net\.ipv4\.ip_forward ' "$work/told"; then echo yes; else echo no; fi
+}
+
 echo "without:"
+in_gateway sysctl -qw net.ipv4.ip_forward=0
+serve
+same "the gateway warns of a machine that doesn't route" "$(warned)" no
 in_gateway sysctl -qw net.ipv4.ip_forward=1
+serve
+same "the gateway warns of a machine that routes" "$(warned)" yes
 same "a host hears one of the other subnet past the gateway" "$(heard second 5000 first say 10.2.0.9 5000)" heard
 in_gateway sysctl -qw net.ipv4.ip_forward=0
 same "a read by the address of the other port" "$(first read 10.2.0.2)" answered

@@ -193,11 +193,7 @@ impl Fdt {
 
     /// The table of these foreign devices, in their order, after so many ticks, at most 2 to the
     /// power of 63. The only fault is want of memory, and none is wanted if there are no devices.
-    pub fn restore(
-        alloc: Global,
-        ticks: u64,
-        devices: &KeptDevices,
-    ) -> Result<Self, AllocError>
+    pub fn restore(alloc: Global, ticks: u64, devices: &KeptDevices) -> Result<Self, AllocError>
         requires { ticks ≤ 2 ^ 63 }
         ensures table { IfOk result (λ table. table ≡ restored ticks devices.now) }
         ensures none { devices.now ≡ [] → IsOk result }
@@ -208,11 +204,7 @@ impl Fdt {
 }
 
 /// The leases of devices that a table can have, after so many ticks. The only fault is want of memory.
-fn leases_of(
-    alloc: Global,
-    ticks: u64,
-    devices: &[KeptDevice],
-) -> Result<Leases, AllocError>
+fn leases_of(alloc: Global, ticks: u64, devices: &[KeptDevice]) -> Result<Leases, AllocError>
     requires ticks { ticks ≤ 2 ^ 63 }
     requires restorable { IsTrue (are_restorable devices.now) }
     ensures leases { IfOk result (λ leases. leases ≡ map (lease_kept ticks) devices.now) }

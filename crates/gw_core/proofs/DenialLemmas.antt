@@ -134,7 +134,7 @@ pub lent_denials : (rules : List Rule) (number tick : ℕ) (relay : Relay) (d : 
     → refusals ≡ denied_of rules (asks_for rules relay d (admit rules relay (received_view received)))
     → denials_of rules number tick (origin_of received) refusals
     ≡ denials_of rules number tick (origin (admit rules relay (received_view received))) refusals
-lent_denials rules number tick relay d lent.Dropped refusals are = refl
+lent_denials rules number tick relay d (lent.Dropped why) refusals are = refl
 lent_denials rules number tick relay d (lent.Managed m) refusals are = refl
 lent_denials rules number tick relay d (lent.Message m) refusals are =
     let view = message_view m in

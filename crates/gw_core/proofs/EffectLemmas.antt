@@ -1,5 +1,5 @@
 -- What an event does to the counts, and what a tick does.
-use Rattle.std.proofs.Common.{◌≡◌, ℕ, ◌+◌, ◌^◌, ◌<◌, ◌≤◌, Bool, true, false, nat_lt, ◌||◌, arith, length, List, [], Option, true≢false, refl, sym, ap, ◌∙◌, inl, inr}
+use Rattle.std.proofs.Common.{◌≡◌, ℕ, ◌+◌, ◌^◌, ◌<◌, ◌≤◌, Bool, true, false, nat_lt, ◌||◌, arith, length, List, [], Option, None, true≢false, refl, sym, ap, ◌∙◌, inl, inr}
 use Rattle.std.specs.Prelude.{IsTrue}
 use Rattle.std.specs.Option.{option_map}
 use Rattle.std.proofs.lemmas.Bool.{cases_lt}
@@ -15,6 +15,8 @@ use Rattle.gw_script.specs.Event.{Event}
 use Rattle.gw_script.specs.Event.{Datagram, Tick}
 use Rattle.gw_core.specs.Denials.{denials_at}
 use Rattle.gw_core.specs.Asks.{asks}
+use Rattle.gw_core.specs.Drops.{drop_at, drop_on}
+use Rattle.gw_core.specs.declared.drops.DropReason.{DropReason}
 use Rattle.gw_core.specs.Effects.{NeedsNoMemory, change_at, change_for, effects_at, effects_for, move_at, move_for, nothing, passes_end, relay_change_for, sends, sends_for, ticks_of}
 use Rattle.gw_core.specs.Receive.{Received, admit, receive, receive_on}
 use Rattle.gw_core.specs.State.{State, device_network}
@@ -23,6 +25,20 @@ use Rattle.gw_core.specs.State.{State, device_network}
 pub effects_at-tick : (w : State) → effects_at w Tick ≡ nothing
 unfolding effects_at receive
 effects_at-tick w = refl
+
+-- a tick isn't dropped
+pub drop_at-tick : (w : State) → None ≡ drop_at w Tick
+unfolding drop_at
+drop_at-tick w = refl
+
+-- why a datagram is dropped, by the parts that the code reads
+pub drop_as : (w : State) (links : List PortState) (network port : ℕ) (from : BipAddr) (octets : List ℕ) (why : Option DropReason)
+    → why ≡ drop_on links network port from octets → links ≡ w.relay.links → network ≡ device_network w.device
+    → why ≡ drop_at w (Datagram port from octets)
+unfolding drop_at
+drop_as w links network port from octets why is same its =
+    is ∙ ap (λ (l : List PortState). drop_on l network port from octets) same
+    ∙ ap (λ (n : ℕ). drop_on w.relay.links n port from octets) its
 
 -- a tick needs no memory
 pub tick_needs_none : (w : State) → NeedsNoMemory w Tick

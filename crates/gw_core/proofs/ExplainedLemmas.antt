@@ -62,7 +62,7 @@ judged_lines rules relay d m asked true false h s are =
 lent_lines : (rules : List Rule) (relay : Relay) (d : Database) (received : LentReceived) (asked : List Ask)
     → asked ≡ asks_for rules relay d (admit rules relay (received_view received))
     → ask_lines rules (origin_of received) asked ≡ ask_lines rules (origin (admit rules relay (received_view received))) asked
-lent_lines rules relay d lent.Dropped asked are = refl
+lent_lines rules relay d (lent.Dropped why) asked are = refl
 lent_lines rules relay d (lent.Managed m) asked are = refl
 lent_lines rules relay d (lent.Message m) asked are =
     let view = message_view m in

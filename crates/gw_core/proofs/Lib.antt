@@ -1,6 +1,7 @@
 pub mod DenialLemmas
 pub mod SilenceLemmas
 pub mod EffectLemmas
+pub mod DropLemmas
 pub mod EntryLemmas
 pub mod HistoryLemmas
 pub mod StandLemmas
@@ -25,4 +26,5 @@ pub mod RelayAskLemmas
 pub mod RefusedLemmas
 pub mod ServedLemmas
 pub mod StationLemmas
+pub mod Whence
 pub mod Resuming

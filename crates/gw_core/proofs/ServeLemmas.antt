@@ -15,6 +15,12 @@ use Rattle.gw_script.specs.declared.event.Event.{Event as LentEvent}
 use Rattle.gw_script.specs.Event.{Event, event_view}
 use Rattle.gw_core.specs.declared.effects.Effects.{Effects}
 use Rattle.gw_relay.specs.Sends.{Sending}
+use Rattle.gw_audit.specs.declared.denial.Denial.{Denial}
+use Rattle.gw_rules.specs.declared.operation.Operation.TheVariants as operations
+use Rattle.gw_core.specs.Drops.{IsBelow, denies, drop_at, is_malformed, is_no_peer, is_own_network, no_tally, number_if, tally_at}
+use Rattle.gw_core.specs.Drops.{tally_from, tally_of, with_tally}
+use Rattle.gw_core.specs.declared.drops.DropReason.{DropReason}
+use Rattle.gw_core.specs.declared.drops.Tally.{Tally}
 use Rattle.gw_core.specs.declared.serving.Served.{Served}
 use Rattle.gw_core.specs.declared.serving.ServeFault.{ServeFault}
 use Rattle.gw_core.specs.declared.serving.ServeFault.TheVariants.{Log, Memory, CountEnd}
@@ -280,6 +286,54 @@ ends_by Memory a b event x s does ended last = (
 )
 ends_by CountEnd a b event x s does ended last = absurd ended
 
+-- ---- the tally
+
+-- of no event it stays
+pub untallied : (w : State) (k : Tally) → k ≡ tally_from w k []
+unfolding tally_from
+untallied w k = refl
+
+-- of one that is taken it counts what was told of it
+pub tallied : (w : State) (k l : Tally) (event : Event) (effects : Effects) (drop : Option DropReason) → effects ≡ effects_at w event
+    → drop ≡ drop_at w event → l ≡ with_tally k (tally_of drop effects.denials) → l ≡ tally_from w k (event ∷ [])
+unfolding tally_from tally_at
+tallied w k l event effects drop given why counted =
+    counted ∙ ap (λ (x : Effects). with_tally k (tally_of drop x.denials)) given
+    ∙ ap (λ (x : Option DropReason). with_tally k (tally_of x (effects_at w event).denials)) why
+
+number_most : (b : Bool) → number_if b ≤ 1
+number_most true = omega arith
+number_most false = omega arith
+
+pub none_below : (n : ℕ) (k : Tally) → k ≡ no_tally → IsBelow n k
+none_below n k none = record {
+  enter = omega (arith, ap (λ (x : Tally). x.enter) none);
+  claim = omega (arith, ap (λ (x : Tally). x.claim) none);
+  malformed = omega (arith, ap (λ (x : Tally). x.malformed) none);
+  own_network = omega (arith, ap (λ (x : Tally). x.own_network) none);
+  no_peer = omega (arith, ap (λ (x : Tally). x.no_peer) none);
+}
+
+pub below_weaker : (n m : ℕ) (k : Tally) → n ≤ m → IsBelow n k → IsBelow m k
+below_weaker n m k le below = record {
+  enter = omega (arith, le, below.enter);
+  claim = omega (arith, le, below.claim);
+  malformed = omega (arith, le, below.malformed);
+  own_network = omega (arith, le, below.own_network);
+  no_peer = omega (arith, le, below.no_peer);
+}
+
+-- one event more counts at most one of each
+pub below_counted : (n m : ℕ) (k l : Tally) (drop : Option DropReason) (denials : List Denial) → m ≡ n + 1
+    → l ≡ with_tally k (tally_of drop denials) → IsBelow n k → IsBelow m l
+below_counted n m k l drop denials more counted below = record {
+  enter = omega (arith, more, ap (λ (x : Tally). x.enter) counted, below.enter, number_most (denies operations.Enter denials));
+  claim = omega (arith, more, ap (λ (x : Tally). x.claim) counted, below.claim, number_most (denies operations.Claim denials));
+  malformed = omega (arith, more, ap (λ (x : Tally). x.malformed) counted, below.malformed, number_most (is_malformed drop));
+  own_network = omega (arith, more, ap (λ (x : Tally). x.own_network) counted, below.own_network, number_most (is_own_network drop));
+  no_peer = omega (arith, more, ap (λ (x : Tally). x.no_peer) counted, below.no_peer, number_most (is_no_peer drop));
+}
+
 -- ---- turn by turn
 
 -- no turn was done yet
@@ -288,8 +342,8 @@ unfolding counts_after
 serves_none a = record { turns = []; all = refl; went = lead_nowhere a; counts = refl }
 
 -- one more was done
-pub serves_more : (n : ℕ) (a m b : Scene) (s t : Served) → ServesAll n a s m → TurnEnd m s b t (Ok tt) → ServesAll (n + 1) a t b
-serves_more n a m b s t p ended =
+pub serves_more : (n : ℕ) (a m b : Scene) (s t : Served) (k l : Tally) → ServesAll n a s m → TurnEnd m s k b t l (Ok tt) → ServesAll (n + 1) a t b
+serves_more n a m b s t k l p ended =
     let turn = ended.0 in
     record {
       turns = p.turns ++ turn ∷ [];
@@ -299,9 +353,9 @@ serves_more n a m b s t p ended =
     }
 
 -- or its event ended in a fault
-pub stops_then : (n count : ℕ) (a m b : Scene) (s t : Served) (fault : ServeFault) → ServesAll n a s m → n < count
-    → TurnEnd m s b t (Err fault) → Stops count a (record { fault = fault; served = t }) b
-stops_then n count a m b s t fault p left ended = record {
+pub stops_then : (n count : ℕ) (a m b : Scene) (s t : Served) (k l : Tally) (fault : ServeFault) → ServesAll n a s m → n < count
+    → TurnEnd m s k b t l (Err fault) → Stops count a (record { fault = fault; served = t }) b
+stops_then n count a m b s t k l fault p left ended = record {
   turns = p.turns;
   fewer = omega (arith, p.all, left);
   moment = m;

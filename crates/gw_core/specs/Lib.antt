@@ -9,6 +9,7 @@ pub mod History
 pub mod Resumed
 pub mod Lasting
 pub mod View
+pub mod Drops
 pub mod Respond
 pub mod Setting
 pub mod Examples

@@ -5,7 +5,9 @@ use Rattle.gw_objects.specs.Objects.{database_of}
 use Rattle.gw_relay.specs.Initial.{resumed}
 use Rattle.gw_relay.specs.declared.port.PortState.{PortState}
 use Rattle.gw_saved.specs.Carried.{routes_carried, states_carried, tables_carried}
-use Rattle.gw_saved.specs.Saved.{Origin, OriginPort, Saved, SavedPort, origin_of, saved_objects, saved_port}
+use Rattle.gw_saved.specs.declared.origin.OriginPort.{OriginPort}
+use Rattle.gw_saved.specs.declared.port.SavedPort.{SavedPort}
+use Rattle.gw_saved.specs.Saved.{Origin, Saved, origin_of, saved_objects, saved_port}
 use Rattle.gw_core.specs.State.{State}
 
 -- each port with what was configured of it and the tables that it has now

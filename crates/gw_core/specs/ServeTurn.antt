@@ -10,9 +10,11 @@ use Rattle.gw_core.specs.declared.wire.WireFault.{WireFault}
 use Rattle.gw_core.specs.declared.serving.Served.{Served}
 use Rattle.gw_core.specs.declared.serving.ServeFault.{ServeFault}
 use Rattle.gw_core.specs.declared.serving.ServeFault.TheVariants.{Log, Memory, CountEnd}
+use Rattle.gw_core.specs.Drops.{tally_from}
+use Rattle.gw_core.specs.declared.drops.Tally.{Tally}
 use Rattle.gw_core.specs.Wire.{Call, Tells}
 use Rattle.gw_core.specs.Serve.{Scene, Try, Turn, LeadTo, EndsBy, count_turn, count_fault, failures, lines_of}
-use Rattle.gw_core.specs.Serve.{successes, try_call}
+use Rattle.gw_core.specs.Serve.{successes, try_call, turn_events}
 
 -- what was received, without where its octets lie in memory
 abbrev pub event_answer : Result (Option LentEvent) WireFault → Result (Option Event) WireFault
@@ -30,10 +32,13 @@ pub record HasRoom (s : Served) (wire_failures : ℕ) : Type 0 where
   pub sends : wire_counts s + 2 ^ 64 ≤ 2 ^ 128
   pub failures : wire_failures + 2 ^ 64 ≤ 2 ^ 128
 
--- a turn went as it must, or its event ended in a fault
-abbrev pub TurnEnd : Scene → Served → Scene → Served → Result Unit ServeFault → Type 0
-TurnEnd before s after t (Ok done) = (turn : Turn) × LeadTo before (turn ∷ []) after × (t ≡ count_turn s turn)
-TurnEnd before s after t (Err fault) = (event : Event) × EndsBy fault before event after × (t ≡ count_fault s fault)
+-- a turn went as it must, or its event ended in a fault, and isn't tallied
+abbrev pub TurnEnd : Scene → Served → Tally → Scene → Served → Tally → Result Unit ServeFault → Type 0
+TurnEnd before s was after t is (Ok done) =
+    (turn : Turn) × LeadTo before (turn ∷ []) after × (t ≡ count_turn s turn)
+    × (is ≡ tally_from before.gateway was (turn_events turn))
+TurnEnd before s was after t is (Err fault) =
+    (event : Event) × EndsBy fault before event after × (t ≡ count_fault s fault) × (is ≡ was)
 
 -- what the log holds of the lines of these denials
 abbrev pub LogEnd : List Denial → Option (List ℕ) → Option (List ℕ) → Result Unit ServeFault → Type 0

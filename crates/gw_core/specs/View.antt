@@ -7,6 +7,8 @@ use Rattle.gw_relay.specs.Message.{Message, message_view}
 use Rattle.gw_core.specs.declared.denial.Origin.{Origin as CodeOrigin}
 use Rattle.gw_core.specs.declared.receive.Received.{Received as LentReceived}
 use Rattle.gw_core.specs.declared.receive.Received.TheVariants as lent
+use Rattle.gw_core.specs.Drops.{unheard_drop}
+use Rattle.gw_core.specs.declared.drops.DropReason.{DropReason}
 use Rattle.gw_core.specs.Receive.{Origin, Received, admit, message_origin, node_origin, dropped, managed}
 use Rattle.gw_core.specs.Receive.{message, unregistered}
 use Rattle.gw_core.specs.State.{State}
@@ -18,9 +20,15 @@ judged m =
     else if is_unregistered m.here m.from m.frame then unregistered m else message m
 
 abbrev pub received_view : LentReceived → Received
-received_view lent.Dropped = dropped
+received_view (lent.Dropped why) = dropped
 received_view (lent.Managed m) = managed m.here.now m.from (frame_view m.frame.now)
 received_view (lent.Message m) = judged (message_view m)
+
+-- why it is dropped, if it is
+abbrev pub drop_view : LentReceived → Option DropReason
+drop_view (lent.Dropped why) = Some why
+drop_view (lent.Managed m) = None
+drop_view (lent.Message m) = unheard_drop m.here.now m.from (frame_view m.frame.now)
 
 -- what it is received as once the policy is asked who may enter
 abbrev pub admitted_view : State → LentReceived → Received
@@ -28,7 +36,7 @@ admitted_view w received = admit w.rules w.relay (received_view received)
 
 -- whom the code takes a datagram to come from, unjudged
 abbrev pub origin_of : LentReceived → Option Origin
-origin_of lent.Dropped = None
+origin_of (lent.Dropped why) = None
 origin_of (lent.Managed m) = Some (node_origin m.here.now m.from)
 origin_of (lent.Message m) = Some (message_origin (message_view m))
 

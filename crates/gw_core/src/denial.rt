@@ -81,7 +81,7 @@ pub(crate) fn origin_of(received: &Received<'_>) -> Option<Origin>
     ensures { option_map origin_view result ≡ origin_of received.now }
 {
     match received {
-        Received::Dropped => None,
+        Received::Dropped(_) => None,
         Received::Managed(message) => Some(Origin {
             port: message.here.port.number,
             source: local_source(message.here.port.network, message.from),

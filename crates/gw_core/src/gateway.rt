@@ -13,6 +13,7 @@ ghost use Rattle.gw_core.specs.Resumed.{carried, saved_of};
 ghost use Rattle.gw_script.specs.Event.{Datagram, Tick};
 
 use crate::denial::denials_of;
+use crate::drops::DropReason;
 use crate::effects::Effects;
 use crate::event::Counts;
 use crate::explaining::put_verdicts;
@@ -42,6 +43,15 @@ struct Outcome {
     denials: Denials,
     change: Option<RelayChange>,
     write: Option<Change>,
+}
+
+/// What an event that was taken does, and why it was dropped, if it was.
+#[derive(Drop)]
+pub(crate) struct Taken {
+    /// What it does.
+    pub effects: Effects,
+    /// Why it was dropped.
+    pub drop: Option<DropReason>,
 }
 
 /// Makes a change of the relay, where there is one. The only fault is want of memory; then nothing
@@ -110,6 +120,7 @@ impl Model for Gateway {
 impl Gateway {
     ghost use Rattle.gw_core.specs.Asks.{asks_for};
     ghost use Rattle.gw_core.specs.Denials.{denials_for};
+    ghost use Rattle.gw_core.specs.Drops.{drop_at};
     ghost use Rattle.gw_core.specs.Effects.{NeedsNoMemory, change_for, nothing, passes_end, relay_change_for, sends_for};
     ghost use Rattle.gw_core.specs.History.{IsStateAfter, IsStep, RoutesStand, TablesStand, WritesStand};
     ghost use Rattle.gw_core.specs.View.{admitted_view};
@@ -166,8 +177,8 @@ impl Gateway {
         })
     }
 
-    /// What outlives it, where this was configured of it ([`Origin::of`] its configuration). The only fault
-    /// is want of memory.
+    /// What of it outlives it. The origin is that of its configuration ([`Origin::of`]). The only fault is
+    /// want of memory.
     pub fn save(&self, alloc: Global, origin: &Origin) -> Result<Saved, AllocError>
         ensures { IfOk result (λ saved. saved ≡ saved_of origin.now self.now) }
     {
@@ -305,6 +316,31 @@ impl Gateway {
         ensures silent { NeedsNoMemory self.old (Datagram port from octets.now) → IsOk result }
         ensures err { OnErr result (self.new ≡ self.old) }
     {
+        match self.take(alloc, port, from, octets) {
+            Ok(taken) => Ok(taken.effects),
+            Err(fault) => Err(fault),
+        }
+    }
+
+    /// Does what [`Gateway::step`] does, and says why the datagram was dropped, if it was.
+    #[inline(always)]
+    pub(crate) fn take(
+        &mut self,
+        alloc: Global,
+        port: u8,
+        from: BipAddr,
+        octets: &[u8],
+    ) -> Result<Taken, StepFault>
+        ensures step { IfOk result
+            (λ taken. IsStep self.old (Datagram port from octets.now) taken.effects self.new) }
+        ensures drop { IfOk result
+            (λ taken. taken.drop ≡ drop_at self.old (Datagram port from octets.now)) }
+        ensures count_end { IsErrOf result StepFault.CountEnd
+            → passes_end self.old (Datagram port from octets.now) ≡ true }
+        // Memory only where something is asked or sent.
+        ensures silent { NeedsNoMemory self.old (Datagram port from octets.now) → IsOk result }
+        ensures err { OnErr result (self.new ≡ self.old) }
+    {
         let now = &*self;
         let arrival = Arrival { port, from, octets };
         let frame = gw_bvll::decode(octets);
@@ -312,6 +348,7 @@ impl Gateway {
         read_npdu(&frame, &mut npdu);
         let device = network_of(&now.device);
         let received = receive(now.relay.ports(), device, &arrival, &frame, &npdu);
+        let drop = received.drop_reason();
         let Outcome {
             sends,
             denials,
@@ -319,7 +356,10 @@ impl Gateway {
             write,
         } = now.outcome(alloc, &received)?;
         self.move_on(change, write, denials.len() as u64)?;
-        Ok(Effects { sends, denials })
+        Ok(Taken {
+            effects: Effects { sends, denials },
+            drop,
+        })
     }
 
     /// Appends a line for each ask that a datagram raises, allowed or denied, with the rule that decides

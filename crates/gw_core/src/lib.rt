@@ -4,6 +4,7 @@
 #![tactic(auto)]
 
 mod denial;
+mod drops;
 mod effects;
 mod event;
 mod explaining;

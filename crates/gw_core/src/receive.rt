@@ -11,8 +11,10 @@ ghost use Rattle.gw_npdu.specs.Reading.{npdu_at};
 ghost use Rattle.gw_relay.specs.Claim.{local_source};
 ghost use Rattle.gw_core.specs.Receive.{claims_direct, comes_in, is_direct, manages, payload_of, receive_on, receive_payload};
 ghost use Rattle.gw_core.specs.internal.Frame.{octets_in};
-ghost use Rattle.gw_core.specs.View.{received_view};
+ghost use Rattle.gw_core.specs.Drops.{drop_on, length_drop, payload_drop};
+ghost use Rattle.gw_core.specs.View.{drop_view, received_view};
 
+use crate::drops::DropReason;
 use gw_addr::laws::one_to_one;
 use gw_addr::{BipAddr, NetNum};
 use gw_bvll::{Bvll, BvllFault};
@@ -47,8 +49,8 @@ struct OwnNetworks<'a> {
 /// What a datagram is received as.
 #[derive(Clone, Copy)]
 pub enum Received<'a> {
-    /// Nothing: it has no sends and no denials, and changes nothing.
-    Dropped,
+    /// Nothing, for this reason: it has no sends and no denials, and changes nothing.
+    Dropped(DropReason),
     /// A frame that reads or changes a table of its port (Annex J.2.2, J.2.3, J.2.6 to J.2.8).
     Managed(TableMessage<'a>),
     /// A message of the network layer. Whether it is heard, and no unregistered sender's, is judged when it is
@@ -62,6 +64,18 @@ fn comes_in(own: BipAddr, from: BipAddr, octets: &[u8]) -> bool
 {
     one_to_one();
     octets.len() <= MAX_DATAGRAM && !own.is_same(from)
+}
+
+/// Why a datagram is dropped that doesn't come in.
+fn length_drop(own: BipAddr, from: BipAddr) -> DropReason
+    ensures { result ≡ length_drop own from }
+{
+    one_to_one();
+    if own.is_same(from) {
+        DropReason::Ignored
+    } else {
+        DropReason::Malformed
+    }
 }
 
 /// Whether a frame reads or changes a table of its port.
@@ -144,7 +158,7 @@ pub(crate) fn read_npdu<'a>(
 /// What a frame is received as that manages no table, with the NPDU that it brings: that is heard, or the frame is
 /// dropped.
 #[inline(always)]
-#[tactic(auto, unfolding(crate::specs::Receive::npdu_of))]
+#[tactic(auto, unfolding(crate::specs::Receive::npdu_of, crate::specs::Drops::npdu_drop))]
 fn receive_payload<'a>(
     own: &OwnNetworks<'_>,
     here: &'a PortState,
@@ -154,14 +168,16 @@ fn receive_payload<'a>(
 ) -> Received<'a>
     requires { let octets = unwrap_or (payload_of (frame_view frame.now)) [] in
         Gives npdu_view npdu.now (npdu_at octets) }
-    ensures { let frame = frame_view frame.now in
+    ensures received { let frame = frame_view frame.now in
         received_view result ≡ receive_payload own.now.ports.now own.now.device here.now from frame }
+    ensures drop { let frame = frame_view frame.now in
+        drop_view result ≡ payload_drop own.now.ports.now own.now.device here.now from frame }
 {
     let Some(octets) = payload_of(frame) else {
-        return Received::Dropped;
+        return Received::Dropped(DropReason::Ignored);
     };
     if octets.len() > MAX_NPDU {
-        return Received::Dropped;
+        return Received::Dropped(DropReason::Malformed);
     }
     match npdu {
         Ok(npdu) if !own.are_claimed(&npdu.source) => Received::Message(Message {
@@ -170,7 +186,8 @@ fn receive_payload<'a>(
             frame,
             npdu,
         }),
-        _ => Received::Dropped,
+        Ok(_) => Received::Dropped(DropReason::OwnNetwork),
+        Err(_) => Received::Dropped(DropReason::Malformed),
     }
 }
 
@@ -186,17 +203,19 @@ pub(crate) fn receive<'a>(
 ) -> Received<'a>
     requires frame { Gives frame_view frame.now (bvll_at arrival.now.octets.now) }
     requires npdu { Gives npdu_view npdu.now (npdu_at (octets_in frame.now)) }
-    ensures { let a = arrival.now in
+    ensures received { let a = arrival.now in
         received_view result ≡ receive_on ports.now device a.port a.from a.octets.now }
+    ensures drop { let a = arrival.now in
+        drop_view result ≡ drop_on ports.now device a.port a.from a.octets.now }
 {
     let Some(here) = link_at(ports, usize::from(arrival.port)) else {
-        return Received::Dropped;
+        return Received::Dropped(DropReason::Ignored);
     };
     if !comes_in(here.port.address, arrival.from, arrival.octets) {
-        return Received::Dropped;
+        return Received::Dropped(length_drop(here.port.address, arrival.from));
     }
     let Ok(frame) = frame else {
-        return Received::Dropped;
+        return Received::Dropped(DropReason::Malformed);
     };
     let from = arrival.from;
     if manages(frame) {
@@ -207,4 +226,18 @@ pub(crate) fn receive<'a>(
         device: device.get(),
     };
     receive_payload(&own, here, from, frame, npdu)
+}
+
+impl Received<'_> {
+    /// Why it is dropped, if it is: also a message that isn't heard.
+    pub(crate) fn drop_reason(&self) -> Option<DropReason>
+        ensures { result ≡ drop_view self.now }
+    {
+        match self {
+            Received::Dropped(why) => Some(*why),
+            Received::Managed(_) => None,
+            Received::Message(message) if message.here.accepts(message.from, message.frame) => None,
+            Received::Message(_) => Some(DropReason::NoPeer),
+        }
+    }
 }

@@ -6,8 +6,9 @@ ghost use Rattle.gw_addr.specs.declared.TheConstants.{MAX_PORTS};
 ghost use Rattle.gw_bdt_fdt.specs.Peers.{peers};
 ghost use Rattle.gw_bdt_fdt.specs.declared.bdt.TheConstants.{MAX_ENTRIES};
 ghost use Rattle.gw_core.specs.ReportTurn.{HasGoneOn};
-ghost use Rattle.gw_core.specs.Reports.{calls_text, events_text, field, peer_count, registrations, report_line, report_of, tables_text};
+ghost use Rattle.gw_core.specs.Reports.{calls_text, drops_text, events_text, field, peer_count, refusals_text, registrations, report_line, report_of, tables_text, tally_text};
 
+use crate::drops::Tally;
 use crate::event::Counts;
 use crate::gateway::Gateway;
 use crate::serving::Served;
@@ -38,6 +39,8 @@ pub(crate) struct Report {
     pub peers: u64,
     /// How many networks have a learned route.
     pub learned_routes: u64,
+    /// How many datagrams weren't passed on.
+    pub tally: Tally,
 }
 
 /// How many foreign devices are registered at the ports.
@@ -74,10 +77,10 @@ fn peer_count(links: &[PortState]) -> u64
     count
 }
 
-/// What is told of a gateway that began with these counts, when so much was done.
-pub(crate) fn report_of(start: Counts, gateway: &Gateway, served: &Served) -> Report
+/// What is reported of a gateway that began with these counts, when so much was done.
+pub(crate) fn report_of(start: Counts, gateway: &Gateway, served: &Served, tally: Tally) -> Report
     requires since { HasGoneOn start gateway.now served.now }
-    ensures { result ≡ report_of start gateway.now served.now }
+    ensures { result ≡ report_of start gateway.now served.now tally }
 {
     let counts = gateway.counts();
     let relay = gateway.relay();
@@ -93,6 +96,7 @@ pub(crate) fn report_of(start: Counts, gateway: &Gateway, served: &Served) -> Re
         registrations: registrations(relay.ports()),
         peers: peer_count(relay.ports()),
         learned_routes: relay.routes().learned_count() as u64,
+        tally,
     }
 }
 
@@ -142,6 +146,39 @@ fn write_tables<S: OctetSink>(report: &Report, sink: &mut S) -> Result<(), Write
     write_field(" learned_routes=", report.learned_routes as u128, sink)
 }
 
+/// Writes how many datagrams the policy kept out.
+fn write_refusals<S: OctetSink>(tally: &Tally, sink: &mut S) -> Result<(), WriteFailed>
+    ensures ok { OnOk result
+        (Appends (S.held sink.old) (S.held sink.new) (refusals_text tally.now)) }
+    ensures sure { S.NeverFails sink.old → IsOk result }
+    ensures lasts { S.NeverFails sink.old → S.NeverFails sink.new }
+{
+    write_field(" enter_refusals=", tally.enter as u128, sink)?;
+    write_field(" claim_refusals=", tally.claim as u128, sink)
+}
+
+/// Writes how many datagrams were dropped before the policy was asked.
+fn write_drops<S: OctetSink>(tally: &Tally, sink: &mut S) -> Result<(), WriteFailed>
+    ensures ok { OnOk result (Appends (S.held sink.old) (S.held sink.new) (drops_text tally.now)) }
+    ensures sure { S.NeverFails sink.old → IsOk result }
+    ensures lasts { S.NeverFails sink.old → S.NeverFails sink.new }
+{
+    write_field(" malformed=", tally.malformed as u128, sink)?;
+    write_field(" own_network=", tally.own_network as u128, sink)?;
+    write_field(" no_peer=", tally.no_peer as u128, sink)
+}
+
+/// Writes how many datagrams weren't passed on, and ends the line.
+fn write_tally<S: OctetSink>(tally: &Tally, sink: &mut S) -> Result<(), WriteFailed>
+    ensures ok { OnOk result (Appends (S.held sink.old) (S.held sink.new) (tally_text tally.now)) }
+    ensures sure { S.NeverFails sink.old → IsOk result }
+    ensures lasts { S.NeverFails sink.old → S.NeverFails sink.new }
+{
+    write_refusals(tally, sink)?;
+    write_drops(tally, sink)?;
+    write_whole(sink, b"\n")
+}
+
 /// Writes the line of a report.
 fn write_report<S: OctetSink>(report: &Report, sink: &mut S) -> Result<(), WriteFailed>
     ensures ok { OnOk result
@@ -152,7 +189,7 @@ fn write_report<S: OctetSink>(report: &Report, sink: &mut S) -> Result<(), Write
     write_events(report, sink)?;
     write_calls(report, sink)?;
     write_tables(report, sink)?;
-    write_whole(sink, b"\n")
+    write_tally(&report.tally, sink)
 }
 
 /// Tells a report. Where it can't be written it is left out, and serving goes on all the same.

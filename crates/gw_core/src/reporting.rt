@@ -4,9 +4,11 @@ ghost use Rattle.std.specs.Prelude.{◌≡◌, ◌+◌, ◌<◌, ◌^◌, ℕ, L
 ghost use Rattle.std.specs.Io.KnownBytes.{Appends};
 ghost use Rattle.gw_core.specs.ReportTurn.{HasGoneOn};
 ghost use Rattle.gw_core.specs.Reports.{IsRunWith, counts_at, due_text, reports_from, told_of};
-ghost use Rattle.gw_core.specs.Serve.{counts_of_answer, scene, zero_counts};
+ghost use Rattle.gw_core.specs.Drops.{no_tally, tally_from};
+ghost use Rattle.gw_core.specs.Serve.{counts_of_answer, events_of, scene, zero_counts};
 ghost use Rattle.gw_core.specs.State.{State};
 
+use crate::drops::Tally;
 use crate::event::Counts;
 use crate::gateway::Gateway;
 use crate::report::{report_of, tell_report};
@@ -52,9 +54,9 @@ pub fn serve_with_reports<W: Wire, L: OctetSink, R: OctetSink>(
         start: gateway.counts(),
         seconds,
     };
-    let answer = schedule.serve_turns(alloc, gateway, wire, log, reports, turns);
+    let Ran { answer, tally } = schedule.serve_turns(alloc, gateway, wire, log, reports, turns);
     let served = served_of(&answer);
-    let report = report_of(schedule.start, gateway, &served);
+    let report = report_of(schedule.start, gateway, &served, tally);
     tell_report(&report, reports);
     answer
 }
@@ -67,6 +69,13 @@ fn served_of(answer: &Result<Served, ServeStop>) -> Served
         Ok(served) => *served,
         Err(stop) => stop.served,
     }
+}
+
+/// What a run answers, and how many datagrams weren't passed on in its turns.
+#[derive(Drop)]
+struct Ran {
+    answer: Result<Served, ServeStop>,
+    tally: Tally,
 }
 
 /// When a report is due: the counts of the gateway at first, and the seconds from one to the next.
@@ -82,19 +91,19 @@ impl Schedule {
         &self,
         ticks: u64,
         gateway: &Gateway,
-        served: &Served,
+        state: &ServeState,
         reports: &mut R,
     )
         requires seconds { 0 < self.now.seconds }
-        requires since { HasGoneOn self.now.start gateway.now served.now }
+        requires since { HasGoneOn self.now.start gateway.now state.now.served }
         ensures told { (before : State) → before.ticks ≡ ticks → R.NeverFails reports.old →
             Appends (R.held reports.old) (R.held reports.new)
-            (due_text self.now.seconds self.now.start before gateway.now served.now) }
+            (due_text self.now.seconds self.now.start before gateway.now state.now.served state.now.tally) }
         ensures lasts { R.NeverFails reports.old → R.NeverFails reports.new }
     {
         let now = gateway.counts().ticks;
         if ticks < now && (now - self.start.ticks) % self.seconds == 0 {
-            let report = report_of(self.start, gateway, served);
+            let report = report_of(self.start, gateway, &state.served, state.tally);
             tell_report(&report, reports);
         }
     }
@@ -108,38 +117,45 @@ impl Schedule {
         log: &mut L,
         reports: &mut R,
         turns: u64,
-    ) -> Result<Served, ServeStop>
+    ) -> Ran
         requires seconds { 0 < self.now.seconds }
         requires start { self.now.start ≡ counts_at gateway.old }
         requires turns { turns < 2 ^ 63 }
         requires failures { W.failure_count wire.old < 2 ^ 127 }
         ensures run { let before = scene gateway.old (L.held log.old) (W.calls wire.old) in
             let after = scene gateway.new (L.held log.new) (W.calls wire.new) in
-            IsRunWith turns before result after (λ run. R.NeverFails reports.old →
+            IsRunWith turns before result.answer after (λ run.
+            (result.tally ≡ tally_from gateway.old no_tally (events_of run)) × (R.NeverFails reports.old →
             Appends (R.held reports.old) (R.held reports.new)
-            (reports_from self.now.seconds self.now.start gateway.old zero_counts run)) }
-        ensures since { HasGoneOn self.now.start gateway.new (counts_of_answer result) }
-        ensures failures { let served = counts_of_answer result in
+            (reports_from self.now.seconds self.now.start gateway.old zero_counts no_tally run))) }
+        ensures since { HasGoneOn self.now.start gateway.new (counts_of_answer result.answer) }
+        ensures failures { let served = counts_of_answer result.answer in
             W.failure_count wire.new
             ≡ W.failure_count wire.old + served.recv_failures + served.send_failures }
         ensures ports { W.port_count wire.new ≡ W.port_count wire.old }
         ensures sure_log { L.NeverFails log.old →
-            IfErr result (λ stop. ¬ (stop.fault ≡ ServeFault.Log)) }
+            IfErr result.answer (λ stop. ¬ (stop.fault ≡ ServeFault.Log)) }
         ensures lasting_reports { R.NeverFails reports.old → R.NeverFails reports.new }
     {
         let mut state = ServeState::new(alloc);
         for _ in 0..turns {
             let ticks = gateway.counts().ticks;
             match state.take_turn(alloc, gateway, wire, log) {
-                Ok(()) => self.report_due(ticks, gateway, &state.served, reports),
+                Ok(()) => self.report_due(ticks, gateway, &state, reports),
                 Err(fault) => {
-                    return Err(ServeStop {
-                        fault,
-                        served: state.served,
-                    });
+                    return Ran {
+                        answer: Err(ServeStop {
+                            fault,
+                            served: state.served,
+                        }),
+                        tally: state.tally,
+                    };
                 }
             }
         }
-        Ok(state.served)
+        Ran {
+            answer: Ok(state.served),
+            tally: state.tally,
+        }
     }
 }

@@ -224,7 +224,7 @@ pub(crate) fn respond<A: Asker>(
         sends_for rules relay.now device.now due ≡ [] → IsOk result }
 {
     match received {
-        Received::Dropped => Ok(None),
+        Received::Dropped(_) => Ok(None),
         Received::Managed(message) => {
             relay.add_link(message, turn)?;
             Ok(None)

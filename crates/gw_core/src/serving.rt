@@ -2,14 +2,16 @@
 //! sent.
 
 ghost use Rattle.std.specs.Prelude.{◌≡◌, ◌+◌, ◌-◌, ◌<◌, ◌≤◌, ◌^◌, ◌∷◌, ◌++◌, [], length, IfOk, IfErr, IsErrOf, OnOk};
+ghost use Rattle.gw_core.specs.Drops.{IsBelow, no_tally};
 ghost use Rattle.gw_core.specs.ServeTurn.{AreTried, HasRoom, LogEnd, TurnEnd, event_answer, wire_counts};
 ghost use Rattle.gw_core.specs.Serve.{ServesAll, Stops, counts_of_answer, lines_of, scene, zero_counts};
 ghost use Rattle.gw_core.specs.Served.{IsServing};
 ghost use Rattle.gw_core.specs.Wire.{Tells, failures_of, receive_call};
 ghost use Rattle.gw_relay.specs.Sends.{sendings_of};
 
+use crate::drops::Tally;
 use crate::fault::StepFault;
-use crate::gateway::Gateway;
+use crate::gateway::{Gateway, Taken};
 use crate::whole_run::take_event;
 use crate::wire::{Got, RECEIVE_ROOM, Wire, WireFault};
 use gw_audit::{Denials, line};
@@ -118,17 +120,21 @@ pub(crate) struct ServeState {
     lines: Vec<u8>,
     /// What was done so far.
     pub(crate) served: Served,
+    /// How many datagrams weren't passed on, in whole turns.
+    pub(crate) tally: Tally,
 }
 
 impl ServeState {
     /// Before the first turn.
     pub(crate) fn new(alloc: Global) -> Self
-        ensures { result.served ≡ zero_counts }
+        ensures served { result.served ≡ zero_counts }
+        ensures tally { result.tally ≡ no_tally }
     {
         ServeState {
             datagram: [0; RECEIVE_ROOM],
             lines: Vec::new(alloc),
             served: Served::default(),
+            tally: Tally::default(),
         }
     }
 
@@ -141,9 +147,11 @@ impl ServeState {
         log: &mut L,
     ) -> Result<(), ServeFault>
         requires room { HasRoom self.old.served (W.failure_count wire.old) }
+        requires below { IsBelow self.old.served.taken self.old.tally }
         ensures end { let before = scene gateway.old (L.held log.old) (W.calls wire.old) in
             let after = scene gateway.new (L.held log.new) (W.calls wire.new) in
-            TurnEnd before self.old.served after self.new.served result }
+            TurnEnd before self.old.served self.old.tally after self.new.served self.new.tally result }
+        ensures below { IsBelow self.new.served.taken self.new.tally }
         ensures failures { let was = self.old.served in
             let is = self.new.served in
             W.failure_count wire.new + was.recv_failures + was.send_failures
@@ -162,8 +170,8 @@ impl ServeState {
                 return Ok(());
             }
         };
-        let effects = match take_event(alloc, gateway, &event) {
-            Ok(effects) => effects,
+        let Taken { effects, drop } = match take_event(alloc, gateway, &event) {
+            Ok(taken) => taken,
             Err(StepFault::Memory) => {
                 self.served.memory_drops += 1;
                 return Ok(());
@@ -172,6 +180,7 @@ impl ServeState {
         };
         self.served.taken += 1;
         log_denials(&mut self.lines, log, &effects.denials)?;
+        self.tally.count(drop, &effects.denials);
         try_sends(wire, &effects.sends, &mut self.served);
         Ok(())
     }

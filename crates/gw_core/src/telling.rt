@@ -117,7 +117,7 @@ fn append_step(
 {
     let taken = take_event(alloc, gateway, event);
     let effects = match &taken {
-        Ok(effects) => effects,
+        Ok(taken) => &taken.effects,
         Err(StepFault::Memory) => return Err(RunFault::Memory),
         Err(StepFault::CountEnd) => return Err(RunFault::CountEnd),
     };

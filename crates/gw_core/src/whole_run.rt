@@ -2,12 +2,13 @@
 
 ghost use Rattle.std.specs.Prelude.{◌≡◌, ℕ, IfOk, IsOk, IsErrOf, OnOk, OnErr, map, false, true};
 ghost use Rattle.gw_script.specs.Event.{event_view};
+ghost use Rattle.gw_core.specs.Drops.{drop_at};
 ghost use Rattle.gw_core.specs.Effects.{NeedsNoMemory, effects_at, passes_end};
 ghost use Rattle.gw_core.specs.History.{HasTaken, StopsAtEnd, next, run_from, state_from};
 
 use crate::effects::Effects;
 use crate::fault::StepFault;
-use crate::gateway::Gateway;
+use crate::gateway::{Gateway, Taken};
 use gw_script::Event;
 use std::alloc::Global;
 
@@ -17,8 +18,10 @@ pub(crate) fn take_event(
     alloc: Global,
     gateway: &mut Gateway,
     event: &Event<'_>,
-) -> Result<Effects, StepFault>
-    ensures given { IfOk result (λ given. given ≡ effects_at gateway.old (event_view event.now)) }
+) -> Result<Taken, StepFault>
+    ensures given { IfOk result
+        (λ taken. taken.effects ≡ effects_at gateway.old (event_view event.now)) }
+    ensures drop { IfOk result (λ taken. taken.drop ≡ drop_at gateway.old (event_view event.now)) }
     ensures moved { OnOk result (gateway.new ≡ next gateway.old (event_view event.now)) }
     ensures within { IsOk result → passes_end gateway.old (event_view event.now) ≡ false }
     ensures count_end { IsErrOf result StepFault.CountEnd →
@@ -28,10 +31,13 @@ pub(crate) fn take_event(
     ensures err { OnErr result (gateway.new ≡ gateway.old) }
 {
     match event {
-        Event::Datagram { port, from, octets } => gateway.step(alloc, *port, *from, octets),
+        Event::Datagram { port, from, octets } => gateway.take(alloc, *port, *from, octets),
         Event::Tick => {
             gateway.tick()?;
-            Ok(Effects::none(alloc))
+            Ok(Taken {
+                effects: Effects::none(alloc),
+                drop: None,
+            })
         }
     }
 }
@@ -55,7 +61,7 @@ pub fn run(
     let mut given = Vec::new(alloc);
     let mut rest = events;
     while let [event, later @ ..] = rest {
-        let effects = take_event(alloc, gateway, event)?;
+        let Taken { effects, drop: _ } = take_event(alloc, gateway, event)?;
         if given.push(effects).is_err() {
             return Err(StepFault::Memory);
         }

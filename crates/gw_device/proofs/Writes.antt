@@ -11,7 +11,7 @@ use Rattle.gw_apdu.specs.declared.header.Header.TheVariants as header
 use Rattle.gw_apdu.specs.Apdu.{Fields as Apdu}
 use Rattle.gw_apdu.specs.Reading.{apdu_at}
 use Rattle.gw_objects.specs.Objects.{Database}
-use Rattle.gw_objects.specs.Write.{CanAct, Write}
+use Rattle.gw_objects.specs.Write.{Write, write_of}
 use Rattle.gw_objects.proofs.Others.{ok_is}
 use Rattle.gw_objects.proofs.Priorities.{writes_can_be_made}
 use Rattle.gw_priority.specs.Commandable.{IsPriority}
@@ -31,7 +31,7 @@ use Rattle.gw_services.specs.Write.{Write as Request, write_at}
 use Rattle.gw_tags.specs.Number.{unsigned_of}
 use Rattle.gw_tags.specs.Object.{Object}
 use Rattle.gw_device.specs.declared.context.Context.{Context}
-use Rattle.gw_device.specs.Device.{apdu_response, header_response, or_reject, or_silence, service_response}
+use Rattle.gw_device.specs.Device.{apdu_response, device_change, header_response, or_reject, or_silence, service_response}
 use Rattle.gw_device.specs.Laws.{ChangesCanBeMade}
 use Rattle.gw_device.specs.Multi.{multi_response}
 use Rattle.gw_device.specs.Read.{read_response}
@@ -84,55 +84,60 @@ request_fits octets w e =
 
 -- ---- the change
 
--- a change that can be made
-abbrev Makes : Response → Type 0
-Makes due = (write : Write) → due.change ≡ Some write → CanAct write.act
+-- a write is what a request asks for, which names a priority of 1 to 16, or none
+pub record IsAsked (d : Database) (write : Write) : Type 0 where
+  pub request : Request
+  pub fits : Fits request.priority
+  pub is : write_of d.configured request.object request.property request.index (priority_of request.priority) request.value ≡ Ok write
 
-makes_if : (b : Bool) (x y : Response) → Makes x → Makes y → Makes (if b then x else y)
-makes_if true x y f g = f
-makes_if false x y f g = g
+abbrev Makes : Database → Response → Type 0
+Makes d due = (write : Write) → due.change ≡ Some write → IsAsked d write
 
-makes_reject : {B : Type 0} (invoke : ℕ) (respond : B → Response) (body : Result B BodyFault) → ((b : B) → body ≡ Ok b → Makes (respond b))
-    → Makes (or_reject invoke respond body)
-makes_reject invoke respond (Ok b) each = each b refl
-makes_reject invoke respond (Err fault) each = λ write e. absurd (no_some write e)
+makes_if : (d : Database) (b : Bool) (x y : Response) → Makes d x → Makes d y → Makes d (if b then x else y)
+makes_if d true x y f g = f
+makes_if d false x y f g = g
+
+makes_reject : {B : Type 0} (d : Database) (invoke : ℕ) (respond : B → Response) (body : Result B BodyFault)
+    → ((b : B) → body ≡ Ok b → Makes d (respond b)) → Makes d (or_reject invoke respond body)
+makes_reject d invoke respond (Ok b) each = each b refl
+makes_reject d invoke respond (Err fault) each = λ write e. absurd (no_some write e)
 
 makes_write : (rules : List Rule) (d : Database) (context : Context) (invoke : ℕ) (request : Request) → Fits request.priority
-    → Makes (write_response rules d context invoke request)
+    → Makes d (write_response rules d context invoke request)
 makes_write rules d context invoke request fits write e =
-    writes_can_be_made d.configured request.object request.property request.index (priority_of request.priority) request.value write fits
-    (changed_by (allows rules (write_ask d context request)) _ write e)
+    record { request = request; fits = fits; is = changed_by (allows rules (write_ask d context request)) _ write e }
 
 makes_service : (rules : List Rule) (d : Database) (context : Context) (request : ConfirmedRequest) (body : List ℕ)
-    → Makes (service_response rules d context request body)
+    → Makes d (service_response rules d context request body)
 makes_service rules d context request body =
-    makes_if (request.service == read_property) _ _
-    (makes_reject request.invoke (read_response rules d context request) (read_at body) (λ read is write e. absurd (no_some write e)))
-    (makes_if (request.service == read_property_multiple) _ _
-    (makes_reject request.invoke (multi_response rules d context request) (multi_at body) (λ rs is write e. absurd (no_some write e)))
-    (makes_if (request.service == write_property) _ _
-    (makes_reject request.invoke (write_response rules d context request.invoke) (write_at body)
+    makes_if d (request.service == read_property) _ _
+    (makes_reject d request.invoke (read_response rules d context request) (read_at body) (λ read is write e. absurd (no_some write e)))
+    (makes_if d (request.service == read_property_multiple) _ _
+    (makes_reject d request.invoke (multi_response rules d context request) (multi_at body) (λ rs is write e. absurd (no_some write e)))
+    (makes_if d (request.service == write_property) _ _
+    (makes_reject d request.invoke (write_response rules d context request.invoke) (write_at body)
     (λ asked is. makes_write rules d context request.invoke asked (request_fits body asked is)))
     (λ write e. absurd (no_some write e))))
 
-makes_silenced : {B : Type 0} (respond : B → Response) (body : Result B BodyFault) → ((b : B) → Makes (respond b)) → Makes (or_silence respond body)
-makes_silenced respond (Ok b) each = each b
-makes_silenced respond (Err fault) each = λ write e. absurd (no_some write e)
+makes_silenced : {B : Type 0} (d : Database) (respond : B → Response) (body : Result B BodyFault) → ((b : B) → Makes d (respond b))
+    → Makes d (or_silence respond body)
+makes_silenced d respond (Ok b) each = each b
+makes_silenced d respond (Err fault) each = λ write e. absurd (no_some write e)
 
-makes_object : (rules : List Rule) (d : Database) (context : Context) (sought : Option Object) → Makes (object_response rules d context sought)
+makes_object : (rules : List Rule) (d : Database) (context : Context) (sought : Option Object) → Makes d (object_response rules d context sought)
 makes_object rules d context None = λ write e. absurd (no_some write e)
 makes_object rules d context (Some object) = λ write e. absurd (no_some write e)
 
-makes_header : (rules : List Rule) (d : Database) (context : Context) (by : Header) (body : List ℕ) → Makes (header_response rules d context by body)
+makes_header : (rules : List Rule) (d : Database) (context : Context) (by : Header) (body : List ℕ) → Makes d (header_response rules d context by body)
 makes_header rules d context (header.ConfirmedRequest request) body =
-    makes_if context.broadcast _ _ (λ write e. absurd (no_some write e))
-    (makes_if (is_some request.segment) _ _ (λ write e. absurd (no_some write e)) (makes_service rules d context request body))
+    makes_if d context.broadcast _ _ (λ write e. absurd (no_some write e))
+    (makes_if d (is_some request.segment) _ _ (λ write e. absurd (no_some write e)) (makes_service rules d context request body))
 makes_header rules d context (header.UnconfirmedRequest service) body =
-    makes_if (service == who_has) _ _ (makes_silenced (who_has_response rules d context) (who_has_at body)
-    (λ request. makes_if (is_within request.limits d.configured.device.instance) _ _
+    makes_if d (service == who_has) _ _ (makes_silenced d (who_has_response rules d context) (who_has_at body)
+    (λ request. makes_if d (is_within request.limits d.configured.device.instance) _ _
     (makes_object rules d context (sought_object d.configured request.sought)) (λ write e. absurd (no_some write e))))
-    (makes_if (service == who_is) _ _ (makes_silenced (who_is_response rules d context) (who_is_at body)
-    (λ request. makes_if (is_within request.limits d.configured.device.instance) _ _ (λ write e. absurd (no_some write e)) (λ write e. absurd (no_some write e))))
+    (makes_if d (service == who_is) _ _ (makes_silenced d (who_is_response rules d context) (who_is_at body)
+    (λ request. makes_if d (is_within request.limits d.configured.device.instance) _ _ (λ write e. absurd (no_some write e)) (λ write e. absurd (no_some write e))))
     (λ write e. absurd (no_some write e)))
 makes_header rules d context (header.SimpleAck invoke service) body = λ write e. absurd (no_some write e)
 makes_header rules d context (header.ComplexAck segment invoke service) body = λ write e. absurd (no_some write e)
@@ -141,9 +146,17 @@ makes_header rules d context (header.Error invoke service) body = λ write e. ab
 makes_header rules d context (header.Reject invoke reason) body = λ write e. absurd (no_some write e)
 makes_header rules d context (header.Abort invoke reason) body = λ write e. absurd (no_some write e)
 
-makes_apdu : (rules : List Rule) (d : Database) (context : Context) (apdu : Result Apdu ApduFault) → Makes (apdu_response rules d context apdu)
+makes_apdu : (rules : List Rule) (d : Database) (context : Context) (apdu : Result Apdu ApduFault) → Makes d (apdu_response rules d context apdu)
 makes_apdu rules d context (Ok apdu) = makes_header rules d context apdu.header apdu.rest
 makes_apdu rules d context (Err fault) = λ write e. absurd (no_some write e)
 
+-- every write that the device makes is asked for
+pub changes_are_asked : (rules : List Rule) (d : Database) (context : Context) (octets : List ℕ) (write : Write)
+    → device_change rules d context octets ≡ Some write → IsAsked d write
+changes_are_asked rules d context octets = makes_apdu rules d context (apdu_at octets)
+
 pub changes_can_be_made : ChangesCanBeMade
-changes_can_be_made rules d context octets = makes_apdu rules d context (apdu_at octets)
+changes_can_be_made rules d context octets write e =
+    let asked = changes_are_asked rules d context octets write e in
+    let request = asked.request in
+    writes_can_be_made d.configured request.object request.property request.index (priority_of request.priority) request.value write asked.fits asked.is

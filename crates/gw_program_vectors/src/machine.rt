@@ -104,13 +104,14 @@ impl Wire for MemSockets {
 type Closed = (MemSockets, Option<MemWriter>);
 
 /// A machine in memory: its log takes so many octets, or can't be opened, and may end in a line that
-/// was cut; and the broadcast socket of one port may fail. It keeps what was closed.
+/// was cut; the broadcast socket of one port may fail; and it may route IP. It keeps what was closed.
 #[derive(Drop)]
 struct MemHost {
     alloc: Global,
     log: Option<usize>,
     is_cut: bool,
     failing: Option<usize>,
+    routes: bool,
     closed: Option<Closed>,
 }
 
@@ -125,6 +126,8 @@ impl Host for MemHost {
 
     ghost SocketsOpen = { λ _ _ _. ⊤ };
 
+    ghost RoutesIp = { λ host routes. host.routes ≡ routes };
+
     ghost Closes = { λ host sockets log. host.closed ≡ Some (sockets, log) };
 
     fn open_log(&self, _name: &str) -> Result<MemWriter, LogFailure> {
@@ -136,6 +139,12 @@ impl Host for MemHost {
 
     fn is_cut(&self, _name: &str) -> bool {
         self.is_cut
+    }
+
+    fn routes_ip(&self) -> bool
+        ensures { self.now.routes ≡ result }
+    {
+        self.routes
     }
 
     fn open_sockets(&self, _alloc: Global, ports: &[Port]) -> Result<MemSockets, SocketFailure> {
@@ -209,6 +218,7 @@ fn run_with(alloc: Global, config: &str, section: &str, room: usize) -> Result<L
         log: number_behind(lines, '\n', "log "),
         is_cut: has_line(lines, "cut log"),
         failing: number_behind(lines, '\n', "failing port "),
+        routes: has_line(lines, "routes ip"),
         closed: None,
     };
     let fails = has_line(lines, "input fails");

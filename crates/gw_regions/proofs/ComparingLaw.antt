@@ -18,7 +18,7 @@ use Rattle.gw_rules.specs.declared.field.TheConstants.FieldName.{ALL}
 use Rattle.gw_rules.specs.declared.range.Range.{Range}
 use Rattle.gw_rules.specs.declared.rule.Rule.{Rule}
 use Rattle.gw_rules.specs.RuleList.{allows}
-use Rattle.gw_regions.specs.Comparing.{AreSame, AreUnlike, IsComparison, WasDecided, differs, is_found, unlike}
+use Rattle.gw_regions.specs.Comparing.{AreDeciders, AreSame, AreUnlike, IsComparison, IsDecided, IsFoundFor, WasDecided, differs, is_found, unlike}
 use Rattle.gw_regions.specs.Deciding.{decided, decided_by, rules_at}
 use Rattle.gw_regions.specs.Regions.{IsParted, Region, lies, lies_in_one}
 use Rattle.gw_regions.specs.declared.comparison.Found.{Found}
@@ -78,20 +78,39 @@ unlike_not : (a b : Bool) → a ≡ not b → unlike a b ≡ true
 unlike_not a true e = ap (λ x. unlike x true) e
 unlike_not a false e = ap (λ x. unlike x false) e
 
+decided_differs : (old new : List Rule) (f : Found) (ask : Ask) → IsDecided old new f ask → differs old new ask ≡ true
+decided_differs old new f ask is = unlike_not (allows old ask) (allows new ask) (is.by_old ∙ ap not (sym is.by_new))
+
+-- what is said of a region holds for what is found of it
+pub decided_in : (old new : List Rule) (region : Region) (allows : Bool) (f : Found) → f.region ≡ region → f.allows ≡ allows
+    → AreDeciders old region f.old_rules.items → AreDeciders new region f.new_rules.items → AreUnlike old new region allows
+    → (ask : Ask) → lies f.region ask ≡ true → IsDecided old new f ask
+decided_in old new region says f is said by_old by_new unlike ask there =
+    let here : lies region ask ≡ true = sym (ap (λ (r : Region). lies r ask) is) ∙ there in
+    let answers = unlike ask here in
+    record {
+      by_old = answers.0 ∙ ap not (sym said);
+      by_new = answers.1 ∙ sym said;
+      old_rule = by_old ask here;
+      new_rule = by_new ask here;
+    }
+
 all_push : {A : Type 0} (P : A → Type 0) (xs : List A) (x : A) → AllByRecursion P xs → P x → AllByRecursion P (xs ++ x ∷ [])
 all_push P [] x all last = (last, tt)
 all_push P (y ∷ ys) x all last = (all.0, all_push P ys x all.1 last)
 
-pub found_unlike : (shapes : List Region) (old new : List Rule) (found : List Found) (left : List Region) (f : Found) → AreUnlike old new f.region f.allows
+pub found_unlike : (shapes : List Region) (old new : List Rule) (found : List Found) (left : List Region) (f : Found)
+    → ((ask : Ask) → lies f.region ask ≡ true → IsDecided old new f ask)
     → (lies f.region f.ask && lies_in_one shapes f.ask) ≡ true
     → IsComparison shapes old new found (left ++ f.region ∷ []) → IsComparison shapes old new (found ++ f ∷ []) left
-found_unlike shapes old new found left f differ holds was = record {
+found_unlike shapes old new found left f decided holds was = record {
   exact = λ ask in_shape. was.exact ask in_shape
       ∙ ap (λ b. is_found found ask || (b && differs old new ask)) (last_one left f.region ask)
       ∙ with_unlike (is_found found ask) (lies_in_one left ask) (lies f.region ask) (differs old new ask)
-      (λ there. let at = differ ask there in unlike_not (allows old ask) (allows new ask) (at.0 ∙ ap not (sym at.1)))
+      (λ there. decided_differs old new f ask (decided ask there))
       ∙ sym (ap (λ b. b || (lies_in_one left ask && differs old new ask)) (one_more ask));
-  verdicts = all_push (λ f. AreUnlike old new f.region f.allows) found f was.verdicts differ;
+  verdicts = all_push (λ f. (ask : Ask) → true ≡ true → lies f.region ask ≡ true → IsDecided old new f ask) found f was.verdicts
+      (λ ask passes there. decided ask there);
   asks = all_push (λ f. (lies f.region f.ask && lies_in_one shapes f.ask) ≡ true) found f was.asks holds;
 }
   where
@@ -123,9 +142,26 @@ in_parts shapes old new found left outer rule region within parted was = record 
 
 -- ---- the same rule
 
-all_same : (one two : FieldName → Bool) → ((field : FieldName) → one field ≡ two field) → (fields : List FieldName) → list_all one fields ≡ list_all two fields
+pub all_same : (one two : FieldName → Bool) → ((field : FieldName) → one field ≡ two field) → (fields : List FieldName) → list_all one fields ≡ list_all two fields
 all_same one two e [] = refl
 all_same one two e (f ∷ fs) = ap (λ b. b && list_all one fs) (e f) ∙ ap (λ b. two f && b) (all_same one two e fs)
+
+-- what holds at each place of the list of all fields holds for each field
+pub every_field : (P : FieldName → Type 0) → ((k : ℕ) (d : FieldName) → k < 12 → P (get_or ALL k d)) → (field : FieldName) → P field
+every_field P at field = elim field as (λ f. P f) [
+  | Operation ↦ at 0 Operation (omega arith)
+  | Port ↦ at 1 Operation (omega arith)
+  | SourceNetwork ↦ at 2 Operation (omega arith)
+  | SourceKey ↦ at 3 Operation (omega arith)
+  | DestinationNetwork ↦ at 4 Operation (omega arith)
+  | Service ↦ at 5 Operation (omega arith)
+  | ObjectType ↦ at 6 Operation (omega arith)
+  | Instance ↦ at 7 Operation (omega arith)
+  | Property ↦ at 8 Operation (omega arith)
+  | Priority ↦ at 9 Operation (omega arith)
+  | Sender ↦ at 10 Operation (omega arith)
+  | Station ↦ at 11 Operation (omega arith)
+]
 
 -- rules with the same ranges in each field match the same asks
 pub same_matches : (a b : Rule) → ((k : ℕ) (d : FieldName) → k < 12 → ranges_of (get_or ALL k d) a ≡ ranges_of (get_or ALL k d) b)
@@ -133,23 +169,7 @@ pub same_matches : (a b : Rule) → ((k : ℕ) (d : FieldName) → k < 12 → ra
 unfolding matches
 same_matches a b same ask =
     all_same (λ f. admits (ranges_of f a) (value_of f ask)) (λ f. admits (ranges_of f b) (value_of f ask))
-    (λ f. ap (λ (rs : List Range). admits rs (value_of f ask)) (each f)) ALL
-  where
-    each : (field : FieldName) → ranges_of field a ≡ ranges_of field b
-    each field = elim field as (λ f. ranges_of f a ≡ ranges_of f b) [
-      | Operation ↦ same 0 Operation (omega arith)
-      | Port ↦ same 1 Operation (omega arith)
-      | SourceNetwork ↦ same 2 Operation (omega arith)
-      | SourceKey ↦ same 3 Operation (omega arith)
-      | DestinationNetwork ↦ same 4 Operation (omega arith)
-      | Service ↦ same 5 Operation (omega arith)
-      | ObjectType ↦ same 6 Operation (omega arith)
-      | Instance ↦ same 7 Operation (omega arith)
-      | Property ↦ same 8 Operation (omega arith)
-      | Priority ↦ same 9 Operation (omega arith)
-      | Sender ↦ same 10 Operation (omega arith)
-      | Station ↦ same 11 Operation (omega arith)
-    ]
+    (λ f. ap (λ (rs : List Range). admits rs (value_of f ask)) (every_field (λ g. ranges_of g a ≡ ranges_of g b) same f)) ALL
 
 -- ---- a comparison
 
@@ -159,30 +179,35 @@ unlike_never true false e = e
 unlike_never false b e = sym e
 
 -- an ask that isn't left
-pub exact_known : (shapes : List Region) (old new : List Rule) (found : List Found) (left : List Region) → IsComparison shapes old new found left
+pub exact_known : (test : Ask → Bool) (shapes : List Region) (old new : List Rule) (found : List Found) (left : List Region) → IsFoundFor test shapes old new found left
     → (ask : Ask) → lies_in_one shapes ask ≡ true → lies_in_one left ask ≡ false → differs old new ask ≡ is_found found ask
-exact_known shapes old new found left is ask there known =
+exact_known test shapes old new found left is ask there known =
     is.exact ask there ∙ ap (λ b. is_found found ask || (b && differs old new ask)) known ∙ or_none (is_found found ask)
 
-pub alike_finished : (shapes : List Region) (old new : List Rule) → IsComparison shapes old new [] []
+pub alike_finished : (test : Ask → Bool) (shapes : List Region) (old new : List Rule) → IsFoundFor test shapes old new [] []
     → (ask : Ask) → lies_in_one shapes ask ≡ true → allows old ask ≡ allows new ask
-alike_finished shapes old new is ask there = unlike_never (allows old ask) (allows new ask) (exact_known shapes old new [] [] is ask there refl)
+alike_finished test shapes old new is ask there =
+    unlike_never (allows old ask) (allows new ask) (exact_known test shapes old new [] [] is ask there refl)
 
 -- an ask of a region that was found
-pub found_differs : (old new : List Rule) (found : List Found) → AllByRecursion (λ f. AreUnlike old new f.region f.allows) found
-    → (ask : Ask) → is_found found ask ≡ true → differs old new ask ≡ true
-found_differs old new [] verdicts ask t = absurd (both_ways false refl t)
-found_differs old new (f ∷ fs) verdicts ask t = elim (or_cases (lies f.region ask) (is_found fs ask) t) [
-  | inl there ↦ let at = verdicts.0 ask there in unlike_not (allows old ask) (allows new ask) (at.0 ∙ ap not (sym at.1))
-  | inr later ↦ found_differs old new fs verdicts.1 ask later
+pub found_differs : (test : Ask → Bool) (old new : List Rule) (found : List Found)
+    → AllByRecursion (λ f. (ask : Ask) → test ask ≡ true → lies f.region ask ≡ true → IsDecided old new f ask) found
+    → (ask : Ask) → test ask ≡ true → is_found found ask ≡ true → differs old new ask ≡ true
+found_differs test old new [] verdicts ask passes t = absurd (both_ways false refl t)
+found_differs test old new (f ∷ fs) verdicts ask passes t = elim (or_cases (lies f.region ask) (is_found fs ask) t) [
+  | inl there ↦ decided_differs old new f ask (verdicts.0 ask passes there)
+  | inr later ↦ found_differs test old new fs verdicts.1 ask passes later
 ]
 
-pub was_decided : (shapes : List Region) (old new : List Rule) (found : List Found)
-    → AllByRecursion (λ f. AreUnlike old new f.region f.allows) found
+pub was_decided : (test : Ask → Bool) (shapes : List Region) (old new : List Rule) (found : List Found)
+    → ((ask : Ask) → lies_in_one shapes ask ≡ true → test ask ≡ true)
+    → AllByRecursion (λ f. (ask : Ask) → test ask ≡ true → lies f.region ask ≡ true → IsDecided old new f ask) found
     → AllByRecursion (λ f. (lies f.region f.ask && lies_in_one shapes f.ask) ≡ true) found
     → AllByRecursion (λ f. WasDecided shapes old new f) found
-was_decided shapes old new [] verdicts asks = tt
-was_decided shapes old new (f ∷ fs) verdicts asks =
+was_decided test shapes old new [] passes verdicts asks = tt
+was_decided test shapes old new (f ∷ fs) passes verdicts asks =
     let parts = and_parts (lies f.region f.ask) (lies_in_one shapes f.ask) asks.0 in
-    let says = verdicts.0 f.ask parts.0 in
-    (record { there = parts.0; in_shape = parts.1; by_old = says.0; by_new = says.1 }, was_decided shapes old new fs verdicts.1 asks.1)
+    let is = verdicts.0 f.ask (passes f.ask parts.1) parts.0 in (
+      record { there = parts.0; in_shape = parts.1; by_old = is.by_old; by_new = is.by_new; old_rule = is.old_rule; new_rule = is.new_rule },
+      was_decided test shapes old new fs passes verdicts.1 asks.1,
+    )

@@ -1,5 +1,5 @@
 -- A rule that meets no value of a field matches nothing of a region, and one that covers every field matches all of it.
-use Rattle.std.proofs.Common.{◌≡◌, ◌∙◌, sym, ap, refl, ℕ, true, false, ◌&&◌, ◌||◌, ◌==◌, List, [], ◌∷◌, length, Option, Some, None, arith, nat_le, inl, inr}
+use Rattle.std.proofs.Common.{◌≡◌, ◌∙◌, sym, ap, refl, ℕ, ◌<◌, ◌^◌, true, false, ◌&&◌, ◌||◌, ◌==◌, List, [], ◌∷◌, length, Option, Some, None, arith, nat_le, inl, inr}
 use Rattle.std.specs.Prelude.{not}
 use Rattle.std.specs.List.{list_any}
 use Rattle.std.specs.Option.{option_map_or}
@@ -13,7 +13,7 @@ use Rattle.gw_rules.specs.declared.rule.Rule.{Rule}
 use Rattle.gw_rules.proofs.EachField.{each_field_at, each_field_from}
 use Rattle.gw_regions.specs.Regions.{Region, lies}
 use Rattle.gw_regions.specs.Coverage.{covers, holds_all, is_within, meets, overlap, overlaps}
-use Rattle.gw_regions.specs.Values.{has}
+use Rattle.gw_regions.specs.Values.{all_numbers, has, is_any}
 use Rattle.gw_regions.specs.declared.values.Values.{Values}
 use Rattle.gw_regions.proofs.RangeLaw.{held, hold}
 use Rattle.gw_regions.proofs.ValueLaw.{not_empty, some_admits}
@@ -87,6 +87,14 @@ covered v (r ∷ rs) x c h =
         → option_map_or (λ number. list_any (holds number) (r ∷ rs)) x false ≡ true
     by None h a c = absurd (both_ways v.absent a h)
     by (Some n) h a c = in_all n v.ranges (r ∷ rs) c h
+
+-- anything
+pub any_absent : (v : Values) → is_any v ≡ true → has v None ≡ true
+any_absent v t = (and_parts v.absent (list_any (is_within all_numbers) v.ranges) t).0
+
+pub any_number : (v : Values) → is_any v ≡ true → (n : ℕ) → n < 2 ^ 64 → has v (Some n) ≡ true
+any_number v t n below =
+    in_any n all_numbers v.ranges (hold n all_numbers (omega arith) (omega arith)) (and_parts v.absent (list_any (is_within all_numbers) v.ranges) t).1
 
 -- ---- a region
 

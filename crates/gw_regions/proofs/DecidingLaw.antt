@@ -12,7 +12,7 @@ use Rattle.gw_regions.specs.Regions.{Region, lies}
 use Rattle.gw_regions.specs.Deciding.{AllowsIn, DecidesIn, decided, rules_at}
 
 -- the rule at a place, and those after it
-next : (rules : List Rule) (place : ℕ) (rule : Rule) → place < length rules → rule ≡ get_or rules place rule → drop place rules ≡ rule ∷ drop (place + 1) rules
+pub next : (rules : List Rule) (place : ℕ) (rule : Rule) → place < length rules → rule ≡ get_or rules place rule → drop place rules ≡ rule ∷ drop (place + 1) rules
 next rules place rule within is = drop_more rules place rule within ∙ ap (λ (r : Rule). r ∷ drop (place + 1) rules) (sym is)
 
 -- one that matches nothing there

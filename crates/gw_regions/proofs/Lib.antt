@@ -1,9 +1,13 @@
 pub mod AllowsLaw
 pub mod ComparingLaw
 pub mod CoverageLaw
+pub mod DecidersLaw
 pub mod DecidingLaw
 pub mod Growing
+pub mod JoiningLaw
 pub mod MeetingLaw
+pub mod MergingLaw
 pub mod RangeLaw
 pub mod RegionLaw
 pub mod ValueLaw
+pub mod WideningLaw

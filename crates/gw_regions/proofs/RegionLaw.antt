@@ -13,6 +13,7 @@ use Rattle.gw_rules.specs.declared.field.FieldName.TheVariants.{Operation, Port,
 use Rattle.gw_rules.specs.declared.field.TheConstants.FieldName.{ALL}
 use Rattle.gw_rules.specs.declared.rule.Rule.{Rule}
 use Rattle.gw_rules.proofs.EachField.{each_field_at}
+use Rattle.gw_regions.specs.Merging.{lies_but}
 use Rattle.gw_regions.specs.Regions.{IsParted, Region, inside, inside_at, lies, piece, piece_at, pieces}
 use Rattle.gw_regions.specs.Values.{admitted, has, is_empty, refused}
 use Rattle.gw_regions.specs.declared.values.Values.{Values}
@@ -104,6 +105,44 @@ piece_at_law field rule region ask =
     one_piece field (refused (value_of field region) (ranges_of field rule)) region ask
     ∙ with_lies field region (refused (value_of field region) (ranges_of field rule)) ask (not (yes_at rule ask field))
     (refused_law (value_of field region) (ranges_of field rule) (value_of field ask))
+
+-- ---- one field apart from the others
+
+-- one test of many, and the others
+apart : (front : List Bool) (x : Bool) (rest : List Bool) → list_all (λ t. t) (front ++ x ∷ rest) ≡ (x && list_all (λ t. t) (front ++ true ∷ rest))
+apart [] x rest = refl
+apart (true ∷ front) x rest = apart front x rest
+apart (false ∷ front) x rest = sym (and_none x)
+
+-- an ask lies in a region if it lies there but for a field, and has one of the values for this field
+pub lies_apart : (field : FieldName) (region : Region) (ask : Ask) → lies region ask ≡ (has (value_of field region) (value_of field ask) && lies_but field region ask)
+lies_apart Operation r ask = apart (take 0 (tests r ask)) (has r.operation ask.operation) (drop 1 (tests r ask))
+lies_apart Port r ask = apart (take 1 (tests r ask)) (has r.port ask.port) (drop 2 (tests r ask))
+lies_apart SourceNetwork r ask = apart (take 2 (tests r ask)) (has r.source_network ask.source_network) (drop 3 (tests r ask))
+lies_apart SourceKey r ask = apart (take 3 (tests r ask)) (has r.source_key ask.source_key) (drop 4 (tests r ask))
+lies_apart DestinationNetwork r ask = apart (take 4 (tests r ask)) (has r.destination_network ask.destination_network) (drop 5 (tests r ask))
+lies_apart Service r ask = apart (take 5 (tests r ask)) (has r.service ask.service) (drop 6 (tests r ask))
+lies_apart ObjectType r ask = apart (take 6 (tests r ask)) (has r.object_type ask.object_type) (drop 7 (tests r ask))
+lies_apart Instance r ask = apart (take 7 (tests r ask)) (has r.instance ask.instance) (drop 8 (tests r ask))
+lies_apart Property r ask = apart (take 8 (tests r ask)) (has r.property ask.property) (drop 9 (tests r ask))
+lies_apart Priority r ask = apart (take 9 (tests r ask)) (has r.priority ask.priority) (drop 10 (tests r ask))
+lies_apart Sender r ask = apart (take 10 (tests r ask)) (has r.sender ask.sender) (drop 11 (tests r ask))
+lies_apart Station r ask = apart (take 11 (tests r ask)) (has r.station ask.station) (drop 12 (tests r ask))
+
+-- and with other values for the field
+pub lies_with : (field : FieldName) (region : Region) (values : Values) (ask : Ask) → lies (with_value field values region) ask ≡ (has values (value_of field ask) && lies_but field region ask)
+lies_with Operation r v ask = apart (take 0 (tests r ask)) (has v ask.operation) (drop 1 (tests r ask))
+lies_with Port r v ask = apart (take 1 (tests r ask)) (has v ask.port) (drop 2 (tests r ask))
+lies_with SourceNetwork r v ask = apart (take 2 (tests r ask)) (has v ask.source_network) (drop 3 (tests r ask))
+lies_with SourceKey r v ask = apart (take 3 (tests r ask)) (has v ask.source_key) (drop 4 (tests r ask))
+lies_with DestinationNetwork r v ask = apart (take 4 (tests r ask)) (has v ask.destination_network) (drop 5 (tests r ask))
+lies_with Service r v ask = apart (take 5 (tests r ask)) (has v ask.service) (drop 6 (tests r ask))
+lies_with ObjectType r v ask = apart (take 6 (tests r ask)) (has v ask.object_type) (drop 7 (tests r ask))
+lies_with Instance r v ask = apart (take 7 (tests r ask)) (has v ask.instance) (drop 8 (tests r ask))
+lies_with Property r v ask = apart (take 8 (tests r ask)) (has v ask.property) (drop 9 (tests r ask))
+lies_with Priority r v ask = apart (take 9 (tests r ask)) (has v ask.priority) (drop 10 (tests r ask))
+lies_with Sender r v ask = apart (take 10 (tests r ask)) (has v ask.sender) (drop 11 (tests r ask))
+lies_with Station r v ask = apart (take 11 (tests r ask)) (has v ask.station) (drop 12 (tests r ask))
 
 -- ---- all fields
 

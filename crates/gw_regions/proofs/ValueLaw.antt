@@ -7,6 +7,7 @@ use Rattle.std.proofs.lemmas.Bool.{and_parts, eqb-true, ne_eqb, not-true}
 use Rattle.std.proofs.lemmas.List.{nil_from_length}
 use Rattle.gw_rules.specs.Range.{admits, holds}
 use Rattle.gw_rules.specs.declared.range.Range.{Range}
+use Rattle.gw_regions.specs.Merging.{AreUnited}
 use Rattle.gw_regions.specs.Ranges.{shared, without}
 use Rattle.gw_regions.specs.Values.{admitted, has, is_empty, refused}
 use Rattle.gw_regions.specs.declared.values.Values.{Values}
@@ -50,3 +51,13 @@ empty_law v x e =
     by : (x : Option ℕ) → v.ranges ≡ [] → v.absent ≡ false → has v x ≡ false
     by None n a = a
     by (Some k) n a = ap (list_any (holds k)) n
+
+-- ---- values like others, and those of both
+
+pub same_values : (a b : Values) → a.absent ≡ b.absent → a.ranges ≡ b.ranges → (x : Option ℕ) → has a x ≡ has b x
+same_values a b one two None = one
+same_values a b one two (Some n) = ap (list_any (holds n)) two
+
+pub united_values : (a b all : Values) → all.absent ≡ (a.absent || b.absent) → AreUnited all.ranges a.ranges b.ranges → (x : Option ℕ) → has all x ≡ (has a x || has b x)
+united_values a b all one two None = one
+united_values a b all one two (Some n) = two n

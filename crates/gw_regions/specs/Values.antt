@@ -1,9 +1,10 @@
 -- Sets of values that a field of an ask may have.
-use Rattle.std.specs.Prelude.{ℕ, Bool, false, not, ◌&&◌, ◌==◌, if◌then◌else◌, List, [], length, Option, Some, None}
+use Rattle.std.specs.Prelude.{ℕ, Bool, false, not, ◌&&◌, ◌==◌, if◌then◌else◌, List, [], ◌∷◌, length, Option, Some, None}
 use Rattle.std.specs.List.{list_any}
 use Rattle.gw_rules.specs.Range.{holds}
 use Rattle.gw_rules.specs.declared.range.Range.{Range}
-use Rattle.gw_regions.specs.Ranges.{first_number, shared, without}
+use Rattle.gw_regions.specs.Coverage.{is_within}
+use Rattle.gw_regions.specs.Ranges.{between, first_number, shared, without}
 use Rattle.gw_regions.specs.declared.values.Values.{Values}
 
 -- the field may be so
@@ -14,6 +15,18 @@ has values (Some number) = list_any (holds number) values.ranges
 -- no field is so
 abbrev pub is_empty : Values → Bool
 is_empty values = not values.absent && (length values.ranges == 0)
+
+-- the numbers below 2^64
+abbrev pub all_numbers : Range
+all_numbers = between 0 18446744073709551615
+
+-- the field may be anything: absent, or any number
+abbrev pub is_any : Values → Bool
+is_any values = values.absent && list_any (is_within all_numbers) values.ranges
+
+-- all other values
+abbrev pub others : Values → Values
+others values = record { absent = not values.absent; ranges = without (all_numbers ∷ []) values.ranges }
 
 -- what of the values the ranges of a rule admit, and what they don't
 abbrev pub admitted : Values → List Range → Values

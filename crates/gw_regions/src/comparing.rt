@@ -1,36 +1,24 @@
 //! What two policies decide otherwise.
-ghost use Rattle.std.specs.Prelude.{◌≡◌, ◌++◌, ◌∷◌, ◌&&◌, [], ℕ, Bool, true, Ok, IfOk, OnOk, List, length};
+ghost use Rattle.std.specs.Prelude.{◌≡◌, ◌≤◌, ◌<◌, ◌++◌, ◌∷◌, ◌&&◌, [], ℕ, Bool, true, Ok, IfOk, OnOk, List, length};
 ghost use Rattle.gw_rules.specs.Ask.{Ask};
 ghost use Rattle.gw_rules.specs.Rule.{matches};
-ghost use Rattle.gw_regions.specs.Comparing.{AreAlike, AreSame, AreUnlike, IsComparison};
+ghost use Rattle.gw_regions.specs.Comparing.{AreAlike, AreDeciders, AreSame, AreUnlike, IsComparison};
 ghost use Rattle.gw_regions.specs.Deciding.{decided_by};
 ghost use Rattle.gw_regions.specs.Regions.{Region as SpecRegion, lies, lies_in_one};
 ghost use Rattle.gw_regions.specs.declared.comparison.Found.{Found as SpecFound};
 ghost use Rattle.gw_rules.specs.declared.rule.Rule.{Rule as SpecRule};
 
-use crate::comparison::{Comparison, Taken};
+use crate::comparison::{Comparison, Found, Taken};
+use crate::deciders::deciders_of;
 use crate::deciding::{Deciding, deciding_of};
 use crate::meeting::{ask_within, region_over};
+use crate::ranges::same_ranges;
 use crate::region::{Region, part};
-use gw_rules::{FieldName, Range, Rule};
+use gw_rules::{FieldName, Rule};
 use std::alloc::{AllocError, Global};
 
 /// How many steps a comparison is given: enough for two policies of 512 rules that people write.
 pub const MAX_STEPS: u32 = 65_536;
-
-fn same_ranges(a: &[Range], b: &[Range]) -> bool
-    ensures { result ≡ true → a.now ≡ b.now }
-{
-    if a.len() != b.len() {
-        return false;
-    }
-    for place in 0..a.len() {
-        if a[place].low != b[place].low || a[place].high != b[place].high {
-            return false;
-        }
-    }
-    true
-}
 
 /// Whether two rules say the same, and are seen to match the same asks.
 fn same(a: &Rule, b: &Rule) -> bool
@@ -200,6 +188,23 @@ fn put_taken(
     Ok(())
 }
 
+/// A region in which the new policy alone says this, and the rules that decide there.
+fn found_of(
+    alloc: Global,
+    old: &[Rule],
+    new: &[Rule],
+    taken: Taken,
+    allows: bool,
+) -> Result<Found, AllocError>
+    ensures found { IfOk result (λ f. (f.region ≡ taken.region) × (f.ask ≡ taken.ask) × (f.allows ≡ allows)) }
+    ensures old { IfOk result (λ f. AreDeciders old.now taken.region f.old_rules.items) }
+    ensures new { IfOk result (λ f. AreDeciders new.now taken.region f.new_rules.items) }
+{
+    let old_rules = deciders_of(alloc, old, &taken.region)?;
+    let new_rules = deciders_of(alloc, new, &taken.region)?;
+    Ok(taken.into_found(allows, old_rules, new_rules))
+}
+
 /// Looks at a region that was taken up.
 fn settle(
     alloc: Global,
@@ -217,7 +222,8 @@ fn settle(
     match look_at(alloc, old, new, &taken.region)? {
         Look::Alike => Ok(()),
         Look::Unlike(allows) => {
-            comparison.put_found(taken.into_found(allows))?;
+            let found = found_of(alloc, old, new, taken, allows)?;
+            comparison.put_found(found)?;
             Ok(())
         }
         Look::PartByOld(place) => {
@@ -256,9 +262,10 @@ fn step(
 }
 
 /// Compares two policies over the asks of these shapes, in at most so many steps. What is found are
-/// regions in which every ask is decided otherwise, each with one of its asks that lies in a shape. An ask
-/// of the shapes is decided otherwise exactly if it lies in one of these regions, or in one that is left
-/// and is decided otherwise there. If none is left, all are found. An `Err` if there is no memory.
+/// regions in which every ask is decided otherwise, each with one of its asks that lies in a shape, and with
+/// the rules that decide there. An ask of the shapes is decided otherwise exactly if it lies in one of these
+/// regions, or in one that is left and is decided otherwise there. If none is left, all are found; some are
+/// left only if all steps were used. An `Err` if there is no memory.
 pub fn compare(
     alloc: Global,
     old: &[Rule],
@@ -266,15 +273,19 @@ pub fn compare(
     shapes: &[Region],
     steps: u32,
 ) -> Result<Comparison, AllocError>
-    ensures { IfOk result (λ c. IsComparison shapes.now old.now new.now c.found.items c.left.items) }
+    ensures comparison { IfOk result (λ c. IsComparison shapes.now old.now new.now c.found.items c.left.items) }
+    ensures steps { IfOk result (λ c. c.steps ≤ steps) }
+    ensures finished { IfOk result (λ c. c.steps < steps → c.left.items ≡ []) }
 {
     let start = region_over(alloc, shapes)?;
     let mut comparison = Comparison::new(alloc, start)?;
-    for _ in 0..steps {
+    for used in 0..steps {
         if comparison.left.is_empty() {
-            break;
+            comparison.steps = used;
+            return Ok(comparison);
         }
         step(alloc, old, new, shapes, &mut comparison)?;
     }
+    comparison.steps = steps;
     Ok(comparison)
 }

@@ -14,6 +14,11 @@ pub struct Found {
     pub ask: Ask,
     /// Whether the new policy allows them, and the old one denies them.
     pub allows: bool,
+    /// The numbers of the rules of the old policy that decide them, counted from 1, in order. The default,
+    /// which denies what no rule matches, is 0, and the last.
+    pub old_rules: Vec<usize>,
+    /// Those of the new policy.
+    pub new_rules: Vec<usize>,
 }
 
 // By hand: a derived one is proved part by part wherever one is dropped (docs/ARCHITECTURE.md).
@@ -23,6 +28,8 @@ impl Drop for Found {
             region: _,
             ask: _,
             allows: _,
+            old_rules: _,
+            new_rules: _,
         } = self;
     }
 }
@@ -33,11 +40,17 @@ pub struct Comparison {
     pub found: Vec<Found>,
     /// Of these nothing is known. If there is none, the comparison is finished.
     pub left: Vec<Region>,
+    /// How many steps were used. If they are fewer than were given, the comparison is finished.
+    pub steps: u32,
 }
 
 impl Drop for Comparison {
     fn drop(self) {
-        let Comparison { found: _, left: _ } = self;
+        let Comparison {
+            found: _,
+            left: _,
+            steps: _,
+        } = self;
     }
 }
 
@@ -54,15 +67,28 @@ impl Drop for Taken {
 }
 
 impl Taken {
-    /// Its region and ask, found.
-    pub(crate) fn into_found(self, allows: bool) -> Found
-        ensures { result ≡ record { region = self.region; ask = self.ask; allows = allows } }
+    /// Its region and ask, found; and which rules decide.
+    pub(crate) fn into_found(
+        self,
+        allows: bool,
+        old_rules: Vec<usize>,
+        new_rules: Vec<usize>,
+    ) -> Found
+        ensures { result ≡ record {
+          region = self.region;
+          ask = self.ask;
+          allows = allows;
+          old_rules = old_rules;
+          new_rules = new_rules;
+        } }
     {
         let Taken { region, ask } = self;
         Found {
             region,
             ask,
             allows,
+            old_rules,
+            new_rules,
         }
     }
 
@@ -86,7 +112,21 @@ impl Comparison {
         Ok(Comparison {
             found: Vec::new(alloc),
             left,
+            steps: 0,
         })
+    }
+
+    /// What it found, and what is left.
+    pub(crate) fn into_parts(self) -> (Vec<Found>, Vec<Region>)
+        ensures found { result.0.items ≡ self.found.items }
+        ensures left { result.1.items ≡ self.left.items }
+    {
+        let Comparison {
+            found,
+            left,
+            steps: _,
+        } = self;
+        (found, left)
     }
 
     /// Takes the last of the regions that are left.

@@ -54,7 +54,7 @@ fn is_within(range: &Range, other: &Range) -> bool
     other.low <= range.low && range.high <= other.high
 }
 
-fn is_within_any(ranges: &[Range], range: &Range) -> bool
+pub(crate) fn is_within_any(ranges: &[Range], range: &Range) -> bool
     ensures { result ≡ list_any (is_within range.now) ranges.now }
 {
     ranges.iter().any(|other| is_within(range, other))

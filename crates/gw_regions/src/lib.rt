@@ -8,14 +8,22 @@
 mod comparing;
 mod comparison;
 mod coverage;
+mod deciders;
 mod deciding;
 pub mod laws;
 mod meeting;
+mod merging;
 mod ranges;
 mod region;
+mod summary;
 mod values;
+mod widening;
 
 pub use comparing::{MAX_STEPS, compare};
 pub use comparison::{Comparison, Found};
+pub use deciders::DEFAULT;
+pub use merging::merge;
 pub use region::{Region, lies, part};
+pub use summary::{Summary, summarize};
 pub use values::Values;
+pub use widening::widen;

@@ -1,7 +1,9 @@
 //! What two lists of ranges share, and what is left of one outside the other.
-ghost use Rattle.std.specs.Prelude.{◌≡◌, ◌++◌, IfOk, OnOk};
-ghost use Rattle.std.specs.List.{flat_map};
+ghost use Rattle.std.specs.Prelude.{◌≡◌, ◌≤◌, ◌+◌, ◌++◌, ◌||◌, ℕ, true, IfOk, IfSome, OnOk};
+ghost use Rattle.std.specs.List.{flat_map, list_any};
 ghost use Rattle.std.specs.Option.{option_to_list};
+ghost use Rattle.gw_rules.specs.Range.{holds};
+ghost use Rattle.gw_regions.specs.Merging.{AreUnited};
 ghost use Rattle.gw_regions.specs.Ranges.{both, first_number, greater, lesser, outside, over, shared, shared_with, under, without, without_one};
 
 use gw_addr::Sequence;
@@ -155,4 +157,108 @@ pub(crate) fn common_number(xs: &[Range], ys: &[Range]) -> Option<u64>
         }
     }
     None
+}
+
+/// Whether two lists are the same.
+pub(crate) fn same_ranges(a: &[Range], b: &[Range]) -> bool
+    ensures { result ≡ true → a.now ≡ b.now }
+{
+    if a.len() != b.len() {
+        return false;
+    }
+    for place in 0..a.len() {
+        if a[place].low != b[place].low || a[place].high != b[place].high {
+            return false;
+        }
+    }
+    true
+}
+
+/// Whether a range begins at the end of another one, right after it, or before that.
+fn reaches(a: &Range, b: &Range) -> bool
+    ensures { result ≡ true → b.now.low ≤ a.now.high + 1 }
+{
+    b.low <= a.high || b.low - 1 == a.high
+}
+
+/// One range in the place of two, if they overlap or one follows right after the other.
+#[tactic(auto, using(crate::proofs::JoiningLaw::none_before, crate::proofs::JoiningLaw::none_after, crate::proofs::JoiningLaw::both_held))]
+fn joined(a: &Range, b: &Range) -> Option<Range>
+    ensures { IfSome result (λ range. (number : ℕ) →
+        holds number range ≡ (holds number a.now || holds number b.now)) }
+{
+    if a.high < a.low {
+        return Some(*b);
+    }
+    if b.high < b.low {
+        return Some(*a);
+    }
+    if reaches(a, b) && reaches(b, a) {
+        let low = lesser(a.low, b.low);
+        let high = greater(a.high, b.high);
+        return Some(Range { low, high });
+    }
+    None
+}
+
+/// Puts the lower one of two ranges after the others, and gives back the other one; or one in the place of
+/// both.
+#[tactic(auto, using(crate::proofs::JoiningLaw::carried_both, crate::proofs::JoiningLaw::carried_first, crate::proofs::JoiningLaw::carried_second))]
+fn put_lower(out: &mut Sequence<Range>, a: Range, b: Range) -> Result<Range, AllocError>
+    ensures { IfOk result (λ rest. (number : ℕ) →
+        (list_any (holds number) out.new || holds number rest)
+        ≡ ((list_any (holds number) out.old || holds number a) || holds number b)) }
+{
+    if let Some(both) = joined(&a, &b) {
+        return Ok(both);
+    }
+    if b.low < a.low {
+        out.push(b)?;
+        return Ok(a);
+    }
+    out.push(a)?;
+    Ok(b)
+}
+
+/// The numbers of the list and of a range. A list in order stays so, and ranges that follow one another are
+/// made one.
+fn inserted(alloc: Global, list: &[Range], range: Range) -> Result<Sequence<Range>, AllocError>
+    ensures { IfOk result (λ all. (number : ℕ) →
+        list_any (holds number) all ≡ (list_any (holds number) list.now || holds number range)) }
+{
+    let mut out = Sequence::new(alloc);
+    let mut carried = range;
+    for next in list {
+        carried = put_lower(&mut out, carried, *next)?;
+    }
+    out.push(carried)?;
+    Ok(out)
+}
+
+/// The numbers of both lists.
+fn with_all(
+    alloc: Global,
+    list: Sequence<Range>,
+    more: &[Range],
+) -> Result<Sequence<Range>, AllocError>
+    ensures { IfOk result (λ all. AreUnited all list more.now) }
+{
+    let mut all = list;
+    for range in more {
+        all = inserted(alloc, all.as_slice(), *range)?;
+    }
+    Ok(all)
+}
+
+/// The numbers of both lists, in order, and each range as long as it can be.
+pub(crate) fn united(
+    alloc: Global,
+    xs: &[Range],
+    ys: &[Range],
+) -> Result<Sequence<Range>, AllocError>
+    ensures { IfOk result (λ all. AreUnited all xs.now ys.now) }
+{
+    let none = Sequence::new(alloc);
+    let some = with_all(alloc, none, xs)?;
+    with_all(alloc, some, ys)
 }

@@ -55,7 +55,7 @@ fn copy_region(alloc: Global, region: &Region) -> Result<Region, AllocError>
 }
 
 /// Gives a field other values.
-fn set(region: &mut Region, field: FieldName, values: Values)
+pub(crate) fn set(region: &mut Region, field: FieldName, values: Values)
     ensures { region.new ≡ with_value field values region.old }
 {
     match field {
@@ -74,6 +74,20 @@ fn set(region: &mut Region, field: FieldName, values: Values)
     }
 }
 
+/// The region with other values for a field.
+pub(crate) fn with_values(
+    alloc: Global,
+    region: &Region,
+    field: FieldName,
+    values: Values,
+) -> Result<Region, AllocError>
+    ensures { IfOk result (λ made. made ≡ with_value field values region.now) }
+{
+    let mut made = copy_region(alloc, region)?;
+    set(&mut made, field, values);
+    Ok(made)
+}
+
 /// Puts the region with other values for a field after the pieces, if it has some.
 fn push_piece(
     alloc: Global,
@@ -87,8 +101,7 @@ fn push_piece(
     if values.is_empty() {
         return Ok(());
     }
-    let mut made = copy_region(alloc, region)?;
-    set(&mut made, field, values);
+    let made = with_values(alloc, region, field, values)?;
     out.push(made)?;
     Ok(())
 }

@@ -1,14 +1,21 @@
 //! Sets of values that a field of an ask may have.
-ghost use Rattle.std.specs.Prelude.{◌≡◌, ◌&&◌, not, IfOk};
+ghost use Rattle.std.specs.Prelude.{◌≡◌, ◌&&◌, ◌||◌, ℕ, Option, Some, None, true, not, IfOk};
 ghost use Rattle.std.specs.List.{list_any};
 ghost use Rattle.gw_rules.specs.Range.{admits, holds};
 ghost use Rattle.gw_regions.specs.Ranges.{first_number, shared};
-ghost use Rattle.gw_regions.specs.Values.{admitted, common, has, is_empty, refused, shares};
+ghost use Rattle.gw_regions.specs.Values.{admitted, common, has, is_any, is_empty, others, refused, shares};
 
-use crate::ranges::{common_number, copy, shared, without};
+use crate::coverage::is_within_any;
+use crate::ranges::{common_number, copy, same_ranges, shared, united, without};
 use gw_addr::Sequence;
 use gw_rules::Range;
 use std::alloc::{AllocError, Global};
+
+/// From the least number to the greatest.
+const ALL_NUMBERS: Range = Range {
+    low: 0,
+    high: u64::MAX,
+};
 
 /// What a field of an ask may be: absent, if this says so, or a number of one of the ranges. A range whose
 /// low end is above its high end has no number.
@@ -94,6 +101,44 @@ impl Values {
             return None;
         }
         common_number(self.ranges.as_slice(), other.ranges.as_slice())
+    }
+
+    /// Whether they are seen to be the same.
+    #[tactic(auto, using(crate::proofs::ValueLaw::same_values))]
+    pub(crate) fn is_same(&self, other: &Values) -> bool
+        ensures { result ≡ true → (value : Option ℕ) → has self.now value ≡ has other.now value }
+    {
+        self.absent == other.absent && same_ranges(self.ranges.as_slice(), other.ranges.as_slice())
+    }
+
+    /// Those of both.
+    #[tactic(auto, using(crate::proofs::ValueLaw::united_values))]
+    pub(crate) fn united(&self, alloc: Global, other: &Values) -> Result<Self, AllocError>
+        ensures { IfOk result (λ all. (value : Option ℕ) →
+            has all value ≡ (has self.now value || has other.now value)) }
+    {
+        Ok(Values {
+            absent: self.absent || other.absent,
+            ranges: united(alloc, self.ranges.as_slice(), other.ranges.as_slice())?,
+        })
+    }
+
+    /// All others: absent, if these aren't, and the numbers below 2^64 that these don't have.
+    pub(crate) fn others(&self, alloc: Global) -> Result<Self, AllocError>
+        ensures { IfOk result (λ rest. rest ≡ others self.now) }
+    {
+        let all = [ALL_NUMBERS];
+        Ok(Values {
+            absent: !self.absent,
+            ranges: without(alloc, &all, self.ranges.as_slice())?,
+        })
+    }
+
+    /// Whether the field is seen to be anything.
+    pub fn is_any(&self) -> bool
+        ensures { result ≡ is_any self.now }
+    {
+        self.absent && is_within_any(self.ranges.as_slice(), &ALL_NUMBERS)
     }
 
     /// Whether both have a value.

@@ -4,6 +4,7 @@ pub mod Places
 pub mod Lengths
 pub mod Configured
 pub mod Ticks
+pub mod Resuming
 pub mod Spreading
 pub mod Histories
 pub mod TargetLemmas

@@ -84,6 +84,7 @@ impl Routes {
     /// only fault is want of memory for the list, and none is wanted if nothing is learned.
     pub fn learned(&self, alloc: Global) -> Result<Vec<(NetNum, Route)>, AllocError>
         ensures learned { IfOk result (λ learned. learned.items ≡ self.now.learned) }
+        ensures few { length self.now.learned ≤ MAX_ROUTES }
         ensures none { self.now.learned ≡ [] → IsOk result }
     {
         let mut learned = Vec::with_capacity(alloc, self.learned.len())?;
@@ -298,11 +299,7 @@ impl Fixed {
     }
 
     /// Learns each of the networks by its own route if it may be learned, for which there is room.
-    fn learn_each_by(
-        &self,
-        learned: &mut IndexMap<NetNum, Route>,
-        learnings: &[(NetNum, Route)],
-    )
+    fn learn_each_by(&self, learned: &mut IndexMap<NetNum, Route>, learnings: &[(NetNum, Route)])
         requires limit { IsWithinLimit (table_with self.now learned.old) }
         requires room { growth (table_with self.now learned.old) (keys_of learnings.now) ≤
             spare learned.old }

@@ -5,7 +5,8 @@ use Rattle.std.specs.List.{AllByRecursion}
 use Rattle.gw_bdt_fdt.specs.declared.tables.PortTables.{PortTables}
 use Rattle.gw_configuration.specs.declared.port.Port.{Port}
 use Rattle.gw_objects.specs.Objects.{Slots}
-use Rattle.gw_saved.specs.Saved.{OriginObject, SavedPort, saved_objects}
+use Rattle.gw_saved.specs.declared.port.SavedPort.{SavedPort}
+use Rattle.gw_saved.specs.Saved.{OriginObject, saved_objects}
 use Rattle.gw_saved.specs.Carried.{is_port, tables_carried, tables_from}
 
 -- at most one object is saved of each

@@ -1,8 +1,5 @@
 -- What of a gateway outlives it, with what was configured of it then.
-pub use Rattle.gw_saved.specs.declared.counts.SavedCounts.{SavedCounts}
-pub use Rattle.gw_saved.specs.declared.origin.OriginPort.{OriginPort}
-pub use Rattle.gw_saved.specs.declared.port.SavedPort.{SavedPort}
-use Rattle.std.specs.Prelude.{ℕ, ◌^◌, Bool, ◌&&◌, nat_le, List, [], ◌∷◌, length, map}
+use Rattle.std.specs.Prelude.{◌^◌, Bool, ◌&&◌, nat_le, List, [], ◌∷◌, length, map}
 use Rattle.gw_addr.specs.declared.entry.BdtEntry.{BdtEntry}
 use Rattle.gw_bdt_fdt.specs.Kept.{kept}
 use Rattle.gw_bdt_fdt.specs.Registrations.{Registered}
@@ -13,6 +10,9 @@ use Rattle.gw_objects.specs.declared.value.PropertyValue.{PropertyValue}
 use Rattle.gw_objects.specs.Objects.{Slots, configured_of, default_of, object_id_of}
 use Rattle.gw_routes.specs.Table.{Routed}
 use Rattle.gw_tags.specs.Object.{Object}
+use Rattle.gw_saved.specs.declared.counts.SavedCounts.{SavedCounts}
+use Rattle.gw_saved.specs.declared.origin.OriginPort.{OriginPort}
+use Rattle.gw_saved.specs.declared.port.SavedPort.{SavedPort}
 
 -- ---- what is configured of what can be written
 

@@ -56,10 +56,7 @@ fn contents(
 }
 
 /// What a slot holds.
-fn content(
-    alloc: Global,
-    slot: &Option<PropertyValue>,
-) -> Result<Option<PropertyValue>, AllocError>
+fn content(alloc: Global, slot: &Option<PropertyValue>) -> Result<Option<PropertyValue>, AllocError>
     ensures { IfOk result (λ copy. copy ≡ slot.now) }
 {
     match slot {

@@ -1,6 +1,5 @@
 //! The slots and the default of a value object.
 ghost use Rattle.std.specs.Prelude.{◌≡◌};
-ghost use Rattle.gw_objects.specs.Objects.{Slots};
 ghost use Rattle.gw_tags.specs.Object.{object_view};
 
 use gw_objects::PropertyValue;

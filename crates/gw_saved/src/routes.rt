@@ -1,5 +1,5 @@
 //! Which learned routes a gateway takes over.
-ghost use Rattle.std.specs.Prelude.{◌≡◌, ◌≤◌, length, filter_map, option_copied, option_map, IfOk};
+ghost use Rattle.std.specs.Prelude.{◌≡◌, ◌≤◌, length, filter_map, option_copied, IfOk};
 ghost use Rattle.gw_addr.specs.declared.TheConstants.{MAX_PORTS};
 ghost use Rattle.gw_saved.specs.Carried.{number_now, port_then, route_from, routes_carried};
 

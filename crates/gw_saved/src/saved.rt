@@ -1,5 +1,5 @@
 //! What of a gateway outlives it.
-ghost use Rattle.std.specs.Prelude.{◌≡◌, ◌≤◌, ◌↔◌, ◌^◌, ◌&&◌, not, length, IfOk, IsErrOf, IsFalse, IsOk, IsTrue};
+ghost use Rattle.std.specs.Prelude.{◌≡◌, ◌≤◌, ◌↔◌, ◌^◌, ◌&&◌, not, IfOk, IsErrOf, IsFalse, IsOk, IsTrue};
 ghost use Rattle.gw_saved.specs.Saved.{are_countable, are_few};
 
 use crate::{SavedCounts, SavedFault, SavedObject, SavedPort};

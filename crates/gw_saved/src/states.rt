@@ -71,10 +71,7 @@ fn slots_for(
             contents_for(alloc, &object.value, saved.slots().slots())?,
             default_for(alloc, object, saved)?,
         )),
-        None => Ok(PriorityArray::new(PropertyValue::default_of(
-            alloc,
-            &object.value,
-        )?)),
+        None => Ok(PriorityArray::new(PropertyValue::default_of(alloc, &object.value)?)),
     }
 }
 

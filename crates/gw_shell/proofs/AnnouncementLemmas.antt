@@ -8,10 +8,3 @@ two_more (Ok done) a b c x y z w first second =
     second ∙ ap (λ (t : List ℕ). (t ++ z) ++ w) (first ∙ append_assoc a x y) ∙ ap (λ (t : List ℕ). t ++ w) (append_assoc a (x ++ y) z)
     ∙ append_assoc a ((x ++ y) ++ z) w
 two_more (Err failed) a b c x y z w first second = tt
-
--- a text, two behind it and one more that are appended are appended as one
-pub three_more : (a b c d x y z w : List ℕ) → b ≡ a ++ x → c ≡ (b ++ y) ++ z → d ≡ c ++ w → d ≡ a ++ (((x ++ y) ++ z) ++ w)
-three_more a b c d x y z w first second third =
-    third ∙ ap (λ (t : List ℕ). t ++ w) second ∙ ap (λ (t : List ℕ). ((t ++ y) ++ z) ++ w) first
-    ∙ ap (λ (t : List ℕ). (t ++ z) ++ w) (append_assoc a x y) ∙ ap (λ (t : List ℕ). t ++ w) (append_assoc a (x ++ y) z)
-    ∙ append_assoc a ((x ++ y) ++ z) w

@@ -1,7 +1,6 @@
 mod AnnouncementLemmas
 mod AppendLemmas
 mod ChoiceLemmas
-mod HiddenLemmas
 mod LinesLemmas
 mod ReplayLemmas
 mod ServingLemmas

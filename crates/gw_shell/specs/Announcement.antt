@@ -1,11 +1,11 @@
 -- What `run --verbose` tells at the start: one line on what is served.
-use Rattle.std.specs.Prelude.{ℕ, Bool, true, false, List, [], ◌∷◌, ◌++◌, length, map, if◌then◌else◌, Option, Some, None}
+use Rattle.std.specs.Prelude.{ℕ, Bool, true, false, List, [], ◌∷◌, ◌++◌, length, map, Option, Some, None}
 use Rattle.std.specs.Prelude.{codes, decimal}
 use Rattle.gw_addr.specs.Address.{text_of}
 use Rattle.gw_configuration.specs.Configuration.{Configuration}
-use Rattle.gw_explanation.specs.Explanation.{is_printed}
 use Rattle.gw_configuration.specs.declared.device.Device.{Device}
 use Rattle.gw_configuration.specs.declared.port.Port.{Port}
+use Rattle.gw_permissions.specs.Words.{shown}
 use Rattle.gw_script.specs.Order.{in_order}
 
 -- a port by its number, and its two addresses
@@ -26,10 +26,6 @@ objects_text c = codes " with " ++ decimal (length c.objects) ++ codes " objects
 abbrev pub device_text : Device → List ℕ
 device_text device = codes "device " ++ decimal device.instance ++ codes " on network " ++ decimal device.network
 
--- an octet of a name as it is shown on a line: a question mark in the place of a control character
-abbrev pub shown : ℕ → ℕ
-shown octet = if is_printed octet then octet else 63
-
 -- where the log goes: to the file of this name, or to standard output
 abbrev pub log_text : Option (List ℕ) → List ℕ
 log_text (Some name) = map shown name
@@ -45,3 +41,13 @@ announcement c log =
 abbrev pub startup_line : Bool → Configuration → Option (List ℕ) → List ℕ
 startup_line true c log = announcement c log
 startup_line false c log = []
+
+-- what is written at the start of a machine that routes IP itself
+abbrev pub routing_note : Bool → List ℕ
+routing_note true = codes "bacgw: net.ipv4.ip_forward isn't 0: hosts reach the other subnets past the gateway\n"
+routing_note false = []
+
+-- What may be written of a machine at the start: that it routes IP itself, if more is asked for.
+abbrev pub IsWarning : (RoutesIp : Bool → Type 0) → (is_verbose : Bool) → List ℕ → Type 0
+IsWarning RoutesIp true text = (routes : Bool) × RoutesIp routes × (text ≡ routing_note routes)
+IsWarning RoutesIp false text = text ≡ []

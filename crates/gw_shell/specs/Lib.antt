@@ -1,10 +1,10 @@
 pub mod Announcement
 pub mod Asking
+pub mod Checked
 pub mod CommandLine
 pub mod Configured
 pub mod Ending
 pub mod Files
-pub mod Hidden
 pub mod Lines
 pub mod Program
 pub mod Replay

@@ -15,7 +15,7 @@ use Rattle.gw_shell.specs.declared.fault.Fault.TheVariants as fault
 use Rattle.gw_shell.specs.Asking.{Answers}
 use Rattle.gw_shell.specs.Configured.{IsConfigurationOf, IsConfigured}
 use Rattle.gw_shell.specs.Ending.{FaultNote, error_text, status_after, usage_of}
-use Rattle.gw_shell.specs.Hidden.{IsChecked}
+use Rattle.gw_shell.specs.Checked.{IsChecked}
 use Rattle.gw_shell.specs.Replay.{Plays}
 use Rattle.gw_shell.specs.Serving.{IsFlushedFor, LeavesRun, Machine}
 use Rattle.gw_shell.specs.Telling.{Tells}

@@ -15,7 +15,7 @@ use Rattle.gw_core.specs.declared.serving.ServeFault.TheVariants as serving
 use Rattle.gw_core.specs.declared.serving.ServeStop.{ServeStop}
 use Rattle.gw_configuration.specs.Configuration.{Configuration}
 use Rattle.gw_configuration.specs.declared.port.Port.{Port}
-use Rattle.gw_shell.specs.Announcement.{startup_line}
+use Rattle.gw_shell.specs.Announcement.{IsWarning, startup_line}
 use Rattle.gw_system.specs.Host.{LogOpening}
 use Rattle.gw_system.specs.Opening.{IsNote}
 use Rattle.gw_system.specs.declared.opening.LogFailure.{LogFailure}
@@ -91,21 +91,23 @@ ServesFrom how before after text outcome =
     × IsRunWith how.turns before answer after
     (λ run. text ≡ reports_of how.stats before.gateway run after.gateway (counts_of_answer answer))
 
--- What opening and closing may give: of a machine, the log of a name, the sockets of some ports,
--- and both when they are closed, the log where one was opened; and what a log holds and sockets
--- tell.
+-- What a machine may give: the log of a name, the sockets of some ports, whether it routes IP itself, and log and
+-- sockets when they are closed; and what a log holds, and which calls sockets show.
 pub record Machine (Log Sockets : Type 0) : Type 1 where
   pub LogOpens : LogOpening Log
   pub SocketsOpen : List Port → Result Sockets SocketFailure → Type 0
+  pub RoutesIp : Bool → Type 0
   pub Closes : Sockets → Option Log → Type 0
   pub held : Log → Option (List ℕ)
   pub calls : Sockets → Option (List Call)
 
 abbrev pub machine : {Log Sockets : Type 0} → LogOpening Log → (List Port → Result Sockets SocketFailure → Type 0)
-    → (Sockets → Option Log → Type 0) → (Log → Option (List ℕ)) → (Sockets → Option (List Call)) → Machine Log Sockets
-machine LogOpens SocketsOpen Closes held calls = record {
+    → (Bool → Type 0) → (Sockets → Option Log → Type 0) → (Log → Option (List ℕ)) → (Sockets → Option (List Call))
+    → Machine Log Sockets
+machine LogOpens SocketsOpen RoutesIp Closes held calls = record {
   LogOpens = LogOpens;
   SocketsOpen = SocketsOpen;
+  RoutesIp = RoutesIp;
   Closes = Closes;
   held = held;
   calls = calls;
@@ -158,8 +160,8 @@ ArentOpen LogOpens SocketsOpen name held holds (opening.Log f) =
 ArentOpen LogOpens SocketsOpen name held holds (opening.Sockets failure) =
     (log : Option _) × LogIsOpen LogOpens name held holds log × SocketsOpen (Err failure)
 
--- What `run` leaves under a configuration: not all can be opened, and it may be told why; or all
--- was opened, this line was told, and then it was served, with its reports, and closed.
+-- What `run` leaves under a configuration: not all can be opened, and why may be written; or all was opened, this
+-- line was written and a warning of the machine, and then it was served, with its reports, and closed.
 pub data LeavesServed {Log Sockets : Type 0} (machine : Machine Log Sockets) (name : Option (List ℕ))
     (held holds : Option (List ℕ))
     (c : Configuration) (how : Service) (is_verbose : Bool) (line told : List ℕ) (outcome : Result (Unit {0}) Fault)
@@ -167,12 +169,12 @@ pub data LeavesServed {Log Sockets : Type 0} (machine : Machine Log Sockets) (na
   shut : (failure : OpenFailure) → ArentOpen machine.LogOpens (machine.SocketsOpen c.ports) name held holds failure →
       outcome ≡ Err (fault_of_opening failure) → IsNote is_verbose failure told →
       LeavesServed machine name held holds c how is_verbose line told outcome
-  served : (log log_then : Option Log) (sockets sockets_then : Sockets) (output : Option (List ℕ)) (reports : List ℕ) →
+  served : (log log_then : Option Log) (sockets sockets_then : Sockets) (output : Option (List ℕ)) (warning reports : List ℕ) →
       AreOpen machine.LogOpens (machine.SocketsOpen c.ports) name held output log sockets →
       machine.Closes sockets_then log_then → LogStays log log_then output holds →
       Serves c how (ends (log_held machine.held log output) (machine.calls sockets))
       (ends (log_held machine.held log_then holds) (machine.calls sockets_then)) reports outcome →
-      told ≡ line ++ reports → LeavesServed machine name held holds c how is_verbose line told outcome
+      IsWarning machine.RoutesIp is_verbose warning → told ≡ line ++ warning ++ reports → LeavesServed machine name held holds c how is_verbose line told outcome
 
 -- What `run` leaves under the configuration that was read from a text. Where there is none nothing
 -- is opened, the outcome is why, and it may be told where its fault is.

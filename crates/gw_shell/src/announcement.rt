@@ -1,18 +1,17 @@
 //! What `run --verbose` tells at the start: one line on what is served.
 
-ghost use Rattle.std.specs.Prelude.{◌≡◌, ◌++◌, ◌≤◌, length, map, option_map, string_bytes, IfOk, OnOk};
+ghost use Rattle.std.specs.Prelude.{◌≡◌, ◌++◌, ◌≤◌, length, option_map, string_bytes, IfOk, OnOk};
 ghost use Rattle.gw_addr.specs.Address.{text_of};
 ghost use Rattle.gw_addr.specs.declared.TheConstants.{MAX_PORTS};
-ghost use Rattle.gw_shell.specs.Announcement.{announcement, device_text, log_text, objects_text, port_text, rules_text, shown, startup_line};
+ghost use Rattle.gw_shell.specs.Announcement.{announcement, device_text, log_text, objects_text, port_text, rules_text, startup_line};
 ghost use Rattle.gw_script.specs.Order.{in_order};
+ghost use Rattle.gw_shell.specs.Announcement.{IsWarning, routing_note};
 
 use gw_addr::{BipAddr, put_decimal};
 use gw_configuration::{Config, Device, Port};
-use itoa::Integer;
+use gw_permissions::{put_number, put_shown};
+use gw_system::Host;
 use std::alloc::{AllocError, Global};
-
-/// The one control character of ASCII behind the printed ones.
-const DELETE: u8 = 127;
 
 /// The line that tells what is served, with the log in the file of this name or on standard output.
 fn announcement(alloc: Global, config: &Config, log: &Option<String>) -> Result<Vec<u8>, AllocError>
@@ -47,6 +46,28 @@ pub fn startup_line(
     }
 }
 
+/// What is written of a machine that routes IP from one interface to another, past the gateway.
+const ROUTES_IP: &str =
+    "bacgw: net.ipv4.ip_forward isn't 0: hosts reach the other subnets past the gateway\n";
+
+/// What is written of a machine, by whether it routes IP.
+fn routing_note(routes: bool) -> &'static [u8]
+    ensures { result.now ≡ routing_note routes }
+{
+    if routes { ROUTES_IP.as_bytes() } else { b"" }
+}
+
+/// What is written of a machine at the start: that it routes IP past the gateway, if more is asked for.
+pub fn warning_of<H: Host>(host: &H, is_asked: bool) -> &'static [u8]
+    ensures { IsWarning (H.RoutesIp host.now) is_asked result.now }
+{
+    if is_asked {
+        routing_note(host.routes_ip())
+    } else {
+        b""
+    }
+}
+
 /// Appends a port and its addresses.
 fn put_port(out: &mut Vec<u8>, number: usize, port: &Port) -> Result<(), AllocError>
     ensures { OnOk result (out.new.items ≡ out.old.items ++ port_text number port.now) }
@@ -74,15 +95,6 @@ fn put_ports(out: &mut Vec<u8>, ports: &[Port]) -> Result<(), AllocError>
         put_port(out, place + 1, &ports[place])?;
     }
     Ok(())
-}
-
-/// Appends a text and a number behind it in decimal digits. An `Err` only where a growth of memory
-/// was refused; then a front of them may stand behind what the buffer held.
-pub fn put_number<N: Integer>(out: &mut Vec<u8>, text: &str, number: N) -> Result<(), AllocError>
-    ensures { OnOk result (out.new.items ≡ out.old.items ++ text.now ++ N.text number) }
-{
-    out.extend_from_slice(text.as_bytes())?;
-    put_decimal(out, number)
 }
 
 /// Appends the device and its network.
@@ -117,27 +129,5 @@ fn put_log(out: &mut Vec<u8>, log: &Option<String>) -> Result<(), AllocError>
     match log {
         Some(name) => put_shown(out, name.as_bytes()),
         None => out.extend_from_slice(b"standard output"),
-    }
-}
-
-/// Appends a name, with a question mark in the place of each control character. An `Err` only where
-/// a growth of memory was refused; then a front of it may stand behind what the buffer held.
-pub fn put_shown(out: &mut Vec<u8>, name: &[u8]) -> Result<(), AllocError>
-    ensures { OnOk result (out.new.items ≡ out.old.items ++ map shown name.now) }
-{
-    for octet in name {
-        out.push(shown(*octet))?;
-    }
-    Ok(())
-}
-
-/// An octet as it is shown on a line.
-fn shown(octet: u8) -> u8
-    ensures { result ≡ shown octet }
-{
-    if octet < b' ' || octet == DELETE {
-        b'?'
-    } else {
-        octet
     }
 }

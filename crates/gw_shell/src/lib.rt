@@ -6,12 +6,12 @@
 
 mod announcement;
 mod asking;
+mod checked;
 mod command_line;
 mod configured;
 mod ending;
 mod fault;
 mod files;
-mod hidden;
 mod lines;
 mod options;
 mod program;

@@ -18,12 +18,12 @@ ghost use Rattle.gw_shell.specs.declared.fault.Fault.{Fault};
 ghost use Rattle.gw_shell.specs.declared.fault.Fault.TheVariants as fault;
 
 use crate::asking::why;
+use crate::checked::checked_text;
 use crate::command_line::{Choice, choice_of};
 use crate::configured::{configuration, configuration_in, configuration_of};
 use crate::ending::{end, tell, usage_of};
 use crate::fault::Fault;
 use crate::files::ConfigFiles;
-use crate::hidden::checked_text;
 use crate::options::RunOptions;
 use crate::script::replay;
 use crate::serving::serve_ports;
@@ -227,7 +227,7 @@ fn serve<H: Host, W: Write + Drop, E: OctetSink>(
     ensures served { (told : List ℕ) × (config : Result Configuration Fault)
         × IsConfigurationOf (result_map (λ octets. octets.items) text.now) config
         × LeavesRun (machine (OpensAtLine (H.LogOpens host.old) (H.LogIsCut host.old) H.Log.held)
-        (H.SocketsOpen host.old) (H.Closes host.new) H.Log.held H.Sockets.calls)
+        (H.SocketsOpen host.old) (H.RoutesIp host.old) (H.Closes host.new) H.Log.held H.Sockets.calls)
         (result_map (λ octets. octets.items) text.now)
         (writer_contents W.contents output.old) (writer_contents W.contents output.new) options.now
         config told result
@@ -258,7 +258,7 @@ fn follow<F: ConfigFiles, H: Host, R: OctetSource, W: Write + Drop, E: OctetSink
     ensures followed { IsFollowed
         (LeavesOutput (F.Reads files.now)
         (machine (OpensAtLine (H.LogOpens host.old) (H.LogIsCut host.old) H.Log.held)
-        (H.SocketsOpen host.old) (H.Closes host.new) H.Log.held H.Sockets.calls) (R.left input.old)
+        (H.SocketsOpen host.old) (H.RoutesIp host.old) (H.Closes host.new) H.Log.held H.Sockets.calls) (R.left input.old)
         (writer_contents W.contents output.old) (writer_contents W.contents output.new))
         (λ told. E.NeverFails errors.old → Appends (E.held errors.old) (E.held errors.new) told)
         choice.now result }
@@ -321,7 +321,7 @@ pub fn run<F: ConfigFiles, H: Host, R: OctetSource, W: Write + Drop, E: OctetSin
         (λ f. choice ≡ Err f))
         (LeavesOutput (F.Reads files.now)
         (machine (OpensAtLine (H.LogOpens host.old) (H.LogIsCut host.old) H.Log.held)
-        (H.SocketsOpen host.old) (H.Closes host.new) H.Log.held H.Sockets.calls) (R.left input.old)
+        (H.SocketsOpen host.old) (H.RoutesIp host.old) (H.Closes host.new) H.Log.held H.Sockets.calls) (R.left input.old)
         (writer_contents W.contents output.old) (writer_contents W.contents output.new))
         (writer_buffer output.old) (writer_buffer output.new)
         (λ line. E.NeverFails errors.old → Appends (E.held errors.old) (E.held errors.new) line)

@@ -14,7 +14,7 @@ ghost use Rattle.gw_system.specs.Host.{OpensAtLine};
 ghost use Rattle.gw_shell.specs.Serving.{AreOpen, ArentOpen, IsFlushedFor, LeavesServed, LogIsOpen, LogIsShut, LogStays, Serves, ServesFrom, ends, log_held, machine, outcome_of, service};
 ghost use Rattle.gw_shell.specs.declared.fault.Fault.TheVariants as fault;
 
-use crate::announcement::startup_line;
+use crate::announcement::{startup_line, warning_of};
 use crate::ending::tell;
 use crate::fault::Fault;
 use crate::options::RunOptions;
@@ -217,8 +217,8 @@ fn serve_open<L: OctetSink, S: Wire, W: Write + Drop, E: OctetSink>(
     }
 }
 
-/// Serves the ports of a configuration as the options ask. Where they ask to be told more it tells at
-/// the start what is served, or why sockets can't be opened. Faults: `Log`, `Socket`, `Memory` and
+/// Serves the ports of a configuration as the options ask. If they ask for more it writes at the start what is
+/// served and whether the machine routes IP past the gateway, or why sockets can't be opened. Faults: `Log`, `Socket`, `Memory` and
 /// `CountEnd`.
 pub fn serve_ports<H: Host, W: Write + Drop, E: OctetSink>(
     alloc: Global,
@@ -231,7 +231,7 @@ pub fn serve_ports<H: Host, W: Write + Drop, E: OctetSink>(
     ensures served { let name = option_map string_bytes options.now.log in
         (told : List ℕ)
         × LeavesServed (machine (OpensAtLine (H.LogOpens host.old) (H.LogIsCut host.old) H.Log.held)
-        (H.SocketsOpen host.old) (H.Closes host.new) H.Log.held H.Sockets.calls)
+        (H.SocketsOpen host.old) (H.RoutesIp host.old) (H.Closes host.new) H.Log.held H.Sockets.calls)
         name (writer_contents W.contents output.old) (writer_contents W.contents output.new) config
         (service options.now.turns options.now.stats) options.now.verbose (startup_line options.now.verbose config name) told result
         × (E.NeverFails errors.old → Appends (E.held errors.old) (E.held errors.new) told) }
@@ -248,6 +248,7 @@ pub fn serve_ports<H: Host, W: Write + Drop, E: OctetSink>(
             },
         ) => {
             tell(&line, errors);
+            tell(warning_of(host, options.verbose), errors);
             let outcome = serve_open(
                 alloc,
                 config,

@@ -19,6 +19,7 @@ use std::alloc::Global;
 use std::fs::File;
 use std::io::{ErrorKind, Read, Seek, SeekFrom};
 use std::net::Net;
+use std::os::unix::fs::OpenOptionsExt;
 use std::rt::Files;
 use std::time::Clock;
 use std::{fs, io};
@@ -40,11 +41,14 @@ pub trait Host {
     /// What opening the sockets of some ports may give.
     ghost SocketsOpen: { Self → List Port → Result Self.Sockets SocketFailure → Type 0 };
 
+    /// Whether it may route IP itself.
+    ghost RoutesIp: { Self → Bool → Type 0 };
+
     /// How the sockets, and the log where one was opened, may have been when they were closed.
     ghost Closes: { Self → Self.Sockets → Option Self.Log → Type 0 };
 
-    /// Opens the log of this name, to append to it. Faults: `Failed` where the system doesn't, and
-    /// `Memory`.
+    /// Opens the log of this name, to append to it. Faults: `Failed` if the system doesn't, or the file is
+    /// a symbolic link; and `Memory`.
     fn open_log(&self, name: &str) -> Result<Self::Log, LogFailure>
         ensures { LogOpens self.now name.now result };
 
@@ -52,6 +56,10 @@ pub trait Host {
     /// full or the power failed. Not where it can't be read.
     fn is_cut(&self, name: &str) -> bool
         ensures { LogIsCut self.now name.now result };
+
+    /// Whether it routes IP from one interface to another, past the gateway. Not if that can't be read.
+    fn routes_ip(&self) -> bool
+        ensures { RoutesIp self.now result };
 
     /// Opens the sockets of these ports, from 1 to 8, in their order, of each port that of its own
     /// address first. Faults: `Failed`, with the port, the step, the address and the reason, where
@@ -82,6 +90,27 @@ pub fn open_at_line<H: Host>(name: &str, host: &H) -> Result<H::Log, LogFailure>
         Ok(()) => Ok(log),
         Err(_) => Err(LogFailure::Failed),
     }
+}
+
+/// Who may read and write a log that is made: its owner alone.
+const LOG_MODE: u32 = 0o600;
+
+/// Where Linux says whether it routes IP: `0` if it doesn't.
+const FORWARDING: &str = "/proc/sys/net/ipv4/ip_forward";
+
+/// Whether the file of this name is a symbolic link.
+fn is_link<R: Files>(rt: &R, name: &str) -> bool {
+    match rt.symlink_metadata(name) {
+        Ok(metadata) => metadata.is_symlink(),
+        Err(_) => false,
+    }
+}
+
+/// The first octet of a file.
+fn first_octet<R: Files>(rt: &R, name: &str) -> io::Result<u8> {
+    let mut first = [0];
+    fs::open(rt, name)?.read_exact(&mut first)?;
+    Ok(first[0])
 }
 
 /// The last octet of a regular file, an `Err` where it has none or can't be read. A pipe or a terminal is left alone.
@@ -135,12 +164,18 @@ impl<'a, R: Files + Net + Clock> Host for SystemHost<'a, R> {
 
     ghost SocketsOpen = { λ _ _ _. ⊤ };
 
+    ghost RoutesIp = { λ _ _. ⊤ };
+
     ghost Closes = { λ _ _ _. ⊤ };
 
     fn open_log(&self, name: &str) -> Result<R::File, LogFailure> {
+        if is_link(self.rt, name) {
+            return Err(LogFailure::Failed);
+        }
         match File::options()
             .append(true)
             .create(true)
+            .mode(LOG_MODE)
             .open(self.rt, name)
         {
             Ok(file) => Ok(file),
@@ -154,6 +189,13 @@ impl<'a, R: Files + Net + Clock> Host for SystemHost<'a, R> {
     fn is_cut(&self, name: &str) -> bool {
         match last_octet(self.rt, name) {
             Ok(octet) => octet != b'\n',
+            Err(_) => false,
+        }
+    }
+
+    fn routes_ip(&self) -> bool {
+        match first_octet(self.rt, FORWARDING) {
+            Ok(octet) => octet != b'0',
             Err(_) => false,
         }
     }

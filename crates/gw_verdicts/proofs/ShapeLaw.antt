@@ -35,6 +35,7 @@ use Rattle.gw_core.proofs.FormatLemmas.{format_stays}
 use Rattle.gw_core.proofs.HistoryLemmas.{configuration_stays, ports_stay}
 use Rattle.gw_core.proofs.RespondLemmas.{four_none}
 use Rattle.gw_core.proofs.StandLemmas.{acts_leave_the_tables}
+use Rattle.gw_core.proofs.Whence.{Heard, InPorts, IsHeard, all_links, heard_at, port_bounds}
 use Rattle.gw_verdicts.specs.Laws.{AsksLieInShapes, IsOfNumbers, NeverFirstNeverDecides}
 use Rattle.gw_shapes.specs.Pieces.{most}
 use Rattle.gw_shapes.specs.Shape.{IsWithin, LiesInOne, Shape}
@@ -43,7 +44,7 @@ use Rattle.gw_shapes.specs.declared.side.Side.{Side}
 use Rattle.gw_shapes.proofs.Lying.{in_front, in_rest}
 use Rattle.gw_verdicts.proofs.Parts.{each_claimed, each_entry}
 use Rattle.gw_verdicts.proofs.Raised.{Comes, claim_lies, enter_lies, link_lies, message_lies}
-use Rattle.gw_verdicts.proofs.Whence.{Heard, InPorts, IsHeard, WithinOne, all_links, apart, heard_at, in_gap, port_bounds}
+use Rattle.gw_verdicts.proofs.Gaps.{WithinOne, apart, in_gap}
 
 -- ---- in the list of all shapes
 

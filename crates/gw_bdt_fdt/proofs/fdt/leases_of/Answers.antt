@@ -1,4 +1,4 @@
-use Rattle.std.proofs.Common.{[], ap, ◌∙◌, ◌≡◌, ◌<◌, length, map, take, arith, slice_index_or}
+use Rattle.std.proofs.Common.{[], ap, ◌∙◌, arith, slice_index_or}
 use Rattle.indexmap.specs.IndexMap.{insert_entry}
 use Rattle.gw_bdt_fdt.specs.declared.kept.KeptDevice.{KeptDevice}
 use Rattle.gw_bdt_fdt.specs.Registrations.{same}

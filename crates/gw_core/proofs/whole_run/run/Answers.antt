@@ -32,7 +32,7 @@ returns-then-is_err-clause-err c =
     let split = first_split c.loop-rest.rest.now _ c.in-len1-up.len_at_least in
     let p = run_goes_on c.args.gateway.now c.loop-rest.gateway c.take_event.new.gateway (map event_view c.args.events.now)
     (map event_view c.loop-rest.rest.now) _ c.loop-rest.given.items
-    (c.loop-rest.given.items ++ c.in_ok-effects.effects ∷ []) _ c.in_ok-effects.effects c.loop-rest.invariant split c.in_ok-effects.ensures.moved
+    (c.loop-rest.given.items ++ c.in_ok-effects.field-0.effects ∷ []) _ c.in_ok-effects.field-0.effects c.loop-rest.invariant split c.in_ok-effects.ensures.moved
     c.in_ok-effects.ensures.given refl in (
       length p.done,
       p.state ∙ ap (state_from c.args.gateway.now) (sym (first_events (map event_view c.args.events.now) p.done _ p.parts)),
@@ -43,7 +43,7 @@ loop-rest-preserved c =
     let split = first_split c.loop-rest.rest.now _ c.in-len1-up.len_at_least in
     let pushed = rw c.if-is_err.ensures.negation at c.push.ensures.items in
     run_goes_on c.args.gateway.now c.loop-rest.gateway c.take_event.new.gateway (map event_view c.args.events.now)
-    (map event_view c.loop-rest.rest.now) _ c.loop-rest.given.items _ _ c.in_ok-effects.effects c.loop-rest.invariant split c.in_ok-effects.ensures.moved
+    (map event_view c.loop-rest.rest.now) _ c.loop-rest.given.items _ _ c.in_ok-effects.field-0.effects c.loop-rest.invariant split c.in_ok-effects.ensures.moved
     c.in_ok-effects.ensures.given pushed
 
 pub returns-clause-effects : goal.returns-clause-effects

@@ -8,14 +8,17 @@ use Rattle.gw_shell.proofs.serving.serve_ports.Goals as goal
 pub returns-in-Ok-clause-served : goal.returns-in-Ok-clause-served
 returns-in-Ok-clause-served g c =
     let line = c.in-Ok.field-0.line.items in
+    let warning = c.warning_of.result.now in
     let done = c.serve_open-outcome.ensures.serves in
     let held = g.E.OctetSink.held in (
-      line ++ done.0,
+      line ++ warning ++ done.0,
       served c.in-Ok.field-0.log c.serve_open-outcome.new.log c.in-Ok.field-0.sockets c.serve_open-outcome.new.sockets (writer_contents g.W.Write.contents c.open.new.output)
-          done.0 c.in-Ok.ensures.open c.close.ensures c.serve_open-outcome.ensures.log done.1 (ap (λ (l : List ℕ). l ++ done.0) c.in-Ok.ensures.line),
-      λ never. appends_two (held c.args.errors.now) (held c.tell.new.errors) (held c.serve_open-outcome.new.errors) line done.0
+          warning done.0 c.in-Ok.ensures.open c.close.ensures c.serve_open-outcome.ensures.log done.1 c.warning_of.ensures
+          (ap (λ (l : List ℕ). l ++ warning ++ done.0) c.in-Ok.ensures.line),
+      λ never. appends_two (held c.args.errors.now) (held c.tell.new.errors) (held c.serve_open-outcome.new.errors) line (warning ++ done.0)
           (subst (λ (text : List ℕ). Appends (held c.args.errors.now) (held c.tell.new.errors) text) c.deref.ensures.value (c.tell.ensures.told never))
-          (done.2 (c.tell.ensures.lasts never)),
+          (appends_two (held c.tell.new.errors) (held c.tell2.new.errors) (held c.serve_open-outcome.new.errors) warning done.0
+          (c.tell2.ensures.told (c.tell.ensures.lasts never)) (done.2 (c.tell2.ensures.lasts (c.tell.ensures.lasts never)))),
     )
 
 pub returns-in-Err-clause-served : goal.returns-in-Err-clause-served

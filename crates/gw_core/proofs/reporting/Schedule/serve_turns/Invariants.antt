@@ -1,4 +1,5 @@
 use Rattle.std.proofs.Common.{◌≡◌, ◌+◌, ◌-◌, ◌*◌, ◌^◌, ◌≤◌}
+use Rattle.gw_core.specs.Drops.{IsBelow}
 use Rattle.gw_core.specs.ReportTurn.{HasGoneOn}
 use Rattle.gw_core.specs.Serve.{scene}
 use Rattle.gw_core.specs.ServeTurn.{wire_counts}
@@ -14,10 +15,11 @@ invariant-loop g l =
     let schedule = l.fn.self in
     record {
       reported : Reported schedule.seconds schedule.start l.counter (scene l.fn.gateway (log.held l.fn.log) (wire.calls l.fn.wire)) counts
-          (scene l.gateway (log.held l.log) (wire.calls l.wire)) (reports.NeverFails l.fn.reports) (reports.held l.fn.reports)
+          l.state.tally (scene l.gateway (log.held l.log) (wire.calls l.wire)) (reports.NeverFails l.fn.reports) (reports.held l.fn.reports)
           (reports.held l.reports);
       since : HasGoneOn schedule.start l.gateway counts;
       failures : wire.failure_count l.wire ≡ wire.failure_count l.fn.wire + counts.recv_failures + counts.send_failures;
+      below : IsBelow counts.taken l.state.tally;
       few : wire_counts counts ≤ l.counter * (2 ^ 64 - 1);
       ports : wire.port_count l.wire ≡ wire.port_count l.fn.wire;
       lasting_log : log.NeverFails l.fn.log → log.NeverFails l.log;

@@ -1,0 +1,12 @@
+pub mod Found
+pub mod Links
+pub mod LinkMoves
+pub mod Routes
+pub mod Learned
+pub mod Values
+pub mod Ranges
+pub mod Made
+pub mod Learning
+pub mod States
+pub mod Whole
+pub mod LastingChanges

@@ -1,0 +1,3 @@
+pub mod Allowing
+pub mod Appending
+pub mod Truth

@@ -1,0 +1,5 @@
+pub mod Laws
+pub mod Passing
+pub mod Permissions
+pub mod Questions
+pub mod Words

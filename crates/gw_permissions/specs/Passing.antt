@@ -1,0 +1,31 @@
+-- Which rules may allow asks of a shape.
+use Rattle.std.specs.Prelude.{ℕ, ◌+◌, ◌-◌, Bool, not, ◌&&◌, List, [], length, position, take}
+use Rattle.std.specs.List.{list_any}
+use Rattle.std.specs.Option.{option_map_or}
+use Rattle.gw_rules.specs.Fields.{value_of}
+use Rattle.gw_rules.specs.Rule.{each_field, ranges_of}
+use Rattle.gw_rules.specs.declared.rule.Rule.{Rule}
+use Rattle.gw_shapes.specs.Cover.{takes_side}
+use Rattle.gw_shapes.specs.Meeting.{meets}
+use Rattle.gw_shapes.specs.Shape.{Shape}
+
+-- in each field that the rule names one of its ranges holds all that the shape has there: it matches each ask of the shape
+abbrev pub matches_all : Shape → Rule → Bool
+matches_all shape rule = each_field (λ field. takes_side (value_of field shape) (ranges_of field rule) [])
+
+-- how many rules the asks of a shape come to: those up to the first that matches each of them
+abbrev pub reached : Shape → List Rule → ℕ
+reached shape rules = option_map_or (λ place. place + 1) (position (matches_all shape) rules) (length rules)
+
+-- a rule allows, and may match asks of a shape
+abbrev pub may_allow : Shape → Rule → Bool
+may_allow shape rule = rule.allow && meets shape rule
+
+-- a rule that asks of the shape come to may allow some
+abbrev pub may_pass : Shape → List Rule → Bool
+may_pass shape rules = list_any (may_allow shape) (take (reached shape rules) rules)
+
+-- the rule of this number matches each ask of the shape, and no rule before it matches any
+abbrev pub decides_all : Shape → List Rule → ℕ → Rule → Bool
+decides_all shape rules number rule =
+    matches_all shape rule && not (list_any (meets shape) (take (number - 1) rules))

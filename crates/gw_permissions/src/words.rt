@@ -1,0 +1,52 @@
+//! Words that the lines have in common.
+ghost use Rattle.std.specs.Prelude.{◌≡◌, ◌++◌, map, OnOk};
+ghost use Rattle.gw_permissions.specs.Words.{rule_words, shown};
+
+use gw_addr::put_decimal;
+use gw_rules::Rule;
+use itoa::Integer;
+use std::alloc::AllocError;
+
+/// The one control character of ASCII after the printed ones.
+const DELETE: u8 = 127;
+
+/// Appends a text and a number after it in decimal digits. An `Err` only if a growth of memory was
+/// refused; then a front of them may follow what the buffer held.
+pub fn put_number<N: Integer>(out: &mut Vec<u8>, text: &str, number: N) -> Result<(), AllocError>
+    ensures { OnOk result (out.new.items ≡ out.old.items ++ text.now ++ N.text number) }
+{
+    out.extend_from_slice(text.as_bytes())?;
+    put_decimal(out, number)
+}
+
+/// Appends a text, with a question mark in the place of each control character. An `Err` only if a
+/// growth of memory was refused; then a front of it may follow what the buffer held.
+pub fn put_shown(out: &mut Vec<u8>, text: &[u8]) -> Result<(), AllocError>
+    ensures { OnOk result (out.new.items ≡ out.old.items ++ map shown text.now) }
+{
+    for octet in text {
+        out.push(shown(*octet))?;
+    }
+    Ok(())
+}
+
+/// An octet as it is shown on a line.
+fn shown(octet: u8) -> u8
+    ensures { result ≡ shown octet }
+{
+    if octet < b' ' || octet == DELETE {
+        b'?'
+    } else {
+        octet
+    }
+}
+
+/// Appends a rule by its number, from 1, and its name.
+pub(crate) fn put_rule(out: &mut Vec<u8>, number: usize, rule: &Rule) -> Result<(), AllocError>
+    ensures { OnOk result (out.new.items ≡ out.old.items ++ rule_words number rule.now.name) }
+{
+    put_number(out, "rule ", number)?;
+    out.extend_from_slice(b" \"")?;
+    out.extend_from_slice(rule.name.as_str().as_bytes())?;
+    out.extend_from_slice(b"\"")
+}

@@ -1,0 +1,82 @@
+-- A network that is none of the direct ones lies in a gap between them.
+use Rattle.std.proofs.Common.{◌≡◌, ◌≢◌, ◌⊎◌, inl, inr, sym, refl, ℕ, ◌+◌, ◌-◌, ◌≤◌, ◌<◌, Bool, true, false, List, [], ◌∷◌, ◌++◌, length, Some, arith, nat_lt}
+use Rattle.std.specs.Prelude.{◌==◌}
+use Rattle.std.specs.List.{AllByRecursion, flat_map, list_any}
+use Rattle.std.specs.Option.{option_to_list}
+use Rattle.std.proofs.lemmas.Bool.{eqb-false, lt-ltb, ltb-false, ltb-true, or_parts}
+use Rattle.gw_configuration.specs.declared.port.Port.{Port as ConfiguredPort}
+use Rattle.gw_relay.specs.History.{Acts as PortActs}
+use Rattle.gw_relay.specs.History.{all_after, ports_from}
+use Rattle.gw_rules.specs.Range.{holds}
+use Rattle.gw_shapes.specs.Pieces.{above, below, most}
+use Rattle.gw_shapes.specs.Shape.{IsWithin}
+use Rattle.gw_shapes.specs.Shapes.{gaps, gaps_between, only, some, split}
+use Rattle.gw_shapes.specs.declared.side.Side.{Side}
+
+-- a network that none of the links has is none of the ports'
+pub apart : (number : ℕ) (ports : List ConfiguredPort) (acts : List PortActs) (n : ℕ)
+    → length (all_after (ports_from number ports) acts) ≡ length ports
+    → list_any (λ link. link.port.network == n) (all_after (ports_from number ports) acts) ≡ false
+    → AllByRecursion (λ p. n ≢ p.network) ports
+apart number [] acts n len none = tt
+apart number (p ∷ ports) [] n len none = absurd (omega (arith, len))
+apart number (p ∷ ports) (a ∷ acts) n len none =
+    let parts = or_parts (p.network == n) (list_any (λ link. link.port.network == n) (all_after (ports_from (number + 1) ports) acts)) none in
+    let here = eqb-false p.network n parts.0 in
+    (λ e. here (sym e), apart (number + 1) ports acts n (omega (arith, len)) parts.1)
+
+-- ---- the gaps
+
+abbrev pub WithinOne : List Side → ℕ → Type 0
+WithinOne [] n = ⊥
+WithinOne (side ∷ sides) n = IsWithin side (Some n) ⊎ WithinOne sides n
+
+one_front : (xs ys : List Side) (n : ℕ) → WithinOne xs n → WithinOne (xs ++ ys) n
+one_front [] ys n is = absurd is
+one_front (x ∷ xs) ys n (inl here) = inl here
+one_front (x ∷ xs) ys n (inr later) = inr (one_front xs ys n later)
+
+one_rest : (xs ys : List Side) (n : ℕ) → WithinOne ys n → WithinOne (xs ++ ys) n
+one_rest [] ys n is = is
+one_rest (x ∷ xs) ys n is = inr (one_rest xs ys n is)
+
+-- a number that isn't taken out
+split_side : (hole : ℕ) (side : Side) (n : ℕ) (b lower : Bool) → holds hole side.range ≡ b → nat_lt n hole ≡ lower → n ≢ hole
+    → IsWithin side (Some n) → WithinOne (split hole side) n
+split_side hole side n false lower e f other is = rw e (inl is)
+split_side hole side n true true e f other is =
+    let under = ltb-true n hole f in
+    let from = is.0 in
+    let t : nat_lt side.range.low hole ≡ true = lt-ltb side.range.low hole (omega arith) in
+    rw e (one_front (option_to_list (below side (only hole))) (option_to_list (above side (only hole))) n
+    (rw t (inl (from, omega arith))))
+split_side hole side n true false e f other is =
+    let from : hole ≤ n = ltb-false n hole f in
+    let over : hole < n = above_it from in
+    let to = is.1 in
+    let t : nat_lt hole side.range.high ≡ true = lt-ltb hole side.range.high (omega arith) in
+    rw e (one_rest (option_to_list (below side (only hole))) (option_to_list (above side (only hole))) n
+    (rw t (inl (omega arith, to))))
+  where
+    above_it : hole ≤ n → hole < n
+    above_it from = omega (arith, other)
+
+split_each : (hole : ℕ) (sides : List Side) (n : ℕ) → n ≢ hole → WithinOne sides n → WithinOne (flat_map (split hole) sides) n
+split_each hole [] n other is = absurd is
+split_each hole (side ∷ sides) n other (inl here) =
+    one_front (split hole side) (flat_map (split hole) sides) n
+    (split_side hole side n (holds hole side.range) (nat_lt n hole) refl refl other here)
+split_each hole (side ∷ sides) n other (inr later) =
+    one_rest (split hole side) (flat_map (split hole) sides) n (split_each hole sides n other later)
+
+between : (ports : List ConfiguredPort) (sides : List Side) (n : ℕ) → AllByRecursion (λ p. n ≢ p.network) ports → WithinOne sides n
+    → WithinOne (gaps_between sides ports) n
+between [] sides n none is = is
+between (p ∷ ports) sides n none is =
+    between ports (flat_map (split p.network) sides) n none.1 (split_each p.network sides n none.0 is)
+
+-- a network that is none of the direct ones lies in a gap
+pub in_gap : (device : ℕ) (ports : List ConfiguredPort) (n : ℕ) → n ≤ most → n ≢ device → AllByRecursion (λ p. n ≢ p.network) ports
+    → WithinOne (gaps device ports) n
+in_gap device ports n small other none =
+    between ports (flat_map (split device) (some ∷ [])) n none (split_each device (some ∷ []) n other (inl (omega arith, small)))
