@@ -55,17 +55,23 @@ pub record Progress {A : Type 0} (line : A → List ℕ) (Fits : List A → A �
   pub fit : AllFit Fits [] read
   pub few : length read ≡ count
 
-pub start : {A : Type 0} (line : A → List ℕ) (Fits : List A → A → Type 0) (text : List ℕ) → Progress line Fits text 0 [] text
-start line Fits text = record { found = refl; fit = none_fit Fits; few = refl }
-
-pub next : {A : Type 0} (line : A → List ℕ) (Fits : List A → A → Type 0) (text : List ℕ) (count : ℕ) (read : List A) (now : List ℕ)
-    (item : A) (behind : List ℕ) → Progress line Fits text count read now → now ≡ line item ++ behind → Fits read item
-    → Progress line Fits text (count + 1) (read ++ item ∷ []) behind
-next line Fits text count read now item behind p found fits = record {
-  found = one_more line read item text now behind p.found found;
-  fit = fit_more Fits [] read item p.fit fits;
-  few = omega (arith, p.few, length-append read (item ∷ []));
+pub start : {A : Type 0} (line : A → List ℕ) (Fits : List A → A → Type 0) (text : List ℕ) (read : List A) → read ≡ []
+    → Progress line Fits text 0 read text
+start line Fits text read none = record {
+  found = ap (λ (xs : List _). flat_map line xs ++ text) (sym none);
+  fit = subst (AllFit Fits []) (sym none) (none_fit Fits);
+  few = ap length none;
 }
+
+pub next : {A : Type 0} (line : A → List ℕ) (Fits : List A → A → Type 0) (text : List ℕ) (count : ℕ) (read before : List A) (now : List ℕ)
+    (item : A) (behind : List ℕ) (pushed : List A) → Progress line Fits text count read now → now ≡ line item ++ behind → before ≡ read
+    → Fits before item → pushed ≡ read ++ item ∷ [] → Progress line Fits text (count + 1) pushed behind
+next line Fits text count read before now item behind pushed p found same fits is =
+    subst (λ (xs : List _). Progress line Fits text (count + 1) xs behind) (sym is) (record {
+      found = one_more line read item text now behind p.found found;
+      fit = fit_more Fits [] read item p.fit (subst (λ (xs : List _). Fits xs item) same fits);
+      few = omega (arith, p.few, length-append read (item ∷ []));
+    })
 
 pub items_read : {A : Type 0} (line : A → List ℕ) (Fits : List A → A → Type 0) (text : List ℕ) (count most : ℕ) (read : List A) (now : List ℕ)
     → Progress line Fits text count read now → count ≤ most → AreItems Fits most read

@@ -59,3 +59,15 @@ pub in_devices : (text a b c : List ℕ) (n : ℕ) (address : BipAddr) (peers en
 in_devices text a b c n address peers entries left e f g stops =
     one_behind port_text (port n address peers entries stops.items) text stops.rest left
     (port_whole text a b c stops.rest n address peers entries stops.items e f g stops.parts) stops.is
+
+-- the same of the tables that are made of them
+pub port_read : (text a b c rest : List ℕ) (n : ℕ) (address : BipAddr) (read_peers read_entries : List BdtEntry) (read_devices : List KeptDevice)
+    (peers entries : List BdtEntry) (devices : List KeptDevice)
+    → text ≡ port_on n address a → a ≡ flat_map (entry_line peer_word) read_peers ++ b → b ≡ flat_map (entry_line entry_word) read_entries ++ c
+    → c ≡ flat_map device_line read_devices ++ rest → peers ≡ read_peers → entries ≡ read_entries → devices ≡ read_devices
+    → text ≡ port_text (port n address peers entries devices) ++ rest
+port_read text a b c rest n address read_peers read_entries read_devices peers entries devices e f g h p q r =
+    port_whole text a b c rest n address peers entries devices e
+    (f ∙ ap (λ (xs : List BdtEntry). flat_map (entry_line peer_word) xs ++ b) (sym p))
+    (g ∙ ap (λ (xs : List BdtEntry). flat_map (entry_line entry_word) xs ++ c) (sym q))
+    (h ∙ ap (λ (xs : List KeptDevice). flat_map device_line xs ++ rest) (sym r))

@@ -1,9 +1,11 @@
 -- Slots, one after the other.
-use Rattle.std.proofs.Common.{◌≡◌, ◌∙◌, ℕ, zero, suc, ◌+◌, ◌<◌, List, [], ◌∷◌, ◌++◌, length, take, get_or, Option, Some, None, refl, sym, ap, arith, append-nil, append_assoc}
-use Rattle.std.proofs.lemmas.List.{length-take-le, take_more}
+use Rattle.std.proofs.Common.{◌≡◌, ◌∙◌, ℕ, zero, suc, ◌+◌, ◌<◌, List, [], ◌∷◌, ◌++◌, length, take, get_or, Option, Some, None, refl, sym, ap, subst, arith, append-nil, append_assoc}
+use Rattle.std.proofs.lemmas.List.{length-set, length-take-le, take_more, take_more_set}
+use Rattle.std.proofs.Math.ListN.{set}
+use Rattle.std.proofs.Math.Seq.{take-length}
 use Rattle.gw_configuration.specs.declared.object.ObjectKind.{ObjectKind}
 use Rattle.gw_objects.specs.declared.value.PropertyValue.{PropertyValue}
-use Rattle.gw_state_text.specs.Fit.{AreOfKind}
+use Rattle.gw_state_text.specs.Fit.{AreOfKind, FitsKind}
 use Rattle.gw_state_text.specs.Text.{slot_text, slots_text}
 use Rattle.gw_state_text.specs.internal.Objects.{StopsInSlots}
 
@@ -68,7 +70,62 @@ pub none_of_kind : (kind : ObjectKind) → AreOfKind kind []
 unfolding AreOfKind
 none_of_kind kind = tt
 
+-- one slot: empty, or with a value of the type
+pub none_one : (kind : ObjectKind) → AreOfKind kind (None ∷ [])
+unfolding AreOfKind
+none_one kind = tt
+
+pub one_of_kind : (kind : ObjectKind) (value : PropertyValue) → FitsKind kind value → AreOfKind kind (Some value ∷ [])
+unfolding AreOfKind
+one_of_kind kind value fits = (fits, tt)
+
 -- the slots up to one whose line is faulty
 pub stops_there : (slots : List (Option PropertyValue)) (text rest : List ℕ) (left : ℕ) → text ≡ slots_text 1 slots ++ rest
     → left ≡ length rest → StopsInSlots text left
 stops_there slots text rest left parts is = record { slots = slots; rest = rest; parts = parts; is = is }
+
+-- ---- slots that are read into an array
+
+-- what is read up to a slot
+pub record Slots (kind : ObjectKind) (text : List ℕ) (place : ℕ) (slots : List (Option PropertyValue)) (rest : List ℕ) : Type 0 where
+  pub parts : text ≡ slots_text 1 (take place slots) ++ rest
+  pub are : AreOfKind kind (take place slots)
+  pub sixth : get_or (take place slots) 5 None ≡ None
+  pub sixteen : length slots ≡ 16
+
+pub slots_start : (kind : ObjectKind) (text : List ℕ) (slots : List (Option PropertyValue)) → length slots ≡ 16 → Slots kind text 0 slots text
+unfolding slots_text
+slots_start kind text slots len = record { parts = refl; are = none_of_kind kind; sixth = refl; sixteen = len }
+
+-- one slot more leaves the sixth as it is, or is an empty one
+sixth_more : (slots : List (Option PropertyValue)) (slot : Option PropertyValue) → get_or slots 5 None ≡ None → (length slots + 1 ≡ 6 → slot ≡ None)
+    → get_or (slots ++ slot ∷ []) 5 None ≡ None
+sixth_more [] slot e is = refl
+sixth_more (a ∷ []) slot e is = refl
+sixth_more (a ∷ b ∷ []) slot e is = refl
+sixth_more (a ∷ b ∷ d ∷ []) slot e is = refl
+sixth_more (a ∷ b ∷ d ∷ f ∷ []) slot e is = refl
+sixth_more (a ∷ b ∷ d ∷ f ∷ g ∷ []) slot e is = is refl
+sixth_more (a ∷ b ∷ d ∷ f ∷ g ∷ h ∷ slots) slot e is = e
+
+pub slots_next : (kind : ObjectKind) (text rest behind : List ℕ) (place : ℕ) (slots : List (Option PropertyValue)) (slot : Option PropertyValue)
+    → place < 16 → Slots kind text place slots rest → rest ≡ slot_text (place + 1) slot ++ behind → AreOfKind kind (slot ∷ [])
+    → (place + 1 ≡ 6 → slot ≡ None) → Slots kind text (place + 1) (set slots place slot) behind
+slots_next kind text rest behind place slots slot lt so_far then one free =
+    let within : place < length slots = omega (arith, lt, so_far.sixteen) in
+    let next : take (place + 1) (set slots place slot) ≡ take place slots ++ slot ∷ [] = take_more_set slots place slot within in
+    let len : length (take place slots) ≡ place = length-take-le place slots (omega (arith, within)) in
+    record {
+      parts =
+          read_more (take place slots) place slot text rest behind len so_far.parts then
+          ∙ ap (λ (xs : List (Option PropertyValue)). slots_text 1 xs ++ behind) (sym next);
+      are = subst (AreOfKind kind) (sym next) (kind_more kind (take place slots) slot so_far.are one);
+      sixth =
+          ap (λ (xs : List (Option PropertyValue)). get_or xs 5 None) next
+          ∙ sixth_more (take place slots) slot so_far.sixth (λ e. free (ap (λ (k : ℕ). k + 1) (sym len) ∙ e));
+      sixteen = length-set slots place slot ∙ so_far.sixteen;
+    }
+
+-- all sixteen are read
+pub all_slots : (slots : List (Option PropertyValue)) → length slots ≡ 16 → take 16 slots ≡ slots
+all_slots slots len = ap (λ (k : ℕ). take k slots) (sym len) ∙ take-length slots

@@ -1,11 +1,12 @@
 -- The text of a state, from its parts, and where reading stops in it.
-use Rattle.std.proofs.Common.{◌≡◌, ◌∙◌, ℕ, List, [], ◌∷◌, ◌++◌, length, refl, sym, ap, append-nil, append_assoc}
+use Rattle.std.proofs.Common.{◌≡◌, ◌∙◌, ℕ, ◌+◌, ◌-◌, ◌≤◌, List, [], ◌∷◌, ◌++◌, length, take, arith, refl, sym, ap, append-nil, append_assoc}
 use Rattle.std.specs.List.{flat_map}
+use Rattle.std.proofs.lemmas.List.{length-append, take_at}
 use Rattle.gw_routes.specs.declared.route.Route.{Route}
 use Rattle.gw_saved.specs.declared.counts.SavedCounts.{SavedCounts}
 use Rattle.gw_saved.specs.declared.port.SavedPort.{SavedPort}
 use Rattle.gw_saved.specs.Saved.{Saved, SavedObject}
-use Rattle.gw_state_text.specs.Place.{BeginsText}
+use Rattle.gw_state_text.specs.Place.{BeginsText, IsPlaceOf, line_count}
 use Rattle.gw_state_text.specs.Text.{counts_line, end_line, first_line, object_text, port_text, route_line, state_text}
 use Rattle.gw_state_text.specs.internal.Block.{StopsBehind}
 use Rattle.gw_state_text.specs.internal.Lines.{counts_on}
@@ -149,4 +150,73 @@ after_end text end behind c ports routes objects e f =
         is = append-nil (before ++ end_line) ∙ whole c ports routes objects end_line;
       };
       is = refl;
+    }
+
+-- ---- what is read of the text so far
+
+-- the octets that are left are counted so
+pub stops_so : (text : List ℕ) (left other : ℕ) → left ≡ other → StopsIn text other → StopsIn text left
+stops_so text left other e stops = record {
+  front = stops.front;
+  rest = stops.rest;
+  parts = stops.parts;
+  begins = stops.begins;
+  is = e ∙ stops.is;
+}
+
+pub read_ports : (text ports routes : List ℕ) (c : SavedCounts) (items : List SavedPort) → text ≡ (first_line ++ counts_line c) ++ ports
+    → ports ≡ flat_map port_text items ++ routes
+    → text ≡ ((first_line ++ counts_line c) ++ flat_map port_text items) ++ routes
+read_ports text ports routes c items e f = e ∙ after (first_line ++ counts_line c) ports (flat_map port_text items) routes f
+
+pub read_routes : (text routes objects : List ℕ) (c : SavedCounts) (ports : List SavedPort) (items : List (ℕ × Route))
+    → text ≡ ((first_line ++ counts_line c) ++ flat_map port_text ports) ++ routes → routes ≡ flat_map route_line items ++ objects
+    → text ≡ (((first_line ++ counts_line c) ++ flat_map port_text ports) ++ flat_map route_line items) ++ objects
+read_routes text routes objects c ports items e f =
+    e ∙ after ((first_line ++ counts_line c) ++ flat_map port_text ports) routes (flat_map route_line items) objects f
+
+pub read_objects : (text objects end : List ℕ) (c : SavedCounts) (ports : List SavedPort) (routes : List (ℕ × Route)) (items : List SavedObject)
+    → text ≡ (((first_line ++ counts_line c) ++ flat_map port_text ports) ++ flat_map route_line routes) ++ objects
+    → objects ≡ flat_map object_text items ++ end
+    → text ≡ ((((first_line ++ counts_line c) ++ flat_map port_text ports) ++ flat_map route_line routes) ++ flat_map object_text items) ++ end
+read_objects text objects end c ports routes items e f =
+    e ∙ after (((first_line ++ counts_line c) ++ flat_map port_text ports) ++ flat_map route_line routes) objects (flat_map object_text items) end f
+
+-- nothing comes after the end
+pub state_found : (text end behind : List ℕ) (c : SavedCounts) (ports : List SavedPort) (routes : List (ℕ × Route)) (objects : List SavedObject)
+    (saved : Saved)
+    → text ≡ ((((first_line ++ counts_line c) ++ flat_map port_text ports) ++ flat_map route_line routes) ++ flat_map object_text objects) ++ end
+    → end ≡ end_line ++ behind → behind ≡ [] → saved.ports ≡ ports → saved.routes ≡ routes → saved.objects ≡ objects → saved.counts ≡ c
+    → text ≡ state_text saved
+state_found text end behind c ports routes objects saved e f nothing_more is_ports is_routes is_objects is_counts =
+    let last : end ≡ end_line = f ∙ ap (λ (t : List ℕ). end_line ++ t) nothing_more ∙ append-nil end_line in
+    e ∙ ap (λ (t : List ℕ).
+    ((((first_line ++ counts_line c) ++ flat_map port_text ports) ++ flat_map route_line routes) ++ flat_map object_text objects) ++ t) last
+    ∙ whole c ports routes objects end_line
+    ∙ ap (λ (x : SavedCounts).
+    first_line ++ (counts_line x ++ (flat_map port_text ports ++ (flat_map route_line routes ++ (flat_map object_text objects ++ end_line))))) (sym is_counts)
+    ∙ ap (λ (x : List SavedPort).
+    first_line ++ (counts_line saved.counts ++ (flat_map port_text x ++ (flat_map route_line routes ++ (flat_map object_text objects ++ end_line))))) (sym is_ports)
+    ∙ ap (λ (x : List (ℕ × Route)).
+    first_line ++ (counts_line saved.counts ++ (flat_map port_text saved.ports ++ (flat_map route_line x ++ (flat_map object_text objects ++ end_line)))))
+    (sym is_routes)
+    ∙ ap (λ (x : List SavedObject).
+    first_line ++ (counts_line saved.counts ++ (flat_map port_text saved.ports ++ (flat_map route_line saved.routes ++ (flat_map object_text x ++ end_line)))))
+    (sym is_objects)
+
+-- ---- the line at which reading stops
+
+pub stops_within : (text : List ℕ) (left : ℕ) → StopsIn text left → left ≤ length text
+stops_within text left stops = omega (arith, stops.is, ap length stops.parts, length-append stops.front stops.rest)
+
+pub place_of : (text : List ℕ) (left line : ℕ) → StopsIn text left → line ≡ line_count (take (length text - left) text) + 1 → IsPlaceOf text line
+place_of text left line stops e =
+    let before : length stops.front ≡ length text - left = omega (arith, stops.is, ap length stops.parts, length-append stops.front stops.rest) in
+    let front : take (length text - left) text ≡ stops.front =
+    ap (take (length text - left)) stops.parts ∙ take_at stops.front stops.rest (length text - left) before in record {
+      front = stops.front;
+      rest = stops.rest;
+      parts = stops.parts;
+      begins = stops.begins;
+      number = e ∙ ap (λ (t : List ℕ). line_count t + 1) front;
     }

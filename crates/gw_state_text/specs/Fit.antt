@@ -1,5 +1,5 @@
 -- Which states have a text that is read back: all that a gateway saves.
-use Rattle.std.specs.Prelude.{◌≡◌, ℕ, ◌<◌, ◌≤◌, ◌^◌, ◌==◌, ◌&&◌, Bool, true, false, if◌then◌else◌, List, [], ◌∷◌, length, nat_eq, Option, Some, None, ⊤}
+use Rattle.std.specs.Prelude.{◌≡◌, ℕ, ◌<◌, ◌≤◌, ◌^◌, ◌==◌, ◌&&◌, Bool, true, false, if◌then◌else◌, List, [], ◌∷◌, get_or, length, nat_eq, Option, Some, None, ⊤}
 use Rattle.std.specs.List.{list_any}
 use Rattle.std.specs.Str.{is_utf8}
 use Rattle.gw_addr.specs.declared.bip.BipAddr.{BipAddr}
@@ -110,7 +110,7 @@ AreOfKind kind (Some value ∷ slots) = FitsKind kind value × AreOfKind kind sl
 abbrev pub is_object : Object → SavedObject → Bool
 is_object wanted object = nat_eq wanted.kind object.object.kind && nat_eq wanted.instance object.object.instance
 
--- an object with sixteen slots, whose identifier no object before it has
+-- an object with sixteen slots, of which the sixth is empty (clause 19.2.3), and whose identifier no object before it has
 pub record FitsObjects (before : List SavedObject) (object : SavedObject) : Type 0 where
   pub is : IsObject object.object
   pub kind : ObjectKind
@@ -120,6 +120,7 @@ pub record FitsObjects (before : List SavedObject) (object : SavedObject) : Type
   pub default : FitsKind kind object.slots.default
   pub sixteen : length object.slots.slots ≡ 16
   pub slots : AreOfKind kind object.slots.slots
+  pub sixth : get_or object.slots.slots 5 None ≡ None
 
 -- a state that a gateway can save
 pub record AreFit (saved : Saved) : Type 0 where

@@ -57,10 +57,13 @@ pub(crate) fn read_all<'a, B: Block>(
         if !rest.starts_with(block.word()) {
             return Ok((items, rest));
         }
-        let (item, behind) = block.read(alloc, items.as_slice(), rest)?;
-        if items.push(item).is_err() {
+        let (item, behind) = match block.read(alloc, items.as_slice(), rest) {
+            Ok(read) => read,
+            Err(stop) => return Err(stop),
+        };
+        let Ok(()) = items.push(item) else {
             return Err(Stop::at(rest, FaultKind::Memory));
-        }
+        };
         rest = behind;
     }
     if rest.starts_with(block.word()) {

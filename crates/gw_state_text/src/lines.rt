@@ -98,8 +98,6 @@ pub(crate) fn put_entry(
 pub(crate) fn entry_at<'a>(word: &[u8], text: &'a [u8]) -> Option<(BdtEntry, &'a [u8])>
     ensures found { IfSome result (λ x. text.now ≡ entry_on word.now x.0 x.1.now) }
     ensures is { IfSome result (λ x. IsBdtEntry x.0) }
-    ensures only { (e : BdtEntry) (rest : List ℕ) → IsBdtEntry e → text.now ≡ entry_on word.now e rest
-        → IsSomeAnd result (λ x. (x.0 ≡ e) × (x.1.now ≡ rest)) }
 {
     let words = behind(word, text)?;
     let (address, words) = address_to(b' ', words)?;

@@ -1,6 +1,6 @@
 //! The value objects with their slots: written, and read.
 
-ghost use Rattle.std.specs.Prelude.{◌≡◌, ◌++◌, ◌∷◌, [], codes, length, IfOk, IfErr, IfSome};
+ghost use Rattle.std.specs.Prelude.{◌≡◌, ◌++◌, ◌∷◌, [], None, codes, get_or, length, IfOk, IfErr, IfSome};
 ghost use Rattle.std.specs.Fmt.{decimal};
 ghost use Rattle.std.specs.List.{list_any};
 ghost use Rattle.gw_priority.specs.declared.array.TheConstants.{PRIORITIES};
@@ -18,7 +18,7 @@ use crate::words::{behind, long_to, octet_to, parted_at, short_to};
 use gw_addr::{put_decimal, put_octet, put_slice};
 use gw_configuration::{MAX_OBJECTS, ObjectKind};
 use gw_objects::PropertyValue;
-use gw_priority::{LOWEST, PRIORITIES, PriorityArray};
+use gw_priority::{LOWEST, PRIORITIES, PriorityArray, RESERVED};
 use gw_saved::SavedObject;
 use gw_tags::ObjectId;
 use std::alloc::{AllocError, Global};
@@ -143,7 +143,7 @@ fn priority_at(text: &[u8]) -> Option<(u8, &[u8])>
 }
 
 /// The slot of this priority, which is empty if the text doesn't begin with its line, and what comes after
-/// that.
+/// that. No write can command or empty slot 6 (clause 19.2.3): its line is `Range`.
 fn slot_at(
     alloc: Global,
     kind: ObjectKind,
@@ -152,10 +152,14 @@ fn slot_at(
 ) -> Result<(Option<PropertyValue>, &[u8]), FaultKind>
     ensures found { IfOk result (λ x. text.now ≡ slot_text priority x.0 ++ x.1.now) }
     ensures is { IfOk result (λ x. AreOfKind kind (x.0 ∷ [])) }
+    ensures sixth { IfOk result (λ x. priority ≡ 6 → x.0 ≡ None) }
 {
     let Some((named, words)) = priority_at(text) else {
         return Ok((None, text));
     };
+    if named == RESERVED {
+        return Err(FaultKind::Range);
+    }
     if named != priority {
         return Ok((None, text));
     }
@@ -172,6 +176,7 @@ fn slots_at(
     ensures found { IfOk result (λ x. text.now ≡ slots_text 1 x.0 ++ x.1.now) }
     ensures is { IfOk result (λ x. AreOfKind kind x.0) }
     ensures sixteen { IfOk result (λ x. length x.0 ≡ 16) }
+    ensures sixth { IfOk result (λ x. get_or x.0 5 None ≡ None) }
     ensures stop { IfErr result (λ stop. StopsInSlots text.now stop.left) }
 {
     let mut slots = array::from_fn(|_| None);

@@ -83,8 +83,9 @@ impl Block for Ports {
         before: &[SavedPort],
         text: &'a [u8],
     ) -> Result<(SavedPort, &'a [u8]), Stop> {
-        let Some((network, address, lines)) = port_at(text) else {
-            return Err(Stop::at(text, FaultKind::Line));
+        let (network, address, lines) = match port_at(text) {
+            Some(read) => read,
+            None => return Err(Stop::at(text, FaultKind::Line)),
         };
         if has_port(before, network, address) {
             return Err(Stop::at(text, FaultKind::Twice));

@@ -32,7 +32,7 @@ pub fn read_state(alloc: Global, text: &[u8]) -> Result<Saved, StateFault>
         Ok(saved) => Ok(saved),
         Err(stop) => Err(StateFault {
             line: line_of(text, stop.left),
-            kind: stop.kind,
+            kind: kind_at(text, stop),
         }),
     }
 }
@@ -47,6 +47,25 @@ fn line_of(text: &[u8], left: usize) -> u64
     lines as u64 + 1
 }
 
+/// What is wrong with the line at which reading stopped: a line without its end is `Cut`, unless there was
+/// no memory.
+fn kind_at(text: &[u8], stop: Stop) -> FaultKind
+    requires { stop.left ≤ length text.now }
+{
+    let rest = &text[text.len() - stop.left..];
+    let ends = rest.iter().any(|c| *c == b'\n');
+    match stop.kind {
+        FaultKind::Memory => FaultKind::Memory,
+        kind => {
+            if ends {
+                kind
+            } else {
+                FaultKind::Cut
+            }
+        }
+    }
+}
+
 /// The state that a text is of.
 fn state_at(alloc: Global, text: &[u8]) -> Result<Saved, Stop>
     ensures found { IfOk result (λ saved. text.now ≡ state_text saved) }
@@ -59,10 +78,19 @@ fn state_at(alloc: Global, text: &[u8]) -> Result<Saved, Stop>
     let Some((counts, lines_of_ports)) = counts_at(lines) else {
         return Err(Stop::at(lines, FaultKind::Line));
     };
-    let (ports, lines_of_routes) = read_all(alloc, &Ports, lines_of_ports)?;
+    let (ports, lines_of_routes) = match read_all(alloc, &Ports, lines_of_ports) {
+        Ok(read) => read,
+        Err(stop) => return Err(stop),
+    };
     let routes_of = Routes { ports: ports.len() };
-    let (routes, lines_of_objects) = read_all(alloc, &routes_of, lines_of_routes)?;
-    let (objects, end) = read_all(alloc, &Objects, lines_of_objects)?;
+    let (routes, lines_of_objects) = match read_all(alloc, &routes_of, lines_of_routes) {
+        Ok(read) => read,
+        Err(stop) => return Err(stop),
+    };
+    let (objects, end) = match read_all(alloc, &Objects, lines_of_objects) {
+        Ok(read) => read,
+        Err(stop) => return Err(stop),
+    };
     let Some(after) = behind(b"end\n", end) else {
         return Err(Stop::at(end, FaultKind::Line));
     };

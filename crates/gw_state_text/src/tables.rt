@@ -178,8 +178,9 @@ impl Block for Routes {
         before: &[(NetNum, Route)],
         text: &'a [u8],
     ) -> Result<((NetNum, Route), &'a [u8]), Stop> {
-        let Some((network, route, rest)) = route_at(text) else {
-            return Err(Stop::at(text, FaultKind::Line));
+        let (network, route, rest) = match route_at(text) {
+            Some(read) => read,
+            None => return Err(Stop::at(text, FaultKind::Line)),
         };
         if route.port == 0 || self.ports < usize::from(route.port) {
             return Err(Stop::at(text, FaultKind::Range));

@@ -4,7 +4,7 @@
 ghost use Rattle.std.specs.Prelude.{◌≡◌, ◌↔◌, IfOk, IfErr, IsTrue};
 ghost use Rattle.gw_objects.specs.Table as table;
 ghost use Rattle.gw_objects.specs.Table.{value_of};
-ghost use Rattle.gw_tags.specs.Value.{value_encoding, value_view};
+ghost use Rattle.gw_tags.specs.Value.{value_encoding};
 ghost use Rattle.gw_state_text.specs.Fit.{FitsKind};
 ghost use Rattle.gw_state_text.specs.Text.{value_text};
 ghost use Rattle.gw_state_text.specs.internal.Put.{IsPut};
@@ -19,22 +19,6 @@ use std::alloc::{AllocError, Global};
 
 /// How many octets a value has at most: a text of 255 octets, its character set, and its tag.
 const MAX_VALUE: usize = 260;
-
-/// A value by its kind.
-fn app_value(value: &PropertyValue) -> AppValue<'_>
-    ensures { value_view result ≡ value_of value.now }
-{
-    match value {
-        PropertyValue::Binary(active) => AppValue::Enumerated(u32::from(*active)),
-        PropertyValue::State(number) => AppValue::Unsigned(*number),
-        PropertyValue::Text(text) => AppValue::Text(CharacterString {
-            charset: 0,
-            octets: text.as_str().as_bytes(),
-        }),
-        PropertyValue::Integer(number) => AppValue::Signed(*number),
-        PropertyValue::PositiveInteger(number) => AppValue::Unsigned(*number),
-    }
-}
 
 /// Appends the octets of a text's encoding.
 fn put_text(out: &mut Vec<u8>, text: &Text) -> Result<(), AllocError>

@@ -1,11 +1,6 @@
-use Rattle.std.proofs.Common.{◌≡◌, ◌++◌, length, take}
-use Rattle.gw_state_text.specs.Fit.{AreOfKind}
-use Rattle.gw_state_text.specs.Text.{slots_text}
+use Rattle.gw_state_text.proofs.SlotLemmas.{Slots}
 use Rattle.gw_state_text.proofs.object.slots_at.Given as goal
 
+-- the slots so far are read
 abbrev pub invariant-loop-place : goal.invariant-loop-place
-invariant-loop-place l = record {
-  parts : l.fn.text ≡ slots_text 1 (take l.place l.slots) ++ l.rest;
-  kind : AreOfKind l.kind (take l.place l.slots);
-  sixteen : length l.slots ≡ 16;
-}
+invariant-loop-place l = Slots l.kind l.fn.text l.place l.slots l.rest
