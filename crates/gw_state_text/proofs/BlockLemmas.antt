@@ -1,5 +1,5 @@
 -- Items that are read one after the other.
-use Rattle.std.proofs.Common.{◌≡◌, ◌∙◌, ℕ, ◌+◌, ◌≤◌, List, [], ◌∷◌, ◌++◌, length, sym, ap, subst, arith, append_assoc, append-nil, refl}
+use Rattle.std.proofs.Common.{◌≡◌, ◌∙◌, ℕ, ◌+◌, ◌≤◌, List, [], ◌∷◌, ◌++◌, length, sym, ap, subst, arith, append_assoc, append-nil}
 use Rattle.std.specs.List.{flat_map}
 use Rattle.std.proofs.lemmas.Grind.{flat_map-append}
 use Rattle.std.proofs.lemmas.List.{length-append}
@@ -38,9 +38,11 @@ pub fit_more : {A : Type 0} (Fits : List A → A → Type 0) (before read : List
     → AllFit Fits before read → Fits (before ++ read) item → AllFit Fits before (read ++ item ∷ [])
 unfolding AllFit
 fit_more Fits before [] item fit then = (subst (λ (xs : List _). Fits xs item) (append-nil before) then, tt)
-fit_more Fits before (x ∷ read) item fit then =
-    (fit.0, fit_more Fits (before ++ x ∷ []) read item fit.1
-    (subst (λ (xs : List _). Fits xs item) (sym (append_assoc before (x ∷ []) read)) then))
+fit_more Fits before (x ∷ read) item fit then = (
+  fit.0,
+  fit_more Fits (before ++ x ∷ []) read item fit.1
+      (subst (λ (xs : List _). Fits xs item) (sym (append_assoc before (x ∷ []) read)) then),
+)
 
 pub none_fit : {A : Type 0} (Fits : List A → A → Type 0) → AllFit Fits [] []
 unfolding AllFit

@@ -1,8 +1,8 @@
 -- Items that are read one after the other, and what is there is read: for the clauses of the other direction,
 -- which the reader doesn't have yet.
-use Rattle.std.proofs.Common.{◌≡◌, ◌∙◌, ℕ, ◌+◌, ◌≤◌, ◌<◌, Bool, true, false, true≢false, List, [], ◌∷◌, ◌++◌, length, take, nat_eq, refl, sym, ap, subst, arith, append_assoc, append-nil}
+use Rattle.std.proofs.Common.{◌≡◌, ◌∙◌, ℕ, ◌≤◌, ◌<◌, true, false, true≢false, List, [], ◌∷◌, ◌++◌, length, nat_eq, refl, sym, ap, subst, arith, append_assoc, append-nil}
 use Rattle.std.specs.Cmp.Lexicographic.{pointwise}
-use Rattle.std.specs.List.{flat_map, starts_with}
+use Rattle.std.specs.List.{flat_map}
 use Rattle.std.proofs.lemmas.Cmp.{nat_list_eq_equiv}
 use Rattle.std.proofs.lemmas.Grind.{flat_map-append}
 use Rattle.std.proofs.lemmas.List.{length-append, take_at}
@@ -65,9 +65,11 @@ pub fit_more : {A : Type 0} (Fits : List A → A → Type 0) (before read : List
     → AllFit Fits before read → Fits (before ++ read) item → AllFit Fits before (read ++ item ∷ [])
 unfolding AllFit
 fit_more Fits before [] item fit then = (subst (λ (xs : List _). Fits xs item) (append-nil before) then, tt)
-fit_more Fits before (x ∷ read) item fit then =
-    (fit.0, fit_more Fits (before ++ x ∷ []) read item fit.1
-    (subst (λ (xs : List _). Fits xs item) (sym (append_assoc before (x ∷ []) read)) then))
+fit_more Fits before (x ∷ read) item fit then = (
+  fit.0,
+  fit_more Fits (before ++ x ∷ []) read item fit.1
+      (subst (λ (xs : List _). Fits xs item) (sym (append_assoc before (x ∷ []) read)) then),
+)
 
 pub none_fit : {A : Type 0} (Fits : List A → A → Type 0) → AllFit Fits [] []
 unfolding AllFit
@@ -193,8 +195,11 @@ pub unread : {A : Type 0} (line : A → List ℕ) (Fits : List A → A → Type 
     → text ≡ flat_map line items ++ rest
     → (item : A) × (behind : List ℕ) × Fits read item × Ends behind × (now ≡ line item ++ behind) × (length read < most)
 unread line Fits most Ends first text read now word p follows items rest are end other e =
-    let there = next_there line first read items rest now (p.only items rest are end other e) other (sym follows) in
-    (there.item, flat_map line there.later ++ rest,
-    fits_there Fits [] read there.item there.later (subst (AllFit Fits []) there.are are.fit),
-    ends_behind line first Ends word.begins_with word.goes_on there.later rest end, there.there,
-    omega (arith, are.few, ap length there.are, length-append read (there.item ∷ there.later)))
+    let there = next_there line first read items rest now (p.only items rest are end other e) other (sym follows) in (
+      there.item,
+      flat_map line there.later ++ rest,
+      fits_there Fits [] read there.item there.later (subst (AllFit Fits []) there.are are.fit),
+      ends_behind line first Ends word.begins_with word.goes_on there.later rest end,
+      there.there,
+      omega (arith, are.few, ap length there.are, length-append read (there.item ∷ there.later)),
+    )

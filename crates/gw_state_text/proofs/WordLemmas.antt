@@ -1,17 +1,17 @@
 -- Words: what is read of one is there, and what is there is read.
-use Rattle.std.proofs.Common.{◌≡◌, ◌≢◌, ℕ, suc, ◌+◌, ◌^◌, ◌<◌, ◌≤◌, Bool, true, false, ◌&&◌, List, [], ◌∷◌, ◌++◌, ◌-◌, length, take, drop, get_or, Bor, Option, Some, None, Result, Ok, nat_eq, refl, sym, ap, ap₂, subst, ◌∙◌, append_assoc, arith}
+use Rattle.std.proofs.Common.{◌≡◌, ◌≢◌, ℕ, suc, ◌+◌, ◌^◌, ◌<◌, ◌≤◌, Bool, true, false, ◌&&◌, List, [], ◌∷◌, ◌++◌, ◌-◌, length, take, drop, get_or, Bor, Option, Some, None, Result, Ok, nat_eq, refl, sym, ap, subst, ◌∙◌, append_assoc, arith}
 use Rattle.std.specs.Prelude.{IfSome, MatchOption, ◌==◌, nat_lt, if◌then◌else◌, position}
 use Rattle.std.specs.Cmp.Lexicographic.{pointwise, same_text}
 use Rattle.std.specs.Fmt.{decimal}
 use Rattle.std.specs.List.{position_or_len}
 use Rattle.std.specs.Char.{IsAsciiDigit}
-use Rattle.std.specs.Option.{option_map, IsSomeAnd}
+use Rattle.std.specs.Option.{IsSomeAnd}
 use Rattle.std.specs.Str.{IsAscii, IsUtf8}
 use Rattle.std.specs.Str.Parse.{ParsesUnsigned, digits_value}
 use Rattle.std.proofs.lemmas.Bool.{lt-ltb, ltb-true, eqb-true, eq-eqb}
 use Rattle.std.proofs.lemmas.Cmp.{nat_list_eq_equiv}
 use Rattle.std.proofs.lemmas.Fmt.{IsAscii-decimal, digits_value-decimal, parse-decimal}
-use Rattle.std.proofs.lemmas.List.{append_cancel_left, drop_more, length-drop, take-append-drop, drop_at, length-append, take_at}
+use Rattle.std.proofs.lemmas.List.{append_cancel_left, drop_more, length-drop, take-append-drop, drop_at, length-append}
 use Rattle.std.proofs.Math.Seq.{take-length}
 use Rattle.std.proofs.lemmas.List.Quantifiers.{position-Some}
 use Rattle.std.proofs.lemmas.Str.{IsAscii-append, IsUtf8-from_ascii}
@@ -23,7 +23,7 @@ use Rattle.gw_addr.specs.Mask.{IsMask, mask_text}
 use Rattle.gw_addr.specs.Text.{Lacks, four_text}
 use Rattle.gw_addr.proofs.Lacking.{address_lacks, lacks_append, lacks_cons, not_in_decimal}
 use Rattle.gw_addr.proofs.Decimal.{own}
-use Rattle.gw_state_text.specs.internal.Words.{number_in, parted_at}
+use Rattle.gw_state_text.specs.internal.Words.{number_in}
 
 -- ---- texts
 

@@ -78,11 +78,7 @@ pub(crate) fn port_at(text: &[u8]) -> Option<(NetNum, BipAddr, &[u8])>
 }
 
 /// Appends the line of an entry, which begins with this word.
-pub(crate) fn put_entry(
-    out: &mut Vec<u8>,
-    word: &[u8],
-    entry: BdtEntry,
-) -> Result<(), AllocError>
+pub(crate) fn put_entry(out: &mut Vec<u8>, word: &[u8], entry: BdtEntry) -> Result<(), AllocError>
     ensures { IsPut (entry_line word.now entry) out.old.items out.new.items result }
 {
     let octets = entry.mask;
@@ -139,11 +135,7 @@ pub(crate) fn device_at(text: &[u8]) -> Option<(KeptDevice, &[u8])>
 }
 
 /// Appends the line of a learned route.
-pub(crate) fn put_route(
-    out: &mut Vec<u8>,
-    network: NetNum,
-    route: Route,
-) -> Result<(), AllocError>
+pub(crate) fn put_route(out: &mut Vec<u8>, network: NetNum, route: Route) -> Result<(), AllocError>
     ensures { IsPut (route_line (network, route)) out.old.items out.new.items result }
 {
     put_slice(out, b"route ")?;

@@ -25,11 +25,7 @@ use std::alloc::{AllocError, Global};
 use std::array;
 
 /// Appends the line of a slot, if it isn't empty.
-fn put_slot(
-    out: &mut Vec<u8>,
-    priority: u8,
-    slot: &Option<PropertyValue>,
-) -> Result<(), AllocError>
+fn put_slot(out: &mut Vec<u8>, priority: u8, slot: &Option<PropertyValue>) -> Result<(), AllocError>
     ensures { IsPut (slot_text priority slot.now) out.old.items out.new.items result }
 {
     let Some(value) = slot else {
@@ -325,6 +321,10 @@ impl Head {
             configured,
             default,
         } = self;
-        SavedObject::new(object, configured, PriorityArray::from_slots(slots, default))
+        SavedObject::new(
+            object,
+            configured,
+            PriorityArray::from_slots(slots, default),
+        )
     }
 }

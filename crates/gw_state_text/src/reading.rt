@@ -56,13 +56,7 @@ fn kind_at(text: &[u8], stop: Stop) -> FaultKind
     let ends = rest.iter().any(|c| *c == b'\n');
     match stop.kind {
         FaultKind::Memory => FaultKind::Memory,
-        kind => {
-            if ends {
-                kind
-            } else {
-                FaultKind::Cut
-            }
-        }
+        kind => { if ends { kind } else { FaultKind::Cut } }
     }
 }
 

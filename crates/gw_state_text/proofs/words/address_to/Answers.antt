@@ -1,8 +1,4 @@
-use Rattle.std.proofs.Common.{◌≡◌, arith}
-use Rattle.gw_addr.specs.declared.bip.BipAddr.{BipAddr}
-use Rattle.gw_addr.specs.Address.{IsAddress, text_of}
-use Rattle.gw_addr.specs.Text.{Lacks}
-use Rattle.gw_addr.proofs.Lacking.{address_lacks}
+use Rattle.gw_addr.specs.Address.{text_of}
 use Rattle.gw_addr.proofs.Reading.{ok_is}
 use Rattle.gw_state_text.proofs.WordLemmas.{lacks_low}
 use Rattle.gw_state_text.proofs.words.address_to.Goals as goal

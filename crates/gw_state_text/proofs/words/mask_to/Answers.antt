@@ -1,4 +1,3 @@
-use Rattle.std.proofs.Common.{◌≡◌, ◌∙◌, sym}
 use Rattle.gw_addr.specs.Mask.{mask_text}
 use Rattle.gw_state_text.proofs.WordLemmas.{mask_lacks_feed, some_is}
 use Rattle.gw_state_text.proofs.words.mask_to.Goals as goal
