@@ -5,19 +5,19 @@ use Rattle.std.proofs.lemmas.Grind.{flat_map-append}
 use Rattle.std.proofs.lemmas.List.{length-append}
 use Rattle.std.proofs.lemmas.List.Concat.{flat_map-cons}
 use Rattle.gw_state_text.specs.Items.{AllFit, AreItems}
-use Rattle.gw_state_text.specs.internal.Block.{StopsBehind}
+use Rattle.gw_state_text.specs.internal.Block.{StopsAfter}
 
 -- one item more
-pub one_more : {A : Type 0} (line : A → List ℕ) (read : List A) (item : A) (text now behind : List ℕ)
-    → text ≡ flat_map line read ++ now → now ≡ line item ++ behind → text ≡ flat_map line (read ++ item ∷ []) ++ behind
-one_more line read item text now behind so_far then =
-    so_far ∙ ap (λ (t : List ℕ). flat_map line read ++ t) then ∙ sym (append_assoc (flat_map line read) (line item) behind)
-    ∙ ap (λ (t : List ℕ). flat_map line read ++ t ++ behind) (sym (flat_map-cons line item [] ∙ append-nil (line item)))
-    ∙ ap (λ (t : List ℕ). t ++ behind) (sym (flat_map-append line read (item ∷ [])))
+pub one_more : {A : Type 0} (line : A → List ℕ) (read : List A) (item : A) (text now remaining : List ℕ)
+    → text ≡ flat_map line read ++ now → now ≡ line item ++ remaining → text ≡ flat_map line (read ++ item ∷ []) ++ remaining
+one_more line read item text now remaining so_far then =
+    so_far ∙ ap (λ (t : List ℕ). flat_map line read ++ t) then ∙ sym (append_assoc (flat_map line read) (line item) remaining)
+    ∙ ap (λ (t : List ℕ). flat_map line read ++ t ++ remaining) (sym (flat_map-cons line item [] ∙ append-nil (line item)))
+    ∙ ap (λ (t : List ℕ). t ++ remaining) (sym (flat_map-append line read (item ∷ [])))
 
--- reading stops behind more items
+-- reading stops after more items
 pub stops_later : {A : Type 0} (line : A → List ℕ) (read : List A) (text now : List ℕ) (left : ℕ)
-    → text ≡ flat_map line read ++ now → StopsBehind line now left → StopsBehind line text left
+    → text ≡ flat_map line read ++ now → StopsAfter line now left → StopsAfter line text left
 stops_later line read text now left so_far stops = record {
   items = read ++ stops.items;
   rest = stops.rest;
@@ -29,7 +29,7 @@ stops_later line read text now left so_far stops = record {
 }
 
 pub stops_here : {A : Type 0} (line : A → List ℕ) (read : List A) (text now : List ℕ) (left : ℕ)
-    → text ≡ flat_map line read ++ now → left ≡ length now → StopsBehind line text left
+    → text ≡ flat_map line read ++ now → left ≡ length now → StopsAfter line text left
 stops_here line read text now left so_far is = record { items = read; rest = now; parts = so_far; is = is }
 
 -- ---- what fits
@@ -66,11 +66,11 @@ start line Fits text read none = record {
 }
 
 pub next : {A : Type 0} (line : A → List ℕ) (Fits : List A → A → Type 0) (text : List ℕ) (count : ℕ) (read before : List A) (now : List ℕ)
-    (item : A) (behind : List ℕ) (pushed : List A) → Progress line Fits text count read now → now ≡ line item ++ behind → before ≡ read
-    → Fits before item → pushed ≡ read ++ item ∷ [] → Progress line Fits text (count + 1) pushed behind
-next line Fits text count read before now item behind pushed p found same fits is =
-    subst (λ (xs : List _). Progress line Fits text (count + 1) xs behind) (sym is) (record {
-      found = one_more line read item text now behind p.found found;
+    (item : A) (remaining : List ℕ) (pushed : List A) → Progress line Fits text count read now → now ≡ line item ++ remaining → before ≡ read
+    → Fits before item → pushed ≡ read ++ item ∷ [] → Progress line Fits text (count + 1) pushed remaining
+next line Fits text count read before now item remaining pushed p found same fits is =
+    subst (λ (xs : List _). Progress line Fits text (count + 1) xs remaining) (sym is) (record {
+      found = one_more line read item text now remaining p.found found;
       fit = fit_more Fits [] read item p.fit (subst (λ (xs : List _). Fits xs item) same fits);
       few = omega (arith, p.few, length-append read (item ∷ []));
     })

@@ -1,6 +1,5 @@
 pub mod WordLemmas
 pub mod BlockLemmas
-pub mod ExactLemmas
 pub mod LineLemmas
 pub mod PutLemmas
 pub mod StateLemmas

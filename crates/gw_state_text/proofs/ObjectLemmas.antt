@@ -5,18 +5,10 @@ use Rattle.gw_saved.specs.Saved.{SavedObject}
 use Rattle.gw_tags.specs.Object.{Object, object_view}
 use Rattle.gw_state_text.specs.Text.{identifier_text, object_line, object_text, slots_text, value_text}
 use Rattle.gw_state_text.specs.declared.object.Head.{Head}
-use Rattle.gw_state_text.specs.internal.Block.{StopsBehind}
+use Rattle.gw_state_text.specs.internal.Block.{StopsAfter}
 use Rattle.gw_state_text.specs.internal.Objects.{StopsInSlots, head_text}
-use Rattle.gw_state_text.proofs.PortLemmas.{one_behind}
+use Rattle.gw_state_text.proofs.PortLemmas.{one_after}
 use Rattle.gw_state_text.proofs.StateLemmas.{after}
-
--- the line of an object, word by word
-pub line_found : (object : Object) (configured default : PropertyValue) (text a b rest : List ℕ) → text ≡ identifier_text object ++ a
-    → a ≡ value_text configured ++ 32 ∷ b → b ≡ value_text default ++ 10 ∷ rest → text ≡ object_line object configured default ++ rest
-line_found object configured default text a b rest e f g =
-    e ∙ after (identifier_text object) a (value_text configured ++ 32 ∷ (value_text default ++ 10 ∷ [])) rest
-    (f ∙ ap (λ (t : List ℕ). value_text configured ++ 32 ∷ t) (g ∙ sym (append_assoc (value_text default) (10 ∷ []) rest))
-    ∙ sym (append_assoc (value_text configured) (32 ∷ (value_text default ++ 10 ∷ [])) rest))
 
 -- an object of a line and of slots
 abbrev pub object_from : Head → List (Option PropertyValue) → SavedObject
@@ -31,7 +23,7 @@ pub object_whole : (head : Head) (slots : List (Option PropertyValue)) (text a r
 object_whole head slots text a rest e f = e ∙ after (head_text head) a (slots_text 1 slots) rest f
 
 pub in_slots : (head : Head) (text a : List ℕ) (left : ℕ) → text ≡ head_text head ++ a → StopsInSlots a left
-    → StopsBehind object_text text left
+    → StopsAfter object_text text left
 in_slots head text a left e stops =
-    one_behind object_text (object_from head stops.slots) text stops.rest left
+    one_after object_text (object_from head stops.slots) text stops.rest left
     (object_whole head stops.slots text a stops.rest e stops.parts) stops.is

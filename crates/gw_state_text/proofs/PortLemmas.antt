@@ -7,7 +7,7 @@ use Rattle.gw_addr.specs.declared.entry.BdtEntry.{BdtEntry}
 use Rattle.gw_bdt_fdt.specs.declared.kept.KeptDevice.{KeptDevice}
 use Rattle.gw_saved.specs.declared.port.SavedPort.{SavedPort}
 use Rattle.gw_state_text.specs.Text.{device_line, entry_line, entry_word, peer_word, port_line, port_text}
-use Rattle.gw_state_text.specs.internal.Block.{StopsBehind}
+use Rattle.gw_state_text.specs.internal.Block.{StopsAfter}
 use Rattle.gw_state_text.specs.internal.Lines.{port_on}
 use Rattle.gw_state_text.proofs.LineLemmas.{port_then}
 use Rattle.gw_state_text.proofs.StateLemmas.{after}
@@ -16,14 +16,10 @@ abbrev pub port : ℕ → BipAddr → List BdtEntry → List BdtEntry → List K
 port network address peers entries devices =
     record { network = network; address = address; peers = peers; entries = entries; devices = devices }
 
--- reading stops before an item
-pub none_behind : {A : Type 0} (line : A → List ℕ) (text : List ℕ) (left : ℕ) → left ≡ length text → StopsBehind line text left
-none_behind line text left is = record { items = []; rest = text; parts = refl; is = is }
-
--- or behind a part of one, which is an item too
-pub one_behind : {A : Type 0} (line : A → List ℕ) (item : A) (text rest : List ℕ) (left : ℕ) → text ≡ line item ++ rest → left ≡ length rest
-    → StopsBehind line text left
-one_behind line item text rest left e is = record {
+-- or after a part of one, which is an item too
+pub one_after : {A : Type 0} (line : A → List ℕ) (item : A) (text rest : List ℕ) (left : ℕ) → text ≡ line item ++ rest → left ≡ length rest
+    → StopsAfter line text left
+one_after line item text rest left e is = record {
   items = item ∷ [];
   rest = rest;
   parts = e ∙ ap (λ (t : List ℕ). t ++ rest) (sym (flat_map-cons line item [] ∙ append-nil (line item)));
@@ -42,22 +38,22 @@ port_whole text a b c rest n address peers entries devices e f g h =
     e ∙ sym (port_then n address a) ∙ after line a (ps ++ (es ++ ds)) rest (f ∙ after ps b (es ++ ds) rest (g ∙ after es c ds rest h))
 
 pub in_peers : (text a : List ℕ) (n : ℕ) (address : BipAddr) (left : ℕ) → text ≡ port_on n address a
-    → StopsBehind (entry_line peer_word) a left → StopsBehind port_text text left
+    → StopsAfter (entry_line peer_word) a left → StopsAfter port_text text left
 in_peers text a n address left e stops =
-    one_behind port_text (port n address stops.items [] []) text stops.rest left
+    one_after port_text (port n address stops.items [] []) text stops.rest left
     (port_whole text a stops.rest stops.rest stops.rest n address stops.items [] [] e stops.parts refl refl) stops.is
 
 pub in_entries : (text a b : List ℕ) (n : ℕ) (address : BipAddr) (peers : List BdtEntry) (left : ℕ) → text ≡ port_on n address a
-    → a ≡ flat_map (entry_line peer_word) peers ++ b → StopsBehind (entry_line entry_word) b left → StopsBehind port_text text left
+    → a ≡ flat_map (entry_line peer_word) peers ++ b → StopsAfter (entry_line entry_word) b left → StopsAfter port_text text left
 in_entries text a b n address peers left e f stops =
-    one_behind port_text (port n address peers stops.items []) text stops.rest left
+    one_after port_text (port n address peers stops.items []) text stops.rest left
     (port_whole text a b stops.rest stops.rest n address peers stops.items [] e f stops.parts refl) stops.is
 
 pub in_devices : (text a b c : List ℕ) (n : ℕ) (address : BipAddr) (peers entries : List BdtEntry) (left : ℕ) → text ≡ port_on n address a
     → a ≡ flat_map (entry_line peer_word) peers ++ b → b ≡ flat_map (entry_line entry_word) entries ++ c
-    → StopsBehind device_line c left → StopsBehind port_text text left
+    → StopsAfter device_line c left → StopsAfter port_text text left
 in_devices text a b c n address peers entries left e f g stops =
-    one_behind port_text (port n address peers entries stops.items) text stops.rest left
+    one_after port_text (port n address peers entries stops.items) text stops.rest left
     (port_whole text a b c stops.rest n address peers entries stops.items e f g stops.parts) stops.is
 
 -- the same of the tables that are made of them

@@ -21,11 +21,6 @@ more n (x ∷ slots) slot =
     ap (λ (t : List ℕ). slot_text n x ++ t) (more (n + 1) slots slot ∙ ap (λ (k : ℕ). slots_text (n + 1) slots ++ slot_text k slot) same)
     ∙ sym (append_assoc (slot_text n x) (slots_text (n + 1) slots) (slot_text (n + suc (length slots)) slot))
 
--- no slot has no text
-pub none_text : slots_text 1 [] ≡ []
-unfolding slots_text
-none_text = refl
-
 -- one slot more in a text, whose place this is
 pub slot_more : (slots : List (Option PropertyValue)) (place : ℕ) (slot : Option PropertyValue) → length slots ≡ place
     → slots_text 1 (slots ++ slot ∷ []) ≡ slots_text 1 slots ++ slot_text (place + 1) slot
@@ -34,13 +29,13 @@ slot_more slots place slot len =
     more 1 slots slot ∙ ap (λ (k : ℕ). slots_text 1 slots ++ slot_text k slot) same
 
 -- what is read up to a slot, and the slot
-pub read_more : (slots : List (Option PropertyValue)) (place : ℕ) (slot : Option PropertyValue) (text rest behind : List ℕ)
-    → length slots ≡ place → text ≡ slots_text 1 slots ++ rest → rest ≡ slot_text (place + 1) slot ++ behind
-    → text ≡ slots_text 1 (slots ++ slot ∷ []) ++ behind
-read_more slots place slot text rest behind len so_far then =
+pub read_more : (slots : List (Option PropertyValue)) (place : ℕ) (slot : Option PropertyValue) (text rest remaining : List ℕ)
+    → length slots ≡ place → text ≡ slots_text 1 slots ++ rest → rest ≡ slot_text (place + 1) slot ++ remaining
+    → text ≡ slots_text 1 (slots ++ slot ∷ []) ++ remaining
+read_more slots place slot text rest remaining len so_far then =
     so_far ∙ ap (λ (t : List ℕ). slots_text 1 slots ++ t) then
-    ∙ sym (append_assoc (slots_text 1 slots) (slot_text (place + 1) slot) behind)
-    ∙ ap (λ (t : List ℕ). t ++ behind) (sym (slot_more slots place slot len))
+    ∙ sym (append_assoc (slots_text 1 slots) (slot_text (place + 1) slot) remaining)
+    ∙ ap (λ (t : List ℕ). t ++ remaining) (sym (slot_more slots place slot len))
 
 -- what is written up to a slot, and the slot
 pub written_more : (slots : List (Option PropertyValue)) (place : ℕ) (slot : Option PropertyValue) (old now new : List ℕ)
@@ -79,11 +74,6 @@ pub one_of_kind : (kind : ObjectKind) (value : PropertyValue) → FitsKind kind 
 unfolding AreOfKind
 one_of_kind kind value fits = (fits, tt)
 
--- the slots up to one whose line is faulty
-pub stops_there : (slots : List (Option PropertyValue)) (text rest : List ℕ) (left : ℕ) → text ≡ slots_text 1 slots ++ rest
-    → left ≡ length rest → StopsInSlots text left
-stops_there slots text rest left parts is = record { slots = slots; rest = rest; parts = parts; is = is }
-
 -- ---- slots that are read into an array
 
 -- what is read up to a slot
@@ -108,24 +98,20 @@ sixth_more (a ∷ b ∷ d ∷ f ∷ []) slot e is = refl
 sixth_more (a ∷ b ∷ d ∷ f ∷ g ∷ []) slot e is = is refl
 sixth_more (a ∷ b ∷ d ∷ f ∷ g ∷ h ∷ slots) slot e is = e
 
-pub slots_next : (kind : ObjectKind) (text rest behind : List ℕ) (place : ℕ) (slots : List (Option PropertyValue)) (slot : Option PropertyValue)
-    → place < 16 → Slots kind text place slots rest → rest ≡ slot_text (place + 1) slot ++ behind → AreOfKind kind (slot ∷ [])
-    → (place + 1 ≡ 6 → slot ≡ None) → Slots kind text (place + 1) (set slots place slot) behind
-slots_next kind text rest behind place slots slot lt so_far then one free =
+pub slots_next : (kind : ObjectKind) (text rest remaining : List ℕ) (place : ℕ) (slots : List (Option PropertyValue)) (slot : Option PropertyValue)
+    → place < 16 → Slots kind text place slots rest → rest ≡ slot_text (place + 1) slot ++ remaining → AreOfKind kind (slot ∷ [])
+    → (place + 1 ≡ 6 → slot ≡ None) → Slots kind text (place + 1) (set slots place slot) remaining
+slots_next kind text rest remaining place slots slot lt so_far then one free =
     let within : place < length slots = omega (arith, lt, so_far.sixteen) in
     let next : take (place + 1) (set slots place slot) ≡ take place slots ++ slot ∷ [] = take_more_set slots place slot within in
     let len : length (take place slots) ≡ place = length-take-le place slots (omega (arith, within)) in
     record {
       parts =
-          read_more (take place slots) place slot text rest behind len so_far.parts then
-          ∙ ap (λ (xs : List (Option PropertyValue)). slots_text 1 xs ++ behind) (sym next);
+          read_more (take place slots) place slot text rest remaining len so_far.parts then
+          ∙ ap (λ (xs : List (Option PropertyValue)). slots_text 1 xs ++ remaining) (sym next);
       are = subst (AreOfKind kind) (sym next) (kind_more kind (take place slots) slot so_far.are one);
       sixth =
           ap (λ (xs : List (Option PropertyValue)). get_or xs 5 None) next
           ∙ sixth_more (take place slots) slot so_far.sixth (λ e. free (ap (λ (k : ℕ). k + 1) (sym len) ∙ e));
       sixteen = length-set slots place slot ∙ so_far.sixteen;
     }
-
--- all sixteen are read
-pub all_slots : (slots : List (Option PropertyValue)) → length slots ≡ 16 → take 16 slots ≡ slots
-all_slots slots len = ap (λ (k : ℕ). take k slots) (sym len) ∙ take-length slots

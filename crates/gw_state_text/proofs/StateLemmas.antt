@@ -1,4 +1,4 @@
--- The text of a state, from its parts, and where reading stops in it.
+-- The text of a state, from its parts, and the place at which reading stops in it.
 use Rattle.std.proofs.Common.{◌≡◌, ◌∙◌, ℕ, ◌+◌, ◌-◌, ◌≤◌, List, [], ◌++◌, length, take, arith, refl, sym, ap, append-nil, append_assoc}
 use Rattle.std.specs.List.{flat_map}
 use Rattle.std.proofs.lemmas.List.{length-append, take_at}
@@ -8,7 +8,7 @@ use Rattle.gw_saved.specs.declared.port.SavedPort.{SavedPort}
 use Rattle.gw_saved.specs.Saved.{Saved, SavedObject}
 use Rattle.gw_state_text.specs.Place.{IsPlaceOf, line_count}
 use Rattle.gw_state_text.specs.Text.{counts_line, end_line, first_line, object_text, port_text, route_line, state_text}
-use Rattle.gw_state_text.specs.internal.Block.{StopsBehind}
+use Rattle.gw_state_text.specs.internal.Block.{StopsAfter}
 use Rattle.gw_state_text.specs.internal.Lines.{counts_on}
 use Rattle.gw_state_text.specs.internal.Stop.{StopsIn}
 use Rattle.gw_state_text.proofs.LineLemmas.{counts_then}
@@ -36,8 +36,8 @@ at_first text = record {
   is = refl;
 }
 
-abbrev behind_first : List ℕ
-behind_first = counts_line nothing.counts ++ end_line
+abbrev after_first : List ℕ
+after_first = counts_line nothing.counts ++ end_line
 
 -- at the counts
 pub at_counts : (text lines : List ℕ) → text ≡ first_line ++ lines → StopsIn text (length lines)
@@ -45,7 +45,7 @@ at_counts text lines e = record {
   front = first_line;
   rest = lines;
   parts = e;
-  begins = record { saved = nothing; more = behind_first; is = refl };
+  begins = record { saved = nothing; more = after_first; is = refl };
   is = refl;
 }
 
@@ -56,7 +56,7 @@ counted text lines ports c e f = e ∙ after first_line lines (counts_line c) po
 
 -- in the ports
 pub in_ports : (text ports : List ℕ) (c : SavedCounts) (left : ℕ) → text ≡ (first_line ++ counts_line c) ++ ports
-    → StopsBehind port_text ports left → StopsIn text left
+    → StopsAfter port_text ports left → StopsIn text left
 in_ports text ports c left e stops =
     let p = flat_map port_text stops.items in record {
       front = (first_line ++ counts_line c) ++ p;
@@ -75,7 +75,7 @@ in_ports text ports c left e stops =
 -- in the routes
 pub in_routes : (text routes : List ℕ) (c : SavedCounts) (ports : List SavedPort) (left : ℕ)
     → text ≡ ((first_line ++ counts_line c) ++ flat_map port_text ports) ++ routes
-    → StopsBehind route_line routes left → StopsIn text left
+    → StopsAfter route_line routes left → StopsIn text left
 in_routes text routes c ports left e stops =
     let head = first_line ++ counts_line c in
     let p = flat_map port_text ports in
@@ -108,7 +108,7 @@ whole c ports routes objects more =
 -- in the objects
 pub in_objects : (text objects : List ℕ) (c : SavedCounts) (ports : List SavedPort) (routes : List (ℕ × Route)) (left : ℕ)
     → text ≡ (((first_line ++ counts_line c) ++ flat_map port_text ports) ++ flat_map route_line routes) ++ objects
-    → StopsBehind object_text objects left → StopsIn text left
+    → StopsAfter object_text objects left → StopsIn text left
 in_objects text objects c ports routes left e stops =
     let before = ((first_line ++ counts_line c) ++ flat_map port_text ports) ++ flat_map route_line routes in
     let o = flat_map object_text stops.items in record {
@@ -136,14 +136,14 @@ at_end text end c ports routes objects e = record {
 }
 
 -- after the end
-pub after_end : (text end behind : List ℕ) (c : SavedCounts) (ports : List SavedPort) (routes : List (ℕ × Route)) (objects : List SavedObject)
+pub after_end : (text end remaining : List ℕ) (c : SavedCounts) (ports : List SavedPort) (routes : List (ℕ × Route)) (objects : List SavedObject)
     → text ≡ ((((first_line ++ counts_line c) ++ flat_map port_text ports) ++ flat_map route_line routes) ++ flat_map object_text objects) ++ end
-    → end ≡ end_line ++ behind → StopsIn text (length behind)
-after_end text end behind c ports routes objects e f =
+    → end ≡ end_line ++ remaining → StopsIn text (length remaining)
+after_end text end remaining c ports routes objects e f =
     let before = (((first_line ++ counts_line c) ++ flat_map port_text ports) ++ flat_map route_line routes) ++ flat_map object_text objects in record {
       front = before ++ end_line;
-      rest = behind;
-      parts = e ∙ after before end end_line behind f;
+      rest = remaining;
+      parts = e ∙ after before end end_line remaining f;
       begins = record {
         saved = state c ports routes objects;
         more = [];
@@ -183,12 +183,12 @@ read_objects text objects end c ports routes items e f =
     e ∙ after (((first_line ++ counts_line c) ++ flat_map port_text ports) ++ flat_map route_line routes) objects (flat_map object_text items) end f
 
 -- nothing comes after the end
-pub state_found : (text end behind : List ℕ) (c : SavedCounts) (ports : List SavedPort) (routes : List (ℕ × Route)) (objects : List SavedObject)
+pub state_found : (text end remaining : List ℕ) (c : SavedCounts) (ports : List SavedPort) (routes : List (ℕ × Route)) (objects : List SavedObject)
     (saved : Saved)
     → text ≡ ((((first_line ++ counts_line c) ++ flat_map port_text ports) ++ flat_map route_line routes) ++ flat_map object_text objects) ++ end
-    → end ≡ end_line ++ behind → behind ≡ [] → saved.ports ≡ ports → saved.routes ≡ routes → saved.objects ≡ objects → saved.counts ≡ c
+    → end ≡ end_line ++ remaining → remaining ≡ [] → saved.ports ≡ ports → saved.routes ≡ routes → saved.objects ≡ objects → saved.counts ≡ c
     → text ≡ state_text saved
-state_found text end behind c ports routes objects saved e f nothing_more is_ports is_routes is_objects is_counts =
+state_found text end remaining c ports routes objects saved e f nothing_more is_ports is_routes is_objects is_counts =
     let last : end ≡ end_line = f ∙ ap (λ (t : List ℕ). end_line ++ t) nothing_more ∙ append-nil end_line in
     e ∙ ap (λ (t : List ℕ).
     ((((first_line ++ counts_line c) ++ flat_map port_text ports) ++ flat_map route_line routes) ++ flat_map object_text objects) ++ t) last
@@ -203,20 +203,3 @@ state_found text end behind c ports routes objects saved e f nothing_more is_por
     ∙ ap (λ (x : List SavedObject).
     first_line ++ (counts_line saved.counts ++ (flat_map port_text saved.ports ++ (flat_map route_line saved.routes ++ (flat_map object_text x ++ end_line)))))
     (sym is_objects)
-
--- ---- the line at which reading stops
-
-pub stops_within : (text : List ℕ) (left : ℕ) → StopsIn text left → left ≤ length text
-stops_within text left stops = omega (arith, stops.is, ap length stops.parts, length-append stops.front stops.rest)
-
-pub place_of : (text : List ℕ) (left line : ℕ) → StopsIn text left → line ≡ line_count (take (length text - left) text) + 1 → IsPlaceOf text line
-place_of text left line stops e =
-    let before : length stops.front ≡ length text - left = omega (arith, stops.is, ap length stops.parts, length-append stops.front stops.rest) in
-    let front : take (length text - left) text ≡ stops.front =
-    ap (take (length text - left)) stops.parts ∙ take_at stops.front stops.rest (length text - left) before in record {
-      front = stops.front;
-      rest = stops.rest;
-      parts = stops.parts;
-      begins = stops.begins;
-      number = e ∙ ap (λ (t : List ℕ). line_count t + 1) front;
-    }

@@ -102,7 +102,7 @@ other_character x c other = by (x == c) refl
     by true e = absurd (other (eqb-true x c e))
     by false e = e
 
--- the first such character is where the text before it lacks it
+-- the first such character is the one before which the text lacks it
 first_place : (c : ℕ) (word rest : List ℕ) → Lacks c word → position_or_len (λ x. x == c) (word ++ c ∷ rest) ≡ length word
 first_place c [] rest lacks = rw (eq-eqb c c refl) refl
 first_place c (x ∷ word) rest lacks =
@@ -133,16 +133,16 @@ pub tail_whole : (n : ℕ) (xs : List ℕ) → take (length xs - n) (drop n xs) 
 tail_whole n xs = ap (λ (k : ℕ). take k (drop n xs)) (sym (length-drop n xs)) ∙ take-length (drop n xs)
 
 -- what comes after a word
-pub found_behind : (word text : List ℕ) (r : Option (Bor (List ℕ)))
+pub found_after : (word text : List ℕ) (r : Option (Bor (List ℕ)))
     → MatchOption r ((rest : List ℕ) → text ≢ word ++ rest) (λ x. text ≡ word ++ x.now) → IfSome r (λ x. text ≡ word ++ x.now)
-found_behind word text None m = tt
-found_behind word text (Some x) m = m
+found_after word text None m = tt
+found_after word text (Some x) m = m
 
-pub only_behind : (word text : List ℕ) (r : Option (Bor (List ℕ)))
+pub only_after : (word text : List ℕ) (r : Option (Bor (List ℕ)))
     → MatchOption r ((rest : List ℕ) → text ≢ word ++ rest) (λ x. text ≡ word ++ x.now)
     → (rest : List ℕ) → text ≡ word ++ rest → IsSomeAnd r (λ x. x.now ≡ rest)
-only_behind word text None m rest e = absurd (m rest e)
-only_behind word text (Some x) m rest e = append_cancel_left word x.now rest (sym m ∙ e)
+only_after word text None m rest e = absurd (m rest e)
+only_after word text (Some x) m rest e = append_cancel_left word x.now rest (sym m ∙ e)
 
 -- ---- masks
 
@@ -162,7 +162,7 @@ mask_utf8 m is =
     let second : IsAscii most = part_ascii (get_or m.octets 1 0) 46 later (small 1) (omega arith) third in
     IsUtf8-from_ascii (mask_text m) (part_ascii (get_or m.octets 0 0) 46 most (small 0) (omega arith) second)
 
--- a number and a point, and a text behind them that lacks the character
+-- a number and a point, and a text after them that lacks the character
 part_lacks : (n c : ℕ) (rest : List ℕ) → n < 2 ^ 64 → ¬ (IsAsciiDigit c) → 46 ≢ c → Lacks c rest → Lacks c (decimal n ++ 46 ∷ rest)
 part_lacks n c rest small digit other lacks =
     lacks_append c (decimal n) (46 ∷ rest) (not_in_decimal n c small digit) (lacks_cons c 46 rest other lacks)

@@ -1,4 +1,4 @@
--- Where a text stops being that of a state.
+-- The line at which a text stops being that of a state.
 use Rattle.std.specs.Prelude.{◌≡◌, ℕ, ◌+◌, ◌==◌, List, ◌++◌, count_by}
 use Rattle.gw_saved.specs.Saved.{Saved}
 use Rattle.gw_state_text.specs.Text.{state_text}
@@ -13,7 +13,7 @@ pub record BeginsText (front : List ℕ) : Type 0 where
 abbrev pub line_count : List ℕ → ℕ
 line_count text = count_by (λ c. c == 10) text
 
--- the line of this number, from 1, is the first that can't be where it is: the lines before it begin the text of a state
+-- the lines before the one of this number, from 1, begin the text of a state
 pub record IsPlaceOf (text : List ℕ) (line : ℕ) : Type 0 where
   pub front : List ℕ
   pub rest : List ℕ

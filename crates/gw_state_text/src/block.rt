@@ -4,7 +4,7 @@
 ghost use Rattle.std.specs.Prelude.{◌≡◌, ◌++◌, ℕ, List, IfOk, IfErr};
 ghost use Rattle.std.specs.List.{flat_map};
 ghost use Rattle.gw_state_text.specs.Items.{AreItems};
-ghost use Rattle.gw_state_text.specs.internal.Block.{StopsBehind};
+ghost use Rattle.gw_state_text.specs.internal.Block.{StopsAfter};
 
 use crate::fault::{FaultKind, Stop};
 use std::alloc::Global;
@@ -29,7 +29,7 @@ pub(crate) trait Block {
     fn most(&self) -> usize
         ensures { result ≡ count self.now };
 
-    /// Reads the item at the front of a text, behind these items, and lends what is behind it.
+    /// Reads the item at the front of a text, after these items, and lends what comes after it.
     fn read<'a>(
         &self,
         alloc: Global,
@@ -38,7 +38,7 @@ pub(crate) trait Block {
     ) -> Result<(Self::Item, &'a [u8]), Stop>
         ensures found { IfOk result (λ x. text.now ≡ line self.now x.0 ++ x.1.now) }
         ensures fits { IfOk result (λ x. Fits self.now before.now x.0) }
-        ensures stop { IfErr result (λ stop. StopsBehind (line self.now) text.now stop.left) };
+        ensures stop { IfErr result (λ stop. StopsAfter (line self.now) text.now stop.left) };
 }
 
 /// Reads items from the front of a text as long as their word follows.
@@ -49,7 +49,7 @@ pub(crate) fn read_all<'a, B: Block>(
 ) -> Result<(Vec<B::Item>, &'a [u8]), Stop>
     ensures found { IfOk result (λ x. text.now ≡ flat_map (B.line block.now) x.0.items ++ x.1.now) }
     ensures fits { IfOk result (λ x. AreItems (B.Fits block.now) (B.count block.now) x.0.items) }
-    ensures stop { IfErr result (λ stop. StopsBehind (B.line block.now) text.now stop.left) }
+    ensures stop { IfErr result (λ stop. StopsAfter (B.line block.now) text.now stop.left) }
 {
     let mut items = Vec::new(alloc);
     let mut rest = text;
@@ -57,14 +57,14 @@ pub(crate) fn read_all<'a, B: Block>(
         if !rest.starts_with(block.word()) {
             return Ok((items, rest));
         }
-        let (item, behind) = match block.read(alloc, items.as_slice(), rest) {
+        let (item, remaining) = match block.read(alloc, items.as_slice(), rest) {
             Ok(read) => read,
             Err(stop) => return Err(stop),
         };
         let Ok(()) = items.push(item) else {
             return Err(Stop::at(rest, FaultKind::Memory));
         };
-        rest = behind;
+        rest = remaining;
     }
     if rest.starts_with(block.word()) {
         return Err(Stop::at(rest, FaultKind::TooMany));

@@ -28,7 +28,7 @@ pub enum FaultKind {
     Memory,
 }
 
-/// Why a text is none of a saved state, and where.
+/// Why a text is none of a saved state, and at which line.
 #[derive(Clone, Copy, Debug)]
 pub struct StateFault {
     /// The number of the line, from 1.
@@ -37,7 +37,7 @@ pub struct StateFault {
     pub kind: FaultKind,
 }
 
-/// Where reading stopped, and why.
+/// At which line reading stopped, and why.
 #[derive(Clone, Copy)]
 pub(crate) struct Stop {
     /// How many octets are left of the text from the faulty line on.

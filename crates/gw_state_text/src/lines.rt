@@ -8,7 +8,7 @@ ghost use Rattle.gw_state_text.specs.Text.{counts_line, device_line, entry_line,
 ghost use Rattle.gw_state_text.specs.internal.Lines.{counts_on, device_on, entry_on, port_on, route_on};
 ghost use Rattle.gw_state_text.specs.Fit.{AreCounts, IsDevice, IsPlace, IsRoute};
 
-use crate::words::{address_to, behind, mask_to, network_to, number_to, octet_to, short_to};
+use crate::words::{address_to, after_word, mask_to, network_to, number_to, octet_to, short_to};
 use gw_addr::{BdtEntry, BipAddr, Mask, NetNum, put_decimal, put_octet, put_slice};
 use gw_bdt_fdt::KeptDevice;
 use gw_routes::Route;
@@ -35,7 +35,7 @@ pub(crate) fn counts_at(text: &[u8]) -> Option<(SavedCounts, &[u8])>
     ensures only { (c : SavedCounts) (rest : List ℕ) → AreCounts c → text.now ≡ counts_on c rest
         → IsSomeAnd result (λ x. (x.0 ≡ c) × (x.1.now ≡ rest)) }
 {
-    let words = behind(b"counts ", text)?;
+    let words = after_word(b"counts ", text)?;
     let (since, words) = number_to(b' ', words)?;
     let (ticks, words) = number_to(b' ', words)?;
     let (denials, rest) = number_to(b'\n', words)?;
@@ -69,7 +69,7 @@ pub(crate) fn port_at(text: &[u8]) -> Option<(NetNum, BipAddr, &[u8])>
     ensures only { (n : ℕ) (a : BipAddr) (rest : List ℕ) → IsPlace n a → text.now ≡ port_on n a rest
         → IsSomeAnd result (λ x. (x.0 ≡ n) × (x.1 ≡ a) × (x.2.now ≡ rest)) }
 {
-    let words = behind(b"port ", text)?;
+    let words = after_word(b"port ", text)?;
     let Some((network, words)) = network_to(words) else {
         return None;
     };
@@ -95,7 +95,7 @@ pub(crate) fn entry_at<'a>(word: &[u8], text: &'a [u8]) -> Option<(BdtEntry, &'a
     ensures found { IfSome result (λ x. text.now ≡ entry_on word.now x.0 x.1.now) }
     ensures is { IfSome result (λ x. IsBdtEntry x.0) }
 {
-    let words = behind(word, text)?;
+    let words = after_word(word, text)?;
     let (address, words) = address_to(b' ', words)?;
     let (mask, rest) = mask_to(words)?;
     let mask = mask.octets;
@@ -122,7 +122,7 @@ pub(crate) fn device_at(text: &[u8]) -> Option<(KeptDevice, &[u8])>
     ensures only { (d : KeptDevice) (rest : List ℕ) → IsDevice d → text.now ≡ device_on d rest
         → IsSomeAnd result (λ x. (x.0 ≡ d) × (x.1.now ≡ rest)) }
 {
-    let words = behind(b"device ", text)?;
+    let words = after_word(b"device ", text)?;
     let (address, words) = address_to(b' ', words)?;
     let (time_to_live, words) = short_to(b' ', words)?;
     let (left, rest) = number_to(b'\n', words)?;
@@ -154,7 +154,7 @@ pub(crate) fn route_at(text: &[u8]) -> Option<(NetNum, Route, &[u8])>
     ensures only { (n : ℕ) (r : Route) (rest : List ℕ) → IsRoute (n, r) → text.now ≡ route_on (n, r) rest
         → IsSomeAnd result (λ x. (x.0 ≡ n) × (x.1 ≡ r) × (x.2.now ≡ rest)) }
 {
-    let words = behind(b"route ", text)?;
+    let words = after_word(b"route ", text)?;
     let Some((network, words)) = network_to(words) else {
         return None;
     };

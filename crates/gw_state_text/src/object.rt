@@ -14,7 +14,7 @@ use crate::block::Block;
 use crate::fault::{FaultKind, Stop};
 use crate::items::Lines;
 use crate::value::{put_value, value_in};
-use crate::words::{behind, long_to, octet_to, parted_at, short_to};
+use crate::words::{after_word, long_to, octet_to, parted_at, short_to};
 use gw_addr::{put_decimal, put_octet, put_slice};
 use gw_configuration::{MAX_OBJECTS, ObjectKind};
 use gw_objects::PropertyValue;
@@ -134,7 +134,7 @@ fn value_to(
 fn priority_at(text: &[u8]) -> Option<(u8, &[u8])>
     ensures { IfSome result (λ x. text.now ≡ codes "slot " ++ (decimal x.0 ++ 32 ∷ x.1.now)) }
 {
-    let words = behind(b"slot ", text)?;
+    let words = after_word(b"slot ", text)?;
     octet_to(b' ', words)
 }
 
@@ -178,12 +178,12 @@ fn slots_at(
     let mut slots = array::from_fn(|_| None);
     let mut rest = text;
     for place in 0..PRIORITIES {
-        let (slot, behind) = match slot_at(alloc, kind, place as u8 + 1, rest) {
+        let (slot, remaining) = match slot_at(alloc, kind, place as u8 + 1, rest) {
             Ok(read) => read,
             Err(fault) => return Err(Stop::at(rest, fault)),
         };
         slots[place] = slot;
-        rest = behind;
+        rest = remaining;
     }
     match priority_at(rest) {
         None => Ok((slots, rest)),
@@ -191,7 +191,7 @@ fn slots_at(
     }
 }
 
-/// What is wrong with a slot of this priority behind the last one: there is no such priority, or it came
+/// What is wrong with a slot of this priority after the last one: there is no such priority, or it came
 /// before, or it is out of order.
 fn slot_fault(slots: &[Option<PropertyValue>; PRIORITIES], priority: u8) -> FaultKind {
     if priority == 0 || LOWEST < priority {
@@ -228,7 +228,7 @@ fn identifier_at(text: &[u8]) -> Result<(ObjectId, &[u8]), FaultKind>
     ensures found { IfOk result (λ x. text.now ≡ identifier_text (object_view x.0) ++ x.1.now) }
     ensures is { IfOk result (λ x. IsObject (object_view x.0)) }
 {
-    let Some(words) = behind(b"object ", text) else {
+    let Some(words) = after_word(b"object ", text) else {
         return Err(FaultKind::Line);
     };
     let Some((kind, words)) = short_to(b' ', words) else {
@@ -309,7 +309,7 @@ impl Block for Objects {
 }
 
 impl Head {
-    /// The object of this line and of the slots behind it.
+    /// The object of this line and of the slots after it.
     fn object_with(self, slots: [Option<PropertyValue>; PRIORITIES]) -> SavedObject
         ensures object { result.object ≡ object_view self.object }
         ensures configured { result.configured ≡ self.configured }

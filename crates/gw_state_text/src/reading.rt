@@ -12,7 +12,7 @@ use crate::lines::counts_at;
 use crate::object::Objects;
 use crate::port::Ports;
 use crate::tables::Routes;
-use crate::words::behind;
+use crate::words::after_word;
 use gw_saved::{Saved, SavedFault};
 use std::alloc::Global;
 
@@ -21,7 +21,7 @@ use std::alloc::Global;
 ///
 /// # Errors
 ///
-/// The first line that can't be where it is, and why, as [`FaultKind`] says; `Memory` at the line for which
+/// The line that can't follow those before it, and why, as [`FaultKind`] says; `Memory` at the line for which
 /// there was none.
 pub fn read_state(alloc: Global, text: &[u8]) -> Result<Saved, StateFault>
     ensures found { IfOk result (λ saved. text.now ≡ state_text saved) }
@@ -66,7 +66,7 @@ fn state_at(alloc: Global, text: &[u8]) -> Result<Saved, Stop>
     ensures fit { IfOk result (λ saved. AreFit saved) }
     ensures stop { IfErr result (λ stop. StopsIn text.now stop.left) }
 {
-    let Some(lines) = behind(b"bacgw state 1\n", text) else {
+    let Some(lines) = after_word(b"bacgw state 1\n", text) else {
         return Err(Stop::at(text, FaultKind::Version));
     };
     let Some((counts, lines_of_ports)) = counts_at(lines) else {
@@ -85,7 +85,7 @@ fn state_at(alloc: Global, text: &[u8]) -> Result<Saved, Stop>
         Ok(read) => read,
         Err(stop) => return Err(stop),
     };
-    let Some(after) = behind(b"end\n", end) else {
+    let Some(after) = after_word(b"end\n", end) else {
         return Err(Stop::at(end, FaultKind::Line));
     };
     if !after.is_empty() {

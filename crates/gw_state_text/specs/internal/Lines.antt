@@ -26,13 +26,3 @@ device_on device rest =
 abbrev pub route_on : ℕ × Route → List ℕ → List ℕ
 route_on route rest =
     codes "route " ++ (decimal route.0 ++ 32 ∷ (decimal route.1.port ++ 32 ∷ (text_of route.1.next ++ 10 ∷ rest)))
-
--- what comes after the word of a line
-abbrev pub behind_entry : BdtEntry → List ℕ
-behind_entry entry = text_of entry.address ++ 32 ∷ (four_text entry.mask ++ 10 ∷ [])
-
-abbrev pub behind_device : KeptDevice → List ℕ
-behind_device device = text_of device.address ++ 32 ∷ (decimal device.time_to_live ++ 32 ∷ (decimal device.left ++ 10 ∷ []))
-
-abbrev pub behind_route : ℕ × Route → List ℕ
-behind_route route = decimal route.0 ++ 32 ∷ (decimal route.1.port ++ 32 ∷ (text_of route.1.next ++ 10 ∷ []))

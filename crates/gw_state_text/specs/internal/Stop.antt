@@ -1,4 +1,4 @@
--- Where reading stops.
+-- The place at which reading stops.
 use Rattle.std.specs.Prelude.{◌≡◌, ℕ, List, ◌++◌, length}
 use Rattle.gw_state_text.specs.Place.{BeginsText}
 

@@ -10,11 +10,6 @@ use Rattle.std.specs.Str.Parse.{digits_value}
 abbrev pub parted_at : ℕ → List ℕ → Option (List ℕ × List ℕ)
 parted_at c text = option_map (λ place. (take place text, drop (place + 1) text)) (position (λ x. x == c) text)
 
--- what comes after a word
-abbrev pub behind : List ℕ → List ℕ → Option (List ℕ)
-behind word text =
-    if pointwise nat_eq (take (length word) text) word then Some (drop (length word) text) else None
-
 -- the number of 64 bits that a text is in decimal
 abbrev pub number_in : List ℕ → Option ℕ
 number_in text =

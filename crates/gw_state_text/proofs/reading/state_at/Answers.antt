@@ -24,22 +24,22 @@ pub returns-in-Err-read_all-2-clause-stop : goal.returns-in-Err-read_all-2-claus
 returns-in-Err-read_all-2-clause-stop c =
     in_objects c.args.text.now c.in-Ok-read_all.read.1.now c.in-Some-counts_at.counts c.in-Ok.read.0.items c.in-Ok-read_all.read.0.items c.in-Err-read_all-2.stop.left (read_routes c.args.text.now c.in-Ok.read.1.now c.in-Ok-read_all.read.1.now c.in-Some-counts_at.counts c.in-Ok.read.0.items c.in-Ok-read_all.read.0.items (read_ports c.args.text.now c.in-Some-counts_at.lines_of_ports.now c.in-Ok.read.1.now c.in-Some-counts_at.counts c.in-Ok.read.0.items (counted c.args.text.now c.in-Some.lines.now c.in-Some-counts_at.lines_of_ports.now c.in-Some-counts_at.counts c.in-Some.ensures.found c.in-Some-counts_at.ensures.found) c.in-Ok.ensures.found) c.in-Ok-read_all.ensures.found) c.in-Err-read_all-2.ensures.stop
 
-pub returns-in_default-behind-clause-stop : goal.returns-in_default-behind-clause-stop
-returns-in_default-behind-clause-stop c =
-    stops_so _ _ _ c.at-in_default-behind.ensures.left
+pub returns-in_default-after_word-clause-stop : goal.returns-in_default-after_word-clause-stop
+returns-in_default-after_word-clause-stop c =
+    stops_so _ _ _ c.at-in_default-after_word.ensures.left
     (at_end c.args.text.now c.in-Ok-read_all-2.read.1.now c.in-Some-counts_at.counts c.in-Ok.read.0.items c.in-Ok-read_all.read.0.items c.in-Ok-read_all-2.read.0.items (read_objects c.args.text.now c.in-Ok-read_all.read.1.now c.in-Ok-read_all-2.read.1.now c.in-Some-counts_at.counts c.in-Ok.read.0.items c.in-Ok-read_all.read.0.items c.in-Ok-read_all-2.read.0.items (read_routes c.args.text.now c.in-Ok.read.1.now c.in-Ok-read_all.read.1.now c.in-Some-counts_at.counts c.in-Ok.read.0.items c.in-Ok-read_all.read.0.items (read_ports c.args.text.now c.in-Some-counts_at.lines_of_ports.now c.in-Ok.read.1.now c.in-Some-counts_at.counts c.in-Ok.read.0.items (counted c.args.text.now c.in-Some.lines.now c.in-Some-counts_at.lines_of_ports.now c.in-Some-counts_at.counts c.in-Some.ensures.found c.in-Some-counts_at.ensures.found) c.in-Ok.ensures.found) c.in-Ok-read_all.ensures.found) c.in-Ok-read_all-2.ensures.found))
 
 pub returns-then-not-is_empty-clause-stop : goal.returns-then-not-is_empty-clause-stop
 returns-then-not-is_empty-clause-stop c =
     stops_so _ _ _ c.at-then-not-is_empty.ensures.left
-    (after_end c.args.text.now c.in-Ok-read_all-2.read.1.now c.in-Some-behind.after.now c.in-Some-counts_at.counts c.in-Ok.read.0.items c.in-Ok-read_all.read.0.items c.in-Ok-read_all-2.read.0.items (read_objects c.args.text.now c.in-Ok-read_all.read.1.now c.in-Ok-read_all-2.read.1.now c.in-Some-counts_at.counts c.in-Ok.read.0.items c.in-Ok-read_all.read.0.items c.in-Ok-read_all-2.read.0.items (read_routes c.args.text.now c.in-Ok.read.1.now c.in-Ok-read_all.read.1.now c.in-Some-counts_at.counts c.in-Ok.read.0.items c.in-Ok-read_all.read.0.items (read_ports c.args.text.now c.in-Some-counts_at.lines_of_ports.now c.in-Ok.read.1.now c.in-Some-counts_at.counts c.in-Ok.read.0.items (counted c.args.text.now c.in-Some.lines.now c.in-Some-counts_at.lines_of_ports.now c.in-Some-counts_at.counts c.in-Some.ensures.found c.in-Some-counts_at.ensures.found) c.in-Ok.ensures.found) c.in-Ok-read_all.ensures.found) c.in-Ok-read_all-2.ensures.found) c.in-Some-behind.ensures.found)
+    (after_end c.args.text.now c.in-Ok-read_all-2.read.1.now c.in-Some-after_word.after.now c.in-Some-counts_at.counts c.in-Ok.read.0.items c.in-Ok-read_all.read.0.items c.in-Ok-read_all-2.read.0.items (read_objects c.args.text.now c.in-Ok-read_all.read.1.now c.in-Ok-read_all-2.read.1.now c.in-Some-counts_at.counts c.in-Ok.read.0.items c.in-Ok-read_all.read.0.items c.in-Ok-read_all-2.read.0.items (read_routes c.args.text.now c.in-Ok.read.1.now c.in-Ok-read_all.read.1.now c.in-Some-counts_at.counts c.in-Ok.read.0.items c.in-Ok-read_all.read.0.items (read_ports c.args.text.now c.in-Some-counts_at.lines_of_ports.now c.in-Ok.read.1.now c.in-Some-counts_at.counts c.in-Ok.read.0.items (counted c.args.text.now c.in-Some.lines.now c.in-Some-counts_at.lines_of_ports.now c.in-Some-counts_at.counts c.in-Some.ensures.found c.in-Some-counts_at.ensures.found) c.in-Ok.ensures.found) c.in-Ok-read_all.ensures.found) c.in-Ok-read_all-2.ensures.found) c.in-Some-after_word.ensures.found)
 
 pub returns-in-Ok-new-clause-found : goal.returns-in-Ok-new-clause-found
 returns-in-Ok-new-clause-found c =
-    let nothing_more : c.in-Some-behind.after.now ≡ [] = nil_from_length c.in-Some-behind.after.now (eqb-true _ 0 (sym c.if-not-is_empty.ensures)) in
-    state_found c.args.text.now c.in-Ok-read_all-2.read.1.now c.in-Some-behind.after.now c.in-Some-counts_at.counts c.in-Ok.read.0.items c.in-Ok-read_all.read.0.items c.in-Ok-read_all-2.read.0.items c.in-Ok-new.saved
+    let nothing_more : c.in-Some-after_word.after.now ≡ [] = nil_from_length c.in-Some-after_word.after.now (eqb-true _ 0 (sym c.if-not-is_empty.ensures)) in
+    state_found c.args.text.now c.in-Ok-read_all-2.read.1.now c.in-Some-after_word.after.now c.in-Some-counts_at.counts c.in-Ok.read.0.items c.in-Ok-read_all.read.0.items c.in-Ok-read_all-2.read.0.items c.in-Ok-new.saved
     (read_objects c.args.text.now c.in-Ok-read_all.read.1.now c.in-Ok-read_all-2.read.1.now c.in-Some-counts_at.counts c.in-Ok.read.0.items c.in-Ok-read_all.read.0.items c.in-Ok-read_all-2.read.0.items (read_routes c.args.text.now c.in-Ok.read.1.now c.in-Ok-read_all.read.1.now c.in-Some-counts_at.counts c.in-Ok.read.0.items c.in-Ok-read_all.read.0.items (read_ports c.args.text.now c.in-Some-counts_at.lines_of_ports.now c.in-Ok.read.1.now c.in-Some-counts_at.counts c.in-Ok.read.0.items (counted c.args.text.now c.in-Some.lines.now c.in-Some-counts_at.lines_of_ports.now c.in-Some-counts_at.counts c.in-Some.ensures.found c.in-Some-counts_at.ensures.found) c.in-Ok.ensures.found) c.in-Ok-read_all.ensures.found) c.in-Ok-read_all-2.ensures.found)
-    c.in-Some-behind.ensures.found nothing_more c.in-Ok-new.ensures.ports c.in-Ok-new.ensures.routes c.in-Ok-new.ensures.objects
+    c.in-Some-after_word.ensures.found nothing_more c.in-Ok-new.ensures.ports c.in-Ok-new.ensures.routes c.in-Ok-new.ensures.objects
     c.in-Ok-new.ensures.counts
 
 pub returns-in-Err-Counts-clause-stop : goal.returns-in-Err-Counts-clause-stop
