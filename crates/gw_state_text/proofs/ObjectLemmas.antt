@@ -1,9 +1,9 @@
 -- An object and its slots, read one after the other.
-use Rattle.std.proofs.Common.{◌≡◌, ◌∙◌, ℕ, List, [], ◌∷◌, ◌++◌, Option, ap, sym, append_assoc}
+use Rattle.std.proofs.Common.{◌≡◌, ◌∙◌, ℕ, List, ◌++◌, Option}
 use Rattle.gw_objects.specs.declared.value.PropertyValue.{PropertyValue}
 use Rattle.gw_saved.specs.Saved.{SavedObject}
-use Rattle.gw_tags.specs.Object.{Object, object_view}
-use Rattle.gw_state_text.specs.Text.{identifier_text, object_line, object_text, slots_text, value_text}
+use Rattle.gw_tags.specs.Object.{object_view}
+use Rattle.gw_state_text.specs.Text.{object_text, slots_text}
 use Rattle.gw_state_text.specs.declared.object.Head.{Head}
 use Rattle.gw_state_text.specs.internal.Block.{StopsAfter}
 use Rattle.gw_state_text.specs.internal.Objects.{StopsInSlots, head_text}

@@ -2,12 +2,10 @@
 use Rattle.std.proofs.Common.{◌≡◌, ◌∙◌, ℕ, suc, ◌+◌, ◌<◌, List, [], ◌∷◌, ◌++◌, length, take, get_or, Option, Some, None, refl, sym, ap, subst, arith, append-nil, append_assoc}
 use Rattle.std.proofs.lemmas.List.{length-set, length-take-le, take_more, take_more_set}
 use Rattle.std.proofs.Math.ListN.{set}
-use Rattle.std.proofs.Math.Seq.{take-length}
 use Rattle.gw_configuration.specs.declared.object.ObjectKind.{ObjectKind}
 use Rattle.gw_objects.specs.declared.value.PropertyValue.{PropertyValue}
 use Rattle.gw_state_text.specs.Fit.{AreOfKind, FitsKind}
 use Rattle.gw_state_text.specs.Text.{slot_text, slots_text}
-use Rattle.gw_state_text.specs.internal.Objects.{StopsInSlots}
 
 -- one slot more
 more : (n : ℕ) (slots : List (Option PropertyValue)) (slot : Option PropertyValue)

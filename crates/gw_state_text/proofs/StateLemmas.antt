@@ -1,12 +1,10 @@
 -- The text of a state, from its parts, and the place at which reading stops in it.
-use Rattle.std.proofs.Common.{◌≡◌, ◌∙◌, ℕ, ◌+◌, ◌-◌, ◌≤◌, List, [], ◌++◌, length, take, arith, refl, sym, ap, append-nil, append_assoc}
+use Rattle.std.proofs.Common.{◌≡◌, ◌∙◌, ℕ, List, [], ◌++◌, length, refl, sym, ap, append-nil, append_assoc}
 use Rattle.std.specs.List.{flat_map}
-use Rattle.std.proofs.lemmas.List.{length-append, take_at}
 use Rattle.gw_routes.specs.declared.route.Route.{Route}
 use Rattle.gw_saved.specs.declared.counts.SavedCounts.{SavedCounts}
 use Rattle.gw_saved.specs.declared.port.SavedPort.{SavedPort}
 use Rattle.gw_saved.specs.Saved.{Saved, SavedObject}
-use Rattle.gw_state_text.specs.Place.{IsPlaceOf, line_count}
 use Rattle.gw_state_text.specs.Text.{counts_line, end_line, first_line, object_text, port_text, route_line, state_text}
 use Rattle.gw_state_text.specs.internal.Block.{StopsAfter}
 use Rattle.gw_state_text.specs.internal.Lines.{counts_on}

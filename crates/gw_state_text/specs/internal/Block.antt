@@ -1,8 +1,6 @@
 -- Lines of one kind that follow one another.
-use Rattle.std.specs.Prelude.{◌≡◌, ℕ, Bool, nat_eq, List, ◌++◌, length, Result, Ok, Err}
-use Rattle.std.specs.List.{flat_map, starts_with}
-use Rattle.gw_state_text.specs.declared.fault.FaultKind.TheVariants.{Memory}
-use Rattle.gw_state_text.specs.declared.fault.Stop.{Stop}
+use Rattle.std.specs.Prelude.{◌≡◌, ℕ, List, ◌++◌, length}
+use Rattle.std.specs.List.{flat_map}
 
 -- before so many octets the text is that of items
 pub record StopsAfter {A : Type 0} (line : A → List ℕ) (text : List ℕ) (left : ℕ) : Type 0 where

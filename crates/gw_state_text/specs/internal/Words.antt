@@ -1,5 +1,5 @@
 -- Words of a line, as they are read from its front.
-use Rattle.std.specs.Prelude.{ℕ, ◌+◌, ◌^◌, ◌==◌, ◌&&◌, nat_eq, nat_lt, if◌then◌else◌, List, length, take, drop, position}
+use Rattle.std.specs.Prelude.{ℕ, ◌+◌, ◌^◌, ◌==◌, ◌&&◌, nat_eq, nat_lt, if◌then◌else◌, List, take, drop, position}
 use Rattle.std.specs.Prelude.{Option, Some, None}
 use Rattle.std.specs.Cmp.Lexicographic.{pointwise}
 use Rattle.std.specs.Fmt.{decimal}
