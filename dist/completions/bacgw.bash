@@ -9,16 +9,16 @@ _bacgw() {
         equals=yes before=${COMP_WORDS[COMP_CWORD - 2]}
     elif [[ $word == --*=* ]]; then
         case $word in
-            --config=* | --log=*) mapfile -t COMPREPLY < <(compgen -f -P "${word%%=*}=" -- "${word#*=}") ;;
+            --config=* | --with=* | --log=*) mapfile -t COMPREPLY < <(compgen -f -P "${word%%=*}=" -- "${word#*=}") ;;
         esac
         return
     fi
     if [ "$COMP_CWORD" = 1 ]; then
-        options='check replay run why log help --help --version'
+        options='check replay run why compare log help --help --version'
     else
         case $before in
-            --config | --log) compopt -o default; return ;;
-            --turns | --stats | --start) return ;;
+            --config | --with | --log) compopt -o default; return ;;
+            --turns | --stats | --start | --most) return ;;
         esac
         if [ "$equals" ]; then return; fi
         case ${COMP_WORDS[1]} in
@@ -26,8 +26,9 @@ _bacgw() {
             replay) options='--config --explain --help' ;;
             run) options='--config --log --turns --stats --verbose --help' ;;
             why) options='--config --help' ;;
+            compare) options='--config --with --most --help' ;;
             log) options='--start --help' ;;
-            help) options='check replay run why log' ;;
+            help) options='check replay run why compare log' ;;
             *) return ;;
         esac
     fi

@@ -21,6 +21,8 @@ ALL_PROTOCOLS, OUTGOING = 3, 4
 PORTS = {"1": "10.1.0.2", "2": "10.2.0.2"}
 BROADCASTS = {"1": "10.1.0.255", "2": "10.2.0.255"}
 MANY = 100  # datagrams of a second, which no answer to one datagram is here
+# Whether a firewall is in front of the gateway.
+FIREWALL = bool(os.environ.get("FIREWALL"))
 READERS = {"1": "10.1.0.5", "2": "10.2.0.9"}
 INVOKE = 0xEE
 READ_FAN = bytes.fromhex(f"810A0016012400640101FF0005{INVOKE:02X}0C0C014000011955")
@@ -139,6 +141,12 @@ class Site:
                 run.wait()
 
 
+def is_among(log, denied):
+    """Whether each line of a log, without its number, is one of these denials."""
+    words = [line.split(" ", 1)[1] for line in denied]
+    return all(line.split(" ", 1)[1] in words for line in log)
+
+
 def attacked(site, folder, row):
     """What isn't as expected of an attack on one gateway."""
     kind, _, script, wanted, shown = row
@@ -146,11 +154,11 @@ def attacked(site, folder, row):
     denied = [re.sub(r"^deny (\d+) \d+ ", r"\1 . ", line) for line in shown.split(" | ") if line.startswith("deny ")]
     before, _ = site.play(os.path.join(folder, "format2.toml"), events, directed)
     after, log = site.play(os.path.join(folder, "format3.toml"), events, directed)
-    if wanted not in before:
+    if wanted not in before and not FIREWALL:
         yield f"fails under format 2: {before}"
     if wanted in after:
         yield f"succeeds under format 3: {after}"
-    if log != denied:
+    if not (is_among(log, denied) if FIREWALL else log == denied):
         yield f"the log under format 3: {log}"
 
 
@@ -160,7 +168,7 @@ def stormed(site, folder, row):
     for form, storms in ((2, True), (3, False)):
         files = [os.path.join(folder, f"loop_{which}.format{form}.toml") for which in ("first", "second")]
         number = site.count(*files, event)
-        if (number > MANY) != storms:
+        if (number > MANY) != storms and not (storms and FIREWALL):
             yield f"{number} datagrams under format {form}"
 
 

@@ -5,6 +5,10 @@
 # format 2, and none under format 3.
 #
 #     sudo examples/site/attacks.sh [PROGRAM]
+#     sudo FIREWALL=yes examples/site/attacks.sh [PROGRAM]    # with dist/bacgw.nft in front of the gateway
+#
+# The firewall keeps some attacks out by itself, also under format 2. So with it no attack needs to succeed under format 2, and the log
+# under format 3 may lack denials of the table, but has no other.
 #
 # It wants root, for the namespaces, and ip, sysctl, python3 and the program built, as `./bacgw prove` leaves it, if none is given.
 # Everything that it made is gone when it ends. The last line says how many agreed.
@@ -51,4 +55,6 @@ ip -n "${names[0]}" route add default via 10.2.0.66
 ip -n "$first" route add default via 10.1.0.2
 ip -n "$second" route add default via 10.2.0.2
 
-python3 "$here/attacks.py" "$program" "$here/../attacks" "${names[@]}"
+firewall=${FIREWALL:-}
+[ -z "$firewall" ] || for gateway in 0 1; do ip netns exec "${names[$gateway]}" nft -f "$here/../../dist/bacgw.nft"; done
+FIREWALL=$firewall python3 "$here/attacks.py" "$program" "$here/../attacks" "${names[@]}"

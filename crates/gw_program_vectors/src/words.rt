@@ -60,6 +60,17 @@ fn put_choice(
         }
         Ok(Choice::Run(options)) => put_options(options, out),
         Ok(Choice::Why(file)) => put(out, &["why ", file.as_str()]),
+        Ok(Choice::Compare { old, new, most }) => put(
+            out,
+            &[
+                "compare ",
+                old.as_str(),
+                " with=",
+                new.as_str(),
+                " most=",
+                Buffer::new().format(*most),
+            ],
+        ),
         Ok(Choice::Log(start)) => put_log(alloc, *start, out),
         Ok(Choice::Help(_)) => put(out, &["help"]),
         Ok(Choice::Usage(_)) | Err(Fault::CommandLine) => put(out, &["refused"]),

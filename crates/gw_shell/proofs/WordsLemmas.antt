@@ -11,7 +11,7 @@ use Rattle.clap.specs.declared.error.kind.ErrorKind.TheVariants as parse
 use Rattle.clap.proofs.OnLiterals.{clap_on_literals}
 use Rattle.clap.proofs.ValueTestLemmas.{accepts-Accepts}
 use Rattle.clap.specs.declared.builder.value_parser.ValueParser.TheVariants.{Unsigned}
-use Rattle.gw_shell.specs.CommandLine.{AreFlags, AreMixed, AreNoOptions, Asks, AsksNothing, Call, call_by, called, commands, most_seconds, most_turns, CallsCheck, CallsExplain, CallsLint, CallsLog, CallsLogSince, CallsMigrate, CallsReplay, CallsReplayExplained, CallsRun, CallsRunWhole, CallsWhy, IsAnswer, IsCheck, IsChosen, IsLog, IsLogSince, IsMigration, IsNoStart, IsRefusal, IsReplay, IsPeriod, IsServing, IsShown, IsStart, IsTurns, IsWhy, is_mixed}
+use Rattle.gw_shell.specs.CommandLine.{AreFiles, AreFlags, AreMixed, AreNoFiles, AreNoOptions, Asks, AsksNothing, Call, call_by, called, commands, most_seconds, most_count, CallsCheck, CallsCompare, CallsExplain, CallsLint, CallsLog, CallsLogSince, CallsMigrate, CallsReplay, CallsReplayExplained, CallsRun, CallsRunWhole, CallsWhy, IsAnswer, IsCheck, IsChosen, IsComparison, IsLog, IsLogSince, IsMigration, IsNoStart, IsRefusal, IsReplay, IsPeriod, IsServing, IsShown, IsStart, IsCount, IsWhy, is_mixed}
 use Rattle.gw_audit.specs.declared.moment.Moment.{Moment}
 use Rattle.gw_audit.proofs.MomentExamples.{morning, morning_is_read, morning_is_told, morning_text}
 use Rattle.gw_shell.specs.declared.command_line.Choice.{Choice}
@@ -46,6 +46,7 @@ refusal_answers words k (Ok (choice.Replay file explains)) among is = absurd is
 refusal_answers words k (Ok (choice.Run options)) among is = absurd is
 refusal_answers words k (Ok (choice.Why file)) among is = absurd is
 refusal_answers words k (Ok (choice.Log start)) among is = absurd is
+refusal_answers words k (Ok (choice.Compare old new most)) among is = absurd is
 refusal_answers words k (Ok (choice.Help text)) among is =
     (k, mistake_among (fault_of commands words) k among (λ memory. memory_shows_nothing k memory is), is)
 refusal_answers words k (Ok (choice.Usage text)) among is = (k, mistake_among (fault_of commands words) k among is.2, is)
@@ -61,6 +62,7 @@ refusal_answers words k (Err fault.Write) among is = absurd is
 refusal_answers words k (Err fault.Log) among is = absurd is
 refusal_answers words k (Err (fault.Socket port)) among is = absurd is
 refusal_answers words k (Err fault.CountEnd) among is = absurd is
+refusal_answers words k (Err fault.Different) among is = absurd is
 
 -- nothing holds of a value of which nothing can hold
 in_nothing : {B : Type 0} (o : Option Call) → IsSomeAnd o (λ c. ⊥) → B
@@ -75,6 +77,7 @@ taken_answers words (Ok (choice.Replay file explains)) none is = (none, is)
 taken_answers words (Ok (choice.Run options)) none is = (none, is)
 taken_answers words (Ok (choice.Why file)) none is = (none, is)
 taken_answers words (Ok (choice.Log start)) none is = (none, is)
+taken_answers words (Ok (choice.Compare old new most)) none is = (none, is)
 taken_answers words (Ok (choice.Help text)) none is = in_nothing (called words) is
 taken_answers words (Ok (choice.Usage text)) none is = in_nothing (called words) is
 taken_answers words (Err fault.CommandLine) none is = inr (none, is)
@@ -89,6 +92,7 @@ taken_answers words (Err fault.Write) none is = absurd is
 taken_answers words (Err fault.Log) none is = absurd is
 taken_answers words (Err (fault.Socket port)) none is = absurd is
 taken_answers words (Err fault.CountEnd) none is = absurd is
+taken_answers words (Err fault.Different) none is = absurd is
 
 some_same : {A : Type 0} (x y : A) → Some x ≡ Some y → x ≡ y
 some_same x y e = cc
@@ -96,7 +100,7 @@ some_same x y e = cc
 -- the call of a command rests on the values of its options alone
 pub same_call : (name : Text) (one other : Text → Option Text) → ((id : Text) → one id ≡ other id) → call_by name one ≡ call_by name other
 same_call name one other same =
-    rw (same (codes "config"), same (codes "log"), same (codes "turns"), same (codes "stats"), same (codes "start"), same (codes "explain"), same (codes "lint"), same (codes "migrate"), same (codes "verbose")) refl
+    rw (same (codes "config"), same (codes "log"), same (codes "turns"), same (codes "stats"), same (codes "start"), same (codes "with"), same (codes "most"), same (codes "explain"), same (codes "lint"), same (codes "migrate"), same (codes "verbose")) refl
 
 -- the call that a parse entered, by its name and its rows
 pub entered_call : {Z : Type 0} (s : Option (Box SubCommand Z)) (name : Text) (rows : List Row)
@@ -146,6 +150,21 @@ log_run e = search rules
 log_why : codes "log" ≡ codes "why" → ⊥
 log_why e = search rules
 
+compare_replay : codes "compare" ≡ codes "replay" → ⊥
+compare_replay e = search rules
+
+compare_check : codes "compare" ≡ codes "check" → ⊥
+compare_check e = search rules
+
+compare_run : codes "compare" ≡ codes "run" → ⊥
+compare_run e = search rules
+
+compare_why : codes "compare" ≡ codes "why" → ⊥
+compare_why e = search rules
+
+compare_log : codes "compare" ≡ codes "log" → ⊥
+compare_log e = search rules
+
 -- a call of `run` whose options ask for nothing asks for nothing
 pub run_asks_nothing : (name : Text) (value : Text → Option Text) (f : Fault) → name ≡ codes "run" → AreNoOptions value f → IsChosen (Some (call_by name value)) (Err f)
 run_asks_nothing name value fault.CommandLine named nothing = record {
@@ -154,6 +173,7 @@ run_asks_nothing name value fault.CommandLine named nothing = record {
   run = λ file n period e has turns. nothing n period turns;
   why = λ file e has. why_run (sym e ∙ named);
   log = λ start e began. log_run (sym e ∙ named);
+  compare = λ old new n e has other counts. compare_run (sym e ∙ named);
 }
 run_asks_nothing name value fault.Memory named nothing = tt
 run_asks_nothing name value fault.Unreadable named nothing = absurd nothing
@@ -166,6 +186,7 @@ run_asks_nothing name value fault.Write named nothing = absurd nothing
 run_asks_nothing name value fault.Log named nothing = absurd nothing
 run_asks_nothing name value (fault.Socket port) named nothing = absurd nothing
 run_asks_nothing name value fault.CountEnd named nothing = absurd nothing
+run_asks_nothing name value fault.Different named nothing = absurd nothing
 
 -- a call of `check` whose flags ask for something asks for that
 pub check_asks : (name file : Text) (value : Text → Option Text) (choice : Choice) → name ≡ codes "check" → value (codes "config") ≡ Some file
@@ -177,6 +198,7 @@ check_asks name file value (choice.Replay chosen explains) named has flags = abs
 check_asks name file value (choice.Run options) named has flags = absurd flags
 check_asks name file value (choice.Why chosen) named has flags = absurd flags
 check_asks name file value (choice.Log start) named has flags = absurd flags
+check_asks name file value (choice.Compare old new most) named has flags = absurd flags
 check_asks name file value (choice.Help text) named has flags = absurd flags
 check_asks name file value (choice.Usage text) named has flags = absurd flags
 
@@ -190,6 +212,7 @@ check_asks_nothing name value f named mixed =
       run = λ file n period e has turns seconds. run_check (sym e ∙ named);
       why = λ file e has. why_check (sym e ∙ named);
       log = λ start e began. log_check (sym e ∙ named);
+      compare = λ old new n e has other counts. compare_check (sym e ∙ named);
     })
 
 -- what `check` chooses of a file is what its call asks for
@@ -208,7 +231,51 @@ log_asks_nothing name value f named nothing =
       run = λ file n period e has turns seconds. log_run (sym named ∙ e);
       why = λ file e has. log_why (sym named ∙ e);
       log = λ start e began. nothing.1 start began;
+      compare = λ old new n e has other counts. compare_log (sym e ∙ named);
     })
+
+-- a call of `compare` whose options ask for something asks for that
+pub compare_asks : (name file : Text) (value : Text → Option Text) (choice : Choice) → name ≡ codes "compare" → value (codes "config") ≡ Some file
+    → AreFiles file value choice → IsChosen (Some (call_by name value)) (Ok choice)
+compare_asks name file value (choice.Compare old new most) named has files = (named, has ∙ ap Some (sym files.0), files.1, files.2)
+compare_asks name file value (choice.Check chosen explains lints) named has files = absurd files
+compare_asks name file value (choice.Migrate chosen) named has files = absurd files
+compare_asks name file value (choice.Replay chosen explains) named has files = absurd files
+compare_asks name file value (choice.Run options) named has files = absurd files
+compare_asks name file value (choice.Why chosen) named has files = absurd files
+compare_asks name file value (choice.Log start) named has files = absurd files
+compare_asks name file value (choice.Help text) named has files = absurd files
+compare_asks name file value (choice.Usage text) named has files = absurd files
+
+-- one whose options ask for nothing asks for nothing
+pub compare_asks_nothing : (name : Text) (value : Text → Option Text) (f : Fault) → name ≡ codes "compare" → AreNoFiles value f
+    → IsChosen (Some (call_by name value)) (Err f)
+compare_asks_nothing name value fault.CommandLine named nothing = record {
+  replay = λ e. compare_replay (sym named ∙ e);
+  check = λ file e has. absurd (compare_check (sym named ∙ e));
+  run = λ file n period e has turns seconds. compare_run (sym named ∙ e);
+  why = λ file e has. compare_why (sym named ∙ e);
+  log = λ start e began. compare_log (sym named ∙ e);
+  compare = λ old new n e has other counts. nothing new n other counts;
+}
+compare_asks_nothing name value fault.Memory named nothing = tt
+compare_asks_nothing name value fault.Unreadable named nothing = absurd nothing
+compare_asks_nothing name value (fault.Migration why) named nothing = absurd nothing
+compare_asks_nothing name value (fault.Configuration f) named nothing = absurd nothing
+compare_asks_nothing name value (fault.Line n) named nothing = absurd nothing
+compare_asks_nothing name value (fault.FlawedLine n flaw) named nothing = absurd nothing
+compare_asks_nothing name value fault.Read named nothing = absurd nothing
+compare_asks_nothing name value fault.Write named nothing = absurd nothing
+compare_asks_nothing name value fault.Log named nothing = absurd nothing
+compare_asks_nothing name value (fault.Socket port) named nothing = absurd nothing
+compare_asks_nothing name value fault.CountEnd named nothing = absurd nothing
+compare_asks_nothing name value fault.Different named nothing = absurd nothing
+
+-- what `compare` chooses of a file is what its call asks for
+pub compare_chosen : (name file : Text) (value : Text → Option Text) (r : Result Choice Fault) → name ≡ codes "compare"
+    → value (codes "config") ≡ Some file → MatchResult r (AreFiles file value) (AreNoFiles value) → IsChosen (Some (call_by name value)) r
+compare_chosen name file value (Ok choice) named has is = compare_asks name file value choice named has is
+compare_chosen name file value (Err f) named has is = compare_asks_nothing name value f named is
 
 -- what is said of the call that words make is said of the call that it is known to be
 asked : (words : List Text) (c : Call) (choice : Choice) → called words ≡ Some c → IsSomeAnd (called words) (Asks choice) → Asks choice c
@@ -232,6 +299,7 @@ of_call words c (Ok (choice.Replay file explains)) none calls is = asked words c
 of_call words c (Ok (choice.Run options)) none calls is = asked words c (choice.Run options) calls is.1
 of_call words c (Ok (choice.Why file)) none calls is = asked words c (choice.Why file) calls is.1
 of_call words c (Ok (choice.Log start)) none calls is = asked words c (choice.Log start) calls is.1
+of_call words c (Ok (choice.Compare old new most)) none calls is = asked words c (choice.Compare old new most) calls is.1
 of_call words c (Ok (choice.Help text)) none calls is = absurd (no_kind (fault_of commands words) is.0 none is.1)
 of_call words c (Ok (choice.Usage text)) none calls is = absurd (no_kind (fault_of commands words) is.0 none is.1)
 of_call words c (Err fault.CommandLine) none calls (inl is) = absurd (no_kind (fault_of commands words) is.0 none is.1)
@@ -247,6 +315,7 @@ of_call words c (Err fault.Write) none calls is = absurd is
 of_call words c (Err fault.Log) none calls is = absurd is
 of_call words c (Err (fault.Socket port)) none calls is = absurd is
 of_call words c (Err fault.CountEnd) none calls is = absurd is
+of_call words c (Err fault.Different) none calls is = absurd is
 
 -- ---- a call that plays a script
 
@@ -258,6 +327,8 @@ replay_call explains = record {
   turns = None;
   stats = None;
   start = None;
+  other = None;
+  most = None;
   explains = explains;
   lints = false;
   migrates = false;
@@ -293,6 +364,7 @@ replay_or_memory c (Ok (choice.Replay file explains)) named is = (is.1, is.2)
 replay_or_memory c (Ok (choice.Run options)) named is = absurd (run_replay (sym is.0 ∙ named))
 replay_or_memory c (Ok (choice.Why file)) named is = absurd (why_replay (sym is.0 ∙ named))
 replay_or_memory c (Ok (choice.Log start)) named is = absurd (log_replay (sym is.0 ∙ named))
+replay_or_memory c (Ok (choice.Compare old new most)) named is = absurd (compare_replay (sym is.0 ∙ named))
 replay_or_memory c (Ok (choice.Help text)) named is = absurd is
 replay_or_memory c (Ok (choice.Usage text)) named is = absurd is
 replay_or_memory c (Err fault.CommandLine) named is = absurd (is.replay named)
@@ -307,6 +379,7 @@ replay_or_memory c (Err fault.Write) named is = absurd is
 replay_or_memory c (Err fault.Log) named is = absurd is
 replay_or_memory c (Err (fault.Socket port)) named is = absurd is
 replay_or_memory c (Err fault.CountEnd) named is = absurd is
+replay_or_memory c (Err fault.Different) named is = absurd is
 
 pub replay_is_taken : (words : List Text) (r : Result Choice Fault) → IsAnswer words r → CallsReplay words → IsReplay None false r
 replay_is_taken words r is call =
@@ -330,6 +403,8 @@ check_call explains lints migrates = record {
   turns = None;
   stats = None;
   start = None;
+  other = None;
+  most = None;
   explains = explains;
   lints = lints;
   migrates = migrates;
@@ -390,6 +465,7 @@ check_or_memory c file (Ok (choice.Replay name explains)) named has stays is = a
 check_or_memory c file (Ok (choice.Run options)) named has stays is = absurd (run_check (sym is.0 ∙ named))
 check_or_memory c file (Ok (choice.Why name)) named has stays is = absurd (why_check (sym is.0 ∙ named))
 check_or_memory c file (Ok (choice.Log start)) named has stays is = absurd (log_check (sym is.0 ∙ named))
+check_or_memory c file (Ok (choice.Compare old new most)) named has stays is = absurd (compare_check (sym is.0 ∙ named))
 check_or_memory c file (Ok (choice.Help text)) named has stays is = absurd is
 check_or_memory c file (Ok (choice.Usage text)) named has stays is = absurd is
 check_or_memory c file (Err fault.CommandLine) named has stays is = absurd (not_mixed c stays (is.check file named has))
@@ -404,6 +480,7 @@ check_or_memory c file (Err fault.Write) named has stays is = absurd is
 check_or_memory c file (Err fault.Log) named has stays is = absurd is
 check_or_memory c file (Err (fault.Socket port)) named has stays is = absurd is
 check_or_memory c file (Err fault.CountEnd) named has stays is = absurd is
+check_or_memory c file (Err fault.Different) named has stays is = absurd is
 
 pub check_is_taken : (words : List Text) (r : Result Choice Fault) → IsAnswer words r → CallsCheck words → IsCheck (codes "site.toml") false false r
 check_is_taken words r is call =
@@ -431,6 +508,7 @@ migrate_or_memory c file (Ok (choice.Replay name explains)) named has goes alone
 migrate_or_memory c file (Ok (choice.Run options)) named has goes alone is = absurd (run_check (sym is.0 ∙ named))
 migrate_or_memory c file (Ok (choice.Why name)) named has goes alone is = absurd (why_check (sym is.0 ∙ named))
 migrate_or_memory c file (Ok (choice.Log start)) named has goes alone is = absurd (log_check (sym is.0 ∙ named))
+migrate_or_memory c file (Ok (choice.Compare old new most)) named has goes alone is = absurd (compare_check (sym is.0 ∙ named))
 migrate_or_memory c file (Ok (choice.Help text)) named has goes alone is = absurd is
 migrate_or_memory c file (Ok (choice.Usage text)) named has goes alone is = absurd is
 migrate_or_memory c file (Err fault.CommandLine) named has goes alone is = absurd (no_truth (sym alone ∙ is.check file named has))
@@ -445,6 +523,7 @@ migrate_or_memory c file (Err fault.Write) named has goes alone is = absurd is
 migrate_or_memory c file (Err fault.Log) named has goes alone is = absurd is
 migrate_or_memory c file (Err (fault.Socket port)) named has goes alone is = absurd is
 migrate_or_memory c file (Err fault.CountEnd) named has goes alone is = absurd is
+migrate_or_memory c file (Err fault.Different) named has goes alone is = absurd is
 
 pub migrate_is_taken : (words : List Text) (r : Result Choice Fault) → IsAnswer words r → CallsMigrate words → IsMigration (codes "site.toml") r
 migrate_is_taken words r is call =
@@ -462,6 +541,8 @@ run_call log turns verbose stats = record {
   turns = turns;
   stats = stats;
   start = None;
+  other = None;
+  most = None;
   explains = false;
   lints = false;
   migrates = false;
@@ -492,13 +573,13 @@ calls_run_whole : (program : Text) → called (run_whole_words program) ≡ Some
 unfolding clap_on_literals
 calls_run_whole program = refl
 
--- the number of turns that a text says is one
-turns_same : (given : Option Text) (n m : ℕ) → IsTurns given n → IsTurns given m → n ≡ m
+-- the number of turns or lines that a text says is one
+turns_same : (given : Option Text) (n m : ℕ) → IsCount given n → IsCount given m → n ≡ m
 turns_same None n m one other = one ∙ sym other
 turns_same (Some text) n m one other = one.1 ∙ sym other.1
 
-a_hundred : IsTurns (Some (codes "100")) 100
-a_hundred = (accepts-Accepts false (Unsigned 1 most_turns) (codes "100") refl, refl)
+a_hundred : IsCount (Some (codes "100")) 100
+a_hundred = (accepts-Accepts false (Unsigned 1 most_count) (codes "100") refl, refl)
 
 -- the number of seconds that a text says is one
 period_same : (given : Option Text) (n m : Option ℕ) → IsPeriod given n → IsPeriod given m → n ≡ m
@@ -509,7 +590,7 @@ a_minute : IsPeriod (Some (codes "60")) (Some 60)
 a_minute = (accepts-Accepts false (Unsigned 1 most_seconds) (codes "60") refl, refl)
 
 run_or_memory : (c : Call) (file : Text) (n : ℕ) (period : Option ℕ) (r : Result Choice Fault) → c.name ≡ codes "run" → c.config ≡ Some file
-    → IsTurns c.turns n → IsPeriod c.stats period → IsOfCall c r → IsServing file c.log n c.verbose period r
+    → IsCount c.turns n → IsPeriod c.stats period → IsOfCall c r → IsServing file c.log n c.verbose period r
 run_or_memory c file n period (Ok (choice.Check name explains lints)) named has turns seconds is = absurd (run_check (sym named ∙ is.0))
 run_or_memory c file n period (Ok (choice.Migrate name)) named has turns seconds is = absurd (run_check (sym named ∙ is.0))
 run_or_memory c file n period (Ok (choice.Replay name explains)) named has turns seconds is = absurd (run_replay (sym named ∙ is.0))
@@ -517,6 +598,7 @@ run_or_memory c file n period (Ok (choice.Run options)) named has turns seconds 
     (some_same _ _ (sym is.1 ∙ has), is.2, turns_same c.turns options.turns n is.3 turns, is.4, period_same c.stats options.stats period is.5 seconds)
 run_or_memory c file n period (Ok (choice.Why name)) named has turns seconds is = absurd (why_run (sym is.0 ∙ named))
 run_or_memory c file n period (Ok (choice.Log start)) named has turns seconds is = absurd (log_run (sym is.0 ∙ named))
+run_or_memory c file n period (Ok (choice.Compare old new most)) named has turns seconds is = absurd (compare_run (sym is.0 ∙ named))
 run_or_memory c file n period (Ok (choice.Help text)) named has turns seconds is = absurd is
 run_or_memory c file n period (Ok (choice.Usage text)) named has turns seconds is = absurd is
 run_or_memory c file n period (Err fault.CommandLine) named has turns seconds is = absurd (is.run file n period named has turns seconds)
@@ -531,10 +613,11 @@ run_or_memory c file n period (Err fault.Write) named has turns seconds is = abs
 run_or_memory c file n period (Err fault.Log) named has turns seconds is = absurd is
 run_or_memory c file n period (Err (fault.Socket port)) named has turns seconds is = absurd is
 run_or_memory c file n period (Err fault.CountEnd) named has turns seconds is = absurd is
+run_or_memory c file n period (Err fault.Different) named has turns seconds is = absurd is
 
-pub run_is_taken : (words : List Text) (r : Result Choice Fault) → IsAnswer words r → CallsRun words → IsServing (codes "site.toml") None most_turns false None r
+pub run_is_taken : (words : List Text) (r : Result Choice Fault) → IsAnswer words r → CallsRun words → IsServing (codes "site.toml") None most_count false None r
 run_is_taken words r is call =
-    run_or_memory (run_call None None false None) (codes "site.toml") most_turns None r refl refl refl refl
+    run_or_memory (run_call None None false None) (codes "site.toml") most_count None r refl refl refl refl
     (of_call words (run_call None None false None) r (ap (λ (w : List Text). fault_of commands w) call.1 ∙ run_no_fault call.0)
     (ap called call.1 ∙ calls_run call.0) is)
 
@@ -555,6 +638,8 @@ why_call = record {
   turns = None;
   stats = None;
   start = None;
+  other = None;
+  most = None;
   explains = false;
   lints = false;
   migrates = false;
@@ -579,6 +664,7 @@ why_or_memory c file (Ok (choice.Replay name explains)) named has is = absurd (w
 why_or_memory c file (Ok (choice.Run options)) named has is = absurd (why_run (sym named ∙ is.0))
 why_or_memory c file (Ok (choice.Why name)) named has is = some_same _ _ (sym is.1 ∙ has)
 why_or_memory c file (Ok (choice.Log start)) named has is = absurd (log_why (sym is.0 ∙ named))
+why_or_memory c file (Ok (choice.Compare old new most)) named has is = absurd (compare_why (sym is.0 ∙ named))
 why_or_memory c file (Ok (choice.Help text)) named has is = absurd is
 why_or_memory c file (Ok (choice.Usage text)) named has is = absurd is
 why_or_memory c file (Err fault.CommandLine) named has is = absurd (is.why file named has)
@@ -593,12 +679,75 @@ why_or_memory c file (Err fault.Write) named has is = absurd is
 why_or_memory c file (Err fault.Log) named has is = absurd is
 why_or_memory c file (Err (fault.Socket port)) named has is = absurd is
 why_or_memory c file (Err fault.CountEnd) named has is = absurd is
+why_or_memory c file (Err fault.Different) named has is = absurd is
 
 pub why_is_taken : (words : List Text) (r : Result Choice Fault) → IsAnswer words r → CallsWhy words → IsWhy (codes "site.toml") r
 why_is_taken words r is call =
     why_or_memory why_call (codes "site.toml") r refl refl
     (of_call words why_call r (ap (λ (w : List Text). fault_of commands w) call.1 ∙ why_no_fault call.0)
     (ap called call.1 ∙ calls_why call.0) is)
+
+-- ---- a call that compares the rules of two files
+
+abbrev compare_call : Call
+compare_call = record {
+  name = codes "compare";
+  config = Some (codes "site.toml");
+  log = None;
+  turns = None;
+  stats = None;
+  start = None;
+  other = Some (codes "new.toml");
+  most = None;
+  explains = false;
+  lints = false;
+  migrates = false;
+  verbose = false;
+}
+
+abbrev compare_words : Text → List Text
+compare_words program =
+    program ∷ codes "compare" ∷ codes "--config" ∷ codes "site.toml" ∷ codes "--with" ∷ codes "new.toml" ∷ []
+
+compare_no_fault : (program : Text) → fault_of commands (compare_words program) ≡ []
+unfolding clap_on_literals
+compare_no_fault program = refl
+
+calls_compare : (program : Text) → called (compare_words program) ≡ Some compare_call
+unfolding clap_on_literals
+calls_compare program = refl
+
+compare_or_memory : (c : Call) (a b : Text) (n : ℕ) (r : Result Choice Fault) → c.name ≡ codes "compare" → c.config ≡ Some a → c.other ≡ Some b
+    → IsCount c.most n → IsOfCall c r → IsComparison a b n r
+compare_or_memory c a b n (Ok (choice.Check name explains lints)) named has other counts is = absurd (compare_check (sym named ∙ is.0))
+compare_or_memory c a b n (Ok (choice.Migrate name)) named has other counts is = absurd (compare_check (sym named ∙ is.0))
+compare_or_memory c a b n (Ok (choice.Replay name explains)) named has other counts is = absurd (compare_replay (sym named ∙ is.0))
+compare_or_memory c a b n (Ok (choice.Run options)) named has other counts is = absurd (compare_run (sym named ∙ is.0))
+compare_or_memory c a b n (Ok (choice.Why name)) named has other counts is = absurd (compare_why (sym named ∙ is.0))
+compare_or_memory c a b n (Ok (choice.Log start)) named has other counts is = absurd (compare_log (sym named ∙ is.0))
+compare_or_memory c a b n (Ok (choice.Compare old new most)) named has other counts is =
+    (some_same _ _ (sym is.1 ∙ has), some_same _ _ (sym is.2 ∙ other), turns_same c.most most n is.3 counts)
+compare_or_memory c a b n (Ok (choice.Help text)) named has other counts is = absurd is
+compare_or_memory c a b n (Ok (choice.Usage text)) named has other counts is = absurd is
+compare_or_memory c a b n (Err fault.CommandLine) named has other counts is = absurd (is.compare a b n named has other counts)
+compare_or_memory c a b n (Err fault.Memory) named has other counts is = tt
+compare_or_memory c a b n (Err fault.Unreadable) named has other counts is = absurd is
+compare_or_memory c a b n (Err (fault.Migration why)) named has other counts is = absurd is
+compare_or_memory c a b n (Err (fault.Configuration f)) named has other counts is = absurd is
+compare_or_memory c a b n (Err (fault.Line m)) named has other counts is = absurd is
+compare_or_memory c a b n (Err (fault.FlawedLine m flaw)) named has other counts is = absurd is
+compare_or_memory c a b n (Err fault.Read) named has other counts is = absurd is
+compare_or_memory c a b n (Err fault.Write) named has other counts is = absurd is
+compare_or_memory c a b n (Err fault.Log) named has other counts is = absurd is
+compare_or_memory c a b n (Err (fault.Socket port)) named has other counts is = absurd is
+compare_or_memory c a b n (Err fault.CountEnd) named has other counts is = absurd is
+compare_or_memory c a b n (Err fault.Different) named has other counts is = absurd is
+
+pub compare_is_taken : (words : List Text) (r : Result Choice Fault) → IsAnswer words r → CallsCompare words → IsComparison (codes "site.toml") (codes "new.toml") most_count r
+compare_is_taken words r is call =
+    compare_or_memory compare_call (codes "site.toml") (codes "new.toml") most_count r refl refl refl refl
+    (of_call words compare_call r (ap (λ (w : List Text). fault_of commands w) call.1 ∙ compare_no_fault call.0)
+    (ap called call.1 ∙ calls_compare call.0) is)
 
 -- ---- a call that tells a log in words
 
@@ -610,6 +759,8 @@ log_call start = record {
   turns = None;
   stats = None;
   start = start;
+  other = None;
+  most = None;
   explains = false;
   lints = false;
   migrates = false;
@@ -652,6 +803,7 @@ log_or_memory c start (Ok (choice.Replay name explains)) named began is = absurd
 log_or_memory c start (Ok (choice.Run options)) named began is = absurd (log_run (sym named ∙ is.0))
 log_or_memory c start (Ok (choice.Why name)) named began is = absurd (log_why (sym named ∙ is.0))
 log_or_memory c start (Ok (choice.Log told)) named began is = is.1
+log_or_memory c start (Ok (choice.Compare old new most)) named began is = absurd (compare_log (sym is.0 ∙ named))
 log_or_memory c start (Ok (choice.Help text)) named began is = absurd is
 log_or_memory c start (Ok (choice.Usage text)) named began is = absurd is
 log_or_memory c start (Err fault.CommandLine) named began is = absurd (is.log start named began)
@@ -666,6 +818,7 @@ log_or_memory c start (Err fault.Write) named began is = absurd is
 log_or_memory c start (Err fault.Log) named began is = absurd is
 log_or_memory c start (Err (fault.Socket port)) named began is = absurd is
 log_or_memory c start (Err fault.CountEnd) named began is = absurd is
+log_or_memory c start (Err fault.Different) named began is = absurd is
 
 -- told so without a start, it is told alone
 told_alone : (r : Result Choice Fault) → IsTold None r → IsLog r
@@ -675,6 +828,7 @@ told_alone (Ok (choice.Migrate name)) is = absurd is
 told_alone (Ok (choice.Replay name explains)) is = absurd is
 told_alone (Ok (choice.Run options)) is = absurd is
 told_alone (Ok (choice.Why name)) is = absurd is
+told_alone (Ok (choice.Compare old new most)) is = absurd is
 told_alone (Ok (choice.Help text)) is = absurd is
 told_alone (Ok (choice.Usage text)) is = absurd is
 told_alone (Err fault.Memory) is = tt
@@ -689,6 +843,7 @@ told_alone (Err fault.Write) is = absurd is
 told_alone (Err fault.Log) is = absurd is
 told_alone (Err (fault.Socket port)) is = absurd is
 told_alone (Err fault.CountEnd) is = absurd is
+told_alone (Err fault.Different) is = absurd is
 
 pub log_is_taken : (words : List Text) (r : Result Choice Fault) → IsAnswer words r → CallsLog words → IsLog r
 log_is_taken words r is call =
@@ -705,6 +860,7 @@ told_since (Ok (choice.Migrate name)) is = absurd is
 told_since (Ok (choice.Replay name explains)) is = absurd is
 told_since (Ok (choice.Run options)) is = absurd is
 told_since (Ok (choice.Why name)) is = absurd is
+told_since (Ok (choice.Compare old new most)) is = absurd is
 told_since (Ok (choice.Help text)) is = absurd is
 told_since (Ok (choice.Usage text)) is = absurd is
 told_since (Err fault.Memory) is = tt
@@ -719,6 +875,7 @@ told_since (Err fault.Write) is = absurd is
 told_since (Err fault.Log) is = absurd is
 told_since (Err (fault.Socket port)) is = absurd is
 told_since (Err fault.CountEnd) is = absurd is
+told_since (Err fault.Different) is = absurd is
 
 pub log_since_is_taken : (words : List Text) (r : Result Choice Fault) → IsAnswer words r → CallsLogSince words → IsLogSince morning_text r
 log_since_is_taken words r is call =

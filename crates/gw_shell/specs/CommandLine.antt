@@ -91,6 +91,21 @@ run = with_rule run_of_turns stats
 abbrev pub why : App
 why = with_rule (new_app (codes "why")) needed_config
 
+-- `--with FILE`, which has to be given, and `--most N`
+abbrev pub needed_other : Rule
+needed_other = record (option (codes "with")) { required = true }
+
+abbrev pub most : Rule
+most = option (codes "most")
+
+-- `compare`, which needs two files,
+abbrev pub compare_of_files : App
+compare_of_files = with_rule (with_rule (new_app (codes "compare")) needed_config) needed_other
+
+-- and may have a number of lines
+abbrev pub compare : App
+compare = with_rule compare_of_files most
+
 -- `--start TIME`
 abbrev pub start : Rule
 start = option (codes "start")
@@ -107,11 +122,13 @@ commands =
     (with_subcommand
     (with_subcommand
     (with_subcommand
+    (with_subcommand
     (on_top (λ top. record top { subcommand_required = true; has_version = true }) (new_app (codes "bacgw"))) check.top)
     replay.top)
     run.top)
     why.top)
-    log_in_words.top
+    log_in_words.top)
+    compare.top
 
 -- a call: the command's name, the values of its options, and whether those without a value are given
 pub record Call : Type 0 where
@@ -121,6 +138,8 @@ pub record Call : Type 0 where
   pub turns : Option Text
   pub stats : Option Text
   pub start : Option Text
+  pub other : Option Text
+  pub most : Option Text
   pub explains : Bool
   pub lints : Bool
   pub migrates : Bool
@@ -140,6 +159,8 @@ call_by name value = record {
   turns = value (codes "turns");
   stats = value (codes "stats");
   start = value (codes "start");
+  other = value (codes "with");
+  most = value (codes "most");
   explains = is_given (value (codes "explain"));
   lints = is_given (value (codes "lint"));
   migrates = is_given (value (codes "migrate"));
@@ -153,18 +174,18 @@ call_of entered = call_by entered.0 (λ id. first_of id entered.1)
 abbrev pub called : List Text → Option Call
 called words = option_map call_of (subcommand_of commands words)
 
--- the most turns
-abbrev pub most_turns : ℕ
-most_turns = 9223372036854775807
+-- the most turns, and the most lines
+abbrev pub most_count : ℕ
+most_count = 9223372036854775807
 
--- the number of turns: a decimal from 1 to the most, and the most where none is given
-abbrev pub IsTurns : Option Text → ℕ → Type 0
-IsTurns None n = n ≡ most_turns
-IsTurns (Some text) n = IsUnsignedIn 1 most_turns text × (n ≡ digits_value 10 (without_leading_plus text))
+-- a number of turns or of lines: a decimal from 1 to the most, and the most where none is given
+abbrev pub IsCount : Option Text → ℕ → Type 0
+IsCount None n = n ≡ most_count
+IsCount (Some text) n = IsUnsignedIn 1 most_count text × (n ≡ digits_value 10 (without_leading_plus text))
 
--- The text is no number of turns, which makes a bad command line.
-abbrev pub IsNoTurns : Option Text → Fault → Type 0
-IsNoTurns given f = (f ≡ fault.CommandLine) × ((n : ℕ) → ¬ (IsTurns given n))
+-- The text is no such number, which makes a bad command line.
+abbrev pub IsNoCount : Option Text → Fault → Type 0
+IsNoCount given f = (f ≡ fault.CommandLine) × ((n : ℕ) → ¬ (IsCount given n))
 
 -- the most seconds between two reports
 abbrev pub most_seconds : ℕ
@@ -194,14 +215,14 @@ IsNoStart given f = (f ≡ fault.CommandLine) × ((start : Option Moment) → ¬
 pub record AreOptions (file : Text) (value : Text → Option Text) (options : RunOptions) : Type 0 where
   pub config : string_bytes options.config ≡ file
   pub log : option_map string_bytes options.log ≡ value (codes "log")
-  pub turns : IsTurns (value (codes "turns")) options.turns
+  pub turns : IsCount (value (codes "turns")) options.turns
   pub verbose : options.verbose ≡ is_given (value (codes "verbose"))
   pub stats : IsPeriod (value (codes "stats")) options.stats
 
 -- Its options ask for nothing, or memory ran out.
 abbrev pub AreNoOptions : (Text → Option Text) → Fault → Type 0
 AreNoOptions value fault.CommandLine =
-    (n : ℕ) (period : Option ℕ) → IsTurns (value (codes "turns")) n → ¬ (IsPeriod (value (codes "stats")) period)
+    (n : ℕ) (period : Option ℕ) → IsCount (value (codes "turns")) n → ¬ (IsPeriod (value (codes "stats")) period)
 AreNoOptions value fault.Memory = ⊤
 AreNoOptions value _ = ⊥
 
@@ -225,6 +246,19 @@ AreMixed value f = (f ≡ fault.CommandLine)
     × ((is_given (value (codes "migrate")) && (is_given (value (codes "explain")) || is_given (value (codes "lint"))))
     ≡ true)
 
+-- what `compare` is asked for of the first file by the values of its options
+abbrev pub AreFiles : Text → (Text → Option Text) → Choice → Type 0
+AreFiles file value (choice.Compare old new most) =
+    (string_bytes old ≡ file) × (value (codes "with") ≡ Some (string_bytes new)) × IsCount (value (codes "most")) most
+AreFiles file value _ = ⊥
+
+-- They ask for nothing, or memory ran out.
+abbrev pub AreNoFiles : (Text → Option Text) → Fault → Type 0
+AreNoFiles value fault.CommandLine =
+    (new : Text) (n : ℕ) → value (codes "with") ≡ Some new → ¬ (IsCount (value (codes "most")) n)
+AreNoFiles value fault.Memory = ⊤
+AreNoFiles value _ = ⊥
+
 -- what a call asks for
 abbrev pub Asks : Choice → Call → Type 0
 Asks (choice.Check file explains lints) call =
@@ -238,24 +272,30 @@ Asks (choice.Replay file explains) call =
 Asks (choice.Run options) call =
     (call.name ≡ codes "run") × (call.config ≡ Some (string_bytes options.config))
     × (option_map string_bytes options.log ≡ call.log)
-    × IsTurns call.turns options.turns × (options.verbose ≡ call.verbose) × IsPeriod call.stats options.stats
+    × IsCount call.turns options.turns × (options.verbose ≡ call.verbose) × IsPeriod call.stats options.stats
 Asks (choice.Why file) call = (call.name ≡ codes "why") × (call.config ≡ Some (string_bytes file))
+Asks (choice.Compare old new most) call =
+    (call.name ≡ codes "compare") × (call.config ≡ Some (string_bytes old)) × (call.other ≡ Some (string_bytes new))
+    × IsCount call.most most
 Asks (choice.Log start) call = (call.name ≡ codes "log") × IsStart call.start start
 Asks (choice.Help text) call = ⊥
 Asks (choice.Usage text) call = ⊥
 
 -- A call of `replay` asks for something, one of `check` where a file is named and `--migrate` is alone, one of `why`
 -- where a file is named, one of `run` where a file is
--- named and the texts of the turns and of the seconds between two reports are such numbers, and one of `log` where
--- the text of its start tells a moment; other calls ask for nothing.
+-- named and the texts of the turns and of the seconds between two reports are such numbers, one of `log` where
+-- the text of its start tells a moment, and one of `compare` if two files are named and the text of the lines is such
+-- a number; other calls ask for nothing.
 pub record AsksNothing (call : Call) : Type 0 where
   pub replay : call.name ≢ codes "replay"
   pub check : (file : Text) → call.name ≡ codes "check" → call.config ≡ Some file → is_mixed call ≡ true
   pub run : (file : Text) (n : ℕ) (period : Option ℕ) →
-      call.name ≡ codes "run" → call.config ≡ Some file → IsTurns call.turns n →
+      call.name ≡ codes "run" → call.config ≡ Some file → IsCount call.turns n →
       ¬ (IsPeriod call.stats period)
   pub why : (file : Text) → call.name ≡ codes "why" → call.config ≢ Some file
   pub log : (start : Option Moment) → call.name ≡ codes "log" → ¬ (IsStart call.start start)
+  pub compare : (old new : Text) (n : ℕ) →
+      call.name ≡ codes "compare" → call.config ≡ Some old → call.other ≡ Some new → ¬ (IsCount call.most n)
 
 -- a choice is what the call asks for, and a bad command line is a call that asks for nothing; memory may run out at any
 abbrev pub IsChosen : Option Call → Result Choice Fault → Type 0
@@ -303,6 +343,7 @@ IsAnswer words (Ok (choice.Migrate file)) = IsTaken words (Ok (choice.Migrate fi
 IsAnswer words (Ok (choice.Replay file explains)) = IsTaken words (Ok (choice.Replay file explains))
 IsAnswer words (Ok (choice.Run options)) = IsTaken words (Ok (choice.Run options))
 IsAnswer words (Ok (choice.Why file)) = IsTaken words (Ok (choice.Why file))
+IsAnswer words (Ok (choice.Compare old new most)) = IsTaken words (Ok (choice.Compare old new most))
 IsAnswer words (Ok (choice.Log start)) = IsTaken words (Ok (choice.Log start))
 IsAnswer words (Ok (choice.Help text)) = AsksToShow words
 IsAnswer words (Ok (choice.Usage text)) = IsMistake words
@@ -341,6 +382,11 @@ CallsMigrate words = (program : Text)
 -- the words of a call that says which of its rules decide what
 abbrev pub CallsWhy : List Text → Type 0
 CallsWhy words = (program : Text) × (words ≡ program ∷ codes "why" ∷ codes "--config" ∷ codes "site.toml" ∷ [])
+
+-- the words of a call that compares the rules of two files
+abbrev pub CallsCompare : List Text → Type 0
+CallsCompare words = (program : Text)
+    × (words ≡ program ∷ codes "compare" ∷ codes "--config" ∷ codes "site.toml" ∷ codes "--with" ∷ codes "new.toml" ∷ [])
 
 -- the words of a call that tells a log in words
 abbrev pub CallsLog : List Text → Type 0
@@ -385,6 +431,13 @@ abbrev pub IsWhy : Text → Result Choice Fault → Type 0
 IsWhy file (Ok (choice.Why chosen)) = string_bytes chosen ≡ file
 IsWhy file (Err fault.Memory) = ⊤
 IsWhy file _ = ⊥
+
+-- the rules of the two files are compared in at most so many lines, or memory ran out
+abbrev pub IsComparison : (old new : Text) → ℕ → Result Choice Fault → Type 0
+IsComparison old new count (Ok (choice.Compare before after most)) =
+    (string_bytes before ≡ old) × (string_bytes after ≡ new) × (most ≡ count)
+IsComparison old new count (Err fault.Memory) = ⊤
+IsComparison old new count _ = ⊥
 
 -- the log is told in words alone, or memory ran out
 abbrev pub IsLog : Result Choice Fault → Type 0

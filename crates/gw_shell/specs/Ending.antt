@@ -7,6 +7,8 @@ use Rattle.gw_shell.specs.declared.command_line.Choice.{Choice}
 use Rattle.gw_shell.specs.declared.command_line.Choice.TheVariants as choice
 use Rattle.gw_shell.specs.declared.fault.Fault.{Fault}
 use Rattle.gw_shell.specs.declared.fault.Fault.TheVariants as fault
+use Rattle.gw_compare.specs.declared.comparison.Compared.{Compared}
+use Rattle.gw_compare.specs.declared.comparison.Compared.TheVariants as compared
 use Rattle.gw_configuration.specs.declared.fault.ConfigFault.{ConfigFault}
 use Rattle.gw_configuration.specs.declared.fault.ConfigFault.TheVariants as config
 use Rattle.gw_migration.specs.declared.fault.MigrationFault.{MigrationFault}
@@ -51,7 +53,7 @@ reason_of migration.Already = codes "it is of format 3"
 reason_of migration.Unlike = codes "it has no text of format 3"
 reason_of migration.Memory = codes "out of memory"
 
--- the line on standard error, without its line feed
+-- the line on standard error, without its line feed, of a fault that has one
 abbrev pub text_of : Fault → List ℕ
 text_of fault.CommandLine = codes "bacgw: bad command line"
 text_of fault.Unreadable = codes "bacgw: cannot read configuration"
@@ -65,6 +67,12 @@ text_of fault.Log = codes "bacgw: log failed"
 text_of (fault.Socket port) = codes "bacgw: socket failed on port " ++ decimal port
 text_of fault.Memory = codes "bacgw: out of memory"
 text_of fault.CountEnd = codes "bacgw: count at its end"
+text_of fault.Different = []
+
+-- the line, of which there is none if `compare` found two configurations that aren't alike
+abbrev pub line_of : Fault → List ℕ
+line_of fault.Different = []
+line_of f = text_of f ++ 10 ∷ []
 
 -- 2 where what the program was given is wrong, 1 where what it stands on failed
 abbrev pub status_of : Fault → ℕ
@@ -80,6 +88,12 @@ status_of fault.Log = 1
 status_of (fault.Socket port) = 1
 status_of fault.Memory = 1
 status_of fault.CountEnd = 1
+status_of fault.Different = 1
+
+-- of `compare`: 1 if it found that the two aren't alike, and 2 at any other fault
+abbrev pub status_of_comparison : Fault → ℕ
+status_of_comparison fault.Different = 1
+status_of_comparison _ = 2
 
 -- the fault of a configuration, as the program tells it
 abbrev pub fault_of_configuration : ConfigFault → Fault
@@ -126,21 +140,32 @@ outcome_of flaw (Ok done) = Ok done
 outcome_of (Some f) (Err (run.Line n)) = Err (fault.FlawedLine n f)
 outcome_of flaw (Err of_run) = Err (fault_of of_run)
 
+-- how a comparison ends
+abbrev pub outcome_of_comparison : Compared → Result (Unit {0}) Fault
+outcome_of_comparison compared.Alike = Ok tt
+outcome_of_comparison compared.Different = Err fault.Different
+outcome_of_comparison compared.Unfinished = Err fault.Different
+
 -- the first fault of a run and of the flush behind it
 abbrev pub first_fault : Result (Unit {0}) Fault → Bool → Result (Unit {0}) Fault
 first_fault (Ok done) true = Ok done
 first_fault (Ok done) false = Err fault.Write
 first_fault (Err of_run) flushed = Err of_run
 
--- what standard error is given: nothing, or the fault's line and a line feed
+-- what standard error is given: nothing, or the fault's line
 abbrev pub error_text : Result (Unit {0}) Fault → List ℕ
 error_text (Ok done) = []
-error_text (Err of_program) = text_of of_program ++ 10 ∷ []
+error_text (Err of_program) = line_of of_program
 
 -- the exit status: 0, or the fault's
 abbrev pub status_after : Result (Unit {0}) Fault → ℕ
 status_after (Ok done) = 0
 status_after (Err of_program) = status_of of_program
+
+-- that after a choice
+abbrev pub status_by : Result Choice Fault → Result (Unit {0}) Fault → ℕ
+status_by (Ok (choice.Compare old new most)) (Err of_program) = status_of_comparison of_program
+status_by _ outcome = status_after outcome
 
 -- the line that explains this fault of a text, with no control character but its line feed
 pub record IsExplainedBy (text : List ℕ) (f : ConfigFault) (note : List ℕ) : Type 0 where

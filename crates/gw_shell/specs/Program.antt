@@ -1,9 +1,12 @@
 -- The program as a whole: what the words chose, what stands on standard output then, the line on standard error and
 -- the exit status.
-use Rattle.std.specs.Prelude.{◌≡◌, ⊤, Bool, ℕ, List, [], ◌++◌, Option, Some, Result, Ok, Err, OnOk, option_map}
+use Rattle.std.specs.Prelude.{◌≡◌, ◌≢◌, ⊤, Bool, ℕ, List, [], ◌++◌, Option, Some, Result, Ok, Err, OnOk, option_map}
 use Rattle.std.specs.Prelude.{string_bytes}
 use Rattle.std.specs.Io.KnownBytes.{Appends}
 use Rattle.gw_script.specs.Known.{OnKnown}
+use Rattle.gw_compare.specs.Comparison.{IsComparisonText}
+use Rattle.gw_compare.specs.declared.comparison.Compared.{Compared}
+use Rattle.gw_compare.specs.declared.comparison.Compared.TheVariants as compared
 use Rattle.gw_configuration.specs.Configuration.{Configuration}
 use Rattle.gw_migration.specs.Migration.{Migrates}
 use Rattle.gw_migration.specs.declared.fault.MigrationFault.TheVariants as migration
@@ -14,7 +17,7 @@ use Rattle.gw_shell.specs.declared.fault.Fault.{Fault}
 use Rattle.gw_shell.specs.declared.fault.Fault.TheVariants as fault
 use Rattle.gw_shell.specs.Asking.{Answers}
 use Rattle.gw_shell.specs.Configured.{IsConfigurationOf, IsConfigured}
-use Rattle.gw_shell.specs.Ending.{FaultNote, error_text, status_after, usage_of}
+use Rattle.gw_shell.specs.Ending.{FaultNote, error_text, status_by, usage_of}
 use Rattle.gw_shell.specs.Checked.{IsChecked}
 use Rattle.gw_shell.specs.Replay.{Plays}
 use Rattle.gw_shell.specs.Serving.{IsFlushedFor, LeavesRun, Machine}
@@ -81,6 +84,27 @@ LeavesPlayed explains input held holds (Ok c) outcome =
     OnKnown input held holds (λ script before. Plays explains c script before outcome)
 LeavesPlayed explains input held holds (Err f) outcome = (outcome ≡ Err f) × (holds ≡ held)
 
+-- What `compare` leaves of two configurations: what it says of them, of which a failed write may leave a front. If
+-- they aren't alike, that is the outcome.
+abbrev pub LeavesCompared : ℕ → Option (List ℕ) → Option (List ℕ) → Configuration → Configuration
+    → Result (Unit {0}) Fault → Type 0
+LeavesCompared most held holds old new (Ok done) =
+    (text : List ℕ) × IsComparisonText old new most compared.Alike text × Appends held holds text
+LeavesCompared most held holds old new (Err fault.Different) =
+    (made : Compared) × (made ≢ compared.Alike)
+    × (text : List ℕ) × IsComparisonText old new most made text × Appends held holds text
+LeavesCompared most held holds old new (Err fault.Write) =
+    (made : Compared) × (text : List ℕ) × IsComparisonText old new most made text × AppendsFront held holds text
+LeavesCompared most held holds old new (Err fault.Memory) = holds ≡ held
+LeavesCompared most held holds old new (Err _) = ⊥
+
+-- What it leaves of the two that were read. If there is no first or no second one, the outcome is why.
+abbrev pub LeavesComparison : ℕ → Option (List ℕ) → Option (List ℕ) → (old new : Result Configuration Fault)
+    → Result (Unit {0}) Fault → Type 0
+LeavesComparison most held holds (Ok old) (Ok new) outcome = LeavesCompared most held holds old new outcome
+LeavesComparison most held holds (Ok old) (Err f) outcome = (outcome ≡ Err f) × (holds ≡ held)
+LeavesComparison most held holds (Err f) new outcome = (outcome ≡ Err f) × (holds ≡ held)
+
 -- What `why` leaves by the rules of the configuration that was read. Where there is none nothing is answered, and the
 -- outcome is why.
 abbrev pub LeavesAnswered : Option (List ℕ) → Option (List ℕ) → Option (List ℕ)
@@ -91,7 +115,7 @@ LeavesAnswered input held holds (Err f) outcome = (outcome ≡ Err f) × (holds 
 
 -- What stands on standard output, which held `held` before, where files give what `Reads` says and `run` opens what
 -- the machine says: at `check`, `replay` and `why` what they leave of some configuration that is the one they name,
--- at `run` also what was told at the start, at `log` what that leaves of the log, and at help its text, of which a
+-- at `compare` of the two, at `run` also what was told at the start, at `log` what that leaves of the log, and at help its text, of which a
 -- failed write may leave a front. Words that choose nothing leave it as it was, and their fault is the outcome.
 abbrev pub LeavesOutput : {Log Sockets : Type 0} → (Reads : List ℕ → Result (List ℕ) Fault → Type 0)
     → Machine Log Sockets → Option (List ℕ) → Option (List ℕ) → Option (List ℕ) → List ℕ
@@ -112,6 +136,10 @@ LeavesOutput Reads machine input held holds told (Ok (choice.Run options)) outco
 LeavesOutput Reads machine input held holds told (Ok (choice.Why file)) outcome =
     (c : Result Configuration Fault) × IsConfigured Reads (Some (string_bytes file)) c
     × LeavesAnswered input held holds c outcome
+LeavesOutput Reads machine input held holds told (Ok (choice.Compare old new most)) outcome =
+    (a : Result Configuration Fault) × IsConfigured Reads (Some (string_bytes old)) a
+    × (b : Result Configuration Fault) × IsConfigured Reads (Some (string_bytes new)) b
+    × LeavesComparison most held holds a b outcome
 LeavesOutput Reads machine input held holds told (Ok (choice.Log start)) outcome =
     OnKnown input held holds (λ log before. Tells start log before outcome)
 LeavesOutput Reads machine input held holds told (Ok (choice.Help text)) (Ok done) =
@@ -157,4 +185,4 @@ pub record IsRun (Chooses : Result Choice Fault → Type 0)
   pub quiet : IsQuiet choice told
   pub flush : OnOk outcome (IsFlushed choice was is)
   pub errors : Adds (told ++ error_text outcome ++ usage_of choice)
-  pub status : exit ≡ status_after outcome
+  pub status : exit ≡ status_by choice outcome

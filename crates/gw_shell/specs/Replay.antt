@@ -29,5 +29,6 @@ Plays explains c script before (Err fault.Read) after = RunsPart (telling explai
 Plays explains c script before (Err fault.Write) after = RunsFront (telling explains) c script before after
 Plays explains c script before (Err fault.Log) after = ⊥
 Plays explains c script before (Err (fault.Socket port)) after = ⊥
+Plays explains c script before (Err fault.Different) after = ⊥
 Plays explains c script before (Err fault.Memory) after = RunsToMemory (telling explains) c script before after
 Plays explains c script before (Err fault.CountEnd) after = RunsToEnd (telling explains) c script before after

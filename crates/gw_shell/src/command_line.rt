@@ -3,7 +3,7 @@
 ghost use Rattle.std.specs.Prelude.{◌≡◌, ◌<◌, Some, None, true, false, IfOk, IfSome, MatchResult, map, codes, option_map, string_bytes};
 ghost use Rattle.clap.specs.Words.{app_of, first_value, found_of, kind_of, rule_of, subcommand_rows_of};
 ghost use Rattle.clap.specs.declared.builder.command.Command.TheViews.{out-Command};
-ghost use Rattle.gw_shell.specs.CommandLine.{call_by, call_of, check, check_of_explanation, check_of_file, commands, flag, is_given, log_in_words, option, replay, run, run_of_files, run_of_turns, needed_config, why, AreFlags, AreMixed, AreOptions, CallsCheck, CallsExplain, CallsLint, CallsLog, CallsLogSince, CallsMigrate, CallsReplay, CallsReplayExplained, CallsRun, CallsRunWhole, CallsWhy, IsAnswer, IsCheck, IsChosen, IsLog, IsLogSince, IsMigration, IsNoPeriod, IsNoStart, IsNoTurns, AreNoOptions, IsPeriod, IsRefusal, IsReplay, IsServing, IsStart, IsTurns, IsWhy};
+ghost use Rattle.gw_shell.specs.CommandLine.{call_by, call_of, check, check_of_explanation, check_of_file, commands, compare, compare_of_files, flag, is_given, log_in_words, option, replay, run, run_of_files, run_of_turns, needed_config, needed_other, why, AreFiles, AreFlags, AreMixed, AreNoFiles, AreOptions, CallsCheck, CallsCompare, CallsExplain, CallsLint, CallsLog, CallsLogSince, CallsMigrate, CallsReplay, CallsReplayExplained, CallsRun, CallsRunWhole, CallsWhy, IsAnswer, IsCheck, IsChosen, IsComparison, IsLog, IsLogSince, IsMigration, IsNoPeriod, IsNoStart, IsNoCount, AreNoOptions, IsPeriod, IsRefusal, IsReplay, IsServing, IsStart, IsCount, IsWhy};
 
 use crate::fault::Fault;
 use crate::options::RunOptions;
@@ -12,8 +12,8 @@ use clap::{Arg, ArgAction, ArgMatches, Command, Error};
 use gw_audit::Moment;
 use std::alloc::{AllocError, Global};
 
-/// How many turns are served at most, and where no number of them is given.
-const MAX_TURNS: u64 = i64::MAX as u64;
+/// How many turns are served and how many lines are printed at most, and if no number of them is given.
+const MAX_COUNT: u64 = i64::MAX as u64;
 
 /// How many seconds lie between two reports at most.
 const MAX_SECONDS: u64 = u32::MAX as u64;
@@ -26,6 +26,11 @@ const VERSION: &str = "0.1.0, proved by Rattle, logic dac8208d650f15bf";
 const CONFIG: &str = "config";
 
 const FILE: &str = "FILE";
+
+/// The options of `compare` that name the other file, and that say how many lines there are at most.
+const WITH: &str = "with";
+
+const MOST: &str = "most";
 
 /// The option that explains, and what it does of `check` and of `replay`.
 const EXPLAIN: &str = "explain";
@@ -49,6 +54,10 @@ const RUN_EXAMPLE: &str = "Example:
 /// What stands below the help on `why`.
 const WHY_EXAMPLE: &str = "Example:
   bacgw why --config new.toml < denials.log | sort | uniq -c";
+
+/// What is below the help on `compare`.
+const COMPARE_EXAMPLE: &str = "Example:
+  bacgw compare --config site.toml --with new.toml";
 
 /// What stands below the help on `log`.
 const LOG_EXAMPLE: &str = "Example:
@@ -77,6 +86,13 @@ pub enum Choice {
     /// Say of each ask on standard input which rule of the configuration in the file of this name
     /// decides it.
     Why(String),
+    /// Say which asks the rules of the configurations in these files decide otherwise, in at most so many
+    /// lines.
+    Compare {
+        old: String,
+        new: String,
+        most: u64,
+    },
     /// Tell the log on standard input in words, and when each denial was where this is the moment at
     /// which the log began.
     Log(Option<Moment>),
@@ -198,6 +214,33 @@ fn make_why<'a>(alloc: Global) -> Result<Command<'a>, AllocError>
         .arg(make_config(alloc))
 }
 
+fn make_compare<'a>(alloc: Global) -> Result<Command<'a>, AllocError>
+    ensures app { IfOk result (λ command. app_of command ≡ compare) }
+    ensures local { IfOk result (λ command. (out-Command command).has_globals ≡ false) }
+{
+    let help = "How many lines are printed at most, from 1 to 9223372036854775807, the default";
+    make_compare_of_files(alloc)?.arg(make_option(alloc, MOST, "N", help))
+}
+
+fn make_compare_of_files<'a>(alloc: Global) -> Result<Command<'a>, AllocError>
+    ensures app { IfOk result (λ command. app_of command ≡ compare_of_files) }
+    ensures local { IfOk result (λ command. (out-Command command).has_globals ≡ false) }
+{
+    Command::new(alloc, "compare")
+        .about("Says which asks the rules of two configurations decide otherwise")
+        .after_help(COMPARE_EXAMPLE)
+        .arg(make_config(alloc))?
+        .arg(make_with(alloc))
+}
+
+/// `--with FILE`, which has to be given.
+fn make_with<'a>(alloc: Global) -> Arg<'a>
+    ensures rule { rule_of result ≡ needed_other }
+    ensures local { result.global ≡ false }
+{
+    make_option(alloc, WITH, FILE, "The other configuration, in TOML").required(true)
+}
+
 fn make_log<'a>(alloc: Global) -> Result<Command<'a>, AllocError>
     ensures app { IfOk result (λ command. app_of command ≡ log_in_words) }
     ensures local { IfOk result (λ command. (out-Command command).has_globals ≡ false) }
@@ -219,6 +262,7 @@ fn make_commands<'a>(alloc: Global) -> Result<Command<'a>, AllocError>
     let run = make_run(alloc)?;
     let why = make_why(alloc)?;
     let log = make_log(alloc)?;
+    let compare = make_compare(alloc)?;
     Command::new(alloc, "bacgw")
         .about("A gateway of BACnet/IP")
         .version(VERSION)
@@ -227,7 +271,8 @@ fn make_commands<'a>(alloc: Global) -> Result<Command<'a>, AllocError>
         .subcommand(replay)?
         .subcommand(run)?
         .subcommand(why)?
-        .subcommand(log)
+        .subcommand(log)?
+        .subcommand(compare)
 }
 
 /// What is made of a parse that gave no matches.
@@ -271,16 +316,16 @@ fn is_given(matches: &ArgMatches<'_>, option: &str) -> bool
     }
 }
 
-/// The number of turns that this text says, or the most where there is none.
-fn turns_of(text: Option<&str>) -> Result<u64, Fault>
+/// The number of turns or of lines that this text says, or the most if there is none.
+fn count_of(text: Option<&str>) -> Result<u64, Fault>
     ensures { let given = option_map (λ t. t.now) text.entry in
-        MatchResult result (IsTurns given) (IsNoTurns given) }
+        MatchResult result (IsCount given) (IsNoCount given) }
 {
     let Some(text) = text else {
-        return Ok(MAX_TURNS);
+        return Ok(MAX_COUNT);
     };
     match text.parse::<u64>() {
-        Ok(turns) if 1 <= turns && turns <= MAX_TURNS => Ok(turns),
+        Ok(turns) if 1 <= turns && turns <= MAX_COUNT => Ok(turns),
         Ok(_) | Err(_) => Err(Fault::CommandLine),
     }
 }
@@ -319,7 +364,7 @@ fn run_options(alloc: Global, matches: &ArgMatches<'_>, config: String) -> Resul
     ensures { let value = first_value (found_of matches.now) in
         MatchResult result (AreOptions (string_bytes config) value) (AreNoOptions value) }
 {
-    let turns = turns_of(matches.get_str("turns"))?;
+    let turns = count_of(matches.get_str("turns"))?;
     let stats = period_of(matches.get_str("stats"))?;
     Ok(RunOptions {
         config,
@@ -351,6 +396,18 @@ fn check_choice(matches: &ArgMatches<'_>, file: String) -> Result<Choice, Fault>
     Ok(Choice::Migrate(file))
 }
 
+/// What `compare` asks for of the configuration in this file, by what its words match.
+fn compare_choice(alloc: Global, matches: &ArgMatches<'_>, old: String) -> Result<Choice, Fault>
+    ensures { let value = first_value (found_of matches.now) in
+        MatchResult result (AreFiles (string_bytes old) value) (AreNoFiles value) }
+{
+    let most = count_of(matches.get_str(MOST))?;
+    match file_of(alloc, matches, WITH)? {
+        Some(new) => Ok(Choice::Compare { old, new, most }),
+        None => Err(Fault::CommandLine),
+    }
+}
+
 /// What the command of this name asks for, by what its words match.
 fn choice_for(alloc: Global, name: &str, matches: &ArgMatches<'_>) -> Result<Choice, Fault>
     ensures { IsChosen (Some (call_by name.now (first_value (found_of matches.now)))) result }
@@ -374,6 +431,9 @@ fn choice_for(alloc: Global, name: &str, matches: &ArgMatches<'_>) -> Result<Cho
     }
     if name == "why" {
         return Ok(Choice::Why(file));
+    }
+    if name == "compare" {
+        return compare_choice(alloc, matches, file);
     }
     if name == "run" {
         return Ok(Choice::Run(run_options(alloc, matches, file)?));
@@ -402,6 +462,8 @@ pub fn choice_of(alloc: Global, words: &[String]) -> Result<Choice, Fault>
     ensures lint { CallsLint (map string_bytes words.now) → IsCheck (codes "site.toml") false true result }
     ensures migrate { CallsMigrate (map string_bytes words.now) → IsMigration (codes "site.toml") result }
     ensures why { CallsWhy (map string_bytes words.now) → IsWhy (codes "site.toml") result }
+    ensures compare { CallsCompare (map string_bytes words.now) →
+        IsComparison (codes "site.toml") (codes "new.toml") 9223372036854775807 result }
     ensures log { CallsLog (map string_bytes words.now) → IsLog result }
     ensures log_since { CallsLogSince (map string_bytes words.now) →
         IsLogSince (codes "2026-11-25T08:00:00+01:00") result }

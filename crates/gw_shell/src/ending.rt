@@ -4,7 +4,7 @@ ghost use Rattle.std.specs.Prelude.{◌≡◌, ◌++◌, ◌∷◌, [], codes, d
 ghost use Rattle.std.specs.Io.KnownBytes.{Appends};
 ghost use Rattle.std.specs.Process.{exit_status};
 ghost use Rattle.gw_shell.specs.declared.fault.Fault.TheVariants as fault;
-ghost use Rattle.gw_shell.specs.Ending.{error_text, name_of, reason_of, status_after, text_of, usage_of, words_of};
+ghost use Rattle.gw_shell.specs.Ending.{error_text, line_of, name_of, reason_of, status_after, status_by, text_of, usage_of, words_of};
 
 use crate::command_line::Choice;
 use crate::fault::{Fault, name_of, reason_of, words_of};
@@ -73,9 +73,9 @@ fn write_flaw<E: OctetSink>(number: u64, flaw: LineFlaw, errors: &mut E) -> Resu
     write_whole(errors, b"\n")
 }
 
-/// Writes the line of a fault.
+/// Writes the line of a fault, if it has one.
 fn write_fault<E: OctetSink>(fault: Fault, errors: &mut E) -> Result<(), WriteFailed>
-    ensures ok { OnOk result (Appends (E.held errors.old) (E.held errors.new) (text_of fault ++ 10 ∷ [])) }
+    ensures ok { OnOk result (Appends (E.held errors.old) (E.held errors.new) (line_of fault)) }
     ensures sure { E.NeverFails errors.old → IsOk result }
     ensures lasts { E.NeverFails errors.old → E.NeverFails errors.new }
 {
@@ -99,6 +99,7 @@ fn write_fault<E: OctetSink>(fault: Fault, errors: &mut E) -> Result<(), WriteFa
         }
         Fault::Memory => write_whole(errors, b"bacgw: out of memory\n"),
         Fault::CountEnd => write_whole(errors, b"bacgw: count at its end\n"),
+        Fault::Different => write_whole(errors, b""),
     }
 }
 
@@ -135,5 +136,25 @@ pub fn end<E: OctetSink>(outcome: Result<(), Fault>, errors: &mut E) -> ExitCode
             let _ = write_fault(fault, errors);
             ExitCode::from(fault.status())
         }
+    }
+}
+
+/// Writes the line of a fault, if there is one, and answers the exit status after this choice: after
+/// `compare` it says whether the two configurations are alike.
+pub fn end_by<E: OctetSink>(
+    choice: &Result<Choice, Fault>,
+    outcome: Result<(), Fault>,
+    errors: &mut E,
+) -> ExitCode
+    ensures line { E.NeverFails errors.old → Appends (E.held errors.old) (E.held errors.new) (error_text outcome) }
+    ensures lasts { E.NeverFails errors.old → E.NeverFails errors.new }
+    ensures status { exit_status result ≡ status_by choice.now outcome }
+{
+    match (choice, outcome) {
+        (Ok(Choice::Compare { .. }), Err(fault)) => {
+            let _ = write_fault(fault, errors);
+            ExitCode::from(fault.status_of_comparison())
+        }
+        _ => end(outcome, errors),
     }
 }

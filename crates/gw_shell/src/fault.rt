@@ -1,7 +1,7 @@
 //! Why the program ends without success, and its exit status.
 
 ghost use Rattle.std.specs.Prelude.{◌≡◌, ◌≢◌};
-ghost use Rattle.gw_shell.specs.Ending.{fault_of, fault_of_configuration, fault_of_migration, fault_of_opening, fault_of_serving, name_of, reason_of, status_of, words_of};
+ghost use Rattle.gw_shell.specs.Ending.{fault_of, fault_of_configuration, fault_of_migration, fault_of_opening, fault_of_serving, name_of, reason_of, status_of, status_of_comparison, words_of};
 ghost use Rattle.gw_shell.specs.Lines.{fault_of_lines};
 ghost use Rattle.gw_shell.specs.declared.fault.Fault.TheVariants.{CommandLine, Memory};
 
@@ -41,6 +41,8 @@ pub enum Fault {
     Memory,
     /// The count of ticks or the number of the last denial is at its end.
     CountEnd,
+    /// Two configurations that were compared decide some ask otherwise, or the comparison isn't finished.
+    Different,
 }
 
 impl Fault {
@@ -71,7 +73,18 @@ impl Fault {
             | Fault::Log
             | Fault::Socket(_)
             | Fault::Memory
-            | Fault::CountEnd => 1,
+            | Fault::CountEnd
+            | Fault::Different => 1,
+        }
+    }
+
+    /// The exit status of `compare`: 1 if it found that the two configurations aren't alike, else 2.
+    pub fn status_of_comparison(self) -> u8
+        ensures { result ≡ status_of_comparison self }
+    {
+        match self {
+            Fault::Different => 1,
+            _ => 2,
         }
     }
 }

@@ -9,10 +9,11 @@ ghost use Rattle.gw_migration.specs.declared.fault.MigrationFault.TheVariants as
 ghost use Rattle.gw_rules.specs.declared.format.Format.TheVariants as formats;
 ghost use Rattle.gw_shell.specs.CommandLine.{IsAnswer};
 ghost use Rattle.gw_shell.specs.Configured.{IsConfigurationOf};
+ghost use Rattle.gw_shell.specs.Ending.{outcome_of_comparison};
 ghost use Rattle.gw_shell.specs.Ending.{FaultNote, IsExplainedBy};
 ghost use Rattle.gw_shell.specs.Files.{result_map};
 ghost use Rattle.gw_system.specs.Host.{OpensAtLine};
-ghost use Rattle.gw_shell.specs.Program.{AppendsFront, IsFlushed, IsFollowed, IsRun, LeavesAnswered, LeavesConfigured, LeavesInFormatThree, LeavesMigrated, LeavesOfText, LeavesOutput, LeavesPlayed};
+ghost use Rattle.gw_shell.specs.Program.{AppendsFront, IsFlushed, IsFollowed, IsRun, LeavesAnswered, LeavesCompared, LeavesComparison, LeavesConfigured, LeavesInFormatThree, LeavesMigrated, LeavesOfText, LeavesOutput, LeavesPlayed};
 ghost use Rattle.gw_shell.specs.Serving.{IsFlushedFor, LeavesRun, machine};
 ghost use Rattle.gw_shell.specs.declared.fault.Fault.{Fault};
 ghost use Rattle.gw_shell.specs.declared.fault.Fault.TheVariants as fault;
@@ -21,13 +22,14 @@ use crate::asking::why;
 use crate::checked::checked_text;
 use crate::command_line::{Choice, choice_of};
 use crate::configured::{configuration, configuration_in, configuration_of};
-use crate::ending::{end, tell, usage_of};
+use crate::ending::{end_by, tell, usage_of};
 use crate::fault::Fault;
 use crate::files::ConfigFiles;
 use crate::options::RunOptions;
 use crate::script::replay;
 use crate::serving::serve_ports;
 use crate::telling;
+use gw_compare::{Compared, put_comparison};
 use gw_configuration::{Config, ConfigFault};
 use gw_explanation::{Explanation, explain};
 use gw_migration::migrate;
@@ -199,6 +201,52 @@ fn play<R: OctetSource, W: Write + Drop>(
     replay(alloc, explains, config?, input, output)
 }
 
+/// How a comparison ends: `Different` unless the two are alike.
+fn outcome_of(made: Compared) -> Result<(), Fault>
+    ensures { result ≡ outcome_of_comparison made }
+{
+    match made {
+        Compared::Alike => Ok(()),
+        Compared::Different | Compared::Unfinished => Err(Fault::Different),
+    }
+}
+
+/// Prints what the rules of two configurations decide otherwise, in at most so many lines.
+fn print_compared<W: Write + Drop>(
+    alloc: Global,
+    most: u64,
+    old: &Config,
+    new: &Config,
+    output: &mut BufWriter<W>,
+) -> Result<(), Fault>
+    ensures output { let held = writer_contents W.contents output.old in
+        let holds = writer_contents W.contents output.new in
+        LeavesCompared most held holds old.now new.now result }
+    ensures flush { OnOk result (writer_buffer output.new ≡ []) }
+{
+    let mut text = Vec::new(alloc);
+    let made = put_comparison(alloc, old, new, most as usize, &mut text)?;
+    print(&text, output)?;
+    outcome_of(made)
+}
+
+/// Compares the two configurations that were read.
+fn compare<W: Write + Drop>(
+    alloc: Global,
+    most: u64,
+    old: Result<Config, Fault>,
+    new: Result<Config, Fault>,
+    output: &mut BufWriter<W>,
+) -> Result<(), Fault>
+    ensures output { LeavesComparison most (writer_contents W.contents output.old)
+        (writer_contents W.contents output.new) old new result }
+    ensures flush { OnOk result (writer_buffer output.new ≡ []) }
+{
+    let old = old?;
+    let new = new?;
+    print_compared(alloc, most, &old, &new, output)
+}
+
 /// Answers each ask of standard input by the rules of a configuration.
 fn answer<R: OctetSource, W: Write + Drop>(
     alloc: Global,
@@ -293,6 +341,11 @@ fn follow<F: ConfigFiles, H: Host, R: OctetSource, W: Write + Drop, E: OctetSink
             let config = configuration_in(alloc, files, file);
             answer(alloc, config, input, output)
         }
+        Ok(Choice::Compare { old, new, most }) => {
+            let before = configuration_in(alloc, files, old);
+            let after = configuration_in(alloc, files, new);
+            compare(alloc, *most, before, after, output)
+        }
         Ok(Choice::Log(start)) => telling::tell(alloc, *start, input, output),
         Ok(Choice::Help(text)) => print(text.as_bytes(), output),
         Ok(Choice::Usage(_)) => Err(Fault::CommandLine),
@@ -302,7 +355,8 @@ fn follow<F: ConfigFiles, H: Host, R: OctetSource, W: Write + Drop, E: OctetSink
 
 /// Runs the program on these words, or on the fault for which there are none: the configuration that
 /// they name is read from `files`, what it has is printed to `output`, or the script of `input` is
-/// replayed there, or its asks are answered, or its log is told in words, or what `host` opens is served, or help is printed; what
+/// replayed there, or its asks are answered, or its log is told in words, or what `host` opens is served, or two
+/// configurations are compared, or help is printed; what
 /// is served, or where a fault is, may be told on `errors`, a fault is one line there, behind words
 /// that are no command line stands how the program is called, and the exit status says of which kind
 /// the fault is. The words begin with the program's name.
@@ -329,7 +383,7 @@ pub fn run<F: ConfigFiles, H: Host, R: OctetSource, W: Write + Drop, E: OctetSin
 {
     let choice = choice_from(alloc, words);
     let outcome = follow(alloc, &choice, files, host, input, output, errors);
-    let exit = end(outcome, errors);
+    let exit = end_by(&choice, outcome, errors);
     tell(usage_of(&choice), errors);
     exit
 }

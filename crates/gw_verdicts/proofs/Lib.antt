@@ -1,3 +1,4 @@
+pub mod ComparedLaw
 pub mod DeviceAsks
 pub mod FoundLaw
 pub mod Gaps

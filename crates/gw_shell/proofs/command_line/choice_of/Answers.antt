@@ -2,7 +2,7 @@ use Rattle.std.proofs.Common.{◌≡◌, ◌∙◌, ◌⊎◌, sym, ap, subst, m
 use Rattle.clap.specs.Words.{App, IsAmong, Kinds, Row, Text, app_of, fault_of, is_simple, is_simple_and_free, kind_of, subcommand_of}
 use Rattle.clap.specs.declared.error.kind.ErrorKind.TheVariants as parse
 use Rattle.gw_shell.specs.CommandLine.{call_of, commands, IsChosen}
-use Rattle.gw_shell.proofs.WordsLemmas.{commands_are_simple, parse_is_simple, refusal_answers, check_is_taken, explain_is_taken, lint_is_taken, log_is_taken, log_since_is_taken, migrate_is_taken, replay_explained_is_taken, replay_is_taken, run_is_taken, run_whole_is_taken, taken_answers, why_is_taken}
+use Rattle.gw_shell.proofs.WordsLemmas.{commands_are_simple, parse_is_simple, refusal_answers, check_is_taken, compare_is_taken, explain_is_taken, lint_is_taken, log_is_taken, log_since_is_taken, migrate_is_taken, replay_explained_is_taken, replay_is_taken, run_is_taken, run_whole_is_taken, taken_answers, why_is_taken}
 use Rattle.gw_shell.proofs.command_line.choice_of.Goals as goal
 
 pub returns-in-Ok-clause-answers : goal.returns-in-Ok-clause-answers
@@ -88,3 +88,9 @@ returns-in-Ok-clause-migrate c = migrate_is_taken (map string_bytes c.args.words
 
 pub returns-in-Err-clause-migrate : goal.returns-in-Err-clause-migrate
 returns-in-Err-clause-migrate c = migrate_is_taken (map string_bytes c.args.words.now) c.refusal_of.result (returns-in-Err-clause-answers c)
+
+pub returns-in-Ok-clause-compare : goal.returns-in-Ok-clause-compare
+returns-in-Ok-clause-compare c = compare_is_taken (map string_bytes c.args.words.now) c.choice_among.result (returns-in-Ok-clause-answers c)
+
+pub returns-in-Err-clause-compare : goal.returns-in-Err-clause-compare
+returns-in-Err-clause-compare c = compare_is_taken (map string_bytes c.args.words.now) c.refusal_of.result (returns-in-Err-clause-answers c)

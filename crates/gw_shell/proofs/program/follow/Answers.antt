@@ -47,3 +47,16 @@ returns-in-Ok-Log-clause-followed g c =
     let is : c.args.choice.now ≡ Ok (choice.Log c.in-Ok-Log.start) = search rules in
     followed _ _ c.args.choice.now (Ok (choice.Log c.in-Ok-Log.start)) c.tell.result is refl c.tell.ensures.tells
     (λ never. appends_nothing (g.E.OctetSink.held c.args.errors.now))
+
+pub returns-in-Ok-Compare-clause-followed : goal.returns-in-Ok-Compare-clause-followed
+returns-in-Ok-Compare-clause-followed g c =
+    let chosen = choice.Compare c.in-Ok-Compare.old c.in-Ok-Compare.new c.in-Ok-Compare.most in
+    let is : c.args.choice.now ≡ Ok chosen = search rules in
+    let before = c.configuration_in-before.result in
+    let after = c.configuration_in-after.result in
+    let first = subst (λ (name : List ℕ). IsConfigured (g.F.ConfigFiles.Reads c.args.files.now) (Some name) before)
+    c.deref-in-Ok-Compare.ensures c.configuration_in-before.ensures in
+    let second = subst (λ (name : List ℕ). IsConfigured (g.F.ConfigFiles.Reads c.args.files.now) (Some name) after)
+    c.deref-in-Ok-Compare-2.ensures c.configuration_in-after.ensures in
+    followed _ _ c.args.choice.now (Ok chosen) c.compare.result is refl (before, first, after, second, c.compare.ensures.output)
+    (λ never. appends_nothing (g.E.OctetSink.held c.args.errors.now))

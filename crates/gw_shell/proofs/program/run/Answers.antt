@@ -20,11 +20,11 @@ returns g c =
         flush = c.follow-outcome.ensures.flush;
         errors = λ never.
             let lasting = c.follow-outcome.ensures.lasting never in
-            appends_two (held c.args.errors.now) (held c.end-exit.new.errors) (held c.tell.new.errors) (done.told ++ error_text outcome) (usage_of chosen)
-            (appends_two (held c.args.errors.now) (held c.follow-outcome.new.errors) (held c.end-exit.new.errors) done.told (error_text outcome)
-            (done.errors never) (c.end-exit.ensures.line lasting))
-            (subst (λ (text : List ℕ). Appends (held c.end-exit.new.errors) (held c.tell.new.errors) text) c.usage_of.ensures
-            (c.tell.ensures.told (c.end-exit.ensures.lasts lasting)));
-        status = c.end-exit.ensures.status;
+            appends_two (held c.args.errors.now) (held c.end_by-exit.new.errors) (held c.tell.new.errors) (done.told ++ error_text outcome) (usage_of chosen)
+            (appends_two (held c.args.errors.now) (held c.follow-outcome.new.errors) (held c.end_by-exit.new.errors) done.told (error_text outcome)
+            (done.errors never) (c.end_by-exit.ensures.line lasting))
+            (subst (λ (text : List ℕ). Appends (held c.end_by-exit.new.errors) (held c.tell.new.errors) text) c.usage_of.ensures
+            (c.tell.ensures.told (c.end_by-exit.ensures.lasts lasting)));
+        status = c.end_by-exit.ensures.status;
       };
     }

@@ -15,10 +15,10 @@ returns-in-Ok-clause-served g c =
       served c.in-Ok.field-0.log c.serve_open-outcome.new.log c.in-Ok.field-0.sockets c.serve_open-outcome.new.sockets (writer_contents g.W.Write.contents c.open.new.output)
           warning done.0 c.in-Ok.ensures.open c.close.ensures c.serve_open-outcome.ensures.log done.1 c.warning_of.ensures
           (ap (λ (l : List ℕ). l ++ warning ++ done.0) c.in-Ok.ensures.line),
-      λ never. appends_two (held c.args.errors.now) (held c.tell.new.errors) (held c.serve_open-outcome.new.errors) line (warning ++ done.0)
+      λ never. appends_two (held c.args.errors.now) (held c.tell-in-Ok.new.errors) (held c.serve_open-outcome.new.errors) (line ++ warning) done.0
+          (appends_two (held c.args.errors.now) (held c.tell.new.errors) (held c.tell-in-Ok.new.errors) line warning
           (subst (λ (text : List ℕ). Appends (held c.args.errors.now) (held c.tell.new.errors) text) c.deref.ensures.value (c.tell.ensures.told never))
-          (appends_two (held c.tell.new.errors) (held c.tell2.new.errors) (held c.serve_open-outcome.new.errors) warning done.0
-          (c.tell2.ensures.told (c.tell.ensures.lasts never)) (done.2 (c.tell2.ensures.lasts (c.tell.ensures.lasts never)))),
+          (c.tell-in-Ok.ensures.told (c.tell.ensures.lasts never))) (done.2 (c.tell-in-Ok.ensures.lasts (c.tell.ensures.lasts never))),
     )
 
 pub returns-in-Err-clause-served : goal.returns-in-Err-clause-served

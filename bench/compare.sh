@@ -1,0 +1,340 @@
+#!/usr/bin/env bash
+# What `bacgw compare` says, against a judge by brute force: random pairs of policies in each format. The judge knows the shapes of asks and
+# the first match alone. It reads the printed lines back, and asks of each ask of the shapes (one for each way in which the ranges of the two
+# policies can hold its numbers):
+#
+#     - it lies in a line exactly if the two policies decide it otherwise;
+#     - the line says what becomes of it, and names the two rules that decide it;
+#     - each line has such an ask, and the last line and the exit status are right.
+#
+# And each example, written in format 3 by `check --migrate`, is compared with itself: no ask is decided otherwise.
+#
+#     bench/compare.sh           # 200 pairs
+#     bench/compare.sh 5 9       # 5 pairs, from the seed 9
+#
+# It wants python3 and the program built, as `./bacgw prove` leaves it; BACGW names another program, with its words.
+set -euo pipefail
+
+top=$(cd "$(dirname "$0")/.." && pwd)
+exec python3 - "$top" "${BACGW:-$top/crates/bacgw/out/bacgw}" "${1:-200}" "${2:-1}" <<'PYTHON'
+import itertools
+import random
+import re
+import subprocess
+import sys
+import tempfile
+from pathlib import Path
+
+top, program, pairs, seed = Path(sys.argv[1]), sys.argv[2].split(), int(sys.argv[3]), int(sys.argv[4])
+MOST = 2**64 - 1
+FIELDS = [
+    "operation", "port", "source_network", "source", "destination", "service",
+    "object_type", "instance", "property", "priority", "sender", "station",
+]
+OPERATIONS = [
+    "cast", "route", "register", "delete", "read-table", "write-table", "learn", "network", "read", "write", "list", "enter", "claim",
+]
+NUMBER = {name: number for number, name in enumerate(OPERATIONS, 1)}
+PORTS = [1, 2]
+DEVICE = 100
+# The numbers that the rules of a random policy name, by field.
+SOME = {
+    "port": [1, 2],
+    "source_network": [1, 2, 3, 100],
+    "source": [0x0A0101050000 + 47808, 0x0A0101060000 + 47808, 0x0A0201090000 + 47808],
+    "destination": [1, 2, 7, 100, 65535],
+    "service": [8, 12, 14, 15, 263, 770, 776],
+    "object_type": [2, 5, 8],
+    "instance": [1, 2, 3, 4],
+    "property": [28, 77, 85],
+    "priority": [1, 8, 16],
+    "sender": [0x0A0101050000 + 47808, 0x0A0201090000 + 47808],
+    "station": [0x0A0101050000 + 47808, 7],
+}
+
+
+# ---- shapes, as docs and `gw_shapes` have them: a side is whether the field may be absent, and its least and greatest number
+
+NOTHING, SOME_NUMBER, PERHAPS = (True, None), (False, (0, MOST)), (True, (0, MOST))
+
+
+def only(low, high=None):
+    return (False, (low, low if high is None else high))
+
+
+def shape(origin, operation, service, destination=NOTHING, named=False, priority=NOTHING, station=NOTHING):
+    port, network, sender = origin
+    some = SOME_NUMBER if named else NOTHING
+    sides = [only(NUMBER[operation]), port, network, PERHAPS, destination, service, some, some, some, priority, sender, station]
+    return dict(zip(FIELDS, sides))
+
+
+def shapes_of(form):
+    third = form == 3
+    some_in, perhaps_in = (SOME_NUMBER, PERHAPS) if third else (NOTHING, NOTHING)
+
+    def tables(it):
+        yield shape(it, "write-table", only(769))
+        yield shape(it, "read-table", only(770))
+        yield shape(it, "register", only(773))
+        yield shape(it, "read-table", only(774))
+        yield shape(it, "delete", only(776), station=some_in)
+
+    def messages(it):
+        yield shape(it, "cast", PERHAPS, PERHAPS, station=perhaps_in)
+        yield shape(it, "route", PERHAPS, SOME_NUMBER, station=perhaps_in)
+        yield shape(it, "learn", only(513), SOME_NUMBER)
+        yield shape(it, "network", only(512), PERHAPS)
+        yield shape(it, "network", only(530))
+        for operation, service, priority in [("read", 12, NOTHING), ("read", 14, NOTHING), ("write", 15, SOME_NUMBER), ("list", 263, NOTHING), ("list", 264, NOTHING)]:
+            yield shape(it, operation, only(service), only(DEVICE), True, priority)
+
+    def requests(it):
+        if form == 1:
+            return
+        to = PERHAPS if third else SOME_NUMBER
+        yield shape(it, "read", only(12, 14), to, station=perhaps_in)
+        yield shape(it, "read", only(12, 14), to, True, station=perhaps_in)
+        yield shape(it, "write", only(15), to, station=perhaps_in)
+        yield shape(it, "write", only(15), to, True, SOME_NUMBER, perhaps_in)
+
+    for number, network in enumerate(PORTS, 1):
+        it = (only(number), only(network), some_in)
+        yield from tables(it)
+        if third:
+            yield shape(it, "enter", NOTHING)
+        yield from messages(it)
+        yield from requests(it)
+    start = 0
+    for network in [*sorted({*PORTS, DEVICE}), MOST + 1]:
+        if start < network:
+            it = (only(1, len(PORTS)), only(start, network - 1), some_in)
+            if third:
+                yield shape(it, "claim", NOTHING)
+            yield from messages(it)
+            yield from requests(it)
+        start = network + 1
+
+
+# ---- policies
+
+def random_rule(dice, number, form):
+    fields = [it for it in FIELDS[1:] if form == 3 or it not in ("sender", "station")]
+    ranges = {}
+    if dice.random() < 0.8:
+        operations = OPERATIONS if form == 3 else OPERATIONS[:11]
+        ranges["operation"] = [(it, it) for it in sorted({NUMBER[dice.choice(operations)] for _ in range(dice.randint(1, 2))})]
+    for field in dice.sample(fields, dice.choice([0, 0, 1, 1, 2, 2, 3])):
+        made = []
+        for _ in range(dice.choice([1, 1, 2])):
+            low, high = sorted(dice.choice(SOME[field]) for _ in range(2))
+            made.append((low, high))
+        ranges[field] = made
+    return {"name": f"r{number}", "allow": dice.random() < 0.5, "ranges": ranges}
+
+
+def other_policy(dice, rules, form):
+    """The policy after some edits, or another one."""
+    rules = [dict(it) for it in rules]
+    for _ in range(dice.randint(1, 3)):
+        deed = dice.choice(["add", "remove", "turn", "swap", "edit"])
+        place = dice.randrange(len(rules)) if rules else 0
+        if deed == "add" or not rules:
+            rules.insert(place, random_rule(dice, 50 + len(rules), form))
+        elif deed == "remove":
+            del rules[place]
+        elif deed == "turn":
+            rules[place]["allow"] = not rules[place]["allow"]
+        elif deed == "swap":
+            at = dice.randrange(len(rules))
+            rules[place], rules[at] = rules[at], rules[place]
+        else:
+            rules[place] = {**random_rule(dice, 0, form), "name": rules[place]["name"]}
+    for number, it in enumerate(rules):
+        it["name"] = f"r{number}"
+    return rules
+
+
+def key_text(key):
+    octets = key.to_bytes(6, "big")
+    return '"' + ".".join(map(str, octets[:4])) + f":{int.from_bytes(octets[4:], 'big')}\""
+
+
+def end_text(field, number):
+    if field == "operation":
+        return f'"{OPERATIONS[number - 1]}"'
+    return key_text(number) if field in ("source", "sender", "station") else str(number)
+
+
+def text_of(rules, form):
+    head = (top / "examples" / "base.toml").read_text(encoding="utf-8").split("[[port]]")[0]
+    lines = [re.sub(r"^format = \d$", f"format = {form}", re.sub(r"^network = \d+$", f"network = {DEVICE}", head, flags=re.M), flags=re.M)]
+    for network in PORTS:
+        lines.append(f'[[port]]\nnetwork = {network}\naddress = "10.{network}.1.1:47808"\nbroadcast = "10.{network}.255.255:47808"\n')
+    for it in rules:
+        lines.append(f'[[rule]]\nname = "{it["name"]}"\nallow = {str(it["allow"]).lower()}')
+        for field, ranges in it["ranges"].items():
+            if field == "operation":
+                said = ", ".join(end_text(field, low) for low, _ in ranges)
+            else:
+                said = ", ".join(f"[{end_text(field, low)}, {end_text(field, high)}]" for low, high in ranges)
+            lines.append(f"{field} = [{said}]")
+        lines.append("")
+    return "\n".join(lines)
+
+
+def holds(ranges, number):
+    return number is not None and any(low <= number <= high for low, high in ranges)
+
+
+def decide(rules, ask):
+    for it in rules:
+        if all(holds(ranges, ask[field]) for field, ranges in it["ranges"].items()):
+            return it["allow"], it["name"]
+    return False, "default"
+
+
+# ---- asks: one for each way in which the ranges of the policies and of the lines can hold its numbers
+
+def values_within(side, cuts):
+    absent, bounds = side
+    out = [None] if absent else []
+    if bounds is not None:
+        low, high = bounds
+        out += sorted({low, *(it for it in cuts if low <= it <= high)})
+    return out
+
+
+def asks_of(form, regions, *policies):
+    cuts = {it: set() for it in FIELDS}
+    for it in [*(rule["ranges"] for rules in policies for rule in rules), *({f: v[1] for f, v in region.items()} for region in regions)]:
+        for field, ranges in it.items():
+            for low, high in ranges:
+                cuts[field] |= {low, high + 1}
+    for sides in shapes_of(form):
+        choices = [values_within(sides[it], cuts[it]) for it in FIELDS]
+        for values in itertools.product(*choices):
+            yield dict(zip(FIELDS, values))
+
+
+# ---- the printed lines
+
+WORDS = [
+    ("from network ", "source_network"), ("to network ", "destination"), ("type ", "object_type"), ("instance ", "instance"),
+    ("property ", "property"), ("priority ", "priority"), ("service ", "service"), ("port ", "port"), ("sender ", "sender"),
+    ("from ", "source"), ("to ", "station"),
+]
+NOUNS = {
+    "source network": "source_network", "source": "source", "destination": "destination", "type": "object_type", "station": "station",
+    **{it: it for it in ("port", "service", "instance", "property", "priority", "sender")},
+}
+
+
+def number_of(text):
+    found = re.fullmatch(r"(\d+)\.(\d+)\.(\d+)\.(\d+):(\d+)", text)
+    if not found:
+        return int(text)
+    a, b, c, d, port = map(int, found.groups())
+    return int.from_bytes(bytes([a, b, c, d]), "big") * 65536 + port
+
+
+def values_of(text):
+    absent, ranges = False, []
+    for part in re.sub(r"(\S+) or more", r"\1..more", text).split(" or "):
+        part = part.split(" ")[0]
+        if part == "none":
+            absent = True
+        elif ".." in part:
+            low, high = part.split("..")
+            ranges.append((number_of(low), MOST if high == "more" else number_of(high)))
+        else:
+            ranges.append((number_of(part), number_of(part)))
+    return absent, ranges
+
+
+def region_of(text):
+    operations, *items = text.split(", ")
+    out = {}
+    if operations != "any operation":
+        out["operation"] = (False, [(NUMBER[it], NUMBER[it]) for it in operations.split(" or ")])
+    for item in items:
+        if item.startswith("without "):
+            out[NOUNS[item[8:]]] = (True, [])
+            continue
+        word, field = next(it for it in WORDS if item.startswith(it[0]))
+        assert field not in out, item
+        out[field] = values_of(item[len(word):])
+    return out
+
+
+LINE = re.compile(r"now (allowed|denied): (.*), by (.*) \(was (allowed|denied) by (.*)\)")
+
+
+def line_of(text):
+    found = LINE.fullmatch(text)
+    assert found and found[1] != found[4], text
+    return found[1] == "allowed", region_of(found[2]), set(found[3].split(" or ")), set(found[5].split(" or "))
+
+
+def lies(region, ask):
+    return all(absent if ask[field] is None else holds(ranges, ask[field]) for field, (absent, ranges) in region.items())
+
+
+def compare(old, new, *words):
+    done = subprocess.run([*program, "compare", "--config", str(old), "--with", str(new), *words], stdin=subprocess.DEVNULL, capture_output=True, text=True)
+    return done.returncode, done.stdout.splitlines(), done.stderr
+
+
+def ending(count):
+    if count == 0:
+        return "no ask is decided otherwise"
+    return ("1 kind of asks is" if count == 1 else f"{count} kinds of asks are") + " decided otherwise, and no other"
+
+
+def judge(room, dice, number):
+    form = dice.choice([1, 2, 3])
+    old = [random_rule(dice, it, form) for it in range(dice.randint(1, 5))]
+    new = other_policy(dice, old, form)
+    files = [room / "old.toml", room / "new.toml"]
+    for path, rules in zip(files, [old, new]):
+        path.write_text(text_of(rules, form), encoding="utf-8")
+    status, said, wrong = compare(*files)
+    where = f"pair {number}, format {form}"
+    assert not wrong and status in (0, 1), f"{where}: {status} {wrong}"
+    lines = [line_of(it) for it in said[:-1]]
+    assert said[-1] == ending(len(lines)) and status == (1 if lines else 0), f"{where}: {said[-1]}"
+    assert [it[0] for it in lines] == sorted((it[0] for it in lines), reverse=True), f"{where}: the order"
+    has, count = [False] * len(lines), 0
+    for ask in asks_of(form, [it[1] for it in lines], old, new):
+        count += 1
+        (was, by_old), (now, by_new) = decide(old, ask), decide(new, ask)
+        found = [it for it, line in enumerate(lines) if lies(line[1], ask)]
+        assert bool(found) == (was != now), f"{where}: {ask} was {was} by {by_old}, now {now} by {by_new}, lies in {found}\n" + "\n".join(said)
+        for it in found:
+            has[it] = True
+            allowed, _, news, olds = lines[it]
+            assert allowed == now and by_new in news and by_old in olds, f"{where}: {ask}: {said[it]}"
+    assert all(has), f"{where}: a line without an ask\n" + "\n".join(said)
+    return count, len(lines)
+
+
+with tempfile.TemporaryDirectory() as folder:
+    room = Path(folder)
+    dice = random.Random(seed)
+    asks = lines = 0
+    for number in range(pairs):
+        count, found = judge(room, dice, number)
+        asks, lines = asks + count, lines + found
+    print(f"{pairs} pairs of policies: {asks} asks, {lines} lines, all as the judge says")
+    examples = 0
+    for path in sorted((top / "examples").glob("*.toml")):
+        made = subprocess.run([*program, "check", "--config", str(path), "--migrate"], stdin=subprocess.DEVNULL, capture_output=True, text=True)
+        if made.returncode:
+            continue
+        third = room / "third.toml"
+        third.write_text(made.stdout, encoding="utf-8")
+        status, said, _ = compare(path, third)
+        assert (status, said) == (0, ["note: the formats differ; only the rules are compared", ending(0)]), f"{path.name}: {said}"
+        examples += 1
+    print(f"{examples} examples, each with itself in format 3: no ask is decided otherwise")
+PYTHON

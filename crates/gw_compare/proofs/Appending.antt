@@ -1,0 +1,10 @@
+-- Texts that are appended one after the other are appended as one.
+use Rattle.std.proofs.Common.{◌≡◌, ◌∙◌, ◌++◌, ℕ, List, Result, Ok, Err, OnOk, ap, append_assoc}
+
+pub two : {T E : Type 0} (r : Result T E) (a b c x y : List ℕ) → b ≡ a ++ x → OnOk r (c ≡ b ++ y) → OnOk r (c ≡ a ++ (x ++ y))
+two (Ok done) a b c x y first second = second ∙ ap (λ (t : List ℕ). t ++ y) first ∙ append_assoc a x y
+two (Err failed) a b c x y first second = tt
+
+pub three : {T E : Type 0} (r : Result T E) (a b c d x y z : List ℕ) → b ≡ a ++ x → c ≡ b ++ y → OnOk r (d ≡ c ++ z)
+    → OnOk r (d ≡ a ++ (x ++ (y ++ z)))
+three r a b c d x y z first second third = two r a b d x (y ++ z) first (two r b c d y z second third)

@@ -1,0 +1,4 @@
+pub mod Appending
+pub mod AskLaw
+pub mod SummaryLaw
+pub mod TextLaw

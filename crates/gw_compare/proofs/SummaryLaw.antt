@@ -1,0 +1,24 @@
+-- What is summed up may be put into another order; and what it says if nothing is left.
+use Rattle.std.proofs.Common.{◌≡◌, ◌∙◌, sym, ap, refl, subst, ℕ, Bool, true, false, ◌&&◌, ◌||◌, ◌==◌, inl, inr, List, [], ◌∷◌, length}
+use Rattle.std.specs.Prelude.{◌⊎◌, if◌then◌else◌, not}
+use Rattle.std.specs.List.{AllByRecursion, list_any}
+use Rattle.std.specs.List.Sorted.{IsPermutation}
+use Rattle.std.proofs.lemmas.List.Elements.{All-from_recursion, recursion_from_All}
+use Rattle.std.proofs.lemmas.List.Sorted.{All-permutation, list_any-IsPermutation}
+use Rattle.gw_rules.specs.Ask.{Ask}
+use Rattle.gw_rules.specs.declared.rule.Rule.{Rule}
+use Rattle.gw_regions.specs.Comparing.{IsDecided, IsFoundFor, IsSummary, differs, is_found, unlike}
+use Rattle.gw_regions.specs.Regions.{Region, lies, lies_in_one}
+use Rattle.gw_regions.specs.declared.comparison.Found.{Found}
+
+each_permuted : (P : Found → Type 0) (xs ys : List Found) → IsPermutation xs ys → AllByRecursion P xs → AllByRecursion P ys
+each_permuted P xs ys moved all = recursion_from_All P ys (All-permutation P xs ys moved (All-from_recursion P xs all))
+
+pub in_other_order : (shapes : List Region) (old new : List Rule) (xs ys : List Found) (left : List Region) → IsPermutation xs ys
+    → IsSummary shapes old new xs left → IsSummary shapes old new ys left
+in_other_order shapes old new xs ys left moved is = record {
+  exact = λ ask there. is.exact ask there
+      ∙ ap (λ (b : Bool). b || (lies_in_one left ask && differs old new ask)) (list_any-IsPermutation (λ f. lies f.region ask) xs ys moved);
+  verdicts = each_permuted (λ f. (ask : Ask) → lies_in_one shapes ask ≡ true → lies f.region ask ≡ true → IsDecided old new f ask) xs ys moved is.verdicts;
+  asks = each_permuted (λ f. (lies f.region f.ask && lies_in_one shapes f.ask) ≡ true) xs ys moved is.asks;
+}

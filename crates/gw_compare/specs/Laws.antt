@@ -1,0 +1,42 @@
+-- What the text of a comparison says of the asks of two configurations.
+use Rattle.std.specs.Prelude.{◌≡◌, ◌≢◌, ◌⊎◌, ℕ, true, List}
+use Rattle.std.specs.List.{AllByRecursion}
+use Rattle.gw_configuration.specs.Configuration.{Configuration}
+use Rattle.gw_regions.specs.Comparing.{IsDecided, differs, is_found}
+use Rattle.gw_regions.specs.Regions.{lies}
+use Rattle.gw_rules.specs.Ask.{Ask}
+use Rattle.gw_rules.specs.RuleList.{allows}
+use Rattle.gw_shapes.specs.Shape.{LiesInOne}
+use Rattle.gw_shapes.specs.Shapes.{shapes}
+use Rattle.gw_compare.specs.Comparison.{IsComparisonText}
+use Rattle.gw_compare.specs.declared.comparison.Compared.{Compared}
+use Rattle.gw_compare.specs.declared.comparison.Compared.TheVariants as compared
+
+-- an ask of a shape of one of the two configurations: a gateway of that one may raise it
+abbrev pub IsAskOf : Configuration → Configuration → Ask → Type 0
+IsAskOf old new ask = LiesInOne (shapes old) ask ⊎ LiesInOne (shapes new) ask
+
+-- Unless the comparison isn't finished, such an ask is decided otherwise exactly if it lies in a region that was found.
+abbrev pub FoundIsAll : Type 0
+FoundIsAll = (old new : Configuration) (most : ℕ) (made : Compared) (text : List ℕ)
+    (told : IsComparisonText old new most made text) → made ≢ compared.Unfinished
+    → (ask : Ask) → IsAskOf old new ask → differs old.rules new.rules ask ≡ is_found told.found ask
+
+-- If the text says that no ask is decided otherwise, the two decide each of them alike.
+abbrev pub AlikeIsAlike : Type 0
+AlikeIsAlike = (old new : Configuration) (most : ℕ) (text : List ℕ) → IsComparisonText old new most compared.Alike text
+    → (ask : Ask) → IsAskOf old new ask → allows old.rules ask ≡ allows new.rules ask
+
+-- Finished or not: such an ask that lies in a region that was found is decided as the line of the region says, and by
+-- rules that it names.
+abbrev pub LinesAreTrue : Type 0
+LinesAreTrue = (old new : Configuration) (most : ℕ) (made : Compared) (text : List ℕ)
+    (told : IsComparisonText old new most made text)
+    → AllByRecursion (λ f. (ask : Ask) → IsAskOf old new ask → lies f.region ask ≡ true → IsDecided old.rules new.rules f ask)
+    told.found
+
+-- Each region that was found has such an ask.
+abbrev pub LinesHaveAsks : Type 0
+LinesHaveAsks = (old new : Configuration) (most : ℕ) (made : Compared) (text : List ℕ)
+    (told : IsComparisonText old new most made text)
+    → AllByRecursion (λ f. (lies f.region f.ask ≡ true) × IsAskOf old new f.ask) told.found

@@ -1,0 +1,6 @@
+pub mod Asks
+pub mod Comparison
+pub mod Laws
+pub mod Lines
+pub mod Notes
+pub mod Words

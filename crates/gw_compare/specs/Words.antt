@@ -1,0 +1,125 @@
+-- The words for the asks of a region. They are this project's own, the names in them the standard's.
+use Rattle.std.specs.Prelude.{ℕ, Bool, ◌==◌, nat_lt, if◌then◌else◌, List, [], ◌∷◌, ◌++◌, length, drop, Some, codes}
+use Rattle.std.specs.Prelude.{decimal}
+use Rattle.std.specs.Int.{w64, to_be_bytes}
+use Rattle.std.specs.List.{flat_map, list_all}
+use Rattle.gw_addr.specs.Address.{address_in, text_of}
+use Rattle.gw_audit.specs.Words.{name_text}
+use Rattle.gw_names.specs.Names.{object_type_name, property_name, service_name}
+use Rattle.gw_regions.specs.Regions.{Region}
+use Rattle.gw_regions.specs.Values.{has, is_any}
+use Rattle.gw_regions.specs.declared.values.Values.{Values}
+use Rattle.gw_rules.specs.Fields.{value_of}
+use Rattle.gw_rules.specs.Operation.{operation_name, operation_number}
+use Rattle.gw_rules.specs.declared.field.FieldName.{FieldName}
+use Rattle.gw_rules.specs.declared.field.FieldName.TheVariants.{Operation, Port, SourceNetwork, SourceKey}
+use Rattle.gw_rules.specs.declared.field.FieldName.TheVariants.{DestinationNetwork, Service, ObjectType, Instance}
+use Rattle.gw_rules.specs.declared.field.FieldName.TheVariants.{Property, Priority, Sender, Station}
+use Rattle.gw_rules.specs.declared.operation.Operation.{Operation as SpecOperation}
+use Rattle.gw_rules.specs.declared.operation.TheConstants.Operation.{ALL}
+use Rattle.gw_rules.specs.declared.range.Range.{Range}
+use Rattle.gw_shapes.specs.Pieces.{most}
+
+-- texts of items with ` or ` between them
+abbrev pub any_of : {A : Type 0} → (A → List ℕ) → List A → List ℕ
+any_of text [] = []
+any_of text (item ∷ items) = text item ++ flat_map (λ other. codes " or " ++ text other) items
+
+-- ---- operations
+
+abbrev pub has_operation : Values → SpecOperation → Bool
+has_operation values operation = has values (Some (operation_number operation))
+
+-- the operations of a set of values, in the order of their numbers
+abbrev pub operations_of : Values → List SpecOperation
+operations_of values =
+    flat_map (λ operation. if has_operation values operation then operation ∷ [] else []) ALL
+
+-- the operation, unless it may be each of the thirteen
+abbrev pub operations_text : Values → List ℕ
+operations_text values =
+    if list_all (has_operation values) ALL then codes "any operation"
+    else any_of operation_name (operations_of values)
+
+-- ---- other fields
+
+-- the words before the values of a field
+abbrev pub word_of : FieldName → List ℕ
+word_of Operation = codes "operation "
+word_of Port = codes "port "
+word_of SourceNetwork = codes "from network "
+word_of SourceKey = codes "from "
+word_of DestinationNetwork = codes "to network "
+word_of Service = codes "service "
+word_of ObjectType = codes "type "
+word_of Instance = codes "instance "
+word_of Property = codes "property "
+word_of Priority = codes "priority "
+word_of Sender = codes "sender "
+word_of Station = codes "to "
+
+-- what is missing if a field is absent
+abbrev pub noun_of : FieldName → List ℕ
+noun_of Operation = codes "operation"
+noun_of Port = codes "port"
+noun_of SourceNetwork = codes "source network"
+noun_of SourceKey = codes "source"
+noun_of DestinationNetwork = codes "destination"
+noun_of Service = codes "service"
+noun_of ObjectType = codes "type"
+noun_of Instance = codes "instance"
+noun_of Property = codes "property"
+noun_of Priority = codes "priority"
+noun_of Sender = codes "sender"
+noun_of Station = codes "station"
+
+-- a station by its key: as an address, if the key has the 48 bits of one
+abbrev pub station_text : ℕ → List ℕ
+station_text key =
+    if nat_lt key 281474976710656 then text_of (address_in (drop 2 (to_be_bytes w64 key))) else decimal key
+
+-- an end of a range of a field
+abbrev pub end_text : FieldName → ℕ → List ℕ
+end_text SourceKey number = station_text number
+end_text Sender number = station_text number
+end_text Station number = station_text number
+end_text _ number = decimal number
+
+-- the standard's name of a number, after a space, if it has one
+abbrev pub named_text : FieldName → ℕ → List ℕ
+named_text Service number = name_text (service_name number)
+named_text ObjectType number = name_text (object_type_name number)
+named_text Property number = name_text (property_name number)
+named_text _ number = []
+
+-- `7`, `7..9` or `7 or more`, and a single number also by its name
+abbrev pub range_text : FieldName → Range → List ℕ
+range_text field range =
+    if range.low == range.high then end_text field range.low ++ named_text field range.low
+    else if nat_lt range.high most then end_text field range.low ++ (codes ".." ++ end_text field range.high)
+    else end_text field range.low ++ codes " or more"
+
+-- some numbers, and absent if the field may be so
+abbrev pub numbers_text : FieldName → Values → List ℕ
+numbers_text field values =
+    word_of field ++ (any_of (range_text field) values.ranges
+    ++ (if values.absent then codes " or none" else []))
+
+abbrev pub values_text : FieldName → Values → List ℕ
+values_text field values =
+    if length values.ranges == 0 then codes "without " ++ noun_of field else numbers_text field values
+
+-- `, ` and the values of a field, unless it may have any
+abbrev pub item_text : Region → FieldName → List ℕ
+item_text region field =
+    if is_any (value_of field region) then [] else codes ", " ++ values_text field (value_of field region)
+
+-- the order in which fields are named
+abbrev pub items : List FieldName
+items =
+    ObjectType ∷ Instance ∷ Property ∷ Priority ∷ Service ∷ Station ∷ DestinationNetwork ∷ SourceKey ∷ SourceNetwork
+    ∷ Sender ∷ Port ∷ []
+
+-- `write, type 5 binary-value, instance 1, from network 2`
+abbrev pub region_text : Region → List ℕ
+region_text region = operations_text region.operation ++ flat_map (item_text region) items

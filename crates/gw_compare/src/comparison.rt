@@ -1,0 +1,230 @@
+//! What `bacgw compare` says of two configurations.
+ghost use Rattle.std.specs.Prelude.{◌≡◌, ◌-◌, ◌++◌, ◌∷◌, ◌==◌, [], codes, decimal, if◌then◌else◌, length, take, IfOk, OnErr, OnOk};
+ghost use Rattle.std.specs.List.{flat_map};
+ghost use Rattle.std.specs.List.Sorted.{IsNonDecreasingBy, IsPermutation};
+ghost use Rattle.gw_compare.specs.Comparison.{AppendsComparison, IsComparisonText, compared_by, ending_text, found_text, kinds_text, more_text, rank};
+ghost use Rattle.gw_regions.specs.Comparing.{IsSummary};
+
+use crate::asks::asks_of;
+use crate::lines::put_lines;
+use crate::notes::notes;
+use gw_addr::{keep_whole, put_decimal, put_slice};
+use gw_configuration::Config;
+use gw_regions::{Found, MAX_STEPS, Region, Summary, summarize};
+use gw_rules::Rule;
+use std::alloc::{AllocError, Global};
+
+/// How the policies of two configurations compare.
+#[derive(Clone, Copy)]
+pub enum Compared {
+    /// They decide each ask that a gateway of either may raise alike.
+    Alike,
+    /// They decide some otherwise, which are all found.
+    Different,
+    /// The steps were used up: they decide those that were found otherwise, and perhaps others.
+    Unfinished,
+}
+
+/// A text, and how the policies compare that it is about.
+struct Told {
+    text: Vec<u8>,
+    made: Compared,
+}
+
+impl Drop for Told {
+    fn drop(self) {
+        let Told { text: _, made: _ } = self;
+    }
+}
+
+/// Appends what two configurations decide otherwise, over all asks that a gateway of either may raise:
+/// a line for each kind of them, what is newly allowed first, at most `most` lines; and a last line that says
+/// whether these are all. In front is a note for each part beside the rules that isn't the same.
+///
+/// ```text
+/// note: the ports differ; only the rules are compared
+/// now allowed: write, type 5 binary-value, instance 1, property 85 present-value, priority 1..7, from network 2, by panel (was denied by no-writes)
+/// now denied: list, from network 1, by quiet (was allowed by find)
+/// 2 kinds of asks are decided otherwise, and no other
+/// ```
+///
+/// An `Err` if there is no memory: the buffer then holds what it held.
+pub fn put_comparison(
+    alloc: Global,
+    old: &Config,
+    new: &Config,
+    most: usize,
+    out: &mut Vec<u8>,
+) -> Result<Compared, AllocError>
+    ensures ok { IfOk result (λ made.
+        AppendsComparison old.now new.now most made out.old.items out.new.items) }
+    ensures err { OnErr result (out.new.items ≡ out.old.items) }
+{
+    let told = comparison(alloc, old, new, most)?;
+    put_whole(out, &told.text)?;
+    Ok(told.made)
+}
+
+/// Appends a text, or nothing.
+fn put_whole(out: &mut Vec<u8>, text: &[u8]) -> Result<(), AllocError>
+    ensures ok { OnOk result (out.new.items ≡ out.old.items ++ text.now) }
+    ensures err { OnErr result (out.new.items ≡ out.old.items) }
+{
+    let len = out.len();
+    let put = put_slice(out, text);
+    keep_whole(out, len, put)
+}
+
+/// What there is to say.
+fn comparison(alloc: Global, old: &Config, new: &Config, most: usize) -> Result<Told, AllocError>
+    ensures { IfOk result (λ told. IsComparisonText old.now new.now most told.made told.text.items) }
+{
+    let asks = asks_of(alloc, old, new)?;
+    let (before, after) = (old.rules().rules(), new.rules().rules());
+    let summary = summary_of(alloc, before, after, &asks)?;
+    let mut text = notes(alloc, old, new)?;
+    let made = compared_by(summary.found.len(), summary.left.len());
+    put_found(alloc, &mut text, before, after, most, &summary.found)?;
+    put_ending(&mut text, made, summary.found.len())?;
+    Ok(Told { text, made })
+}
+
+/// What two policies decide otherwise of these asks, what is newly allowed first.
+#[tactic(auto, using(crate::proofs::SummaryLaw::in_other_order))]
+fn summary_of(
+    alloc: Global,
+    old: &[Rule],
+    new: &[Rule],
+    asks: &[Region],
+) -> Result<Summary, AllocError>
+    ensures summary { IfOk result (λ s. IsSummary asks.now old.now new.now s.found.items s.left.items) }
+    ensures in_order { IfOk result (λ s. IsNonDecreasingBy rank s.found.items) }
+{
+    let mut summary = summarize(alloc, old, new, asks, MAX_STEPS)?;
+    put_in_order(&mut summary.found)?;
+    Ok(summary)
+}
+
+/// The place of a region among others: the lower comes first.
+fn rank(found: &Found) -> u8
+    ensures { result ≡ rank found.now }
+{
+    if found.allows { 0 } else { 1 }
+}
+
+/// Puts what is newly allowed first.
+fn put_in_order(found: &mut Vec<Found>) -> Result<(), AllocError>
+    ensures permutation { IsPermutation found.old.items found.new.items }
+    ensures in_order { OnOk result (IsNonDecreasingBy rank found.new.items) }
+{
+    found.sort_by_key(|each| rank(each))?;
+    Ok(())
+}
+
+fn compared_by(found: usize, left: usize) -> Compared
+    ensures { result ≡ compared_by found left }
+{
+    if left != 0 {
+        Compared::Unfinished
+    } else if found != 0 {
+        Compared::Different
+    } else {
+        Compared::Alike
+    }
+}
+
+/// Appends the lines of at most so many regions, and how many are left out.
+fn put_found(
+    alloc: Global,
+    out: &mut Vec<u8>,
+    old: &[Rule],
+    new: &[Rule],
+    most: usize,
+    found: &[Found],
+) -> Result<(), AllocError>
+    ensures { OnOk result (out.new.items ≡
+        out.old.items ++ found_text old.now new.now most found.now) }
+{
+    if most < found.len() {
+        put_lines(alloc, out, old, new, &found[..most])?;
+        return put_more(out, found.len() - most);
+    }
+    put_lines(alloc, out, old, new, found)
+}
+
+/// Appends how many more there are than are shown.
+fn put_more(out: &mut Vec<u8>, count: usize) -> Result<(), AllocError>
+    ensures { OnOk result (out.new.items ≡ out.old.items ++ more_text count) }
+{
+    if count == 0 {
+        return Ok(());
+    }
+    out.extend_from_slice(b"and ")?;
+    put_decimal(out, count)?;
+    out.extend_from_slice(more_words(count).as_bytes())?;
+    out.push(b'\n')?;
+    Ok(())
+}
+
+fn more_words(count: usize) -> &'static str
+    ensures { result.now ≡ (if count == 1 then codes " more kind" else codes " more kinds") }
+{
+    if count == 1 {
+        " more kind"
+    } else {
+        " more kinds"
+    }
+}
+
+/// Appends the last line.
+fn put_ending(out: &mut Vec<u8>, made: Compared, count: usize) -> Result<(), AllocError>
+    ensures { OnOk result (out.new.items ≡ out.old.items ++ ending_text made count) }
+{
+    match made {
+        Compared::Alike => out.extend_from_slice(b"no ask is decided otherwise\n"),
+        Compared::Different => put_finished(out, count),
+        Compared::Unfinished => {
+            out.extend_from_slice(unfinished_words(count).as_bytes())?;
+            put_kinds(out, count)?;
+            out.push(b'\n')?;
+            Ok(())
+        }
+    }
+}
+
+fn put_finished(out: &mut Vec<u8>, count: usize) -> Result<(), AllocError>
+    ensures { OnOk result (out.new.items ≡
+        out.old.items ++ (kinds_text count ++ (codes ", and no other" ++ 10 ∷ []))) }
+{
+    put_kinds(out, count)?;
+    put_slice(out, b", and no other\n")
+}
+
+fn unfinished_words(count: usize) -> &'static str
+    ensures { result.now ≡ (if count == 1 then codes "not finished: at least this "
+        else codes "not finished: at least these ") }
+{
+    if count == 1 {
+        "not finished: at least this "
+    } else {
+        "not finished: at least these "
+    }
+}
+
+fn put_kinds(out: &mut Vec<u8>, count: usize) -> Result<(), AllocError>
+    ensures { OnOk result (out.new.items ≡ out.old.items ++ kinds_text count) }
+{
+    put_decimal(out, count)?;
+    out.extend_from_slice(kind_words(count).as_bytes())
+}
+
+fn kind_words(count: usize) -> &'static str
+    ensures { result.now ≡ (if count == 1 then codes " kind of asks is decided otherwise"
+        else codes " kinds of asks are decided otherwise") }
+{
+    if count == 1 {
+        " kind of asks is decided otherwise"
+    } else {
+        " kinds of asks are decided otherwise"
+    }
+}

@@ -1,0 +1,303 @@
+//! The words for the asks of a region.
+ghost use Rattle.std.specs.Prelude.{◌≡◌, ◌++◌, ◌∷◌, [], codes, option_map, if◌then◌else◌, IfOk, OnOk, Some};
+ghost use Rattle.std.specs.List.{flat_map, list_all};
+ghost use Rattle.gw_audit.specs.Words.{name_text};
+ghost use Rattle.gw_rules.specs.Operation.{operation_name};
+ghost use Rattle.gw_rules.specs.declared.operation.TheConstants.Operation.{ALL};
+ghost use Rattle.gw_compare.specs.Words.{any_of, end_text, has_operation, item_text, items, named_text, noun_of, numbers_text, operations_of, operations_text, range_text, region_text, station_text, values_text, word_of};
+
+use gw_addr::{BipAddr, put_decimal};
+use gw_names::{object_type_name, property_name, service_name};
+use gw_regions::{Region, Values};
+use gw_rules::{FieldName, Operation, Range};
+use std::alloc::{AllocError, Global};
+
+/// The least number that is no key of a station's address: those have 48 bits.
+const KEYS: u64 = 1 << 48;
+
+/// The fields but the operation, in the order in which they are named.
+const ITEMS: [FieldName; 11] = [
+    FieldName::ObjectType,
+    FieldName::Instance,
+    FieldName::Property,
+    FieldName::Priority,
+    FieldName::Service,
+    FieldName::Station,
+    FieldName::DestinationNetwork,
+    FieldName::SourceKey,
+    FieldName::SourceNetwork,
+    FieldName::Sender,
+    FieldName::Port,
+];
+
+/// Appends the words for the asks of a region. An `Err` if there is no memory.
+pub(crate) fn put_region(
+    alloc: Global,
+    out: &mut Vec<u8>,
+    region: &Region,
+) -> Result<(), AllocError>
+    ensures { OnOk result (out.new.items ≡ out.old.items ++ region_text region.now) }
+{
+    put_operations(alloc, out, &region.operation)?;
+    put_items(out, region, &ITEMS)
+}
+
+fn has_operation(values: &Values, operation: Operation) -> bool
+    ensures { result ≡ has_operation values.now operation }
+{
+    values.has(Some(operation.number()))
+}
+
+fn has_each_operation(values: &Values) -> bool
+    ensures { result ≡ list_all (has_operation values.now) ALL }
+{
+    Operation::ALL
+        .iter()
+        .all(|operation| has_operation(values, *operation))
+}
+
+fn push_operation(
+    operations: &mut Vec<Operation>,
+    values: &Values,
+    operation: Operation,
+) -> Result<(), AllocError>
+    ensures { OnOk result (operations.new.items ≡ operations.old.items
+        ++ (if has_operation values.now operation then operation ∷ [] else [])) }
+{
+    if has_operation(values, operation) {
+        operations.push(operation)?;
+    }
+    Ok(())
+}
+
+/// The operations of a set of values.
+fn operations_of(alloc: Global, values: &Values) -> Result<Vec<Operation>, AllocError>
+    ensures { IfOk result (λ operations. operations.items ≡ operations_of values.now) }
+{
+    let mut operations = Vec::new(alloc);
+    for operation in Operation::ALL.iter() {
+        push_operation(&mut operations, values, *operation)?;
+    }
+    Ok(operations)
+}
+
+fn put_operations(alloc: Global, out: &mut Vec<u8>, values: &Values) -> Result<(), AllocError>
+    ensures { OnOk result (out.new.items ≡ out.old.items ++ operations_text values.now) }
+{
+    if has_each_operation(values) {
+        return out.extend_from_slice(b"any operation");
+    }
+    let operations = operations_of(alloc, values)?;
+    put_names(out, &operations)
+}
+
+/// Appends the names of operations.
+fn put_names(out: &mut Vec<u8>, operations: &[Operation]) -> Result<(), AllocError>
+    ensures { OnOk result (out.new.items ≡ out.old.items ++ any_of operation_name operations.now) }
+{
+    let Some((first, rest)) = operations.split_first() else {
+        return Ok(());
+    };
+    out.extend_from_slice(first.name().as_bytes())?;
+    put_more_names(out, rest)
+}
+
+fn put_more_names(out: &mut Vec<u8>, operations: &[Operation]) -> Result<(), AllocError>
+    ensures { OnOk result (out.new.items ≡
+        out.old.items ++ flat_map (λ other. codes " or " ++ operation_name other) operations.now) }
+{
+    for operation in operations {
+        put_name(out, *operation)?;
+    }
+    Ok(())
+}
+
+fn put_name(out: &mut Vec<u8>, operation: Operation) -> Result<(), AllocError>
+    ensures { OnOk result (out.new.items ≡ out.old.items ++ (codes " or " ++ operation_name operation)) }
+{
+    out.extend_from_slice(b" or ")?;
+    out.extend_from_slice(operation.name().as_bytes())
+}
+
+/// Appends the values of these fields.
+fn put_items(out: &mut Vec<u8>, region: &Region, fields: &[FieldName]) -> Result<(), AllocError>
+    ensures { OnOk result (out.new.items ≡
+        out.old.items ++ flat_map (item_text region.now) fields.now) }
+{
+    for field in fields {
+        put_item(out, region, *field)?;
+    }
+    Ok(())
+}
+
+/// Appends the values of a field, unless it may have any.
+fn put_item(out: &mut Vec<u8>, region: &Region, field: FieldName) -> Result<(), AllocError>
+    ensures { OnOk result (out.new.items ≡ out.old.items ++ item_text region.now field) }
+{
+    let values = region.get(field);
+    if values.is_any() {
+        return Ok(());
+    }
+    out.extend_from_slice(b", ")?;
+    put_values(out, field, values)
+}
+
+fn put_values(out: &mut Vec<u8>, field: FieldName, values: &Values) -> Result<(), AllocError>
+    ensures { OnOk result (out.new.items ≡ out.old.items ++ values_text field values.now) }
+{
+    if values.ranges.is_empty() {
+        out.extend_from_slice(b"without ")?;
+        return out.extend_from_slice(noun_of(field).as_bytes());
+    }
+    put_numbers(out, field, values)
+}
+
+fn put_numbers(out: &mut Vec<u8>, field: FieldName, values: &Values) -> Result<(), AllocError>
+    ensures { OnOk result (out.new.items ≡ out.old.items ++ numbers_text field values.now) }
+{
+    out.extend_from_slice(word_of(field).as_bytes())?;
+    put_ranges(out, field, values.ranges.as_slice())?;
+    put_none(out, values.absent)
+}
+
+fn put_none(out: &mut Vec<u8>, absent: bool) -> Result<(), AllocError>
+    ensures { OnOk result (out.new.items ≡
+        out.old.items ++ (if absent then codes " or none" else [])) }
+{
+    if absent {
+        return out.extend_from_slice(b" or none");
+    }
+    Ok(())
+}
+
+fn put_ranges(out: &mut Vec<u8>, field: FieldName, ranges: &[Range]) -> Result<(), AllocError>
+    ensures { OnOk result (out.new.items ≡ out.old.items ++ any_of (range_text field) ranges.now) }
+{
+    let Some((first, rest)) = ranges.split_first() else {
+        return Ok(());
+    };
+    put_range(out, field, first)?;
+    put_more_ranges(out, field, rest)
+}
+
+fn put_more_ranges(out: &mut Vec<u8>, field: FieldName, ranges: &[Range]) -> Result<(), AllocError>
+    ensures { OnOk result (out.new.items ≡
+        out.old.items ++ flat_map (λ other. codes " or " ++ range_text field other) ranges.now) }
+{
+    for range in ranges {
+        put_other_range(out, field, range)?;
+    }
+    Ok(())
+}
+
+fn put_other_range(out: &mut Vec<u8>, field: FieldName, range: &Range) -> Result<(), AllocError>
+    ensures { OnOk result (out.new.items ≡
+        out.old.items ++ (codes " or " ++ range_text field range.now)) }
+{
+    out.extend_from_slice(b" or ")?;
+    put_range(out, field, range)
+}
+
+/// Appends a range, and the name of a single number.
+fn put_range(out: &mut Vec<u8>, field: FieldName, range: &Range) -> Result<(), AllocError>
+    ensures { OnOk result (out.new.items ≡ out.old.items ++ range_text field range.now) }
+{
+    put_end(out, field, range.low)?;
+    if range.low == range.high {
+        return put_named(out, field, range.low);
+    }
+    if range.high < u64::MAX {
+        out.extend_from_slice(b"..")?;
+        return put_end(out, field, range.high);
+    }
+    out.extend_from_slice(b" or more")
+}
+
+/// Appends an end of a range.
+fn put_end(out: &mut Vec<u8>, field: FieldName, number: u64) -> Result<(), AllocError>
+    ensures { OnOk result (out.new.items ≡ out.old.items ++ end_text field number) }
+{
+    match field {
+        FieldName::SourceKey | FieldName::Sender | FieldName::Station => put_station(out, number),
+        _ => put_decimal(out, number),
+    }
+}
+
+/// Appends a station by its key: as an address, if the key has the 48 bits of one.
+fn put_station(out: &mut Vec<u8>, key: u64) -> Result<(), AllocError>
+    ensures { OnOk result (out.new.items ≡ out.old.items ++ station_text key) }
+{
+    if KEYS <= key {
+        return put_decimal(out, key);
+    }
+    let [_, _, a, b, c, d, high, low] = key.to_be_bytes();
+    BipAddr::from_octets(&[a, b, c, d, high, low]).put_text(out)
+}
+
+/// The standard's name of a number of a field, if it has one.
+fn name_of(field: FieldName, number: u64) -> Option<&'static str>
+    ensures { name_text (option_map (λ name. name.now) result) ≡ named_text field number }
+{
+    match field {
+        FieldName::Service => service_name(number),
+        FieldName::ObjectType => object_type_name(number),
+        FieldName::Property => property_name(number),
+        _ => None,
+    }
+}
+
+fn put_named(out: &mut Vec<u8>, field: FieldName, number: u64) -> Result<(), AllocError>
+    ensures { OnOk result (out.new.items ≡ out.old.items ++ named_text field number) }
+{
+    match name_of(field, number) {
+        Some(name) => put_spaced(out, name),
+        None => Ok(()),
+    }
+}
+
+fn put_spaced(out: &mut Vec<u8>, name: &str) -> Result<(), AllocError>
+    ensures { OnOk result (out.new.items ≡ out.old.items ++ name_text (Some name.now)) }
+{
+    out.push(b' ')?;
+    out.extend_from_slice(name.as_bytes())
+}
+
+/// The words before the values of a field.
+fn word_of(field: FieldName) -> &'static str
+    ensures { result.now ≡ word_of field }
+{
+    match field {
+        FieldName::Operation => "operation ",
+        FieldName::Port => "port ",
+        FieldName::SourceNetwork => "from network ",
+        FieldName::SourceKey => "from ",
+        FieldName::DestinationNetwork => "to network ",
+        FieldName::Service => "service ",
+        FieldName::ObjectType => "type ",
+        FieldName::Instance => "instance ",
+        FieldName::Property => "property ",
+        FieldName::Priority => "priority ",
+        FieldName::Sender => "sender ",
+        FieldName::Station => "to ",
+    }
+}
+
+/// What is missing if the field is absent.
+fn noun_of(field: FieldName) -> &'static str
+    ensures { result.now ≡ noun_of field }
+{
+    match field {
+        FieldName::Operation => "operation",
+        FieldName::Port => "port",
+        FieldName::SourceNetwork => "source network",
+        FieldName::SourceKey => "source",
+        FieldName::DestinationNetwork => "destination",
+        FieldName::Service => "service",
+        FieldName::ObjectType => "type",
+        FieldName::Instance => "instance",
+        FieldName::Property => "property",
+        FieldName::Priority => "priority",
+        FieldName::Sender => "sender",
+        FieldName::Station => "station",
+    }
+}
