@@ -1,2 +1,5 @@
 pub mod Text
+pub mod Items
+pub mod Fit
+pub mod Place
 pub mod internal

@@ -1,19 +1,28 @@
-//! The value objects with their slots.
+//! The value objects with their slots: written, and read.
 
-ghost use Rattle.std.specs.Prelude.{◌≡◌, length};
+ghost use Rattle.std.specs.Prelude.{◌≡◌, ◌++◌, ◌∷◌, [], None, codes, get_or, length, IfOk, IfErr, IfSome};
+ghost use Rattle.std.specs.Fmt.{decimal};
+ghost use Rattle.std.specs.List.{list_any};
 ghost use Rattle.gw_priority.specs.declared.array.TheConstants.{PRIORITIES};
-ghost use Rattle.gw_tags.specs.Object.{object_view};
-ghost use Rattle.gw_state_text.specs.Text.{identifier_text, object_line, object_text, slot_text, slots_text};
+ghost use Rattle.gw_tags.specs.Object.{IsObject, object_view};
+ghost use Rattle.gw_state_text.specs.Fit.{AreOfKind, FitsKind, FitsObjects, is_object, kind_of};
+ghost use Rattle.gw_state_text.specs.Text.{identifier_text, object_line, object_text, slot_text, slots_text, value_text};
+ghost use Rattle.gw_state_text.specs.internal.Objects.{IsHead, StopsInSlots, head_text};
 ghost use Rattle.gw_state_text.specs.internal.Put.{IsPut};
 
+use crate::block::Block;
+use crate::fault::{FaultKind, Stop};
 use crate::items::Lines;
-use crate::value::put_value;
+use crate::value::{put_value, value_in};
+use crate::words::{after_word, long_to, octet_to, parted_at, short_to};
 use gw_addr::{put_decimal, put_octet, put_slice};
+use gw_configuration::{MAX_OBJECTS, ObjectKind};
 use gw_objects::PropertyValue;
-use gw_priority::PRIORITIES;
+use gw_priority::{LOWEST, PRIORITIES, PriorityArray, RESERVED};
 use gw_saved::SavedObject;
 use gw_tags::ObjectId;
-use std::alloc::AllocError;
+use std::alloc::{AllocError, Global};
+use std::array;
 
 /// Appends the line of a slot, if it isn't empty.
 fn put_slot(out: &mut Vec<u8>, priority: u8, slot: &Option<PropertyValue>) -> Result<(), AllocError>
@@ -87,5 +96,235 @@ impl Lines for Objects {
 
     fn put(&self, out: &mut Vec<u8>, item: &SavedObject) -> Result<(), AllocError> {
         put_object(out, item)
+    }
+}
+
+/// The type of an object that has slots, by its number.
+fn kind_of(number: u16) -> Option<ObjectKind>
+    ensures { result ≡ kind_of number }
+{
+    match number {
+        5 => Some(ObjectKind::BinaryValue),
+        19 => Some(ObjectKind::MultiStateValue),
+        40 => Some(ObjectKind::CharacterStringValue),
+        45 => Some(ObjectKind::IntegerValue),
+        48 => Some(ObjectKind::PositiveIntegerValue),
+        _ => None,
+    }
+}
+
+/// A value of an object of this type up to such a character, and what comes after it.
+fn value_to(
+    alloc: Global,
+    kind: ObjectKind,
+    c: u8,
+    text: &[u8],
+) -> Result<(PropertyValue, &[u8]), FaultKind>
+    ensures found { IfOk result (λ x. text.now ≡ value_text x.0 ++ c ∷ x.1.now) }
+    ensures is { IfOk result (λ x. FitsKind kind x.0) }
+{
+    let Some((word, rest)) = parted_at(c, text) else {
+        return Err(FaultKind::Line);
+    };
+    let value = value_in(alloc, kind, word)?;
+    Ok((value, rest))
+}
+
+/// The priority that a line of a slot names at the front of a text, and what comes after it.
+fn priority_at(text: &[u8]) -> Option<(u8, &[u8])>
+    ensures { IfSome result (λ x. text.now ≡ codes "slot " ++ (decimal x.0 ++ 32 ∷ x.1.now)) }
+{
+    let words = after_word(b"slot ", text)?;
+    octet_to(b' ', words)
+}
+
+/// The slot of this priority, which is empty if the text doesn't begin with its line, and what comes after
+/// that. No write can command or empty slot 6 (clause 19.2.3): its line is `Range`.
+fn slot_at(
+    alloc: Global,
+    kind: ObjectKind,
+    priority: u8,
+    text: &[u8],
+) -> Result<(Option<PropertyValue>, &[u8]), FaultKind>
+    ensures found { IfOk result (λ x. text.now ≡ slot_text priority x.0 ++ x.1.now) }
+    ensures is { IfOk result (λ x. AreOfKind kind (x.0 ∷ [])) }
+    ensures sixth { IfOk result (λ x. priority ≡ 6 → x.0 ≡ None) }
+{
+    let Some((named, words)) = priority_at(text) else {
+        return Ok((None, text));
+    };
+    if named == RESERVED {
+        return Err(FaultKind::Range);
+    }
+    if named != priority {
+        return Ok((None, text));
+    }
+    let (value, rest) = value_to(alloc, kind, b'\n', words)?;
+    Ok((Some(value), rest))
+}
+
+/// The sixteen slots of an object of this type at the front of a text, and what comes after their lines.
+fn slots_at(
+    alloc: Global,
+    kind: ObjectKind,
+    text: &[u8],
+) -> Result<([Option<PropertyValue>; PRIORITIES], &[u8]), Stop>
+    ensures found { IfOk result (λ x. text.now ≡ slots_text 1 x.0 ++ x.1.now) }
+    ensures is { IfOk result (λ x. AreOfKind kind x.0) }
+    ensures sixteen { IfOk result (λ x. length x.0 ≡ 16) }
+    ensures sixth { IfOk result (λ x. get_or x.0 5 None ≡ None) }
+    ensures stop { IfErr result (λ stop. StopsInSlots text.now stop.left) }
+{
+    let mut slots = array::from_fn(|_| None);
+    let mut rest = text;
+    for place in 0..PRIORITIES {
+        let (slot, remaining) = match slot_at(alloc, kind, place as u8 + 1, rest) {
+            Ok(read) => read,
+            Err(fault) => return Err(Stop::at(rest, fault)),
+        };
+        slots[place] = slot;
+        rest = remaining;
+    }
+    match priority_at(rest) {
+        None => Ok((slots, rest)),
+        Some((priority, _)) => Err(Stop::at(rest, slot_fault(&slots, priority))),
+    }
+}
+
+/// What is wrong with a slot of this priority after the last one: there is no such priority, or it came
+/// before, or it is out of order.
+fn slot_fault(slots: &[Option<PropertyValue>; PRIORITIES], priority: u8) -> FaultKind {
+    if priority == 0 || LOWEST < priority {
+        return FaultKind::Range;
+    }
+    match slots[usize::from(priority - 1)] {
+        Some(_) => FaultKind::Twice,
+        None => FaultKind::Line,
+    }
+}
+
+/// What the line of an object says.
+struct Head {
+    object: ObjectId,
+    kind: ObjectKind,
+    configured: PropertyValue,
+    default: PropertyValue,
+}
+
+// By hand: a derived one is proved part by part wherever one is dropped (docs/GATE.md).
+impl Drop for Head {
+    fn drop(self) {
+        let Head {
+            object: _,
+            kind: _,
+            configured: _,
+            default: _,
+        } = self;
+    }
+}
+
+/// The identifier of an object, and what comes after it in its line. `Range` if there is no such object.
+fn identifier_at(text: &[u8]) -> Result<(ObjectId, &[u8]), FaultKind>
+    ensures found { IfOk result (λ x. text.now ≡ identifier_text (object_view x.0) ++ x.1.now) }
+    ensures is { IfOk result (λ x. IsObject (object_view x.0)) }
+{
+    let Some(words) = after_word(b"object ", text) else {
+        return Err(FaultKind::Line);
+    };
+    let Some((kind, words)) = short_to(b' ', words) else {
+        return Err(FaultKind::Line);
+    };
+    let Some((instance, words)) = long_to(b' ', words) else {
+        return Err(FaultKind::Line);
+    };
+    match ObjectId::new(kind, instance) {
+        Some(object) => Ok((object, words)),
+        None => Err(FaultKind::Range),
+    }
+}
+
+/// The line of an object at the front of a text, and what comes after it.
+fn head_at(alloc: Global, text: &[u8]) -> Result<(Head, &[u8]), FaultKind>
+    ensures found { IfOk result (λ x. text.now ≡ head_text x.0 ++ x.1.now) }
+    ensures is { IfOk result (λ x. IsHead x.0) }
+{
+    let (object, words) = identifier_at(text)?;
+    let Some(kind) = kind_of(object.kind) else {
+        return Err(FaultKind::Range);
+    };
+    let (configured, words) = value_to(alloc, kind, b' ', words)?;
+    let (default, rest) = value_to(alloc, kind, b'\n', words)?;
+    let head = Head {
+        object,
+        kind,
+        configured,
+        default,
+    };
+    Ok((head, rest))
+}
+
+/// Whether an object has this identifier.
+fn has_object(objects: &[SavedObject], wanted: ObjectId) -> bool
+    ensures { result ≡ list_any (is_object (object_view wanted)) objects.now }
+{
+    objects.iter().any(|object| wanted == object.object())
+}
+
+impl Block for Objects {
+    type Item = SavedObject;
+
+    ghost line = { λ objects object. object_text object };
+
+    ghost Fits = { λ objects before object. FitsObjects before object };
+
+    ghost count = { λ objects. 256 };
+
+    fn word(&self) -> &'static [u8] {
+        b"object "
+    }
+
+    fn most(&self) -> usize {
+        MAX_OBJECTS
+    }
+
+    fn read<'a>(
+        &self,
+        alloc: Global,
+        before: &[SavedObject],
+        text: &'a [u8],
+    ) -> Result<(SavedObject, &'a [u8]), Stop> {
+        let (head, rest) = match head_at(alloc, text) {
+            Ok(read) => read,
+            Err(kind) => return Err(Stop::at(text, kind)),
+        };
+        if has_object(before, head.object) {
+            return Err(Stop::at(text, FaultKind::Twice));
+        }
+        let (slots, rest) = match slots_at(alloc, head.kind, rest) {
+            Ok(read) => read,
+            Err(stop) => return Err(stop),
+        };
+        Ok((head.object_with(slots), rest))
+    }
+}
+
+impl Head {
+    /// The object of this line and of the slots after it.
+    fn object_with(self, slots: [Option<PropertyValue>; PRIORITIES]) -> SavedObject
+        ensures object { result.object ≡ object_view self.object }
+        ensures configured { result.configured ≡ self.configured }
+        ensures slots { result.slots ≡ record { slots = slots; default = self.default } }
+    {
+        let Head {
+            object,
+            kind: _,
+            configured,
+            default,
+        } = self;
+        SavedObject::new(
+            object,
+            configured,
+            PriorityArray::from_slots(slots, default),
+        )
     }
 }

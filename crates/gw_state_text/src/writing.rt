@@ -20,12 +20,16 @@ fn put_text(out: &mut Vec<u8>, saved: &Saved) -> Result<(), AllocError>
     put_slice(out, b"bacgw state 1\n")?;
     put_counts(out, saved.counts())?;
     put_all(&Ports, out, saved.ports())?;
-    put_all(&Routes, out, saved.routes())?;
+    let routes = Routes {
+        ports: saved.ports().len(),
+    };
+    put_all(&routes, out, saved.routes())?;
     put_all(&Objects, out, saved.objects())?;
     put_slice(out, b"end\n")
 }
 
-/// Appends the text of a state. An `Err` only if memory was refused; the buffer then holds what it held.
+/// Appends the text of a state ([`read_state`](crate::read_state) reads it back). An `Err` only if memory
+/// was refused; the buffer then holds what it held.
 pub fn put_state(saved: &Saved, out: &mut Vec<u8>) -> Result<(), AllocError>
     ensures ok { OnOk result (out.new.items ≡ out.old.items ++ state_text saved.now) }
     ensures err { OnErr result (out.new.items ≡ out.old.items) }

@@ -1,0 +1,47 @@
+use Rattle.std.proofs.Common.{◌≡◌, [], sym}
+use Rattle.std.proofs.lemmas.Bool.{eqb-true}
+use Rattle.std.proofs.lemmas.List.{nil_from_length}
+use Rattle.gw_state_text.proofs.StateLemmas.{after_end, at_counts, at_end, at_first, counted, in_objects, in_ports, in_routes, read_objects, read_ports, read_routes, state_found, stops_so}
+use Rattle.gw_state_text.proofs.reading.state_at.Goals as goal
+
+pub returns-in_default-clause-stop : goal.returns-in_default-clause-stop
+returns-in_default-clause-stop c =
+    stops_so _ _ _ c.at.ensures.left (at_first c.args.text.now)
+
+pub returns-in_default-counts_at-clause-stop : goal.returns-in_default-counts_at-clause-stop
+returns-in_default-counts_at-clause-stop c =
+    stops_so _ _ _ c.at-in_default-counts_at.ensures.left (at_counts c.args.text.now c.in-Some.lines.now c.in-Some.ensures.found)
+
+pub returns-in-Err-clause-stop : goal.returns-in-Err-clause-stop
+returns-in-Err-clause-stop c =
+    in_ports c.args.text.now c.in-Some-counts_at.lines_of_ports.now c.in-Some-counts_at.counts c.in-Err.stop.left (counted c.args.text.now c.in-Some.lines.now c.in-Some-counts_at.lines_of_ports.now c.in-Some-counts_at.counts c.in-Some.ensures.found c.in-Some-counts_at.ensures.found) c.in-Err.ensures.stop
+
+pub returns-in-Err-read_all-clause-stop : goal.returns-in-Err-read_all-clause-stop
+returns-in-Err-read_all-clause-stop c =
+    in_routes c.args.text.now c.in-Ok.read.1.now c.in-Some-counts_at.counts c.in-Ok.read.0.items c.in-Err-read_all.stop.left (read_ports c.args.text.now c.in-Some-counts_at.lines_of_ports.now c.in-Ok.read.1.now c.in-Some-counts_at.counts c.in-Ok.read.0.items (counted c.args.text.now c.in-Some.lines.now c.in-Some-counts_at.lines_of_ports.now c.in-Some-counts_at.counts c.in-Some.ensures.found c.in-Some-counts_at.ensures.found) c.in-Ok.ensures.found) c.in-Err-read_all.ensures.stop
+
+pub returns-in-Err-read_all-2-clause-stop : goal.returns-in-Err-read_all-2-clause-stop
+returns-in-Err-read_all-2-clause-stop c =
+    in_objects c.args.text.now c.in-Ok-read_all.read.1.now c.in-Some-counts_at.counts c.in-Ok.read.0.items c.in-Ok-read_all.read.0.items c.in-Err-read_all-2.stop.left (read_routes c.args.text.now c.in-Ok.read.1.now c.in-Ok-read_all.read.1.now c.in-Some-counts_at.counts c.in-Ok.read.0.items c.in-Ok-read_all.read.0.items (read_ports c.args.text.now c.in-Some-counts_at.lines_of_ports.now c.in-Ok.read.1.now c.in-Some-counts_at.counts c.in-Ok.read.0.items (counted c.args.text.now c.in-Some.lines.now c.in-Some-counts_at.lines_of_ports.now c.in-Some-counts_at.counts c.in-Some.ensures.found c.in-Some-counts_at.ensures.found) c.in-Ok.ensures.found) c.in-Ok-read_all.ensures.found) c.in-Err-read_all-2.ensures.stop
+
+pub returns-in_default-after_word-clause-stop : goal.returns-in_default-after_word-clause-stop
+returns-in_default-after_word-clause-stop c =
+    stops_so _ _ _ c.at-in_default-after_word.ensures.left
+    (at_end c.args.text.now c.in-Ok-read_all-2.read.1.now c.in-Some-counts_at.counts c.in-Ok.read.0.items c.in-Ok-read_all.read.0.items c.in-Ok-read_all-2.read.0.items (read_objects c.args.text.now c.in-Ok-read_all.read.1.now c.in-Ok-read_all-2.read.1.now c.in-Some-counts_at.counts c.in-Ok.read.0.items c.in-Ok-read_all.read.0.items c.in-Ok-read_all-2.read.0.items (read_routes c.args.text.now c.in-Ok.read.1.now c.in-Ok-read_all.read.1.now c.in-Some-counts_at.counts c.in-Ok.read.0.items c.in-Ok-read_all.read.0.items (read_ports c.args.text.now c.in-Some-counts_at.lines_of_ports.now c.in-Ok.read.1.now c.in-Some-counts_at.counts c.in-Ok.read.0.items (counted c.args.text.now c.in-Some.lines.now c.in-Some-counts_at.lines_of_ports.now c.in-Some-counts_at.counts c.in-Some.ensures.found c.in-Some-counts_at.ensures.found) c.in-Ok.ensures.found) c.in-Ok-read_all.ensures.found) c.in-Ok-read_all-2.ensures.found))
+
+pub returns-then-not-is_empty-clause-stop : goal.returns-then-not-is_empty-clause-stop
+returns-then-not-is_empty-clause-stop c =
+    stops_so _ _ _ c.at-then-not-is_empty.ensures.left
+    (after_end c.args.text.now c.in-Ok-read_all-2.read.1.now c.in-Some-after_word.after.now c.in-Some-counts_at.counts c.in-Ok.read.0.items c.in-Ok-read_all.read.0.items c.in-Ok-read_all-2.read.0.items (read_objects c.args.text.now c.in-Ok-read_all.read.1.now c.in-Ok-read_all-2.read.1.now c.in-Some-counts_at.counts c.in-Ok.read.0.items c.in-Ok-read_all.read.0.items c.in-Ok-read_all-2.read.0.items (read_routes c.args.text.now c.in-Ok.read.1.now c.in-Ok-read_all.read.1.now c.in-Some-counts_at.counts c.in-Ok.read.0.items c.in-Ok-read_all.read.0.items (read_ports c.args.text.now c.in-Some-counts_at.lines_of_ports.now c.in-Ok.read.1.now c.in-Some-counts_at.counts c.in-Ok.read.0.items (counted c.args.text.now c.in-Some.lines.now c.in-Some-counts_at.lines_of_ports.now c.in-Some-counts_at.counts c.in-Some.ensures.found c.in-Some-counts_at.ensures.found) c.in-Ok.ensures.found) c.in-Ok-read_all.ensures.found) c.in-Ok-read_all-2.ensures.found) c.in-Some-after_word.ensures.found)
+
+pub returns-in-Ok-new-clause-found : goal.returns-in-Ok-new-clause-found
+returns-in-Ok-new-clause-found c =
+    let nothing_more : c.in-Some-after_word.after.now ≡ [] = nil_from_length c.in-Some-after_word.after.now (eqb-true _ 0 (sym c.if-not-is_empty.ensures)) in
+    state_found c.args.text.now c.in-Ok-read_all-2.read.1.now c.in-Some-after_word.after.now c.in-Some-counts_at.counts c.in-Ok.read.0.items c.in-Ok-read_all.read.0.items c.in-Ok-read_all-2.read.0.items c.in-Ok-new.saved
+    (read_objects c.args.text.now c.in-Ok-read_all.read.1.now c.in-Ok-read_all-2.read.1.now c.in-Some-counts_at.counts c.in-Ok.read.0.items c.in-Ok-read_all.read.0.items c.in-Ok-read_all-2.read.0.items (read_routes c.args.text.now c.in-Ok.read.1.now c.in-Ok-read_all.read.1.now c.in-Some-counts_at.counts c.in-Ok.read.0.items c.in-Ok-read_all.read.0.items (read_ports c.args.text.now c.in-Some-counts_at.lines_of_ports.now c.in-Ok.read.1.now c.in-Some-counts_at.counts c.in-Ok.read.0.items (counted c.args.text.now c.in-Some.lines.now c.in-Some-counts_at.lines_of_ports.now c.in-Some-counts_at.counts c.in-Some.ensures.found c.in-Some-counts_at.ensures.found) c.in-Ok.ensures.found) c.in-Ok-read_all.ensures.found) c.in-Ok-read_all-2.ensures.found)
+    c.in-Some-after_word.ensures.found nothing_more c.in-Ok-new.ensures.ports c.in-Ok-new.ensures.routes c.in-Ok-new.ensures.objects
+    c.in-Ok-new.ensures.counts
+
+pub returns-in-Err-Counts-clause-stop : goal.returns-in-Err-Counts-clause-stop
+returns-in-Err-Counts-clause-stop c =
+    stops_so _ _ _ c.at-in-Err-Counts.ensures.left (at_counts c.args.text.now c.in-Some.lines.now c.in-Some.ensures.found)
