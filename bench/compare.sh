@@ -127,7 +127,9 @@ def random_rule(dice, number, form):
     for field in dice.sample(fields, dice.choice([0, 0, 1, 1, 2, 2, 3])):
         made = []
         for _ in range(dice.choice([1, 1, 2])):
-            low, high = sorted(dice.choice(SOME[field]) for _ in range(2))
+            # A rule of formats 1 and 2 can't name the global network.
+            some = [it for it in SOME[field] if form == 3 or it != 65535]
+            low, high = sorted(dice.choice(some) for _ in range(2))
             made.append((low, high))
         ranges[field] = made
     return {"name": f"r{number}", "allow": dice.random() < 0.5, "ranges": ranges}

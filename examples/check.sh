@@ -259,7 +259,8 @@ same 'what stood in the log before a run' "$(cat "$work/log"; echo .)" 'a line o
 .'
 
 # A log that is made is its owner's alone, and a symbolic link is not followed.
-ran 0 '' --config "$work/loopback.toml" --log "$work/made.log" --turns 1
+"$program" run --config "$work/loopback.toml" --log "$work/made.log" --turns 1 < /dev/null 2> /dev/null
+same 'the status of a run that makes its log' "$?" 0
 same 'who may read a log that was made' "$(stat -c %a "$work/made.log")" 600
 ln -s "$work/made.log" "$work/link.log"
 ran 1 'bacgw: log failed' --config "$work/loopback.toml" --log "$work/link.log" --turns 1
