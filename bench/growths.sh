@@ -97,8 +97,8 @@ def tells_it(line, right):
     return line == right or b"memory" in line.lower() or dropped is not None or is_cut(line, right)
 
 
-def is_well_answered(answer, right, told=b"err " + OUT_OF_MEMORY):
-    """Whether a case came to what is right, or told that there was no memory. Of a `run` that is the line `told`."""
+def is_well_answered(answer, right, told=b"err " + OUT_OF_MEMORY, at_end=(b"status 1",)):
+    """Whether a case came to what is right, or told that there was no memory. Of a `run` that is the line `told`, and one of the statuses `at_end`."""
     status, output, errors = answer
     if answer == right:
         return True
@@ -107,7 +107,7 @@ def is_well_answered(answer, right, told=b"err " + OUT_OF_MEMORY):
     lines, wanted = output.splitlines(), right[1].splitlines()
     if status != 0 or not lines:
         return False
-    if told in lines and b"status 1" in lines:
+    if told in lines and any(status in lines for status in at_end):
         printed = [line for line in lines if line.startswith(b"out ")]
         return printed == [line for line in wanted if line.startswith(b"out ")][:len(printed)]
     if lines[-1] in (b"out of memory", b"write failed"):  # the second where what is written to had to grow
@@ -134,7 +134,7 @@ DROPPED = re.compile(rb"err stats seconds=\d+ datagrams=0 memory_drops=1 denials
 def is_served_without(turns, most, lines, wanted):
     """Whether a run was served to its end without its one datagram: that found no memory and was dropped, and each report tells so,
     as far as standard error, which takes at most so many octets, has room for it."""
-    kept = [line for line in wanted if line.startswith((b"== ", b"err bacgw: serving")) or line == b"log "]
+    kept = [line for line in wanted if line.startswith((b"== ", b"err bacgw: serving", b"err bacgw: net.ipv4.ip_forward")) or line == b"log "]
     reports = [line for line in lines if line.startswith(REPORT)]
     others = [line for line in lines if line not in reports]
     told = [line for line in others if line not in (b"status 0", b"receives %d sends 0" % turns)]
@@ -159,11 +159,13 @@ def judge_of(section):
     most = int(narrow[1]) if narrow else None
     told = b"err " + OUT_OF_MEMORY[:most]
     turns = int(words[words.index("--turns") + 1]) if "--turns" in words[:-1] else None
+    # `compare` ends with 2 at a fault, but before the command is read a want of memory is one of any call.
+    at_end = (b"status 1", b"status 2") if words[0] == "compare" else (b"status 1",)
 
     def is_well_run(answer, right):
         lines, wanted = answer[1].splitlines(), right[1].splitlines()
         explains = words[0] == "check" and "--explain" in words or "--verbose" in words or b"err bacgw: bad command line" in wanted
-        return (is_well_answered(answer, right, told) or answer[0] == 0 and explains and is_told_without_note(lines, wanted)
+        return (is_well_answered(answer, right, told, at_end) or answer[0] == 0 and explains and is_told_without_note(lines, wanted)
                 or answer[0] == 0 and turns is not None and is_served_without(turns, most, lines, wanted)
                 or answer[0] == 0 and has_no_room(most, lines))
 
