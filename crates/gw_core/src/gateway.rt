@@ -323,7 +323,7 @@ impl Gateway {
     }
 
     /// Does what [`Gateway::step`] does, and says why the datagram was dropped, if it was.
-    #[inline(always)]
+    #[inline(never)]
     pub(crate) fn take(
         &mut self,
         alloc: Global,
