@@ -98,7 +98,7 @@ def tells_it(line, right):
 
 
 def is_well_answered(answer, right, told=b"err " + OUT_OF_MEMORY, at_end=(b"status 1",)):
-    """Whether a case came to what is right, or told that there was no memory. Of a `run` that is the line `told`, and one of the statuses `at_end`."""
+    """Whether a case came to what is right, or says that there was no memory. Of a `run` that is the line `told`, and one of the statuses `at_end`."""
     status, output, errors = answer
     if answer == right:
         return True
