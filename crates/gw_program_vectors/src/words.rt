@@ -4,7 +4,7 @@ use gw_audit::Moment;
 use gw_configuration::ConfigFault;
 use gw_migration::MigrationFault;
 use gw_script::LineFlaw;
-use gw_shell::{Choice, Fault, RunOptions, choice_of, end};
+use gw_shell::{Choice, Fault, RunOptions, WordsFault, choice_of, end};
 use itoa::Buffer;
 use std::alloc::{AllocError, Global};
 use std::io;
@@ -34,7 +34,7 @@ pub fn words(alloc: Global, line: &str, out: &mut Vec<u8>) -> io::Result<()> {
 /// What is chosen.
 fn put_choice(
     alloc: Global,
-    choice: &Result<Choice, Fault>,
+    choice: &Result<Choice, WordsFault>,
     out: &mut Vec<u8>,
 ) -> Result<(), AllocError> {
     match choice {
@@ -73,8 +73,8 @@ fn put_choice(
         ),
         Ok(Choice::Log(start)) => put_log(alloc, *start, out),
         Ok(Choice::Help(_)) => put(out, &["help"]),
-        Ok(Choice::Usage(_)) | Err(Fault::CommandLine) => put(out, &["refused"]),
-        Err(Fault::Memory) => put(out, &["out of memory"]),
+        Ok(Choice::Usage(_)) | Err(WordsFault::CommandLine) => put(out, &["refused"]),
+        Err(WordsFault::Memory) => put(out, &["out of memory"]),
         Err(_) => put(out, &["another fault"]),
     }
 }

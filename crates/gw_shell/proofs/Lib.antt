@@ -4,4 +4,3 @@ mod ChoiceLemmas
 mod LinesLemmas
 mod ReplayLemmas
 mod ServingLemmas
-mod WordsLemmas

@@ -3,8 +3,10 @@ use Rattle.std.specs.Prelude.{◌≡◌, ◌⊎◌, IsTrue, ℕ, Bool, true, fal
 use Rattle.std.specs.Prelude.{Result, Ok, Err, string_bytes}
 use Rattle.std.specs.List.{list_all}
 use Rattle.gw_explanation.specs.Explanation.{ExplainsText, is_printed}
-use Rattle.gw_shell.specs.declared.command_line.Choice.{Choice}
-use Rattle.gw_shell.specs.declared.command_line.Choice.TheVariants as choice
+use Rattle.gw_command_line.specs.declared.command_line.Choice.{Choice}
+use Rattle.gw_command_line.specs.declared.command_line.Choice.TheVariants as choice
+use Rattle.gw_command_line.specs.declared.fault.WordsFault.{WordsFault}
+use Rattle.gw_command_line.specs.declared.fault.WordsFault.TheVariants as words
 use Rattle.gw_shell.specs.declared.fault.Fault.{Fault}
 use Rattle.gw_shell.specs.declared.fault.Fault.TheVariants as fault
 use Rattle.gw_compare.specs.declared.comparison.Compared.{Compared}
@@ -94,6 +96,16 @@ status_of fault.Different = 1
 abbrev pub status_of_comparison : Fault → ℕ
 status_of_comparison fault.Different = 1
 status_of_comparison _ = 2
+
+-- why words choose nothing, as the program tells it
+abbrev pub fault_of_words : WordsFault → Fault
+fault_of_words words.CommandLine = fault.CommandLine
+fault_of_words words.Memory = fault.Memory
+
+-- what words choose, or why they choose nothing, as the program tells it
+abbrev pub chosen : Result Choice WordsFault → Result Choice Fault
+chosen (Ok choice) = Ok choice
+chosen (Err f) = Err (fault_of_words f)
 
 -- the fault of a configuration, as the program tells it
 abbrev pub fault_of_configuration : ConfigFault → Fault

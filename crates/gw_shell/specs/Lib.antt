@@ -1,7 +1,6 @@
 pub mod Announcement
 pub mod Asking
 pub mod Checked
-pub mod CommandLine
 pub mod Configured
 pub mod Ending
 pub mod Files

@@ -11,17 +11,23 @@ use Rattle.gw_configuration.specs.Configuration.{Configuration}
 use Rattle.gw_migration.specs.Migration.{Migrates}
 use Rattle.gw_migration.specs.declared.fault.MigrationFault.TheVariants as migration
 use Rattle.gw_rules.specs.declared.format.Format.TheVariants as formats
-use Rattle.gw_shell.specs.declared.command_line.Choice.{Choice}
-use Rattle.gw_shell.specs.declared.command_line.Choice.TheVariants as choice
+use Rattle.gw_command_line.specs.declared.command_line.Choice.{Choice}
+use Rattle.gw_command_line.specs.declared.command_line.Choice.TheVariants as choice
+use Rattle.gw_command_line.specs.CommandLine.{IsAnswer}
+use Rattle.gw_command_line.specs.declared.fault.WordsFault.{WordsFault}
 use Rattle.gw_shell.specs.declared.fault.Fault.{Fault}
 use Rattle.gw_shell.specs.declared.fault.Fault.TheVariants as fault
 use Rattle.gw_shell.specs.Asking.{Answers}
 use Rattle.gw_shell.specs.Configured.{IsConfigurationOf, IsConfigured}
-use Rattle.gw_shell.specs.Ending.{FaultNote, error_text, status_by, usage_of}
+use Rattle.gw_shell.specs.Ending.{FaultNote, chosen, error_text, status_by, usage_of}
 use Rattle.gw_shell.specs.Checked.{IsChecked}
 use Rattle.gw_shell.specs.Replay.{Plays}
 use Rattle.gw_shell.specs.Serving.{IsFlushedFor, LeavesRun, Machine}
 use Rattle.gw_shell.specs.Telling.{Tells}
+
+-- what the words of a call choose, or why they choose nothing
+abbrev pub IsChoiceOf : List (List ℕ) → Result Choice Fault → Type 0
+IsChoiceOf words choice = (read : Result Choice WordsFault) × IsAnswer words read × (choice ≡ chosen read)
 
 -- known octets grow by a front of a text
 pub record AppendsFront (held holds : Option (List ℕ)) (text : List ℕ) : Type 0 where

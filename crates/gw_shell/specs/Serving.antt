@@ -24,7 +24,7 @@ use Rattle.gw_system.specs.declared.opening.OpenFailure.{OpenFailure}
 use Rattle.gw_system.specs.declared.opening.OpenFailure.TheVariants as opening
 use Rattle.gw_system.specs.declared.opening.SocketFailure.{SocketFailure}
 use Rattle.gw_shell.specs.Ending.{FaultNote, fault_of_opening, fault_of_serving}
-use Rattle.gw_shell.specs.declared.options.RunOptions.{RunOptions}
+use Rattle.gw_command_line.specs.declared.options.RunOptions.{RunOptions}
 use Rattle.gw_shell.specs.declared.fault.Fault.{Fault}
 use Rattle.gw_shell.specs.declared.fault.Fault.TheVariants as fault
 

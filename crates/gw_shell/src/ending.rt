@@ -6,8 +6,8 @@ ghost use Rattle.std.specs.Process.{exit_status};
 ghost use Rattle.gw_shell.specs.declared.fault.Fault.TheVariants as fault;
 ghost use Rattle.gw_shell.specs.Ending.{error_text, line_of, name_of, reason_of, status_after, status_by, text_of, usage_of, words_of};
 
-use crate::command_line::Choice;
 use crate::fault::{Fault, name_of, reason_of, words_of};
+use gw_command_line::Choice;
 use gw_configuration::ConfigFault;
 use gw_migration::MigrationFault;
 use gw_script::{LineFlaw, OctetSink, WriteFailed, write_whole};

@@ -1,10 +1,11 @@
 //! Why the program ends without success, and its exit status.
 
 ghost use Rattle.std.specs.Prelude.{◌≡◌, ◌≢◌};
-ghost use Rattle.gw_shell.specs.Ending.{fault_of, fault_of_configuration, fault_of_migration, fault_of_opening, fault_of_serving, name_of, reason_of, status_of, status_of_comparison, words_of};
+ghost use Rattle.gw_shell.specs.Ending.{fault_of, fault_of_configuration, fault_of_migration, fault_of_opening, fault_of_serving, fault_of_words, name_of, reason_of, status_of, status_of_comparison, words_of};
 ghost use Rattle.gw_shell.specs.Lines.{fault_of_lines};
 ghost use Rattle.gw_shell.specs.declared.fault.Fault.TheVariants.{CommandLine, Memory};
 
+use gw_command_line::WordsFault;
 use gw_configuration::ConfigFault;
 use gw_core::{RunFault, ServeFault};
 use gw_migration::MigrationFault;
@@ -51,10 +52,7 @@ impl Fault {
         ensures memory { kind ≡ ErrorKind.OutOfMemory → result ≡ Memory }
         ensures other { kind ≢ ErrorKind.OutOfMemory → result ≡ CommandLine }
     {
-        match kind {
-            ErrorKind::OutOfMemory => Fault::Memory,
-            _ => Fault::CommandLine,
-        }
+        Fault::from(WordsFault::of_words(kind))
     }
 
     /// The exit status: 2 where what the program was given is wrong, and 1 where what it stands on failed.
@@ -128,6 +126,17 @@ pub fn words_of(flaw: LineFlaw) -> &'static str
         LineFlaw::Address => "behind its port stands no address and a space",
         LineFlaw::OddDigits => "its octets have an odd number of digits",
         LineFlaw::Digits => "its octets are no pairs of digits",
+    }
+}
+
+impl From<WordsFault> for Fault {
+    ghost from_gives = { λ words fault. fault ≡ fault_of_words words };
+
+    fn from(fault: WordsFault) -> Fault {
+        match fault {
+            WordsFault::CommandLine => Fault::CommandLine,
+            WordsFault::Memory => Fault::Memory,
+        }
     }
 }
 

@@ -7,27 +7,24 @@
 mod announcement;
 mod asking;
 mod checked;
-mod command_line;
 mod configured;
 mod ending;
 mod fault;
 mod files;
 mod lines;
-mod options;
 mod program;
 mod script;
 mod serving;
 mod telling;
 
-pub use command_line::{Choice, choice_of};
 pub use ending::end;
 pub use fault::{Fault, words_of};
 pub use files::{ConfigFiles, SystemFiles};
+pub use gw_command_line::{Choice, RunOptions, WordsFault, choice_of};
 pub use gw_system::{
     FailedStep, Host, LogFailure, OpenFailure, PollWaiter, Reason, SocketFailure, Step,
     SystemClock, SystemHost, UdpSock,
 };
-pub use options::RunOptions;
 pub use program::run;
 pub use script::replay;
 pub use serving::serve_fresh;

@@ -7,28 +7,26 @@ ghost use Rattle.std.specs.Process.{exit_status};
 ghost use Rattle.gw_configuration.specs.Configuration.{Configuration};
 ghost use Rattle.gw_migration.specs.declared.fault.MigrationFault.TheVariants as migration;
 ghost use Rattle.gw_rules.specs.declared.format.Format.TheVariants as formats;
-ghost use Rattle.gw_shell.specs.CommandLine.{IsAnswer};
 ghost use Rattle.gw_shell.specs.Configured.{IsConfigurationOf};
 ghost use Rattle.gw_shell.specs.Ending.{outcome_of_comparison};
 ghost use Rattle.gw_shell.specs.Ending.{FaultNote, IsExplainedBy};
 ghost use Rattle.gw_shell.specs.Files.{result_map};
 ghost use Rattle.gw_system.specs.Host.{OpensAtLine};
-ghost use Rattle.gw_shell.specs.Program.{AppendsFront, IsFlushed, IsFollowed, IsRun, LeavesAnswered, LeavesCompared, LeavesComparison, LeavesConfigured, LeavesInFormatThree, LeavesMigrated, LeavesOfText, LeavesOutput, LeavesPlayed};
+ghost use Rattle.gw_shell.specs.Program.{AppendsFront, IsChoiceOf, IsFlushed, IsFollowed, IsRun, LeavesAnswered, LeavesCompared, LeavesComparison, LeavesConfigured, LeavesInFormatThree, LeavesMigrated, LeavesOfText, LeavesOutput, LeavesPlayed};
 ghost use Rattle.gw_shell.specs.Serving.{IsFlushedFor, LeavesRun, machine};
 ghost use Rattle.gw_shell.specs.declared.fault.Fault.{Fault};
 ghost use Rattle.gw_shell.specs.declared.fault.Fault.TheVariants as fault;
 
 use crate::asking::why;
 use crate::checked::checked_text;
-use crate::command_line::{Choice, choice_of};
 use crate::configured::{configuration, configuration_in, configuration_of};
 use crate::ending::{end_by, tell, usage_of};
 use crate::fault::Fault;
 use crate::files::ConfigFiles;
-use crate::options::RunOptions;
 use crate::script::replay;
 use crate::serving::serve_ports;
 use crate::telling;
+use gw_command_line::{Choice, RunOptions, choice_of};
 use gw_compare::{Compared, put_comparison};
 use gw_configuration::{Config, ConfigFault};
 use gw_explanation::{Explanation, explain};
@@ -76,10 +74,13 @@ fn print<W: Write + Drop>(text: &[u8], output: &mut BufWriter<W>) -> Result<(), 
 /// What the words ask for, or the fault for which there are none.
 fn choice_from(alloc: Global, words: Result<Vec<String>, Fault>) -> Result<Choice, Fault>
     ensures { MatchResult words
-        (λ w. IsAnswer (map string_bytes w.items) result)
+        (λ w. IsChoiceOf (map string_bytes w.items) result)
         (λ f. result ≡ Err f) }
 {
-    choice_of(alloc, words?.as_slice())
+    match choice_of(alloc, words?.as_slice()) {
+        Ok(choice) => Ok(choice),
+        Err(fault) => Err(Fault::from(fault)),
+    }
 }
 
 /// Prints what a configuration has, and what else is asked for of it.
@@ -371,7 +372,7 @@ pub fn run<F: ConfigFiles, H: Host, R: OctetSource, W: Write + Drop, E: OctetSin
 ) -> ExitCode
     ensures run { IsRun
         (λ choice. MatchResult words
-        (λ w. IsAnswer (map string_bytes w.items) choice)
+        (λ w. IsChoiceOf (map string_bytes w.items) choice)
         (λ f. choice ≡ Err f))
         (LeavesOutput (F.Reads files.now)
         (machine (OpensAtLine (H.LogOpens host.old) (H.LogIsCut host.old) H.Log.held)

@@ -17,7 +17,7 @@ ghost use Rattle.gw_shell.specs.declared.fault.Fault.TheVariants as fault;
 use crate::announcement::{startup_line, warning_of};
 use crate::ending::tell;
 use crate::fault::Fault;
-use crate::options::RunOptions;
+use gw_command_line::RunOptions;
 use gw_configuration::Config;
 use gw_core::{Counts, Gateway, ServeStop, Served, Wire, serve, serve_with_reports};
 use gw_script::OctetSink;

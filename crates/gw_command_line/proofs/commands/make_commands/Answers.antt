@@ -2,7 +2,7 @@ use Rattle.std.proofs.Common.{rules, ap, ap₂, true, codes, ◌≡◌, ◌∙�
 use Rattle.std.proofs.lemmas.Result.{IfOk-weaker}
 use Rattle.clap.specs.Words.{App, app_of, new_app, with_subcommand}
 use Rattle.clap.specs.Simple.{on_top}
-use Rattle.gw_shell.proofs.command_line.make_commands.Goals as goal
+use Rattle.gw_command_line.proofs.commands.make_commands.Goals as goal
 
 pub returns : goal.returns
 returns c =

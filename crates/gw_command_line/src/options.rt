@@ -12,9 +12,9 @@ pub struct RunOptions {
     pub log: Option<String>,
     /// How many turns are served.
     pub turns: u64,
-    /// Whether it is told at the start what is served.
+    /// Whether it is reported at the start what is served.
     pub verbose: bool,
-    /// How many seconds lie between two reports of what was done. Without it none is told.
+    /// How many seconds lie between two reports of what was done. Without it there are none.
     pub stats: Option<u64>,
     pub ghost few: { turns < 2 ^ 63 },
     pub ghost seconds: { IfSome stats (λ n. 0 < n) } by { Prim.hlevel props },

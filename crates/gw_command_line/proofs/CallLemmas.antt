@@ -1,0 +1,23 @@
+-- The worked command lines.
+use Rattle.std.proofs.Common.{refl, Some, None, codes}
+use Rattle.clap.proofs.OnLiterals.{clap_on_literals}
+use Rattle.gw_audit.proofs.MomentExamples.{morning, morning_is_read}
+use Rattle.gw_command_line.specs.Calls.{CallsAreTaken}
+
+pub calls_are_taken : CallsAreTaken
+unfolding clap_on_literals
+calls_are_taken = record {
+  check = λ program. record { taken = refl; asked = refl; sound = λ void. void };
+  explain = λ program. record { taken = refl; asked = refl; sound = λ void. void };
+  lint = λ program. record { taken = refl; asked = refl; sound = λ void. void };
+  migrate = λ program. record { taken = refl; asked = refl; sound = λ void. void };
+  replay = λ program. record { taken = refl; asked = refl; sound = λ void. void };
+  replay_explained = λ program. record { taken = refl; asked = refl; sound = λ void. void };
+  replay_of_file = λ program. record { taken = refl; asked = refl; sound = λ void. void };
+  run = λ program. record { taken = refl; asked = refl; sound = λ void. void };
+  run_whole = λ program. record { taken = refl; asked = refl; sound = λ void. void };
+  why = λ program. record { taken = refl; asked = refl; sound = λ void. void };
+  compare = λ program. record { taken = refl; asked = refl; sound = λ void. void };
+  log = λ program. record { taken = refl; asked = refl; sound = λ void. void None refl };
+  log_since = λ program. record { taken = refl; asked = refl; sound = λ void. void (Some morning) morning_is_read };
+}

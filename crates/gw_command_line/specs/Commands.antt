@@ -1,0 +1,65 @@
+-- The commands of the program and their options, as the crate `clap` describes them.
+use Rattle.std.specs.Prelude.{Some, true, codes}
+use Rattle.clap.specs.Words.{App, Rule, Text, new_app, new_rule, with_rule, with_subcommand}
+use Rattle.clap.specs.Simple.{on_top}
+use Rattle.clap.specs.declared.builder.action.ArgAction.TheVariants.{SetTrue}
+
+-- an option of a name that has a value, one that has to be given, and one that has no value
+abbrev pub option : Text → Rule
+option name = record (new_rule name) { long = Some name; value_names = 1 }
+
+abbrev pub needed : Text → Rule
+needed name = record (option name) { required = true }
+
+abbrev pub flag : Text → Rule
+flag name = record (new_rule name) { long = Some name; action = Some SetTrue }
+
+-- a command that needs the file of a configuration
+abbrev pub of_file : Text → App
+of_file name = with_rule (new_app name) (needed (codes "config"))
+
+-- `check --config FILE [--explain] [--lint] [--migrate]`
+abbrev pub check_of_explanation : App
+check_of_explanation = with_rule (with_rule (of_file (codes "check")) (flag (codes "explain"))) (flag (codes "lint"))
+
+abbrev pub check : App
+check = with_rule check_of_explanation (flag (codes "migrate"))
+
+-- `replay [--config FILE] [--explain]`
+abbrev pub replay : App
+replay = with_rule (with_rule (new_app (codes "replay")) (option (codes "config"))) (flag (codes "explain"))
+
+-- `run --config FILE [--log FILE] [--turns N] [--verbose] [--stats SECONDS]`
+abbrev pub run_of_turns : App
+run_of_turns = with_rule (with_rule (of_file (codes "run")) (option (codes "log"))) (option (codes "turns"))
+
+abbrev pub run : App
+run = with_rule (with_rule run_of_turns (flag (codes "verbose"))) (option (codes "stats"))
+
+-- `why --config FILE`
+abbrev pub why : App
+why = of_file (codes "why")
+
+-- `compare --config FILE --with FILE [--most N]`
+abbrev pub compare : App
+compare = with_rule (with_rule (of_file (codes "compare")) (needed (codes "with"))) (option (codes "most"))
+
+-- `log [--start TIME]`
+abbrev pub log : App
+log = with_rule (new_app (codes "log")) (option (codes "start"))
+
+-- the commands of the program, of which the call has to name one
+abbrev pub commands : App
+commands =
+    with_subcommand
+    (with_subcommand
+    (with_subcommand
+    (with_subcommand
+    (with_subcommand
+    (with_subcommand
+    (on_top (λ top. record top { subcommand_required = true; has_version = true }) (new_app (codes "bacgw"))) check.top)
+    replay.top)
+    run.top)
+    why.top)
+    log.top)
+    compare.top
