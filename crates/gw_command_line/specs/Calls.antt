@@ -29,16 +29,20 @@ pub record CallsAreTaken : Type 0 where
     turns = most_count;
     verbose = false;
     stats = None;
+    state = None;
+    reload = None;
   })
   pub run_whole : Calls
       (codes "run" ∷ on_site (codes "--log" ∷ codes "denials.log" ∷ codes "--turns" ∷ codes "100" ∷ codes "--verbose"
-      ∷ codes "--stats" ∷ codes "60" ∷ []))
+      ∷ codes "--stats" ∷ codes "60" ∷ codes "--state" ∷ codes "state.txt" ∷ codes "--reload" ∷ codes "again" ∷ []))
       (Serves record {
         config = site;
         log = Some (codes "denials.log");
         turns = 100;
         verbose = true;
         stats = Some 60;
+        state = Some (codes "state.txt");
+        reload = Some (codes "again");
       })
   pub why : Calls (codes "why" ∷ on_site []) (Explains site)
   pub compare : Calls (codes "compare" ∷ on_site (codes "--with" ∷ codes "new.toml" ∷ [])) (Compares site (codes "new.toml") most_count)

@@ -32,6 +32,8 @@ service options = record {
   turns = options.turns;
   verbose = options.verbose;
   stats = options.stats;
+  state = option_map string_bytes options.state;
+  reload = option_map string_bytes options.reload;
 }
 
 -- a choice is what was asked for

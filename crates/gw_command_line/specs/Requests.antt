@@ -14,6 +14,8 @@ pub record Service : Type 0 where
   pub turns : ℕ
   pub verbose : Bool
   pub stats : Option ℕ
+  pub state : Option Text
+  pub reload : Option Text
 
 -- what a call asks for: the files that it names, and what is to be done with them
 pub data Request : Type 0 where
@@ -74,6 +76,8 @@ service_of file value (Some turns) (Some stats) = Some (Serves record {
   turns = turns;
   verbose = is_true (value (codes "verbose"));
   stats = stats;
+  state = value (codes "state");
+  reload = value (codes "reload");
 })
 service_of file value _ _ = None
 

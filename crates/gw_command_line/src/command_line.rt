@@ -111,6 +111,8 @@ fn run_choice(
         turns,
         verbose: is_given(matches, "verbose"),
         stats,
+        state: file_of(alloc, matches, "state")?,
+        reload: file_of(alloc, matches, "reload")?,
     }))
 }
 

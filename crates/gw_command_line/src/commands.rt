@@ -3,7 +3,7 @@
 ghost use Rattle.std.specs.Prelude.{◌≡◌, false, codes, IfOk};
 ghost use Rattle.clap.specs.Words.{app_of, rule_of};
 ghost use Rattle.clap.specs.declared.builder.command.Command.TheViews.{out-Command};
-ghost use Rattle.gw_command_line.specs.Commands.{check, check_of_explanation, commands, compare, flag, log, needed, of_file, option, replay, run, run_of_turns, why};
+ghost use Rattle.gw_command_line.specs.Commands.{check, check_of_explanation, commands, compare, flag, log, needed, of_file, option, replay, run, run_of_reports, run_of_turns, why};
 
 use clap::{Arg, ArgAction, Command};
 use std::alloc::{AllocError, Global};
@@ -111,6 +111,17 @@ fn make_replay<'a>(alloc: Global) -> Result<Command<'a>, AllocError>
 
 fn make_run<'a>(alloc: Global) -> Result<Command<'a>, AllocError>
     ensures app { IfOk result (λ command. app_of command ≡ run) }
+    ensures local { IfOk result (λ command. (out-Command command).has_globals ≡ false) }
+{
+    let help = "Keeps the state in this file, and begins with what it holds";
+    let state = make_option(alloc, "state", FILE, help);
+    let help = "Reads the configuration again if this file is there, and takes the file away";
+    let reload = make_option(alloc, "reload", FILE, help);
+    make_run_of_reports(alloc)?.arg(state)?.arg(reload)
+}
+
+fn make_run_of_reports<'a>(alloc: Global) -> Result<Command<'a>, AllocError>
+    ensures app { IfOk result (λ command. app_of command ≡ run_of_reports) }
     ensures local { IfOk result (λ command. (out-Command command).has_globals ≡ false) }
 {
     let help = "Tells at the start what is served, or where a fault is";

@@ -16,6 +16,10 @@ pub struct RunOptions {
     pub verbose: bool,
     /// How many seconds lie between two reports of what was done. Without it there are none.
     pub stats: Option<u64>,
+    /// The file that the state is kept in. Without one nothing outlives the run.
+    pub state: Option<String>,
+    /// The file whose being there asks for the configuration to be read again. Without one it is read once.
+    pub reload: Option<String>,
     pub ghost few: { turns < 2 ^ 63 },
     pub ghost seconds: { IfSome stats (λ n. 0 < n) } by { Prim.hlevel props },
 }
