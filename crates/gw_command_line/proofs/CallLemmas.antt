@@ -18,6 +18,7 @@ calls_are_taken = record {
   run_whole = λ program. record { taken = refl; asked = refl; sound = λ void. void };
   why = λ program. record { taken = refl; asked = refl; sound = λ void. void };
   compare = λ program. record { taken = refl; asked = refl; sound = λ void. void };
+  state = λ program. record { taken = refl; asked = refl; sound = λ void. void };
   log = λ program. record { taken = refl; asked = refl; sound = λ void. void None refl };
   log_since = λ program. record { taken = refl; asked = refl; sound = λ void. void (Some morning) morning_is_read };
 }

@@ -51,10 +51,15 @@ compare = with_rule (with_rule (of_file (codes "compare")) (needed (codes "with"
 abbrev pub log : App
 log = with_rule (new_app (codes "log")) (option (codes "start"))
 
+-- `state --config FILE --state FILE`
+abbrev pub state : App
+state = with_rule (of_file (codes "state")) (needed (codes "state"))
+
 -- the commands of the program, of which the call has to name one
 abbrev pub commands : App
 commands =
     with_subcommand
+    (with_subcommand
     (with_subcommand
     (with_subcommand
     (with_subcommand
@@ -65,4 +70,5 @@ commands =
     run.top)
     why.top)
     log.top)
-    compare.top
+    compare.top)
+    state.top

@@ -25,6 +25,7 @@ pub data Request : Type 0 where
   Serves : Service → Request
   Explains : (file : Text) → Request
   Compares : (old new : Text) (most : ℕ) → Request
+  Shows : (config state : Text) → Request
   TellsLog : (start : Option Text) → Request
 
 -- the value of each option by its name, and `None` if it isn't given
@@ -92,6 +93,11 @@ comparison_of old _ _ = None
 abbrev pub compare_asked : Text → Values → Option Request
 compare_asked file value = comparison_of file (value (codes "with")) (count_in (value (codes "most")))
 
+-- `state`, whose other file has to be named
+abbrev pub state_asked : Text → Option Text → Option Request
+state_asked config None = None
+state_asked config (Some state) = Some (Shows config state)
+
 -- a command's name is this one
 abbrev pub is_named : Text → Text → Bool
 is_named name other = pointwise nat_eq name other
@@ -103,6 +109,7 @@ asked_of_file name value file =
     else if is_named name (codes "run") then run_asked file value
     else if is_named name (codes "why") then Some (Explains file)
     else if is_named name (codes "compare") then compare_asked file value
+    else if is_named name (codes "state") then state_asked file (value (codes "state"))
     else None
 
 -- what a call of the command of this name asks for, whose options have these values; `None` if it asks for nothing

@@ -4,7 +4,7 @@ ghost use Rattle.std.specs.Prelude.{Some, codes, map, string_bytes};
 ghost use Rattle.std.specs.Option.{option_and_then};
 ghost use Rattle.clap.specs.Words.{first_value, found_of, kind_of, subcommand_rows_of};
 ghost use Rattle.gw_command_line.specs.CommandLine.{AskFor, Chooses, IsAnswer, IsChosen, IsRefusal};
-ghost use Rattle.gw_command_line.specs.Requests.{Request, TellsLog, asked, asked_by, asked_of_file, check_asked, compare_asked, run_asked};
+ghost use Rattle.gw_command_line.specs.Requests.{Request, TellsLog, asked, asked_by, asked_of_file, check_asked, compare_asked, run_asked, state_asked};
 
 use crate::commands::make_commands;
 use crate::fault::WordsFault;
@@ -45,6 +45,8 @@ pub enum Choice {
         new: String,
         most: u64,
     },
+    /// Say what the file of a state holds, and what of it the configuration in the other file takes over.
+    State { config: String, state: String },
     /// Say the log on standard input in words, and when each denial was if this is the moment at
     /// which the log began.
     Log(Option<Moment>),
@@ -133,6 +135,21 @@ fn compare_choice(
     }
 }
 
+/// What `state` asks for under the configuration in this file.
+fn state_choice(
+    alloc: Global,
+    matches: &ArgMatches<'_>,
+    config: String,
+) -> Result<Choice, WordsFault>
+    ensures { let state = first_value (found_of matches.now) (codes "state") in
+        IsChosen (state_asked (string_bytes config) state) result }
+{
+    match file_of(alloc, matches, "state")? {
+        Some(state) => Ok(Choice::State { config, state }),
+        None => Err(WordsFault::CommandLine),
+    }
+}
+
 /// What `log` asks for. `CommandLine` if the text of its start says no moment.
 fn log_choice(matches: &ArgMatches<'_>) -> Result<Choice, WordsFault>
     ensures { IsChosen (Some (TellsLog (first_value (found_of matches.now) (codes "start")))) result }
@@ -164,6 +181,9 @@ fn choice_of_file(
     }
     if name == "compare" {
         return compare_choice(alloc, matches, file);
+    }
+    if name == "state" {
+        return state_choice(alloc, matches, file);
     }
     Err(WordsFault::CommandLine)
 }

@@ -3,7 +3,7 @@
 ghost use Rattle.std.specs.Prelude.{◌≡◌, false, codes, IfOk};
 ghost use Rattle.clap.specs.Words.{app_of, rule_of};
 ghost use Rattle.clap.specs.declared.builder.command.Command.TheViews.{out-Command};
-ghost use Rattle.gw_command_line.specs.Commands.{check, check_of_explanation, commands, compare, flag, log, needed, of_file, option, replay, run, run_of_reports, run_of_turns, why};
+ghost use Rattle.gw_command_line.specs.Commands.{check, check_of_explanation, commands, compare, flag, log, needed, of_file, option, replay, run, run_of_reports, run_of_turns, state, why};
 
 use clap::{Arg, ArgAction, Command};
 use std::alloc::{AllocError, Global};
@@ -26,6 +26,9 @@ const WHY_EXAMPLE: &str = "Example:
 
 const COMPARE_EXAMPLE: &str = "Example:
   bacgw compare --config site.toml --with new.toml";
+
+const STATE_EXAMPLE: &str = "Example:
+  bacgw state --config new.toml --state /var/lib/bacgw/state";
 
 const LOG_EXAMPLE: &str = "Example:
   bacgw log < denials.log | sort | uniq -c";
@@ -180,6 +183,17 @@ fn make_log<'a>(alloc: Global) -> Result<Command<'a>, AllocError>
         .arg(start)
 }
 
+fn make_state<'a>(alloc: Global) -> Result<Command<'a>, AllocError>
+    ensures app { IfOk result (λ command. app_of command ≡ state) }
+    ensures local { IfOk result (λ command. (out-Command command).has_globals ≡ false) }
+{
+    let state = make_needed(alloc, "state", "The file in which run keeps the state");
+    let about = "Says what a kept state holds, and what of it a configuration takes over";
+    make_of_file(alloc, "state", about)?
+        .after_help(STATE_EXAMPLE)
+        .arg(state)
+}
+
 /// The commands of the program. An `Err` only if a growth of memory was refused.
 pub fn make_commands<'a>(alloc: Global) -> Result<Command<'a>, AllocError>
     ensures { IfOk result (λ command. app_of command ≡ commands) }
@@ -190,6 +204,7 @@ pub fn make_commands<'a>(alloc: Global) -> Result<Command<'a>, AllocError>
     let why = make_why(alloc)?;
     let log = make_log(alloc)?;
     let compare = make_compare(alloc)?;
+    let state = make_state(alloc)?;
     Command::new(alloc, "bacgw")
         .about("A gateway of BACnet/IP")
         .version(VERSION)
@@ -199,5 +214,6 @@ pub fn make_commands<'a>(alloc: Global) -> Result<Command<'a>, AllocError>
         .subcommand(run)?
         .subcommand(why)?
         .subcommand(log)?
-        .subcommand(compare)
+        .subcommand(compare)?
+        .subcommand(state)
 }
