@@ -55,10 +55,15 @@ log = with_rule (new_app (codes "log")) (option (codes "start"))
 abbrev pub state : App
 state = with_rule (of_file (codes "state")) (needed (codes "state"))
 
+-- `suggest --config FILE [--fill] [--exact]`
+abbrev pub suggest : App
+suggest = with_rule (with_rule (of_file (codes "suggest")) (flag (codes "fill"))) (flag (codes "exact"))
+
 -- the commands of the program, of which the call has to name one
 abbrev pub commands : App
 commands =
     with_subcommand
+    (with_subcommand
     (with_subcommand
     (with_subcommand
     (with_subcommand
@@ -71,4 +76,5 @@ commands =
     why.top)
     log.top)
     compare.top)
-    state.top
+    state.top)
+    suggest.top

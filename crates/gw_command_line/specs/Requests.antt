@@ -26,6 +26,7 @@ pub data Request : Type 0 where
   Explains : (file : Text) → Request
   Compares : (old new : Text) (most : ℕ) → Request
   Shows : (config state : Text) → Request
+  Suggests : (file : Text) (fills exact : Bool) → Request
   TellsLog : (start : Option Text) → Request
 
 -- the value of each option by its name, and `None` if it isn't given
@@ -109,6 +110,8 @@ asked_of_file name value file =
     else if is_named name (codes "run") then run_asked file value
     else if is_named name (codes "why") then Some (Explains file)
     else if is_named name (codes "compare") then compare_asked file value
+    else if is_named name (codes "suggest")
+    then Some (Suggests file (is_true (value (codes "fill"))) (is_true (value (codes "exact"))))
     else if is_named name (codes "state") then state_asked file (value (codes "state"))
     else None
 

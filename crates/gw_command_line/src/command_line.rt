@@ -47,6 +47,14 @@ pub enum Choice {
     },
     /// Say what the file of a state holds, and what of it the configuration in the other file takes over.
     State { config: String, state: String },
+    /// Write rules that allow the asks on standard input, to be put in front of those of the configuration in
+    /// this file: for each station what it did with all objects that it asked for, if that is asked for, and
+    /// with the services of reads and lists, if that is.
+    Suggest {
+        file: String,
+        fills: bool,
+        exact: bool,
+    },
     /// Say the log on standard input in words, and when each denial was if this is the moment at
     /// which the log began.
     Log(Option<Moment>),
@@ -181,6 +189,11 @@ fn choice_of_file(
     }
     if name == "compare" {
         return compare_choice(alloc, matches, file);
+    }
+    if name == "suggest" {
+        let fills = is_given(matches, "fill");
+        let exact = is_given(matches, "exact");
+        return Ok(Choice::Suggest { file, fills, exact });
     }
     if name == "state" {
         return state_choice(alloc, matches, file);

@@ -3,7 +3,7 @@
 ghost use Rattle.std.specs.Prelude.{◌≡◌, false, codes, IfOk};
 ghost use Rattle.clap.specs.Words.{app_of, rule_of};
 ghost use Rattle.clap.specs.declared.builder.command.Command.TheViews.{out-Command};
-ghost use Rattle.gw_command_line.specs.Commands.{check, check_of_explanation, commands, compare, flag, log, needed, of_file, option, replay, run, run_of_reports, run_of_turns, state, why};
+ghost use Rattle.gw_command_line.specs.Commands.{check, check_of_explanation, commands, compare, flag, log, needed, of_file, option, replay, run, run_of_reports, run_of_turns, state, suggest, why};
 
 use clap::{Arg, ArgAction, Command};
 use std::alloc::{AllocError, Global};
@@ -29,6 +29,9 @@ const COMPARE_EXAMPLE: &str = "Example:
 
 const STATE_EXAMPLE: &str = "Example:
   bacgw state --config new.toml --state /var/lib/bacgw/state";
+
+const SUGGEST_EXAMPLE: &str = "Example:
+  bacgw suggest --config site.toml < denials.log > suggested.toml";
 
 const LOG_EXAMPLE: &str = "Example:
   bacgw log < denials.log | sort | uniq -c";
@@ -194,6 +197,20 @@ fn make_state<'a>(alloc: Global) -> Result<Command<'a>, AllocError>
         .arg(state)
 }
 
+fn make_suggest<'a>(alloc: Global) -> Result<Command<'a>, AllocError>
+    ensures app { IfOk result (λ command. app_of command ≡ suggest) }
+    ensures local { IfOk result (λ command. (out-Command command).has_globals ≡ false) }
+{
+    let help = "Lets each station do what it did with each object that it asked for";
+    let fill = make_flag(alloc, "fill", help);
+    let exact = make_flag(alloc, "exact", "Keeps the services of reads and lists apart");
+    let about = "Writes rules that allow the asks of standard input, to be put in front";
+    make_of_file(alloc, "suggest", about)?
+        .after_help(SUGGEST_EXAMPLE)
+        .arg(fill)?
+        .arg(exact)
+}
+
 /// The commands of the program. An `Err` only if a growth of memory was refused.
 pub fn make_commands<'a>(alloc: Global) -> Result<Command<'a>, AllocError>
     ensures { IfOk result (λ command. app_of command ≡ commands) }
@@ -205,6 +222,7 @@ pub fn make_commands<'a>(alloc: Global) -> Result<Command<'a>, AllocError>
     let log = make_log(alloc)?;
     let compare = make_compare(alloc)?;
     let state = make_state(alloc)?;
+    let suggest = make_suggest(alloc)?;
     Command::new(alloc, "bacgw")
         .about("A gateway of BACnet/IP")
         .version(VERSION)
@@ -215,5 +233,6 @@ pub fn make_commands<'a>(alloc: Global) -> Result<Command<'a>, AllocError>
         .subcommand(why)?
         .subcommand(log)?
         .subcommand(compare)?
-        .subcommand(state)
+        .subcommand(state)?
+        .subcommand(suggest)
 }
