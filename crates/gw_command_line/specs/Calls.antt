@@ -2,7 +2,7 @@
 use Rattle.std.specs.Prelude.{ℕ, true, false, List, [], ◌∷◌, Some, None, codes}
 use Rattle.clap.specs.Words.{Text}
 use Rattle.gw_command_line.specs.CommandLine.{AskFor}
-use Rattle.gw_command_line.specs.Requests.{Checks, Compares, Explains, Migrates, Replays, Request, Serves, Shows, Suggests, TellsLog, most_count}
+use Rattle.gw_command_line.specs.Requests.{Checks, Compares, Explains, Migrates, Reloads, Replays, Request, Serves, Shows, Suggests, TellsLog, most_count}
 
 -- these words, after the program's name, ask for this
 abbrev pub Calls : List Text → Request → Type 0
@@ -49,6 +49,7 @@ pub record CallsAreTaken : Type 0 where
   pub state : Calls (codes "state" ∷ on_site (codes "--state" ∷ codes "state.txt" ∷ [])) (Shows site (codes "state.txt"))
   pub suggest : Calls (codes "suggest" ∷ on_site []) (Suggests site false false)
   pub suggest_whole : Calls (codes "suggest" ∷ on_site (codes "--fill" ∷ codes "--exact" ∷ [])) (Suggests site true true)
+  pub reload : Calls (codes "reload" ∷ on_site (codes "--reload" ∷ codes "again" ∷ [])) (Reloads site (codes "again"))
   pub log : Calls (codes "log" ∷ []) (TellsLog None)
   pub log_since : Calls (codes "log" ∷ codes "--start" ∷ codes "2026-11-25T08:00:00+01:00" ∷ [])
       (TellsLog (Some (codes "2026-11-25T08:00:00+01:00")))

@@ -7,7 +7,7 @@ use Rattle.clap.specs.declared.error.kind.ErrorKind.TheVariants as parse
 use Rattle.gw_audit.specs.Moment.{IsTextOf}
 use Rattle.gw_audit.specs.declared.moment.Moment.{Moment}
 use Rattle.gw_command_line.specs.Commands.{commands}
-use Rattle.gw_command_line.specs.Requests.{Checks, Compares, Explains, Migrates, Replays, Request, Serves, Service, Shows, Suggests, TellsLog, asked_in}
+use Rattle.gw_command_line.specs.Requests.{Checks, Compares, Explains, Migrates, Reloads, Replays, Request, Serves, Service, Shows, Suggests, TellsLog, asked_in}
 use Rattle.gw_command_line.specs.declared.command_line.Choice.{Choice}
 use Rattle.gw_command_line.specs.declared.command_line.Choice.TheVariants as choice
 use Rattle.gw_command_line.specs.declared.options.RunOptions.{RunOptions}
@@ -46,6 +46,7 @@ IsFor request (choice.Why file) = request ≡ Explains (string_bytes file)
 IsFor request (choice.Compare old new most) = request ≡ Compares (string_bytes old) (string_bytes new) most
 IsFor request (choice.State config state) = request ≡ Shows (string_bytes config) (string_bytes state)
 IsFor request (choice.Suggest file fills exact) = request ≡ Suggests (string_bytes file) fills exact
+IsFor request (choice.Reload config file) = request ≡ Reloads (string_bytes config) (string_bytes file)
 IsFor request (choice.Log start) = (text : Option Text) × (request ≡ TellsLog text) × IsStart text start
 IsFor request (choice.Help text) = ⊥
 IsFor request (choice.Usage text) = ⊥

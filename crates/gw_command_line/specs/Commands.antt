@@ -59,10 +59,15 @@ state = with_rule (of_file (codes "state")) (needed (codes "state"))
 abbrev pub suggest : App
 suggest = with_rule (with_rule (of_file (codes "suggest")) (flag (codes "fill"))) (flag (codes "exact"))
 
+-- `reload --config FILE --reload FILE`
+abbrev pub reload : App
+reload = with_rule (of_file (codes "reload")) (needed (codes "reload"))
+
 -- the commands of the program, of which the call has to name one
 abbrev pub commands : App
 commands =
     with_subcommand
+    (with_subcommand
     (with_subcommand
     (with_subcommand
     (with_subcommand
@@ -77,4 +82,5 @@ commands =
     log.top)
     compare.top)
     state.top)
-    suggest.top
+    suggest.top)
+    reload.top

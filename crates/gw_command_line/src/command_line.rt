@@ -4,7 +4,7 @@ ghost use Rattle.std.specs.Prelude.{Some, codes, map, string_bytes};
 ghost use Rattle.std.specs.Option.{option_and_then};
 ghost use Rattle.clap.specs.Words.{first_value, found_of, kind_of, subcommand_rows_of};
 ghost use Rattle.gw_command_line.specs.CommandLine.{AskFor, Chooses, IsAnswer, IsChosen, IsRefusal};
-ghost use Rattle.gw_command_line.specs.Requests.{Request, TellsLog, asked, asked_by, asked_of_file, check_asked, compare_asked, run_asked, state_asked};
+ghost use Rattle.gw_command_line.specs.Requests.{Request, TellsLog, asked, asked_by, asked_of_file, check_asked, compare_asked, reload_asked, run_asked, state_asked};
 
 use crate::commands::make_commands;
 use crate::fault::WordsFault;
@@ -47,6 +47,9 @@ pub enum Choice {
     },
     /// Say what the file of a state holds, and what of it the configuration in the other file takes over.
     State { config: String, state: String },
+    /// Ask the gateway that runs under the configuration in the first file to read it again, by making the
+    /// file of the request.
+    Reload { config: String, request: String },
     /// Write rules that allow the asks on standard input, to be put in front of those of the configuration in
     /// this file: for each station what it did with all objects that it asked for, if that is asked for, and
     /// with the services of reads and lists, if that is.
@@ -158,6 +161,21 @@ fn state_choice(
     }
 }
 
+/// What `reload` asks for under the configuration in this file.
+fn reload_choice(
+    alloc: Global,
+    matches: &ArgMatches<'_>,
+    config: String,
+) -> Result<Choice, WordsFault>
+    ensures { let request = first_value (found_of matches.now) (codes "reload") in
+        IsChosen (reload_asked (string_bytes config) request) result }
+{
+    match file_of(alloc, matches, "reload")? {
+        Some(request) => Ok(Choice::Reload { config, request }),
+        None => Err(WordsFault::CommandLine),
+    }
+}
+
 /// What `log` asks for. `CommandLine` if the text of its start says no moment.
 fn log_choice(matches: &ArgMatches<'_>) -> Result<Choice, WordsFault>
     ensures { IsChosen (Some (TellsLog (first_value (found_of matches.now) (codes "start")))) result }
@@ -189,6 +207,9 @@ fn choice_of_file(
     }
     if name == "compare" {
         return compare_choice(alloc, matches, file);
+    }
+    if name == "reload" {
+        return reload_choice(alloc, matches, file);
     }
     if name == "suggest" {
         let fills = is_given(matches, "fill");

@@ -3,7 +3,7 @@
 ghost use Rattle.std.specs.Prelude.{◌≡◌, false, codes, IfOk};
 ghost use Rattle.clap.specs.Words.{app_of, rule_of};
 ghost use Rattle.clap.specs.declared.builder.command.Command.TheViews.{out-Command};
-ghost use Rattle.gw_command_line.specs.Commands.{check, check_of_explanation, commands, compare, flag, log, needed, of_file, option, replay, run, run_of_reports, run_of_turns, state, suggest, why};
+ghost use Rattle.gw_command_line.specs.Commands.{check, check_of_explanation, commands, compare, flag, log, needed, of_file, option, reload, replay, run, run_of_reports, run_of_turns, state, suggest, why};
 
 use clap::{Arg, ArgAction, Command};
 use std::alloc::{AllocError, Global};
@@ -32,6 +32,9 @@ const STATE_EXAMPLE: &str = "Example:
 
 const SUGGEST_EXAMPLE: &str = "Example:
   bacgw suggest --config site.toml < denials.log > suggested.toml";
+
+const RELOAD_EXAMPLE: &str = "Example:
+  bacgw reload --config site.toml --reload /run/bacgw/reload";
 
 const LOG_EXAMPLE: &str = "Example:
   bacgw log < denials.log | sort | uniq -c";
@@ -211,6 +214,18 @@ fn make_suggest<'a>(alloc: Global) -> Result<Command<'a>, AllocError>
         .arg(exact)
 }
 
+fn make_reload<'a>(alloc: Global) -> Result<Command<'a>, AllocError>
+    ensures app { IfOk result (λ command. app_of command ≡ reload) }
+    ensures local { IfOk result (λ command. (out-Command command).has_globals ≡ false) }
+{
+    let help = "The file that run --reload looks for";
+    let request = make_needed(alloc, "reload", help);
+    let about = "Asks a running gateway to read its configuration again, and says what it did";
+    make_of_file(alloc, "reload", about)?
+        .after_help(RELOAD_EXAMPLE)
+        .arg(request)
+}
+
 /// The commands of the program. An `Err` only if a growth of memory was refused.
 pub fn make_commands<'a>(alloc: Global) -> Result<Command<'a>, AllocError>
     ensures { IfOk result (λ command. app_of command ≡ commands) }
@@ -223,6 +238,7 @@ pub fn make_commands<'a>(alloc: Global) -> Result<Command<'a>, AllocError>
     let compare = make_compare(alloc)?;
     let state = make_state(alloc)?;
     let suggest = make_suggest(alloc)?;
+    let reload = make_reload(alloc)?;
     Command::new(alloc, "bacgw")
         .about("A gateway of BACnet/IP")
         .version(VERSION)
@@ -234,5 +250,6 @@ pub fn make_commands<'a>(alloc: Global) -> Result<Command<'a>, AllocError>
         .subcommand(log)?
         .subcommand(compare)?
         .subcommand(state)?
-        .subcommand(suggest)
+        .subcommand(suggest)?
+        .subcommand(reload)
 }

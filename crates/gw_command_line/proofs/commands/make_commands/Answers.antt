@@ -14,5 +14,6 @@ returns c =
     let five = c.in_ok-subcommand-5.ensures.shape c.in_ok-log.ensures.local ∙ ap₂ with_subcommand four (ap (λ (a : App). a.top) c.in_ok-log.ensures.app) in
     let six = c.in_ok-subcommand-6.ensures.shape c.in_ok-compare.ensures.local ∙ ap₂ with_subcommand five (ap (λ (a : App). a.top) c.in_ok-compare.ensures.app) in
     let seven = c.in_ok-subcommand-7.ensures.shape c.in_ok-state.ensures.local ∙ ap₂ with_subcommand six (ap (λ (a : App). a.top) c.in_ok-state.ensures.app) in
-    IfOk-weaker c.subcommand-8.result _ _
-    (λ m h. h.shape c.in_ok-suggest.ensures.local ∙ ap₂ with_subcommand seven (ap (λ (a : App). a.top) c.in_ok-suggest.ensures.app)) c.subcommand-8.ensures
+    let eight = c.in_ok-subcommand-8.ensures.shape c.in_ok-suggest.ensures.local ∙ ap₂ with_subcommand seven (ap (λ (a : App). a.top) c.in_ok-suggest.ensures.app) in
+    IfOk-weaker c.subcommand-9.result _ _
+    (λ m h. h.shape c.in_ok-reload.ensures.local ∙ ap₂ with_subcommand eight (ap (λ (a : App). a.top) c.in_ok-reload.ensures.app)) c.subcommand-9.ensures
