@@ -17,6 +17,7 @@ calls_are_taken = record {
   run = λ program. record { taken = refl; asked = refl; sound = λ void. void };
   run_whole = λ program. record { taken = refl; asked = refl; sound = λ void. void };
   why = λ program. record { taken = refl; asked = refl; sound = λ void. void };
+  why_count = λ program. record { taken = refl; asked = refl; sound = λ void. void };
   compare = λ program. record { taken = refl; asked = refl; sound = λ void. void };
   state = λ program. record { taken = refl; asked = refl; sound = λ void. void };
   suggest = λ program. record { taken = refl; asked = refl; sound = λ void. void };

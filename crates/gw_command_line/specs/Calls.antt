@@ -44,7 +44,8 @@ pub record CallsAreTaken : Type 0 where
         state = Some (codes "state.txt");
         reload = Some (codes "again");
       })
-  pub why : Calls (codes "why" ∷ on_site []) (Explains site)
+  pub why : Calls (codes "why" ∷ on_site []) (Explains site false)
+  pub why_count : Calls (codes "why" ∷ on_site (codes "--count" ∷ [])) (Explains site true)
   pub compare : Calls (codes "compare" ∷ on_site (codes "--with" ∷ codes "new.toml" ∷ [])) (Compares site (codes "new.toml") most_count)
   pub state : Calls (codes "state" ∷ on_site (codes "--state" ∷ codes "state.txt" ∷ [])) (Shows site (codes "state.txt"))
   pub suggest : Calls (codes "suggest" ∷ on_site []) (Suggests site false false)

@@ -39,9 +39,9 @@ run_of_reports = with_rule (with_rule run_of_turns (flag (codes "verbose"))) (op
 abbrev pub run : App
 run = with_rule (with_rule run_of_reports (option (codes "state"))) (option (codes "reload"))
 
--- `why --config FILE`
+-- `why --config FILE [--count]`
 abbrev pub why : App
-why = of_file (codes "why")
+why = with_rule (of_file (codes "why")) (flag (codes "count"))
 
 -- `compare --config FILE --with FILE [--most N]`
 abbrev pub compare : App

@@ -23,7 +23,7 @@ pub data Request : Type 0 where
   Migrates : (file : Text) → Request
   Replays : (file : Option Text) (explains : Bool) → Request
   Serves : Service → Request
-  Explains : (file : Text) → Request
+  Explains : (file : Text) (counts : Bool) → Request
   Compares : (old new : Text) (most : ℕ) → Request
   Shows : (config state : Text) → Request
   Reloads : (config request : Text) → Request
@@ -114,7 +114,7 @@ abbrev pub asked_of_file : Text → Values → Text → Option Request
 asked_of_file name value file =
     if is_named name (codes "check") then check_asked file value
     else if is_named name (codes "run") then run_asked file value
-    else if is_named name (codes "why") then Some (Explains file)
+    else if is_named name (codes "why") then Some (Explains file (is_true (value (codes "count"))))
     else if is_named name (codes "compare") then compare_asked file value
     else if is_named name (codes "reload") then reload_asked file (value (codes "reload"))
     else if is_named name (codes "suggest")

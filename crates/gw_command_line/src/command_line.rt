@@ -36,8 +36,8 @@ pub enum Choice {
     /// Serve the ports of a configuration over UDP.
     Run(RunOptions),
     /// Say of each ask on standard input which rule of the configuration in the file of this name
-    /// decides it.
-    Why(String),
+    /// decides it, or how many each rule decides.
+    Why { file: String, counts: bool },
     /// Say which asks the rules of the configurations in these files decide otherwise, in at most so many
     /// lines.
     Compare {
@@ -203,7 +203,8 @@ fn choice_of_file(
         return run_choice(alloc, matches, file);
     }
     if name == "why" {
-        return Ok(Choice::Why(file));
+        let counts = is_given(matches, "count");
+        return Ok(Choice::Why { file, counts });
     }
     if name == "compare" {
         return compare_choice(alloc, matches, file);

@@ -160,7 +160,10 @@ fn make_why<'a>(alloc: Global) -> Result<Command<'a>, AllocError>
     ensures local { IfOk result (λ command. (out-Command command).has_globals ≡ false) }
 {
     let about = "Says which rule decides each ask of standard input, in the words of the log";
-    Ok(make_of_file(alloc, "why", about)?.after_help(WHY_EXAMPLE))
+    let count = make_flag(alloc, "count", "Prints how many asks each rule decides instead");
+    make_of_file(alloc, "why", about)?
+        .after_help(WHY_EXAMPLE)
+        .arg(count)
 }
 
 fn make_compare<'a>(alloc: Global) -> Result<Command<'a>, AllocError>
