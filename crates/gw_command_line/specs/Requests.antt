@@ -1,9 +1,9 @@
 -- What a call of the program asks for, by the name of its command and the values of its options.
-use Rattle.std.specs.Prelude.{◌&&◌, ◌||◌, ℕ, Bool, true, false, List, ◌∷◌, nat_eq, if◌then◌else◌, Option, Some, None, codes}
+use Rattle.std.specs.Prelude.{◌≡◌, ◌&&◌, ◌||◌, ℕ, Bool, true, false, List, ◌∷◌, nat_eq, if◌then◌else◌, Option, Some, None, codes}
 use Rattle.std.specs.Cmp.Lexicographic.{pointwise}
 use Rattle.std.specs.Option.{option_and_then, option_map}
 use Rattle.std.specs.Str.Parse.{digits_value, without_leading_plus}
-use Rattle.clap.specs.Words.{Row, Text, first_of, subcommand_of}
+use Rattle.clap.specs.Words.{IsUnsignedIn, Row, Text, first_of, subcommand_of}
 use Rattle.clap.specs.ValueTests.{is_unsigned_in}
 use Rattle.gw_command_line.specs.Commands.{commands}
 
@@ -39,7 +39,12 @@ abbrev pub is_true : Option Text → Bool
 is_true None = false
 is_true (Some text) = pointwise nat_eq text (codes "true")
 
--- the number that a text says, from 1 to the most
+-- the number from 1 to the most that a text says: a decimal
+abbrev pub IsNumber : ℕ → Text → Option ℕ → Type 0
+IsNumber most text (Some n) = IsUnsignedIn 1 most text × (n ≡ digits_value 10 (without_leading_plus text))
+IsNumber most text None = ¬ (IsUnsignedIn 1 most text)
+
+-- the same, as a function
 abbrev pub number_in : ℕ → Text → Option ℕ
 number_in most text =
     if is_unsigned_in 1 most text then Some (digits_value 10 (without_leading_plus text)) else None

@@ -3,7 +3,7 @@
 ghost use Rattle.std.specs.Prelude.{◌≡◌, ◌<◌, ◌≤◌, ◌^◌, option_map, string_bytes, IfOk, IfSome, MatchResult};
 ghost use Rattle.clap.specs.Words.{first_value, found_of};
 ghost use Rattle.gw_command_line.specs.CommandLine.{IsNoStart, IsStart};
-ghost use Rattle.gw_command_line.specs.Requests.{count_in, is_true, number_in, period_in};
+ghost use Rattle.gw_command_line.specs.Requests.{IsNumber, count_in, is_true, number_in, period_in};
 ghost use Rattle.gw_command_line.specs.declared.fault.WordsFault.TheVariants as fault;
 
 use crate::fault::WordsFault;
@@ -45,6 +45,14 @@ pub fn is_given(matches: &ArgMatches<'_>, option: &str) -> bool
 /// The number from 1 to the most that a text says.
 fn number_of(text: &str, most: u64) -> Option<u64>
     ensures number { result ≡ number_in most text.now }
+    ensures range { IfSome result (λ n. (0 < n) × (n ≤ most)) }
+{
+    parse_number(text, most)
+}
+
+/// What `parse` reads of a text, if it is a number from 1 to the most.
+fn parse_number(text: &str, most: u64) -> Option<u64>
+    ensures number { IsNumber most text.now result }
     ensures range { IfSome result (λ n. (0 < n) × (n ≤ most)) }
 {
     match text.parse::<u64>() {

@@ -7,6 +7,9 @@ use Rattle.gw_command_line.specs.declared.command_line.Choice.{Choice}
 use Rattle.gw_command_line.specs.declared.command_line.Choice.TheVariants as choice
 use Rattle.gw_command_line.specs.declared.fault.WordsFault.{WordsFault}
 use Rattle.gw_command_line.specs.declared.fault.WordsFault.TheVariants as words
+use Rattle.gw_state_text.specs.declared.fault.FaultKind.{FaultKind}
+use Rattle.gw_state_text.specs.declared.fault.FaultKind.TheVariants as state_fault
+use Rattle.gw_state_text.specs.declared.fault.StateFault.{StateFault}
 use Rattle.gw_shell.specs.declared.fault.Fault.{Fault}
 use Rattle.gw_shell.specs.declared.fault.Fault.TheVariants as fault
 use Rattle.gw_compare.specs.declared.comparison.Compared.{Compared}
@@ -55,6 +58,16 @@ reason_of migration.Already = codes "it is of format 3"
 reason_of migration.Unlike = codes "it has no text of format 3"
 reason_of migration.Memory = codes "out of memory"
 
+-- why a text is none of a state
+abbrev pub cause_of : FaultKind → List ℕ
+cause_of state_fault.Version = codes "another version"
+cause_of state_fault.Line = codes "no line that may be here"
+cause_of state_fault.Range = codes "out of range"
+cause_of state_fault.Twice = codes "comes twice"
+cause_of state_fault.TooMany = codes "too many"
+cause_of state_fault.Cut = codes "the text is cut"
+cause_of state_fault.Memory = codes "out of memory"
+
 -- the line on standard error, without its line feed, of a fault that has one
 abbrev pub text_of : Fault → List ℕ
 text_of fault.CommandLine = codes "bacgw: bad command line"
@@ -69,6 +82,8 @@ text_of fault.Log = codes "bacgw: log failed"
 text_of (fault.Socket port) = codes "bacgw: socket failed on port " ++ decimal port
 text_of fault.Memory = codes "bacgw: out of memory"
 text_of fault.CountEnd = codes "bacgw: count at its end"
+text_of fault.StateUnreadable = codes "bacgw: cannot read state"
+text_of (fault.State f) = codes "bacgw: state: line " ++ decimal f.line ++ codes ": " ++ cause_of f.kind
 text_of fault.Different = []
 
 -- the line, of which there is none if `compare` found two configurations that aren't alike
@@ -90,6 +105,8 @@ status_of fault.Log = 1
 status_of (fault.Socket port) = 1
 status_of fault.Memory = 1
 status_of fault.CountEnd = 1
+status_of fault.StateUnreadable = 1
+status_of (fault.State f) = 2
 status_of fault.Different = 1
 
 -- of `compare`: 1 if it found that the two aren't alike, and 2 at any other fault
@@ -116,6 +133,11 @@ fault_of_configuration f = fault.Configuration f
 abbrev pub fault_of_migration : MigrationFault → Fault
 fault_of_migration migration.Memory = fault.Memory
 fault_of_migration f = fault.Migration f
+
+-- why a text is none of a state, as the program tells it
+abbrev pub fault_of_state : StateFault → FaultKind → Fault
+fault_of_state f state_fault.Memory = fault.Memory
+fault_of_state f _ = fault.State f
 
 -- the fault of a run, as the program tells it
 abbrev pub fault_of : RunFault → Fault

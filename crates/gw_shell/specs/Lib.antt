@@ -4,6 +4,7 @@ pub mod Checked
 pub mod Configured
 pub mod Ending
 pub mod Files
+pub mod Kept
 pub mod Lines
 pub mod Program
 pub mod Replay

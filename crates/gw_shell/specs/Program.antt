@@ -1,6 +1,6 @@
 -- The program as a whole: what the words chose, what stands on standard output then, the line on standard error and
 -- the exit status.
-use Rattle.std.specs.Prelude.{◌≡◌, ◌≢◌, ⊤, Bool, ℕ, List, [], ◌++◌, Option, Some, Result, Ok, Err, OnOk, option_map}
+use Rattle.std.specs.Prelude.{◌≡◌, ◌≢◌, ◌⊎◌, ⊤, Bool, ℕ, List, [], ◌++◌, Option, Some, Result, Ok, Err, OnOk, option_map}
 use Rattle.std.specs.Prelude.{string_bytes}
 use Rattle.std.specs.Io.KnownBytes.{Appends}
 use Rattle.gw_script.specs.Known.{OnKnown}
@@ -21,6 +21,7 @@ use Rattle.gw_shell.specs.Asking.{Answers}
 use Rattle.gw_shell.specs.Configured.{IsConfigurationOf, IsConfigured}
 use Rattle.gw_shell.specs.Ending.{FaultNote, chosen, error_text, status_by, usage_of}
 use Rattle.gw_shell.specs.Checked.{IsChecked}
+use Rattle.gw_shell.specs.Kept.{IsSaidOfText}
 use Rattle.gw_shell.specs.Replay.{Plays}
 use Rattle.gw_shell.specs.Serving.{IsFlushedFor, LeavesRun, Machine}
 use Rattle.gw_shell.specs.Telling.{Tells}
@@ -111,6 +112,21 @@ LeavesComparison most held holds (Ok old) (Ok new) outcome = LeavesCompared most
 LeavesComparison most held holds (Ok old) (Err f) outcome = (outcome ≡ Err f) × (holds ≡ held)
 LeavesComparison most held holds (Err f) new outcome = (outcome ≡ Err f) × (holds ≡ held)
 
+-- What `state` leaves of a configuration and the text of a state that was read: what it says of them, of which a failed
+-- write may leave a front. If there is no such text, the outcome is why.
+abbrev pub LeavesSaid : Option (List ℕ) → Option (List ℕ) → Configuration → Result (List ℕ) Fault
+    → Result (Unit {0}) Fault → Type 0
+LeavesSaid held holds c text (Ok done) = (words : List ℕ) × IsSaidOfText c text (Ok words) × Appends held holds words
+LeavesSaid held holds c text (Err f) =
+    (IsSaidOfText c text (Err f) × (holds ≡ held))
+    ⊎ ((f ≡ fault.Write) × (words : List ℕ) × IsSaidOfText c text (Ok words) × AppendsFront held holds words)
+
+-- What it leaves of the configuration that was read. If there is none, the outcome is why.
+abbrev pub LeavesState : Option (List ℕ) → Option (List ℕ) → Result Configuration Fault → Result (List ℕ) Fault
+    → Result (Unit {0}) Fault → Type 0
+LeavesState held holds (Ok c) text outcome = LeavesSaid held holds c text outcome
+LeavesState held holds (Err f) text outcome = (outcome ≡ Err f) × (holds ≡ held)
+
 -- What `why` leaves by the rules of the configuration that was read. Where there is none nothing is answered, and the
 -- outcome is why.
 abbrev pub LeavesAnswered : Option (List ℕ) → Option (List ℕ) → Option (List ℕ)
@@ -119,42 +135,46 @@ LeavesAnswered input held holds (Ok c) outcome =
     OnKnown input held holds (λ text before. Answers c.rules text before outcome)
 LeavesAnswered input held holds (Err f) outcome = (outcome ≡ Err f) × (holds ≡ held)
 
--- What stands on standard output, which held `held` before, where files give what `Reads` says and `run` opens what
--- the machine says: at `check`, `replay` and `why` what they leave of some configuration that is the one they name,
--- at `compare` of the two, at `run` also what was told at the start, at `log` what that leaves of the log, and at help its text, of which a
+-- What stands on standard output, which held `held` before, if files give what `Reads` and `ReadsState` say and `run`
+-- opens what the machine says: at `check`, `replay` and `why` what they leave of some configuration that is the one they name,
+-- at `compare` of the two, at `state` of the one and the state, at `run` also what was told at the start, at `log` what that leaves of the log, and at help its text, of which a
 -- failed write may leave a front. Words that choose nothing leave it as it was, and their fault is the outcome.
-abbrev pub LeavesOutput : {Log Sockets : Type 0} → (Reads : List ℕ → Result (List ℕ) Fault → Type 0)
+abbrev pub LeavesOutput : {Log Sockets : Type 0} → (Reads ReadsState : List ℕ → Result (List ℕ) Fault → Type 0)
     → Machine Log Sockets → Option (List ℕ) → Option (List ℕ) → Option (List ℕ) → List ℕ
     → Result Choice Fault → Result (Unit {0}) Fault → Type 0
-LeavesOutput Reads machine input held holds told (Ok (choice.Check file explains lints)) outcome =
+LeavesOutput Reads ReadsState machine input held holds told (Ok (choice.Check file explains lints)) outcome =
     (text : Result (List ℕ) Fault) × Reads (string_bytes file) text
     × LeavesOfText explains lints text held holds outcome
-LeavesOutput Reads machine input held holds told (Ok (choice.Migrate file)) outcome =
+LeavesOutput Reads ReadsState machine input held holds told (Ok (choice.Migrate file)) outcome =
     (c : Result Configuration Fault) × IsConfigured Reads (Some (string_bytes file)) c
     × LeavesMigrated held holds c outcome
-LeavesOutput Reads machine input held holds told (Ok (choice.Replay file explains)) outcome =
+LeavesOutput Reads ReadsState machine input held holds told (Ok (choice.Replay file explains)) outcome =
     (c : Result Configuration Fault) × IsConfigured Reads (option_map string_bytes file) c
     × LeavesPlayed explains input held holds c outcome
-LeavesOutput Reads machine input held holds told (Ok (choice.Run options)) outcome =
+LeavesOutput Reads ReadsState machine input held holds told (Ok (choice.Run options)) outcome =
     (text : Result (List ℕ) Fault) × Reads (string_bytes options.config) text
     × (c : Result Configuration Fault) × IsConfigurationOf text c
     × LeavesRun machine text held holds options c told outcome
-LeavesOutput Reads machine input held holds told (Ok (choice.Why file)) outcome =
+LeavesOutput Reads ReadsState machine input held holds told (Ok (choice.Why file)) outcome =
     (c : Result Configuration Fault) × IsConfigured Reads (Some (string_bytes file)) c
     × LeavesAnswered input held holds c outcome
-LeavesOutput Reads machine input held holds told (Ok (choice.Compare old new most)) outcome =
+LeavesOutput Reads ReadsState machine input held holds told (Ok (choice.Compare old new most)) outcome =
     (a : Result Configuration Fault) × IsConfigured Reads (Some (string_bytes old)) a
     × (b : Result Configuration Fault) × IsConfigured Reads (Some (string_bytes new)) b
     × LeavesComparison most held holds a b outcome
-LeavesOutput Reads machine input held holds told (Ok (choice.Log start)) outcome =
+LeavesOutput Reads ReadsState machine input held holds told (Ok (choice.State config state)) outcome =
+    (c : Result Configuration Fault) × IsConfigured Reads (Some (string_bytes config)) c
+    × (text : Result (List ℕ) Fault) × ReadsState (string_bytes state) text
+    × LeavesState held holds c text outcome
+LeavesOutput Reads ReadsState machine input held holds told (Ok (choice.Log start)) outcome =
     OnKnown input held holds (λ log before. Tells start log before outcome)
-LeavesOutput Reads machine input held holds told (Ok (choice.Help text)) (Ok done) =
+LeavesOutput Reads ReadsState machine input held holds told (Ok (choice.Help text)) (Ok done) =
     Appends held holds (string_bytes text)
-LeavesOutput Reads machine input held holds told (Ok (choice.Help text)) (Err f) =
+LeavesOutput Reads ReadsState machine input held holds told (Ok (choice.Help text)) (Err f) =
     (f ≡ fault.Write) × AppendsFront held holds (string_bytes text)
-LeavesOutput Reads machine input held holds told (Ok (choice.Usage text)) outcome =
+LeavesOutput Reads ReadsState machine input held holds told (Ok (choice.Usage text)) outcome =
     (outcome ≡ Err fault.CommandLine) × (holds ≡ held)
-LeavesOutput Reads machine input held holds told (Err f) outcome = (outcome ≡ Err f) × (holds ≡ held)
+LeavesOutput Reads ReadsState machine input held holds told (Err f) outcome = (outcome ≡ Err f) × (holds ≡ held)
 
 -- Only `run` tells something before a fault's line.
 abbrev pub IsQuiet : Result Choice Fault → List ℕ → Type 0

@@ -1,7 +1,7 @@
 //! Why the program ends without success, and its exit status.
 
 ghost use Rattle.std.specs.Prelude.{◌≡◌, ◌≢◌};
-ghost use Rattle.gw_shell.specs.Ending.{fault_of, fault_of_configuration, fault_of_migration, fault_of_opening, fault_of_serving, fault_of_words, name_of, reason_of, status_of, status_of_comparison, words_of};
+ghost use Rattle.gw_shell.specs.Ending.{cause_of, fault_of, fault_of_configuration, fault_of_migration, fault_of_opening, fault_of_serving, fault_of_state, fault_of_words, name_of, reason_of, status_of, status_of_comparison, words_of};
 ghost use Rattle.gw_shell.specs.Lines.{fault_of_lines};
 ghost use Rattle.gw_shell.specs.declared.fault.Fault.TheVariants.{CommandLine, Memory};
 
@@ -10,6 +10,7 @@ use gw_configuration::ConfigFault;
 use gw_core::{RunFault, ServeFault};
 use gw_migration::MigrationFault;
 use gw_script::{LineFlaw, LinesFault};
+use gw_state_text::{FaultKind, StateFault};
 use gw_system::{LogFailure, OpenFailure, SocketFailure};
 use std::alloc::AllocError;
 use std::io::ErrorKind;
@@ -42,6 +43,10 @@ pub enum Fault {
     Memory,
     /// The count of ticks or the number of the last denial is at its end.
     CountEnd,
+    /// The file of the state can't be read.
+    StateUnreadable,
+    /// What the file of the state says is none, at this line, and why.
+    State(StateFault),
     /// Two configurations that were compared decide some ask otherwise, or the comparison isn't finished.
     Different,
 }
@@ -64,8 +69,10 @@ impl Fault {
             | Fault::Configuration(_)
             | Fault::Migration(_)
             | Fault::Line(_)
-            | Fault::FlawedLine(_, _) => 2,
+            | Fault::FlawedLine(_, _)
+            | Fault::State(_) => 2,
             Fault::Unreadable
+            | Fault::StateUnreadable
             | Fault::Read
             | Fault::Write
             | Fault::Log
@@ -114,6 +121,21 @@ pub fn reason_of(fault: MigrationFault) -> &'static str
     }
 }
 
+/// Why a text is none of a state, by what is wrong with its line.
+pub fn cause_of(kind: FaultKind) -> &'static str
+    ensures { result.now ≡ cause_of kind }
+{
+    match kind {
+        FaultKind::Version => "another version",
+        FaultKind::Line => "no line that may be here",
+        FaultKind::Range => "out of range",
+        FaultKind::Twice => "comes twice",
+        FaultKind::TooMany => "too many",
+        FaultKind::Cut => "the text is cut",
+        FaultKind::Memory => "out of memory",
+    }
+}
+
 /// What is wrong with a line.
 pub fn words_of(flaw: LineFlaw) -> &'static str
     ensures { result.now ≡ words_of flaw }
@@ -158,6 +180,17 @@ impl From<MigrationFault> for Fault {
         match fault {
             MigrationFault::Memory => Fault::Memory,
             _ => Fault::Migration(fault),
+        }
+    }
+}
+
+impl From<StateFault> for Fault {
+    ghost from_gives = { λ state fault. fault ≡ fault_of_state state state.kind };
+
+    fn from(fault: StateFault) -> Fault {
+        match fault.kind {
+            FaultKind::Memory => Fault::Memory,
+            _ => Fault::State(fault),
         }
     }
 }

@@ -11,6 +11,7 @@ mod configured;
 mod ending;
 mod fault;
 mod files;
+mod kept;
 mod lines;
 mod program;
 mod script;

@@ -12,7 +12,7 @@ ghost use Rattle.gw_shell.specs.Ending.{outcome_of_comparison};
 ghost use Rattle.gw_shell.specs.Ending.{FaultNote, IsExplainedBy};
 ghost use Rattle.gw_shell.specs.Files.{result_map};
 ghost use Rattle.gw_system.specs.Host.{OpensAtLine};
-ghost use Rattle.gw_shell.specs.Program.{AppendsFront, IsChoiceOf, IsFlushed, IsFollowed, IsRun, LeavesAnswered, LeavesCompared, LeavesComparison, LeavesConfigured, LeavesInFormatThree, LeavesMigrated, LeavesOfText, LeavesOutput, LeavesPlayed};
+ghost use Rattle.gw_shell.specs.Program.{AppendsFront, IsChoiceOf, IsFlushed, IsFollowed, IsRun, LeavesAnswered, LeavesCompared, LeavesComparison, LeavesConfigured, LeavesInFormatThree, LeavesMigrated, LeavesOfText, LeavesOutput, LeavesPlayed, LeavesSaid, LeavesState};
 ghost use Rattle.gw_shell.specs.Serving.{IsFlushedFor, LeavesRun, machine};
 ghost use Rattle.gw_shell.specs.declared.fault.Fault.{Fault};
 ghost use Rattle.gw_shell.specs.declared.fault.Fault.TheVariants as fault;
@@ -23,6 +23,7 @@ use crate::configured::{configuration, configuration_in, configuration_of};
 use crate::ending::{end_by, tell, usage_of};
 use crate::fault::Fault;
 use crate::files::ConfigFiles;
+use crate::kept::words_of_text;
 use crate::script::replay;
 use crate::serving::serve_ports;
 use crate::telling;
@@ -248,6 +249,39 @@ fn compare<W: Write + Drop>(
     print_compared(alloc, most, &old, &new, output)
 }
 
+/// Prints what the text of a state holds, and what of it a configuration takes over.
+fn print_said<W: Write + Drop>(
+    alloc: Global,
+    config: &Config,
+    text: &Result<Vec<u8>, Fault>,
+    output: &mut BufWriter<W>,
+) -> Result<(), Fault>
+    ensures output { let held = writer_contents W.contents output.old in
+        let holds = writer_contents W.contents output.new in
+        LeavesSaid held holds config.now (result_map (λ octets. octets.items) text.now) result }
+    ensures flush { OnOk result (writer_buffer output.new ≡ []) }
+{
+    match words_of_text(alloc, config, text) {
+        Ok(words) => print(&words, output),
+        Err(fault) => Err(fault),
+    }
+}
+
+/// Says what the text of a state holds under the configuration that was read.
+fn print_state<W: Write + Drop>(
+    alloc: Global,
+    config: Result<Config, Fault>,
+    text: &Result<Vec<u8>, Fault>,
+    output: &mut BufWriter<W>,
+) -> Result<(), Fault>
+    ensures output { LeavesState (writer_contents W.contents output.old)
+        (writer_contents W.contents output.new) config (result_map (λ octets. octets.items) text.now) result }
+    ensures flush { OnOk result (writer_buffer output.new ≡ []) }
+{
+    let config = config?;
+    print_said(alloc, &config, text, output)
+}
+
 /// Answers each ask of standard input by the rules of a configuration.
 fn answer<R: OctetSource, W: Write + Drop>(
     alloc: Global,
@@ -305,7 +339,7 @@ fn follow<F: ConfigFiles, H: Host, R: OctetSource, W: Write + Drop, E: OctetSink
     errors: &mut E,
 ) -> Result<(), Fault>
     ensures followed { IsFollowed
-        (LeavesOutput (F.Reads files.now)
+        (LeavesOutput (F.Reads files.now) (F.ReadsState files.now)
         (machine (OpensAtLine (H.LogOpens host.old) (H.LogIsCut host.old) H.Log.held)
         (H.SocketsOpen host.old) (H.RoutesIp host.old) (H.Closes host.new) H.Log.held H.Sockets.calls) (R.left input.old)
         (writer_contents W.contents output.old) (writer_contents W.contents output.new))
@@ -347,6 +381,11 @@ fn follow<F: ConfigFiles, H: Host, R: OctetSource, W: Write + Drop, E: OctetSink
             let after = configuration_in(alloc, files, new);
             compare(alloc, *most, before, after, output)
         }
+        Ok(Choice::State { config, state }) => {
+            let text = files.read_state(alloc, state);
+            let config = configuration_in(alloc, files, config);
+            print_state(alloc, config, &text, output)
+        }
         Ok(Choice::Log(start)) => telling::tell(alloc, *start, input, output),
         Ok(Choice::Help(text)) => print(text.as_bytes(), output),
         Ok(Choice::Usage(_)) => Err(Fault::CommandLine),
@@ -374,7 +413,7 @@ pub fn run<F: ConfigFiles, H: Host, R: OctetSource, W: Write + Drop, E: OctetSin
         (λ choice. MatchResult words
         (λ w. IsChoiceOf (map string_bytes w.items) choice)
         (λ f. choice ≡ Err f))
-        (LeavesOutput (F.Reads files.now)
+        (LeavesOutput (F.Reads files.now) (F.ReadsState files.now)
         (machine (OpensAtLine (H.LogOpens host.old) (H.LogIsCut host.old) H.Log.held)
         (H.SocketsOpen host.old) (H.RoutesIp host.old) (H.Closes host.new) H.Log.held H.Sockets.calls) (R.left input.old)
         (writer_contents W.contents output.old) (writer_contents W.contents output.new))
