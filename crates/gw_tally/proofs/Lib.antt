@@ -1,0 +1,2 @@
+mod CountingLemmas
+mod TextLemmas
