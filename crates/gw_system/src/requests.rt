@@ -1,0 +1,71 @@
+//! What asks a running gateway to read its configuration again.
+
+ghost use Rattle.std.specs.Prelude.{◌≡◌, ◌∷◌, [], List, Option, None};
+ghost use Rattle.gw_system.specs.Requests.{Exchange, GoesOn, answered, asked_by};
+
+use crate::reading::{ReadFailure, read_file};
+use crate::store::{name_with, replace_file};
+use std::alloc::{AllocError, Global};
+use std::rt::Files;
+
+/// What asks a running gateway to read its configuration again, and is answered.
+pub trait Requests {
+    /// What it asked and was answered so far, in order, if it tells that.
+    ghost told: { Self → Option (List Exchange) };
+
+    /// Takes a request away. If there was one, it gives the text of the configuration, of which there are at
+    /// most so many octets, or why that can't be had; and `None` if there was none.
+    fn take(&mut self, alloc: Global, most: usize) -> Option<Result<Vec<u8>, ReadFailure>>
+        ensures { GoesOn (told self.old) (told self.new) (asked_by result ∷ []) };
+
+    /// Answers the request that was taken last. An answer that can't be given is left out.
+    fn answer(&mut self, text: &[u8])
+        ensures { GoesOn (told self.old) (told self.new) (answered text.now ∷ []) };
+}
+
+/// A request is a file. It is asked again at each call by taking the file away, and the answer is a file too,
+/// whose name has `.answer` after its name.
+#[derive(Drop)]
+pub struct FileRequests<'a, R> {
+    rt: &'a R,
+    request: String,
+    config: String,
+    answer: String,
+    beside: String,
+}
+
+impl<'a, R: Files> FileRequests<'a, R> {
+    /// The requests by the file of this name to read that configuration. The only fault is want of memory.
+    pub fn new(rt: &'a R, alloc: Global, request: &str, config: &str) -> Result<Self, AllocError> {
+        Ok(FileRequests {
+            rt,
+            answer: name_with(alloc, request, ".answer")?,
+            beside: name_with(alloc, request, ".answer.new")?,
+            request: name_with(alloc, request, "")?,
+            config: name_with(alloc, config, "")?,
+        })
+    }
+
+    /// The text of the configuration.
+    fn text(&self, alloc: Global, most: usize) -> Result<Vec<u8>, ReadFailure> {
+        match read_file(self.rt, alloc, &self.config, most)? {
+            Some(text) => Ok(text),
+            None => Err(ReadFailure::Unreadable),
+        }
+    }
+}
+
+impl<R: Files> Requests for FileRequests<'_, R> {
+    ghost told = { λ _. None };
+
+    fn take(&mut self, alloc: Global, most: usize) -> Option<Result<Vec<u8>, ReadFailure>> {
+        match self.rt.remove_file(&self.request) {
+            Ok(()) => Some(self.text(alloc, most)),
+            Err(_) => None,
+        }
+    }
+
+    fn answer(&mut self, text: &[u8]) {
+        let _ = replace_file(self.rt, &self.answer, &self.beside, text);
+    }
+}
