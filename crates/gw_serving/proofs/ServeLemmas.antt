@@ -31,7 +31,8 @@ use Rattle.gw_core.specs.Laws.{log as denials_of_run}
 use Rattle.gw_serving.specs.Serve.{AreTurns, EndsBy, IsTakenLast, IsTurn, Scene, ServesAll, Stops, Try, Turn, LeadTo, count_fault}
 use Rattle.gw_serving.specs.Serve.{count_turn, counts_after, turn_events, events_of, failures, lines_of, log_of, zero_counts, successes}
 use Rattle.gw_serving.specs.Serve.{empty_turn, failed_turn, lost_event, taken_event, try_call, turn_calls}
-use Rattle.gw_serving.specs.ServeTurn.{AreTried, HasRoom, LogEnd, TurnEnd, event_answer, wire_counts}
+use Rattle.gw_serving.specs.ServeTurn.{AreTried, HasRoom, LogEnd, TurnEnd, event_answer}
+use Rattle.gw_serving.specs.Stretch.{wire_counts}
 use Rattle.gw_core.specs.State.{State}
 use Rattle.gw_serving.specs.Wire.{Call, Tells, arrival, arrival_of, receive_call}
 

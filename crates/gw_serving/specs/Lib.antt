@@ -5,3 +5,5 @@ pub mod ServeTurn
 pub mod Reports
 pub mod ReportTurn
 pub mod Served
+pub mod Stretch
+pub mod Keeping

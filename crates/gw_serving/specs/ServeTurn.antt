@@ -1,5 +1,5 @@
 -- What comes of the parts of one turn. It only helps proofs.
-use Rattle.std.specs.Prelude.{◌≡◌, ℕ, ◌+◌, ◌^◌, ◌<◌, ◌≤◌, List, [], ◌∷◌, ◌++◌, map, Option, Result, Ok, Err}
+use Rattle.std.specs.Prelude.{◌≡◌, ℕ, ◌+◌, ◌^◌, ◌<◌, ◌≤◌, Bool, true, false, List, [], ◌∷◌, ◌++◌, map, Option, Some, None, Result, Ok, Err}
 use Rattle.std.specs.Option.{option_map}
 use Rattle.std.specs.Io.KnownBytes.{Appends}
 use Rattle.gw_audit.specs.declared.denial.Denial.{Denial}
@@ -10,6 +10,9 @@ use Rattle.gw_serving.specs.declared.wire.WireFault.{WireFault}
 use Rattle.gw_serving.specs.declared.serving.Served.{Served}
 use Rattle.gw_serving.specs.declared.serving.ServeFault.{ServeFault}
 use Rattle.gw_serving.specs.declared.serving.ServeFault.TheVariants.{Log, Memory, CountEnd}
+use Rattle.gw_core.specs.State.{State}
+use Rattle.gw_core.specs.declared.gateway.Taken.{Taken}
+use Rattle.gw_serving.specs.Stretch.{GoOn, IsFaulty, IsLoggedLast, IsTaken, IsWithheld, Moment, count_taken, wire_counts}
 use Rattle.gw_serving.specs.Tally.{tally_from}
 use Rattle.gw_serving.specs.declared.tally.Tally.{Tally}
 use Rattle.gw_serving.specs.Wire.{Call, Tells}
@@ -20,10 +23,6 @@ use Rattle.gw_serving.specs.Serve.{successes, try_call, turn_events}
 abbrev pub event_answer : Result (Option LentEvent) WireFault → Result (Option Event) WireFault
 event_answer (Ok event) = Ok (option_map event_view event)
 event_answer (Err fault) = Err fault
-
--- how often the wire was called, but for receives that didn't fail
-abbrev pub wire_counts : Served → ℕ
-wire_counts s = s.recv_failures + s.sends + s.send_failures
 
 -- no count passes its end in the next turn
 pub record HasRoom (s : Served) (wire_failures : ℕ) : Type 0 where
@@ -39,6 +38,24 @@ TurnEnd before s was after t is (Ok done) =
     × (is ≡ tally_from before.gateway was (turn_events turn))
 TurnEnd before s was after t is (Err fault) =
     (event : Event) × EndsBy fault before event after × (t ≡ count_fault s fault) × (is ≡ was)
+
+-- The first part of a turn: no event was taken; or one was, which was logged, and nothing of it was tried; or its event
+-- ended in a fault.
+abbrev pub NextEnd : Scene → Served → Tally → Scene → Served → Tally → Result (Option Taken) ServeFault → Type 0
+NextEnd before s was after t is (Ok None) =
+    (turn : Turn) × (turn_events turn ≡ []) × LeadTo before (turn ∷ []) after × (t ≡ count_turn s turn) × (is ≡ was)
+NextEnd before s was after t is (Ok (Some taken)) =
+    (event : Event) × IsTaken before.gateway event after.gateway taken × IsLoggedLast before event after × (t ≡ count_taken s)
+    × (is ≡ tally_from before.gateway was (event ∷ []))
+NextEnd before s was after t is (Err fault) =
+    (event : Event) × EndsBy fault before event after × (t ≡ count_fault s fault) × (is ≡ was)
+
+-- a turn with a guard: what was taken, if something was, was passed and tried; or it was withheld; or its event ended in a
+-- fault
+abbrev pub GuardedEnd : {G : Type 0} → (G → State → Event → G → Bool → Type 0) → Moment G → Result Bool ServeFault → Moment G → Type 0
+GuardedEnd Passes before (Ok true) after = (turn : Turn) × GoOn Passes before (turn ∷ []) after
+GuardedEnd Passes before (Ok false) after = (event : Event) × IsWithheld Passes before event after
+GuardedEnd Passes before (Err fault) after = (event : Event) × IsFaulty fault before event after
 
 -- what the log holds of the lines of these denials
 abbrev pub LogEnd : List Denial → Option (List ℕ) → Option (List ℕ) → Result Unit ServeFault → Type 0

@@ -1,14 +1,16 @@
 //! The gateway behind a wire: what comes is taken, what is denied is logged, and what is to go is
 //! sent.
 
-ghost use Rattle.std.specs.Prelude.{◌≡◌, ◌+◌, ◌-◌, ◌<◌, ◌≤◌, ◌^◌, ◌∷◌, ◌++◌, [], length, IfOk, IfErr, IsErrOf, OnOk};
+ghost use Rattle.std.specs.Prelude.{◌≡◌, ◌+◌, ◌-◌, ◌<◌, ◌≤◌, ◌^◌, ◌∷◌, ◌++◌, [], length, IfOk, IfErr, IfSome, IsErrOf, OnOk};
 ghost use Rattle.gw_serving.specs.Tally.{IsBelow, no_tally};
-ghost use Rattle.gw_serving.specs.ServeTurn.{AreTried, HasRoom, LogEnd, TurnEnd, event_answer, wire_counts};
+ghost use Rattle.gw_serving.specs.ServeTurn.{AreTried, GuardedEnd, HasRoom, LogEnd, NextEnd, TurnEnd, event_answer};
 ghost use Rattle.gw_serving.specs.Serve.{ServesAll, Stops, counts_of_answer, lines_of, scene, zero_counts};
 ghost use Rattle.gw_serving.specs.Served.{IsServing};
+ghost use Rattle.gw_serving.specs.Stretch.{moment, wire_counts};
 ghost use Rattle.gw_serving.specs.Wire.{Tells, failures_of, receive_call};
 ghost use Rattle.gw_relay.specs.Sends.{sendings_of};
 
+use crate::guard::Guard;
 use crate::tally::Tally;
 use crate::wire::{Got, RECEIVE_ROOM, Wire, WireFault};
 use gw_audit::{Denials, line};
@@ -113,18 +115,18 @@ pub fn serve<W: Wire, L: OctetSink>(
 
 /// What is kept from turn to turn.
 #[derive(Drop)]
-pub(crate) struct ServeState {
+pub struct ServeState {
     datagram: [u8; RECEIVE_ROOM],
     lines: Vec<u8>,
     /// What was done so far.
-    pub(crate) served: Served,
+    pub served: Served,
     /// How many datagrams weren't passed on, in whole turns.
-    pub(crate) tally: Tally,
+    pub tally: Tally,
 }
 
 impl ServeState {
     /// Before the first turn.
-    pub(crate) fn new(alloc: Global) -> Self
+    pub fn new(alloc: Global) -> Self
         ensures served { result.served ≡ zero_counts }
         ensures tally { result.tally ≡ no_tally }
     {
@@ -159,28 +161,109 @@ impl ServeState {
         ensures sure_log { L.NeverFails log.old → ¬ (IsErrOf result ServeFault.Log) }
         ensures lasting_log { L.NeverFails log.old → L.NeverFails log.new }
     {
+        match self.take_next(alloc, gateway, wire, log) {
+            Ok(Some(taken)) => {
+                try_sends(wire, &taken.effects.sends, &mut self.served);
+                Ok(())
+            }
+            Ok(None) => Ok(()),
+            Err(fault) => Err(fault),
+        }
+    }
+
+    /// One turn with a guard, which passes what was taken before it is sent. Says whether its datagrams
+    /// could go.
+    pub(crate) fn take_guarded_turn<W: Wire, L: OctetSink, G: Guard>(
+        &mut self,
+        alloc: Global,
+        gateway: &mut Gateway,
+        wire: &mut W,
+        log: &mut L,
+        guard: &mut G,
+    ) -> Result<bool, ServeFault>
+        requires room { HasRoom self.old.served (W.failure_count wire.old) }
+        requires below { IsBelow self.old.served.taken self.old.tally }
+        ensures end { let before = moment
+            (scene gateway.old (L.held log.old) (W.calls wire.old)) guard.old self.old.served self.old.tally in
+            let after = moment
+            (scene gateway.new (L.held log.new) (W.calls wire.new)) guard.new self.new.served self.new.tally in
+            GuardedEnd G.Passes before result after }
+        ensures below { IsBelow self.new.served.taken self.new.tally }
+        ensures failures { let was = self.old.served in
+            let is = self.new.served in
+            W.failure_count wire.new + was.recv_failures + was.send_failures
+            ≡ W.failure_count wire.old + is.recv_failures + is.send_failures }
+        ensures few { wire_counts self.new.served < wire_counts self.old.served + 2 ^ 64 }
+        ensures ports { W.port_count wire.new ≡ W.port_count wire.old }
+        ensures sure_log { L.NeverFails log.old → ¬ (IsErrOf result ServeFault.Log) }
+        ensures lasting_log { L.NeverFails log.old → L.NeverFails log.new }
+    {
+        match self.take_next(alloc, gateway, wire, log) {
+            Ok(Some(taken)) => {
+                if !guard.pass(alloc, gateway, &taken) {
+                    return Ok(false);
+                }
+                try_sends(wire, &taken.effects.sends, &mut self.served);
+                Ok(true)
+            }
+            Ok(None) => Ok(true),
+            Err(fault) => Err(fault),
+        }
+    }
+
+    /// The first part of a turn: receives, has the gateway take what came and logs its denials. Gives what was
+    /// taken, if something was; nothing of it is sent yet.
+    #[inline(always)]
+    fn take_next<W: Wire, L: OctetSink>(
+        &mut self,
+        alloc: Global,
+        gateway: &mut Gateway,
+        wire: &mut W,
+        log: &mut L,
+    ) -> Result<Option<Taken>, ServeFault>
+        requires room { HasRoom self.old.served (W.failure_count wire.old) }
+        requires below { IsBelow self.old.served.taken self.old.tally }
+        ensures end { let before = scene gateway.old (L.held log.old) (W.calls wire.old) in
+            let after = scene gateway.new (L.held log.new) (W.calls wire.new) in
+            NextEnd before self.old.served self.old.tally after self.new.served self.new.tally result }
+        ensures below { IsBelow self.new.served.taken self.new.tally }
+        ensures failures { let was = self.old.served in
+            let is = self.new.served in
+            W.failure_count wire.new + was.recv_failures
+            ≡ W.failure_count wire.old + is.recv_failures }
+        ensures sends { self.new.served.sends ≡ self.old.served.sends }
+        ensures send_failures { self.new.served.send_failures ≡ self.old.served.send_failures }
+        ensures few { self.new.served.recv_failures ≤ self.old.served.recv_failures + 1 }
+        ensures taken { IfOk result (λ next. IfSome next (λ taken.
+            self.new.served.recv_failures ≡ self.old.served.recv_failures)) }
+        ensures ports { W.port_count wire.new ≡ W.port_count wire.old }
+        ensures sure_log { L.NeverFails log.old → ¬ (IsErrOf result ServeFault.Log) }
+        ensures lasting_log { L.NeverFails log.old → L.NeverFails log.new }
+    {
         self.served.turns += 1;
         let event = match receive(wire, &mut self.datagram) {
             Ok(Some(event)) => event,
-            Ok(None) => return Ok(()),
+            Ok(None) => return Ok(None),
             Err(_) => {
                 self.served.recv_failures += 1;
-                return Ok(());
+                return Ok(None);
             }
         };
-        let Taken { effects, drop } = match take_event(alloc, gateway, &event) {
+        let taken = match take_event(alloc, gateway, &event) {
             Ok(taken) => taken,
             Err(StepFault::Memory) => {
                 self.served.memory_drops += 1;
-                return Ok(());
+                return Ok(None);
             }
             Err(StepFault::CountEnd) => return Err(ServeFault::CountEnd),
         };
         self.served.taken += 1;
-        log_denials(&mut self.lines, log, &effects.denials)?;
-        self.tally.count(drop, &effects.denials);
-        try_sends(wire, &effects.sends, &mut self.served);
-        Ok(())
+        match log_denials(&mut self.lines, log, &taken.effects.denials) {
+            Ok(()) => {}
+            Err(fault) => return Err(fault),
+        }
+        self.tally.count(taken.drop, &taken.effects.denials);
+        Ok(Some(taken))
     }
 }
 

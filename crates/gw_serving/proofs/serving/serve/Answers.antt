@@ -1,7 +1,7 @@
 use Rattle.std.proofs.Common.{◌≡◌, ℕ, ap, sym, subst, ◌∙◌, arith, refl}
 use Rattle.gw_serving.specs.declared.serving.Served.{Served}
 use Rattle.gw_serving.specs.Serve.{ServesAll, zero_counts, scene}
-use Rattle.gw_serving.specs.ServeTurn.{wire_counts}
+use Rattle.gw_serving.specs.Stretch.{wire_counts}
 use Rattle.gw_serving.proofs.ServeLemmas.{none_below, room_left, serves_more, serves_none, stops_then}
 use Rattle.gw_serving.proofs.ServedLemmas.{stops_are_served, turns_are_served}
 use Rattle.gw_serving.proofs.serving.serve.Goals as goal

@@ -1,7 +1,7 @@
 use Rattle.std.proofs.Common.{◌≡◌, ◌+◌, ◌-◌, ◌*◌, ◌^◌, ◌≤◌}
 use Rattle.gw_serving.specs.Tally.{IsBelow}
 use Rattle.gw_serving.specs.Serve.{ServesAll, scene}
-use Rattle.gw_serving.specs.ServeTurn.{wire_counts}
+use Rattle.gw_serving.specs.Stretch.{wire_counts}
 use Rattle.gw_serving.proofs.serving.serve.Given as goal
 
 abbrev pub invariant-loop : goal.invariant-loop

@@ -4,7 +4,7 @@ use Rattle.gw_serving.specs.Tally.{no_tally}
 use Rattle.gw_serving.specs.declared.tally.Tally.{Tally}
 use Rattle.gw_serving.specs.declared.serving.Served.{Served}
 use Rattle.gw_serving.specs.Serve.{scene, zero_counts}
-use Rattle.gw_serving.specs.ServeTurn.{wire_counts}
+use Rattle.gw_serving.specs.Stretch.{wire_counts}
 use Rattle.gw_serving.proofs.ReportLemmas.{Reported, reported_more, reported_none, reported_stop, since_end, since_start}
 use Rattle.gw_serving.proofs.ServeLemmas.{none_below, room_left}
 use Rattle.gw_serving.proofs.reporting.Schedule.serve_turns.Goals as goal

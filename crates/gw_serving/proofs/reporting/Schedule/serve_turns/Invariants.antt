@@ -2,7 +2,7 @@ use Rattle.std.proofs.Common.{◌≡◌, ◌+◌, ◌-◌, ◌*◌, ◌^◌, ◌
 use Rattle.gw_serving.specs.Tally.{IsBelow}
 use Rattle.gw_serving.specs.ReportTurn.{HasGoneOn}
 use Rattle.gw_serving.specs.Serve.{scene}
-use Rattle.gw_serving.specs.ServeTurn.{wire_counts}
+use Rattle.gw_serving.specs.Stretch.{wire_counts}
 use Rattle.gw_serving.proofs.ReportLemmas.{Reported}
 use Rattle.gw_serving.proofs.reporting.Schedule.serve_turns.Given as goal
 
