@@ -1,0 +1,3 @@
+pub mod ServeLemmas
+pub mod ReportLemmas
+pub mod ServedLemmas
