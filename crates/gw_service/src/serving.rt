@@ -9,14 +9,14 @@ ghost use Rattle.std.specs.Io.KnownBytes.{Appends, Keeps};
 ghost use Rattle.gw_core.specs.History.{state_after};
 ghost use Rattle.gw_core.specs.Replay.{no_counts};
 ghost use Rattle.gw_serving.specs.Serve.{scene};
-ghost use Rattle.gw_shell.specs.Announcement.{startup_line};
+ghost use Rattle.gw_service.specs.Announcement.{startup_line};
 ghost use Rattle.gw_system.specs.Host.{OpensAtLine};
-ghost use Rattle.gw_shell.specs.Serving.{AreOpen, ArentOpen, IsFlushedFor, LeavesServed, LogIsOpen, LogIsShut, LogStays, Serves, ServesFrom, ends, log_held, machine, outcome_of, service};
-ghost use Rattle.gw_shell.specs.declared.fault.Fault.TheVariants as fault;
+ghost use Rattle.gw_service.specs.Serving.{AreOpen, ArentOpen, IsFlushedFor, LeavesServed, LogIsOpen, LogIsShut, LogStays, Serves, ServesFrom, ends, log_held, machine, outcome_of, service};
+ghost use Rattle.gw_service.specs.declared.fault.ServiceFault.TheVariants as fault;
 
 use crate::announcement::{startup_line, warning_of};
 use crate::ending::tell;
-use crate::fault::Fault;
+use crate::fault::ServiceFault;
 use crate::options::RunOptions;
 use gw_configuration::Config;
 use gw_core::{Counts, Gateway};
@@ -27,7 +27,7 @@ use std::alloc::Global;
 use std::io::{BufWriter, Write};
 
 /// A gateway of this configuration that nothing came to yet.
-fn fresh_gateway(alloc: Global, config: Config) -> Result<Gateway, Fault>
+fn fresh_gateway(alloc: Global, config: Config) -> Result<Gateway, ServiceFault>
     ensures state { IfOk result (λ gateway. gateway ≡ state_after config no_counts []) }
     ensures fault { IfErr result (λ f. f ≡ fault.Memory) }
 {
@@ -37,17 +37,17 @@ fn fresh_gateway(alloc: Global, config: Config) -> Result<Gateway, Fault>
     };
     match Gateway::new(alloc, config, counts) {
         Ok(gateway) => Ok(gateway),
-        Err(_) => Err(Fault::Memory),
+        Err(_) => Err(ServiceFault::Memory),
     }
 }
 
 /// The outcome of the program, by the answer of serving.
-fn outcome_of(answer: Result<Served, ServeStop>) -> Result<(), Fault>
+fn outcome_of(answer: Result<Served, ServeStop>) -> Result<(), ServiceFault>
     ensures { result ≡ outcome_of answer }
 {
     match answer {
         Ok(_) => Ok(()),
-        Err(stop) => Err(Fault::from(stop.fault)),
+        Err(stop) => Err(ServiceFault::from(stop.fault)),
     }
 }
 
@@ -61,7 +61,7 @@ fn serve_by<S: Wire, L: OctetSink, E: OctetSink>(
     errors: &mut E,
     turns: u64,
     stats: Option<u64>,
-) -> Result<(), Fault>
+) -> Result<(), ServiceFault>
     requires turns { turns < 2 ^ 63 }
     requires seconds { IfSome stats (λ n. 0 < n) }
     requires failures { S.failure_count sockets.old < 2 ^ 127 }
@@ -91,7 +91,7 @@ pub fn serve_fresh<S: Wire, L: OctetSink, E: OctetSink>(
     errors: &mut E,
     turns: u64,
     stats: Option<u64>,
-) -> Result<(), Fault>
+) -> Result<(), ServiceFault>
     requires turns { turns < 2 ^ 63 }
     requires seconds { IfSome stats (λ n. 0 < n) }
     requires failures { S.failure_count sockets.old < 2 ^ 127 }
@@ -193,7 +193,7 @@ fn serve_open<L: OctetSink, S: Wire, W: Write + Drop, E: OctetSink>(
     sockets: &mut S,
     output: &mut BufWriter<W>,
     errors: &mut E,
-) -> Result<(), Fault>
+) -> Result<(), ServiceFault>
     requires failures { S.failure_count sockets.old < 2 ^ 127 }
     requires unbuffered { log.old ≡ None → writer_buffer output.old ≡ [] }
     ensures serves { let held = writer_contents W.contents output.old in
@@ -228,7 +228,7 @@ pub fn serve_ports<H: Host, W: Write + Drop, E: OctetSink>(
     host: &mut H,
     output: &mut BufWriter<W>,
     errors: &mut E,
-) -> Result<(), Fault>
+) -> Result<(), ServiceFault>
     ensures served { let name = option_map string_bytes options.now.log in
         (told : List ℕ)
         × LeavesServed (machine (OpensAtLine (H.LogOpens host.old) (H.LogIsCut host.old) H.Log.held)
@@ -265,7 +265,7 @@ pub fn serve_ports<H: Host, W: Write + Drop, E: OctetSink>(
         Err(failure) => {
             let note = note_of(alloc, options.verbose, failure);
             tell(&note, errors);
-            Err(Fault::from(failure))
+            Err(ServiceFault::from(failure))
         }
     }
 }

@@ -1,8 +1,8 @@
 use Rattle.std.proofs.Common.{ap}
 use Rattle.std.specs.Io.Buffered.{writer_buffer, writer_inner}
-use Rattle.gw_shell.specs.Serving.{service}
-use Rattle.gw_shell.proofs.ServingLemmas.{serves_on_output}
-use Rattle.gw_shell.proofs.serving.serve_open.Goals as goal
+use Rattle.gw_service.specs.Serving.{service}
+use Rattle.gw_service.proofs.ServingLemmas.{serves_on_output}
+use Rattle.gw_service.proofs.serving.serve_open.Goals as goal
 
 pub returns-in-None-clause-serves : goal.returns-in-None-clause-serves
 returns-in-None-clause-serves g c =

@@ -1,9 +1,9 @@
 use Rattle.std.proofs.Common.{List, ◌++◌, ap, Err, subst, ℕ}
 use Rattle.std.specs.Io.Buffered.{writer_contents}
 use Rattle.std.specs.Io.KnownBytes.{Appends}
-use Rattle.gw_shell.specs.Serving.{served, shut}
-use Rattle.gw_shell.proofs.ServingLemmas.{appends_two}
-use Rattle.gw_shell.proofs.serving.serve_ports.Goals as goal
+use Rattle.gw_service.specs.Serving.{served, shut}
+use Rattle.gw_service.proofs.ServingLemmas.{appends_two}
+use Rattle.gw_service.proofs.serving.serve_ports.Goals as goal
 
 pub returns-in-Ok-clause-served : goal.returns-in-Ok-clause-served
 returns-in-Ok-clause-served g c =

@@ -12,10 +12,10 @@ use Rattle.gw_serving.specs.declared.serving.ServeFault.{ServeFault}
 use Rattle.gw_serving.specs.declared.serving.ServeFault.TheVariants as serving
 use Rattle.gw_serving.specs.declared.serving.ServeStop.{ServeStop}
 use Rattle.gw_configuration.specs.Configuration.{Configuration}
-use Rattle.gw_shell.specs.Ending.{fault_of_serving}
-use Rattle.gw_shell.specs.declared.fault.Fault.{Fault}
-use Rattle.gw_shell.specs.declared.fault.Fault.TheVariants as fault
-use Rattle.gw_shell.specs.Serving.{Ends, Serves, ServesFrom, ServesWhole, Service, ends, log_held, outcome_of, reports_of, service}
+use Rattle.gw_service.specs.Fault.{fault_of_serving}
+use Rattle.gw_service.specs.declared.fault.ServiceFault.{ServiceFault}
+use Rattle.gw_service.specs.declared.fault.ServiceFault.TheVariants as fault
+use Rattle.gw_service.specs.Serving.{Ends, Serves, ServesFrom, ServesWhole, Service, ends, log_held, outcome_of, reports_of, service}
 
 -- all turns that are served by a fresh gateway are served from the first state
 served_whole : (c : Configuration) (how : Service) (first last : State) (log log_then : Option (List ℕ)) (calls calls_then : Option (List Call))
@@ -63,11 +63,11 @@ fresh_answer c how first last log log_then calls calls_then text (Err stop) is_f
 
 -- serving from a fresh gateway is serving from the first state
 pub from_fresh : (c : Configuration) (how : Service) (first last : State) (log log_then : Option (List ℕ)) (calls calls_then : Option (List Call))
-    (text : List ℕ) (outcome : Result (Unit {0}) Fault) → first ≡ state_after c no_counts []
+    (text : List ℕ) (outcome : Result (Unit {0}) ServiceFault) → first ≡ state_after c no_counts []
     → ServesFrom how (scene first log calls) (scene last log_then calls_then) text outcome
     → Serves c how (ends log calls) (ends log_then calls_then) text outcome
 from_fresh c how first last log log_then calls calls_then text outcome is_first from =
-    subst (λ (o : Result (Unit {0}) Fault). Serves c how (ends log calls) (ends log_then calls_then) text o) (sym from.1)
+    subst (λ (o : Result (Unit {0}) ServiceFault). Serves c how (ends log calls) (ends log_then calls_then) text o) (sym from.1)
     (fresh_answer c how first last log log_then calls calls_then text from.0 is_first from.2)
 
 -- serving of which nothing is told
@@ -101,7 +101,7 @@ append_empty (Some held) = ap Some (search rules)
 -- a log on standard output, of which nothing waits in the buffer
 pub serves_on_output : {Log : Type 0} (held : Log → Option (List ℕ)) (c : Configuration) (how : Service) (log : Option Log)
     (lent inner inner_then : Option (List ℕ)) (buffer : List ℕ) (calls calls_then : Option (List Call)) (text : List ℕ)
-    (outcome : Result (Unit {0}) Fault) → log ≡ None → buffer ≡ [] → lent ≡ inner
+    (outcome : Result (Unit {0}) ServiceFault) → log ≡ None → buffer ≡ [] → lent ≡ inner
     → Serves c how (ends lent calls) (ends inner_then calls_then) text outcome
     → Serves c how (ends (log_held held log (append_known inner buffer)) calls) (ends (log_held held log (append_known inner_then buffer)) calls_then)
     text outcome
@@ -133,7 +133,7 @@ appends_written (Err e) held holds text line is_line is appends = absurd (search
 
 -- serving by the answer of serving with reports
 pub by_reports : (turns seconds : ℕ) (stats : Option ℕ) (before after : Scene) (answer : Result Served ServeStop)
-    (outcome : Result (Unit {0}) Fault) (Never : Type 0) (held holds : Option (List ℕ)) → stats ≡ Some seconds → outcome ≡ outcome_of answer
+    (outcome : Result (Unit {0}) ServiceFault) (Never : Type 0) (held holds : Option (List ℕ)) → stats ≡ Some seconds → outcome ≡ outcome_of answer
     → IsRunWith turns before answer after
     (λ run. Never → Appends held holds (told_of seconds before.gateway run after.gateway (counts_of_answer answer)))
     → (text : List ℕ) × ServesFrom (service turns stats) before after text outcome × (Never → Appends held holds text)
@@ -144,7 +144,7 @@ by_reports turns seconds stats before after answer outcome Never held holds is_s
     (told.0, (answer, is_outcome, same), told.2)
 
 -- serving by the answer of serving without reports
-pub by_silence : (turns : ℕ) (stats : Option ℕ) (before after : Scene) (answer : Result Served ServeStop) (outcome : Result (Unit {0}) Fault)
+pub by_silence : (turns : ℕ) (stats : Option ℕ) (before after : Scene) (answer : Result Served ServeStop) (outcome : Result (Unit {0}) ServiceFault)
     (Never : Type 0) (held : Option (List ℕ)) → stats ≡ None → outcome ≡ outcome_of answer
     → IfOk answer (λ served. ServesAll turns before served after) → IfErr answer (λ stop. Stops turns before stop after)
     → (text : List ℕ) × ServesFrom (service turns stats) before after text outcome × (Never → Appends held held text)
@@ -155,10 +155,10 @@ by_silence turns stats before after answer outcome Never held is_stats is_outcom
     ([], (answer, is_outcome, same), λ never. appends_nothing held)
 
 -- nothing is served where there is no memory for a gateway
-pub serves_nothing : (c : Configuration) (how : Service) (before : Ends) (f : Fault) (Never : Type 0) (held : Option (List ℕ)) → f ≡ fault.Memory
+pub serves_nothing : (c : Configuration) (how : Service) (before : Ends) (f : ServiceFault) (Never : Type 0) (held : Option (List ℕ)) → f ≡ fault.Memory
     → (text : List ℕ) × Serves c how before before text (Err f) × (Never → Appends held held text)
 serves_nothing c how before f Never held is = (
   [],
-  subst (λ (g : Fault). Serves c how before before [] (Err g)) (sym is) (inr (refl, refl)),
+  subst (λ (g : ServiceFault). Serves c how before before [] (Err g)) (sym is) (inr (refl, refl)),
   λ never. appends_nothing held,
 )

@@ -1,6 +1,6 @@
 use Rattle.gw_serving.specs.Serve.{scene}
-use Rattle.gw_shell.proofs.ServingLemmas.{by_reports, by_silence}
-use Rattle.gw_shell.proofs.serving.serve_by.Goals as goal
+use Rattle.gw_service.proofs.ServingLemmas.{by_reports, by_silence}
+use Rattle.gw_service.proofs.serving.serve_by.Goals as goal
 
 pub returns-in-Some-clause-serves : goal.returns-in-Some-clause-serves
 returns-in-Some-clause-serves g c =

@@ -1,7 +1,6 @@
 -- What `run` leaves: what was opened, and what came of serving it from the gateway's first state,
 -- over the definitions of `gw_core`.
 use Rattle.std.specs.Prelude.{◌≡◌, ◌⊎◌, ⊤, ℕ, Bool, List, [], ◌++◌, Option, Some, None, Result, Ok, Err, option_map}
-use Rattle.std.specs.Prelude.{string_bytes}
 use Rattle.std.specs.Io.KnownBytes.{Keeps}
 use Rattle.gw_core.specs.History.{state_after}
 use Rattle.gw_core.specs.Replay.{no_counts}
@@ -15,7 +14,7 @@ use Rattle.gw_serving.specs.declared.serving.ServeFault.TheVariants as serving
 use Rattle.gw_serving.specs.declared.serving.ServeStop.{ServeStop}
 use Rattle.gw_configuration.specs.Configuration.{Configuration}
 use Rattle.gw_configuration.specs.declared.port.Port.{Port}
-use Rattle.gw_shell.specs.Announcement.{IsWarning, startup_line}
+use Rattle.gw_service.specs.Announcement.{IsWarning, startup_line}
 use Rattle.gw_system.specs.Host.{LogOpening}
 use Rattle.gw_system.specs.Opening.{IsNote}
 use Rattle.gw_system.specs.declared.opening.LogFailure.{LogFailure}
@@ -23,10 +22,9 @@ use Rattle.gw_system.specs.declared.opening.LogFailure.TheVariants as log_failur
 use Rattle.gw_system.specs.declared.opening.OpenFailure.{OpenFailure}
 use Rattle.gw_system.specs.declared.opening.OpenFailure.TheVariants as opening
 use Rattle.gw_system.specs.declared.opening.SocketFailure.{SocketFailure}
-use Rattle.gw_shell.specs.Ending.{FaultNote, fault_of_opening, fault_of_serving}
-use Rattle.gw_shell.specs.declared.options.RunOptions.{RunOptions}
-use Rattle.gw_shell.specs.declared.fault.Fault.{Fault}
-use Rattle.gw_shell.specs.declared.fault.Fault.TheVariants as fault
+use Rattle.gw_service.specs.Fault.{fault_of_opening, fault_of_serving}
+use Rattle.gw_service.specs.declared.fault.ServiceFault.{ServiceFault}
+use Rattle.gw_service.specs.declared.fault.ServiceFault.TheVariants as fault
 
 -- what a log holds and what a wire tells, where they are known
 pub record Ends : Type 0 where
@@ -71,7 +69,7 @@ pub record StopsBy (by : ServeFault) (c : Configuration) (how : Service) (before
 
 -- What serving from the gateway's first state leaves at each outcome, and what is told of it.
 -- Memory may run out before the first turn too, and then nothing was received or told.
-abbrev pub Serves : Configuration → Service → Ends → Ends → List ℕ → Result (Unit {0}) Fault → Type 0
+abbrev pub Serves : Configuration → Service → Ends → Ends → List ℕ → Result (Unit {0}) ServiceFault → Type 0
 Serves c how before after text (Ok done) = ServesWhole c how before after text
 Serves c how before after text (Err fault.Log) = StopsBy serving.Log c how before after text
 Serves c how before after text (Err fault.Memory) =
@@ -80,12 +78,12 @@ Serves c how before after text (Err fault.CountEnd) = StopsBy serving.CountEnd c
 Serves c how before after text (Err _) = ⊥
 
 -- the outcome of the program, by the answer of serving
-abbrev pub outcome_of : Result Served ServeStop → Result (Unit {0}) Fault
+abbrev pub outcome_of : Result Served ServeStop → Result (Unit {0}) ServiceFault
 outcome_of (Ok served) = Ok tt
 outcome_of (Err stop) = Err (fault_of_serving stop.fault)
 
 -- what serving from a state leaves at each outcome, all turns or a stop by the fault, and what is told of it
-abbrev pub ServesFrom : Service → Scene → Scene → List ℕ → Result (Unit {0}) Fault → Type 0
+abbrev pub ServesFrom : Service → Scene → Scene → List ℕ → Result (Unit {0}) ServiceFault → Type 0
 ServesFrom how before after text outcome =
     (answer : Result Served ServeStop) × (outcome ≡ outcome_of answer)
     × IsRunWith how.turns before answer after
@@ -164,7 +162,7 @@ ArentOpen LogOpens SocketsOpen name held holds (opening.Sockets failure) =
 -- line was written and a warning of the machine, and then it was served, with its reports, and closed.
 pub data LeavesServed {Log Sockets : Type 0} (machine : Machine Log Sockets) (name : Option (List ℕ))
     (held holds : Option (List ℕ))
-    (c : Configuration) (how : Service) (is_verbose : Bool) (line told : List ℕ) (outcome : Result (Unit {0}) Fault)
+    (c : Configuration) (how : Service) (is_verbose : Bool) (line told : List ℕ) (outcome : Result (Unit {0}) ServiceFault)
     : Type 0 where
   shut : (failure : OpenFailure) → ArentOpen machine.LogOpens (machine.SocketsOpen c.ports) name held holds failure →
       outcome ≡ Err (fault_of_opening failure) → IsNote is_verbose failure told →
@@ -175,15 +173,3 @@ pub data LeavesServed {Log Sockets : Type 0} (machine : Machine Log Sockets) (na
       Serves c how (ends (log_held machine.held log output) (machine.calls sockets))
       (ends (log_held machine.held log_then holds) (machine.calls sockets_then)) reports outcome →
       IsWarning machine.RoutesIp is_verbose warning → told ≡ line ++ warning ++ reports → LeavesServed machine name held holds c how is_verbose line told outcome
-
--- What `run` leaves under the configuration that was read from a text. Where there is none nothing
--- is opened, the outcome is why, and it may be told where its fault is.
-abbrev pub LeavesRun : {Log Sockets : Type 0} → Machine Log Sockets → Result (List ℕ) Fault
-    → (held holds : Option (List ℕ)) → RunOptions
-    → Result Configuration Fault → (told : List ℕ) → Result (Unit {0}) Fault → Type 0
-LeavesRun machine text held holds options (Ok c) told outcome =
-    let name = option_map string_bytes options.log in
-    LeavesServed machine name held holds c (service options.turns options.stats) options.verbose
-    (startup_line options.verbose c name) told outcome
-LeavesRun machine text held holds options (Err f) told outcome =
-    (outcome ≡ Err f) × (holds ≡ held) × FaultNote options.verbose text f told

@@ -1,10 +1,10 @@
 use Rattle.std.proofs.Common.{List, Result, ℕ}
 use Rattle.std.specs.Io.KnownBytes.{Appends}
 use Rattle.gw_script.proofs.Passing.{passes_on}
-use Rattle.gw_shell.specs.Serving.{Serves, ends, service}
-use Rattle.gw_shell.specs.declared.fault.Fault.{Fault}
-use Rattle.gw_shell.proofs.ServingLemmas.{from_fresh, serves_nothing}
-use Rattle.gw_shell.proofs.serving.serve_fresh.Goals as goal
+use Rattle.gw_service.specs.Serving.{Serves, ends, service}
+use Rattle.gw_service.specs.declared.fault.ServiceFault.{ServiceFault}
+use Rattle.gw_service.proofs.ServingLemmas.{from_fresh, serves_nothing}
+use Rattle.gw_service.proofs.serving.serve_fresh.Goals as goal
 
 pub returns-clause-serves : goal.returns-clause-serves
 returns-clause-serves g c =
@@ -23,5 +23,5 @@ returns-in_err-gateway-clause-serves g c =
     let never = g.E.OctetSink.NeverFails c.args.errors.now in
     let held = g.E.OctetSink.held c.args.errors.now in
     let fault = c.in_err-gateway.field-0.0 in
-    passes_on (λ (r : Result (Unit {0}) Fault). (text : List ℕ) × Serves c.args.config how at at text r × (never → Appends held held text))
+    passes_on (λ (r : Result (Unit {0}) ServiceFault). (text : List ℕ) × Serves c.args.config how at at text r × (never → Appends held held text))
     fault c.from_residual.result c.from_residual.ensures (serves_nothing c.args.config how at fault never held c.in_err-gateway.ensures.fault)

@@ -1,6 +1,6 @@
 use Rattle.std.proofs.Common.{Bool, [], refl, sym, subst}
-use Rattle.gw_shell.specs.Announcement.{IsWarning}
-use Rattle.gw_shell.proofs.announcement.warning_of.Goals as goal
+use Rattle.gw_service.specs.Announcement.{IsWarning}
+use Rattle.gw_service.proofs.announcement.warning_of.Goals as goal
 
 pub returns-then-is_asked : goal.returns-then-is_asked
 returns-then-is_asked g c =

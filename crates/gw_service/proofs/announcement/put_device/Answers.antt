@@ -1,6 +1,6 @@
 use Rattle.std.proofs.Common.{◌≡◌, ◌++◌, codes, decimal, subst, ℕ, OnOk}
-use Rattle.gw_shell.proofs.AnnouncementLemmas.{two_more}
-use Rattle.gw_shell.proofs.announcement.put_device.Goals as goal
+use Rattle.gw_service.proofs.AnnouncementLemmas.{two_more}
+use Rattle.gw_service.proofs.announcement.put_device.Goals as goal
 
 pub returns : goal.returns
 returns c =

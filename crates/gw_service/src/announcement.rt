@@ -3,9 +3,9 @@
 ghost use Rattle.std.specs.Prelude.{◌≡◌, ◌++◌, ◌≤◌, length, option_map, string_bytes, IfOk, OnOk};
 ghost use Rattle.gw_addr.specs.Address.{text_of};
 ghost use Rattle.gw_addr.specs.declared.TheConstants.{MAX_PORTS};
-ghost use Rattle.gw_shell.specs.Announcement.{announcement, device_text, log_text, objects_text, port_text, rules_text, startup_line};
+ghost use Rattle.gw_service.specs.Announcement.{announcement, device_text, log_text, objects_text, port_text, rules_text, startup_line};
 ghost use Rattle.gw_script.specs.Order.{in_order};
-ghost use Rattle.gw_shell.specs.Announcement.{IsWarning, routing_note};
+ghost use Rattle.gw_service.specs.Announcement.{IsWarning, routing_note};
 
 use gw_addr::{BipAddr, put_decimal};
 use gw_configuration::{Config, Device, Port};

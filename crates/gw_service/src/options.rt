@@ -1,0 +1,25 @@
+//! What `run` is asked for by its options.
+
+ghost use Rattle.std.proofs.Props.{props};
+ghost use Rattle.std.specs.Prelude.{◌<◌, ◌^◌, IfSome};
+
+/// What `run` is asked for.
+#[derive(Drop)]
+pub struct RunOptions {
+    /// The file of the configuration.
+    pub config: String,
+    /// The file that the log is appended to. Without one it goes to standard output.
+    pub log: Option<String>,
+    /// How many turns are served.
+    pub turns: u64,
+    /// Whether it is told at the start what is served.
+    pub verbose: bool,
+    /// How many seconds lie between two reports of what was done. Without it none is told.
+    pub stats: Option<u64>,
+    /// The file in which the state is kept. Without one it isn't.
+    pub state: Option<String>,
+    /// The file that asks to read the configuration again. Without one nothing asks it.
+    pub reload: Option<String>,
+    pub ghost few: { turns < 2 ^ 63 },
+    pub ghost seconds: { IfSome stats (λ n. 0 < n) } by { Prim.hlevel props },
+}
