@@ -29,7 +29,7 @@ use gw_device::{Change, Device};
 use gw_npdu::NpduFault;
 use gw_relay::{Change as RelayChange, Relay, Sends, Turn};
 use gw_rule_index::Policy;
-use gw_rules::{Authorizer, Recorder};
+use gw_rules::{Authorizer, Recorder, RuleList};
 use gw_saved::{Origin, Saved, SavedCounts};
 use std::alloc::{AllocError, Global};
 use std::marker::Model;
@@ -220,12 +220,31 @@ impl Gateway {
         self.counts
     }
 
+    /// Goes on from other counts, none of which is less than its own: those that a log ends with. The caller
+    /// sees to it.
+    pub fn count_on(&mut self, counts: Counts)
+        requires ticks { self.old.ticks ≤ counts.ticks }
+        requires denials { self.old.denials ≤ counts.denials }
+        requires last_tick { counts.ticks ≤ 2 ^ 63 }
+        requires last_denial { counts.denials ≤ 2 ^ 63 }
+        ensures { self.new ≡ record self.old { ticks = counts.ticks; denials = counts.denials } }
+    {
+        self.counts = counts;
+    }
+
     /// The ports with their tables, and the routes.
     pub fn relay(&self) -> &Relay
         ensures parts { result.now ≡ self.now.relay }
         ensures few { length self.now.relay.links ≤ MAX_PORTS }
     {
         &self.relay
+    }
+
+    /// The rules of its policy, in order.
+    pub fn rules(&self) -> &RuleList
+        ensures { result.now ≡ self.now.rules }
+    {
+        self.policy.rules()
     }
 
     /// How many denials more may be numbered.

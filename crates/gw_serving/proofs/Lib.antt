@@ -1,3 +1,5 @@
 pub mod ServeLemmas
 pub mod ReportLemmas
 pub mod ServedLemmas
+pub mod StretchLemmas
+pub mod NextLemmas

@@ -1,9 +1,11 @@
 -- What is kept of a gateway in a store: the text of its state, before what lasts is answered, and each ten ticks.
-use Rattle.std.specs.Prelude.{◌≡◌, ◌⊎◌, ℕ, ◌+◌, ◌<◌, ◌^◌, ◌&&◌, Bool, true, false, if◌then◌else◌, nat_eq, nat_le, nat_lt, List, [], map, Option, Some, None, ⊤}
+use Rattle.std.specs.Prelude.{◌≡◌, ◌⊎◌, ℕ, ◌+◌, ◌<◌, ◌^◌, ◌&&◌, Bool, true, false, if◌then◌else◌, nat_eq, nat_le, nat_lt, not, length, List, [], map, Option, Some, None, ⊤}
 use Rattle.std.specs.Prelude.{Result, Ok, Err}
-use Rattle.std.specs.List.{pointwise}
+use Rattle.std.specs.Cmp.Lexicographic.{pointwise}
+use Rattle.std.specs.List.{list_any}
 use Rattle.gw_objects.specs.declared.value.PropertyValue.{PropertyValue}
 use Rattle.gw_objects.specs.Values.{same_value}
+use Rattle.gw_routes.specs.declared.route.Route.{Route}
 use Rattle.gw_saved.specs.declared.port.SavedPort.{SavedPort}
 use Rattle.gw_saved.specs.Carried.{same_address, same_entry}
 use Rattle.gw_saved.specs.Saved.{Origin, Saved, SavedObject}
@@ -13,6 +15,8 @@ use Rattle.gw_core.specs.History.{next}
 use Rattle.gw_core.specs.Lasting.{lasts}
 use Rattle.gw_core.specs.Resumed.{saved_of}
 use Rattle.gw_core.specs.State.{State}
+use Rattle.gw_serving.specs.declared.alike.Part.{Part}
+use Rattle.gw_serving.specs.declared.alike.Part.TheVariants.{Lasting, AllButTicks}
 use Rattle.gw_serving.specs.declared.store.StoreFault.{StoreFault}
 use Rattle.gw_serving.specs.declared.store.StoreFault.TheVariants.{Memory}
 
@@ -69,12 +73,40 @@ is_same_object a b =
 abbrev pub lasts_alike : Saved → Saved → Bool
 lasts_alike a b = pointwise is_same_port a.ports b.ports && pointwise is_same_object a.objects b.objects
 
--- This is exactly so if what lasts of them is equal.
+-- so it is exactly if what lasts of them is equal
 abbrev pub AlikeIsEqual : Type 0
 AlikeIsEqual = (a b : Saved) → lasts_alike a b ≡ true → lasting_of a ≡ lasting_of b
 
 abbrev pub EqualIsAlike : Type 0
 EqualIsAlike = (a b : Saved) → lasting_of a ≡ lasting_of b → lasts_alike a b ≡ true
+
+-- ---- whether all is the same but the ticks
+
+-- what is saved, without the ticks that there were
+abbrev pub but_ticks : Saved → Saved
+but_ticks s = record s { counts = record { since = 0; ticks = 0; denials = s.counts.denials } }
+
+abbrev pub has_device : SavedPort → Bool
+has_device p = nat_lt 0 (length p.devices)
+
+-- a foreign device is registered, which has fewer ticks left with each tick
+abbrev pub has_devices : Saved → Bool
+has_devices s = list_any has_device s.ports
+
+abbrev pub is_same_route : ℕ × Route → ℕ × Route → Bool
+is_same_route a b = nat_eq a.0 b.0 && (nat_eq a.1.port b.1.port && same_address a.1.next b.1.next)
+
+-- two saved states differ at most in their ticks
+abbrev pub alike_but_ticks : Saved → Saved → Bool
+alike_but_ticks a b =
+    lasts_alike a b
+    && (not (has_devices a)
+    && (not (has_devices b)
+    && (pointwise is_same_route a.routes b.routes && nat_eq a.counts.denials b.counts.denials)))
+
+-- if they are alike but for the ticks, they are equal but for the ticks
+abbrev pub AlikeButTicksIsEqual : Type 0
+AlikeButTicksIsEqual = (a b : Saved) → alike_but_ticks a b ≡ true → but_ticks a ≡ but_ticks b
 
 -- ---- a keeper
 
@@ -127,29 +159,36 @@ Tries held k due l false = IsUnkept held k due l
 abbrev pub IsTried : {S : Type 0} → (S → Option (List ℕ)) → Keeping S → State → Keeping S → Type 0
 IsTried held k w l = (kept : Bool) × Tries held k (saved_of k.origin w) l kept
 
--- ---- at an event
+-- ---- what is kept only if it differs
 
--- what lasts of this is kept
-abbrev pub is_kept : Result Saved StoreFault → Saved → Bool
-is_kept (Ok s) due = lasts_alike s due
-is_kept (Err fault) due = false
+-- what of two saved states is compared: what lasts, or all but the ticks
+abbrev pub is_same : Part → Saved → Saved → Bool
+is_same Lasting a b = lasts_alike a b
+is_same AllButTicks a b = alike_but_ticks a b
 
--- the state is kept, without a try if what lasts of it was
+-- this of a state is kept
+abbrev pub is_kept : Part → Result Saved StoreFault → Saved → Bool
+is_kept part (Ok s) due = is_same part s due
+is_kept part (Err fault) due = false
+
+-- the state is kept, without a try if this of it was
 abbrev pub KeptBy : {S : Type 0} → Bool → (S → Option (List ℕ)) → Keeping S → Saved → Keeping S → Type 0
 KeptBy true held k due l = l ≡ k
 KeptBy false held k due l = IsKept held k due l
 
--- an event that lasts may be answered only if its state is kept
-abbrev pub KeepsAtOnce : {S : Type 0} → (S → Option (List ℕ)) → Keeping S → Saved → Keeping S → Bool → Type 0
-KeepsAtOnce held k due l true = KeptBy (is_kept k.kept due) held k due l
-KeepsAtOnce held k due l false = IsUnkept held k due l
+-- A state is kept if this of it differs from what is kept, by whether it is kept then.
+abbrev pub KeepsChanged : {S : Type 0} → Part → (S → Option (List ℕ)) → Keeping S → Saved → Keeping S → Bool → Type 0
+KeepsChanged part held k due l true = KeptBy (is_kept part k.kept due) held k due l
+KeepsChanged part held k due l false = IsUnkept held k due l
+
+-- ---- at an event
 
 abbrev pub PassesBy : {S : Type 0} → Bool → (S → Option (List ℕ)) → Keeping S → Saved → Keeping S → Bool → Type 0
-PassesBy true held k due l passes = KeepsAtOnce held k due l passes
+PassesBy true held k due l passes = KeepsChanged Lasting held k due l passes
 PassesBy false held k due l passes = (l ≡ k) × (passes ≡ true)
 
--- What a keeper does about an event: nothing if it doesn't last; else it keeps the state after it, or doesn't let it be
--- answered.
+-- What a keeper does about an event: nothing if it doesn't last; else what lasts of the state after it is kept, or the
+-- event isn't answered.
 abbrev pub HasPassed : {S : Type 0} → (S → Option (List ℕ)) → Keeping S → State → Event → Keeping S → Bool → Type 0
 HasPassed held k w event l passes = PassesBy (lasts w event) held k (saved_of k.origin (next w event)) l passes
 
@@ -160,15 +199,20 @@ abbrev pub is_due : Result Saved StoreFault → ℕ → Bool
 is_due (Ok s) ticks = nat_le (s.counts.ticks + 10) ticks
 is_due (Err fault) ticks = true
 
-abbrev pub TriesIf : {S : Type 0} → Bool → (S → Option (List ℕ)) → Keeping S → State → Keeping S → Type 0
-TriesIf true held k w l = IsTried held k w l
-TriesIf false held k w l = l ≡ k
+abbrev pub TicksBy : {S : Type 0} → Bool → (S → Option (List ℕ)) → Keeping S → Saved → Keeping S → Type 0
+TicksBy true held k due l = (kept : Bool) × KeepsChanged AllButTicks held k due l kept
+TicksBy false held k due l = l ≡ k
 
--- what a keeper does at a tick, in this state
+-- what a keeper does at a tick, in this state: if one is due, it keeps the state unless only its ticks differ
 abbrev pub KeepsAtTick : {S : Type 0} → (S → Option (List ℕ)) → Keeping S → State → Keeping S → Type 0
-KeepsAtTick held k w l = TriesIf (is_due k.kept w.ticks) held k w l
+KeepsAtTick held k w l = TicksBy (is_due k.kept w.ticks) held k (saved_of k.origin w) l
 
--- Then it is of a state fewer than ten ticks ago, unless the last try failed.
-abbrev pub IsRecent : Result Saved StoreFault → ℕ → Type 0
-IsRecent (Ok s) ticks = ticks < s.counts.ticks + 10
-IsRecent (Err fault) ticks = ⊤
+-- The text is that of a state fewer than ten ticks ago, or of one that differs only in its ticks; or the last try failed.
+abbrev pub IsRecent : Result Saved StoreFault → Saved → Type 0
+IsRecent (Ok s) due = (due.counts.ticks < s.counts.ticks + 10) ⊎ (but_ticks s ≡ but_ticks due)
+IsRecent (Err fault) due = ⊤
+
+-- so it is after each tick
+abbrev pub TicksKeepRecent : Type 1
+TicksKeepRecent = {S : Type 0} (held : S → Option (List ℕ)) (k l : Keeping S) (w : State) →
+    KeepsAtTick held k w l → IsRecent l.kept (saved_of l.origin w)

@@ -1,14 +1,15 @@
 -- A stretch of serving under a guard, which judges each event that was taken and logged before anything of it is sent.
-use Rattle.std.specs.Prelude.{◌≡◌, ℕ, ◌+◌, ◌-◌, ◌*◌, ◌^◌, ◌<◌, ◌≤◌, Bool, true, false, List, [], ◌∷◌, length, Result, Ok, Err}
+use Rattle.std.specs.Prelude.{◌≡◌, ℕ, ◌+◌, ◌-◌, ◌*◌, ◌^◌, ◌<◌, ◌≤◌, Bool, true, false, List, [], ◌∷◌, ◌++◌, length, Result, Ok, Err}
 use Rattle.std.specs.Io.KnownBytes.{Appends}
 use Rattle.gw_script.specs.Event.{Event}
+use Rattle.gw_script.specs.Event as event
 use Rattle.gw_core.specs.Drops.{drop_at}
 use Rattle.gw_core.specs.Effects.{effects_at, passes_end}
 use Rattle.gw_core.specs.History.{next, state_from}
 use Rattle.gw_core.specs.Lasting.{lasts}
 use Rattle.gw_core.specs.State.{State}
 use Rattle.gw_core.specs.declared.gateway.Taken.{Taken}
-use Rattle.gw_serving.specs.Serve.{EndsBy, IsTakenLast, LeadTo, Scene, Turn, count_fault, count_turn, counts_after, empty_turn, events_of}
+use Rattle.gw_serving.specs.Serve.{EndsBy, IsTakenLast, LeadTo, Scene, Try, Turn, count_fault, count_turn, counts_after, empty_turn, events_of}
 use Rattle.gw_serving.specs.Serve.{failed_turn, lines_of, lost_event, taken_event, turn_events}
 use Rattle.gw_serving.specs.Tally.{IsBelow, tally_from}
 use Rattle.gw_serving.specs.declared.serving.ServeFault.{ServeFault}
@@ -79,11 +80,12 @@ pub record EndsAtTurns {G : Type 0} (Passes : G → State → Event → G → Bo
   pub went : GoOn Passes before turns after
   pub ticks : after.scene.gateway.ticks ≡ before.scene.gateway.ticks
 
--- one tick was taken, in the last of these turns
+-- a tick was taken in the last turn, and none before
 pub record EndsAtTick {G : Type 0} (Passes : G → State → Event → G → Bool → Type 0) (count : ℕ) (before after : Moment G) : Type 0 where
   pub turns : List Turn
-  pub few : length turns ≤ count
-  pub went : GoOn Passes before turns after
+  pub fewer : length turns < count
+  pub tries : List Try
+  pub went : GoOn Passes before (turns ++ taken_event event.Tick tries ∷ []) after
   pub ticks : after.scene.gateway.ticks ≡ before.scene.gateway.ticks + 1
 
 -- The guard didn't let the datagrams of the last event go: the event was taken and logged, and nothing of what it sends was

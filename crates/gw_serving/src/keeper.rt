@@ -3,9 +3,9 @@
 ghost use Rattle.std.specs.Prelude.{◌≡◌, Bool, OnOk, OnErr, true};
 ghost use Rattle.gw_core.specs.Resumed.{saved_of};
 ghost use Rattle.gw_state_text.specs.Text.{state_text};
-ghost use Rattle.gw_serving.specs.Keeping.{HasPassed, Holds, IsTried, IsUpToDate, KeepsAtOnce, KeepsAtTick, Keeping, Tries, failing_of, is_due, is_kept, nothing_kept};
+ghost use Rattle.gw_serving.specs.Keeping.{HasPassed, Holds, IsTried, KeepsAtTick, KeepsChanged, Tries, failing_of, is_due, is_kept, nothing_kept};
 
-use crate::alike::lasts_alike;
+use crate::alike::{Part, is_same};
 use crate::guard::Guard;
 use crate::store::{Store, StoreFault};
 use gw_core::{Gateway, Taken};
@@ -81,13 +81,13 @@ impl<S: Store> Keeper<S> {
         keeper
     }
 
-    /// Keeps the state at a tick: at once if the last try failed, else if the text is that of a state ten
-    /// ticks ago or more.
+    /// Keeps the state at a tick, if the last try failed, or the text is that of a state ten ticks ago or
+    /// more; unless it differs only in its ticks.
     pub fn keep_at_tick(&mut self, alloc: Global, gateway: &Gateway)
         ensures { KeepsAtTick S.held self.old gateway.now self.new }
     {
         if self.is_due(gateway) {
-            self.keep_now(alloc, gateway);
+            self.keep_changed(alloc, gateway, Part::AllButTicks);
         }
     }
 
@@ -133,12 +133,12 @@ impl<S: Store> Keeper<S> {
         }
     }
 
-    /// Whether what lasts of a state is kept.
-    fn is_kept(&self, saved: &Saved) -> bool
-        ensures { result ≡ is_kept self.now.kept saved.now }
+    /// Whether this of a state is kept.
+    fn is_kept(&self, part: Part, saved: &Saved) -> bool
+        ensures { result ≡ is_kept part self.now.kept saved.now }
     {
         match &self.kept {
-            Ok(kept) => lasts_alike(kept, saved),
+            Ok(kept) => is_same(part, kept, saved),
             Err(_) => false,
         }
     }
@@ -180,12 +180,12 @@ impl<S: Store> Keeper<S> {
         }
     }
 
-    /// Tries to keep the state of a gateway unless what lasts of it is kept, and says whether it is.
-    fn keep_at_once(&mut self, alloc: Global, gateway: &Gateway) -> bool
-        ensures { KeepsAtOnce S.held self.old (saved_of self.old.origin gateway.now) self.new result }
+    /// Tries to keep the state of a gateway unless this of it is kept, and says whether it is kept.
+    fn keep_changed(&mut self, alloc: Global, gateway: &Gateway, part: Part) -> bool
+        ensures { KeepsChanged part S.held self.old (saved_of self.old.origin gateway.now) self.new result }
     {
         match gateway.save(alloc, &self.origin) {
-            Ok(saved) => self.is_kept(&saved) || self.keep(saved),
+            Ok(saved) => self.is_kept(part, &saved) || self.keep(saved),
             Err(_) => {
                 self.fail(StoreFault::Memory);
                 false
@@ -198,6 +198,6 @@ impl<S: Store> Guard for Keeper<S> {
     ghost Passes = { HasPassed S.held };
 
     fn pass(&mut self, alloc: Global, gateway: &Gateway, taken: &Taken) -> bool {
-        !taken.lasts || self.keep_at_once(alloc, gateway)
+        !taken.lasts || self.keep_changed(alloc, gateway, Part::Lasting)
     }
 }

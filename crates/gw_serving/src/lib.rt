@@ -15,6 +15,7 @@ mod wire;
 
 pub use guard::{Guard, Unguarded};
 pub use keeper::Keeper;
+pub use report::{Report, report_of, tell_report};
 pub use reporting::serve_with_reports;
 pub use serving::{ServeFault, ServeState, ServeStop, Served, serve};
 pub use store::{Store, StoreFault};

@@ -17,7 +17,7 @@ use itoa::Buffer;
 
 /// What is told of serving at a moment. What was done is counted from its beginning on.
 #[derive(Clone, Copy)]
-pub(crate) struct Report {
+pub struct Report {
     /// How many seconds, which are the ticks that were taken.
     pub seconds: u64,
     /// How many datagrams the gateway took.
@@ -77,7 +77,7 @@ fn peer_count(links: &[PortState]) -> u64
 }
 
 /// What is reported of a gateway that began with these counts, when so much was done.
-pub(crate) fn report_of(start: Counts, gateway: &Gateway, served: &Served, tally: Tally) -> Report
+pub fn report_of(start: Counts, gateway: &Gateway, served: &Served, tally: Tally) -> Report
     requires since { HasGoneOn start gateway.now served.now }
     ensures { result ≡ report_of start gateway.now served.now tally }
 {
@@ -192,7 +192,7 @@ fn write_report<S: OctetSink>(report: &Report, sink: &mut S) -> Result<(), Write
 }
 
 /// Tells a report. Where it can't be written it is left out, and serving goes on all the same.
-pub(crate) fn tell_report<S: OctetSink>(report: &Report, sink: &mut S)
+pub fn tell_report<S: OctetSink>(report: &Report, sink: &mut S)
     ensures told { S.NeverFails sink.old →
         Appends (S.held sink.old) (S.held sink.new) (report_line report.now) }
     ensures lasts { S.NeverFails sink.old → S.NeverFails sink.new }

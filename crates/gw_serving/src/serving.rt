@@ -1,12 +1,12 @@
 //! The gateway behind a wire: what comes is taken, what is denied is logged, and what is to go is
 //! sent.
 
-ghost use Rattle.std.specs.Prelude.{◌≡◌, ◌+◌, ◌-◌, ◌<◌, ◌≤◌, ◌^◌, ◌∷◌, ◌++◌, [], length, IfOk, IfErr, IfSome, IsErrOf, OnOk};
+ghost use Rattle.std.specs.Prelude.{◌≡◌, ℕ, ◌+◌, ◌-◌, ◌<◌, ◌≤◌, ◌^◌, ◌∷◌, ◌++◌, [], length, IfOk, IfErr, IfSome, IsErrOf, OnOk};
 ghost use Rattle.gw_serving.specs.Tally.{IsBelow, no_tally};
 ghost use Rattle.gw_serving.specs.ServeTurn.{AreTried, GuardedEnd, HasRoom, LogEnd, NextEnd, TurnEnd, event_answer};
 ghost use Rattle.gw_serving.specs.Serve.{ServesAll, Stops, counts_of_answer, lines_of, scene, zero_counts};
 ghost use Rattle.gw_serving.specs.Served.{IsServing};
-ghost use Rattle.gw_serving.specs.Stretch.{moment, wire_counts};
+ghost use Rattle.gw_serving.specs.Stretch.{CanCount, moment, wire_counts};
 ghost use Rattle.gw_serving.specs.Wire.{Tells, failures_of, receive_call};
 ghost use Rattle.gw_relay.specs.Sends.{sendings_of};
 
@@ -129,6 +129,8 @@ impl ServeState {
     pub fn new(alloc: Global) -> Self
         ensures served { result.served ≡ zero_counts }
         ensures tally { result.tally ≡ no_tally }
+        ensures ready { (failures turns : ℕ) → failures < 2 ^ 127 → turns < 2 ^ 63 →
+            CanCount result.served result.tally failures turns }
     {
         ServeState {
             datagram: [0; RECEIVE_ROOM],
@@ -188,6 +190,9 @@ impl ServeState {
             let after = moment
             (scene gateway.new (L.held log.new) (W.calls wire.new)) guard.new self.new.served self.new.tally in
             GuardedEnd G.Passes before result after }
+        ensures turns { self.new.served.turns ≡ self.old.served.turns + 1 }
+        ensures each { let is = self.new.served in
+            is.taken + is.memory_drops + is.recv_failures ≤ is.turns }
         ensures below { IsBelow self.new.served.taken self.new.tally }
         ensures failures { let was = self.old.served in
             let is = self.new.served in
@@ -226,6 +231,9 @@ impl ServeState {
         ensures end { let before = scene gateway.old (L.held log.old) (W.calls wire.old) in
             let after = scene gateway.new (L.held log.new) (W.calls wire.new) in
             NextEnd before self.old.served self.old.tally after self.new.served self.new.tally result }
+        ensures turns { self.new.served.turns ≡ self.old.served.turns + 1 }
+        ensures each { let is = self.new.served in
+            is.taken + is.memory_drops + is.recv_failures ≤ is.turns }
         ensures below { IsBelow self.new.served.taken self.new.tally }
         ensures failures { let was = self.old.served in
             let is = self.new.served in
@@ -258,10 +266,7 @@ impl ServeState {
             Err(StepFault::CountEnd) => return Err(ServeFault::CountEnd),
         };
         self.served.taken += 1;
-        match log_denials(&mut self.lines, log, &taken.effects.denials) {
-            Ok(()) => {}
-            Err(fault) => return Err(fault),
-        }
+        log_denials(&mut self.lines, log, &taken.effects.denials)?;
         self.tally.count(taken.drop, &taken.effects.denials);
         Ok(Some(taken))
     }
