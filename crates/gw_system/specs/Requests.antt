@@ -24,3 +24,9 @@ text_read (Err failure) = Err failure
 abbrev pub asked_by : Option (Result (Vec ℕ) ReadFailure) → Exchange
 asked_by None = unasked
 asked_by (Some text) = asked (text_read text)
+
+-- the text of a file, or none
+abbrev pub text_found : Result (Option (Vec ℕ)) ReadFailure → Result (Option (List ℕ)) ReadFailure
+text_found (Ok None) = Ok None
+text_found (Ok (Some text)) = Ok (Some text.items)
+text_found (Err failure) = Err failure

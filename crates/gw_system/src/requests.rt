@@ -4,8 +4,10 @@ ghost use Rattle.std.specs.Prelude.{◌≡◌, ◌∷◌, [], List, Option, None
 ghost use Rattle.gw_system.specs.Requests.{Exchange, GoesOn, answered, asked_by};
 
 use crate::reading::{ReadFailure, read_file};
-use crate::store::{name_with, replace_file};
+use crate::store::{name_with, replace_file, store_fault, write_new};
+use gw_serving::StoreFault;
 use std::alloc::{AllocError, Global};
+use std::io::ErrorKind;
 use std::rt::Files;
 
 /// What asks a running gateway to read its configuration again, and is answered.
@@ -67,5 +69,23 @@ impl<R: Files> Requests for FileRequests<'_, R> {
 
     fn answer(&mut self, text: &[u8]) {
         let _ = replace_file(self.rt, &self.answer, &self.beside, text);
+    }
+}
+
+/// Makes the file of a request, after the answer to an older one was taken away.
+pub(crate) fn make_request<R: Files>(rt: &R, alloc: Global, request: &str) -> Result<(), StoreFault> {
+    let Ok(answer) = name_with(alloc, request, ".answer") else {
+        return Err(StoreFault::Memory);
+    };
+    match rt.remove_file(&answer) {
+        Ok(()) => {}
+        Err(error) => match error.kind() {
+            ErrorKind::NotFound => {}
+            _ => return Err(store_fault(&error)),
+        },
+    }
+    match write_new(rt, request, b"") {
+        Ok(()) => Ok(()),
+        Err(error) => Err(store_fault(&error)),
     }
 }

@@ -3,10 +3,10 @@
 use crate::host::{MODE, is_link};
 use gw_serving::{Store, StoreFault};
 use std::alloc::{AllocError, Global};
-use std::fs::File;
+use std::fs::{File, OpenFile};
 use std::io::{ErrorKind, Write};
 use std::os::unix::fs::OpenOptionsExt;
-use std::rt::{Files, OpenFile};
+use std::rt::Files;
 use std::{fs, io};
 
 /// A file that is replaced whole. The new text is written to a file beside it, whose name has `.new` after its
@@ -19,7 +19,7 @@ pub struct FileStore<'a, R: Files> {
     folder: R::File,
 }
 
-/// What is on the disk in the place of an `io::Error`.
+/// Why a text isn't kept, by the error of the system.
 pub(crate) fn store_fault(error: &io::Error) -> StoreFault {
     match error.kind() {
         ErrorKind::StorageFull | ErrorKind::QuotaExceeded | ErrorKind::FileTooLarge => {
@@ -51,7 +51,7 @@ pub(crate) fn name_with(alloc: Global, name: &str, ending: &str) -> Result<Strin
 
 /// Writes a text to a new file of this name that its owner alone may read, and waits until it is on the disk.
 /// A symbolic link isn't followed.
-fn write_new<R: Files>(rt: &R, name: &str, octets: &[u8]) -> io::Result<()> {
+pub(crate) fn write_new<R: Files>(rt: &R, name: &str, octets: &[u8]) -> io::Result<()> {
     if is_link(rt, name) {
         return Err(ErrorKind::PermissionDenied.into());
     }
