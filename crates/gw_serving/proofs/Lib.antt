@@ -3,3 +3,4 @@ pub mod ReportLemmas
 pub mod ServedLemmas
 pub mod StretchLemmas
 pub mod NextLemmas
+pub mod AlikeLemmas

@@ -7,7 +7,8 @@ use Rattle.gw_objects.specs.declared.value.PropertyValue.{PropertyValue}
 use Rattle.gw_objects.specs.Values.{same_value}
 use Rattle.gw_routes.specs.declared.route.Route.{Route}
 use Rattle.gw_saved.specs.declared.port.SavedPort.{SavedPort}
-use Rattle.gw_saved.specs.Carried.{same_address, same_entry}
+use Rattle.gw_bdt_fdt.specs.Registrations.{same as same_address}
+use Rattle.gw_saved.specs.Carried.{same_entry}
 use Rattle.gw_saved.specs.Saved.{Origin, Saved, SavedObject}
 use Rattle.gw_state_text.specs.Text.{state_text}
 use Rattle.gw_script.specs.Event.{Event}
