@@ -6,16 +6,17 @@ use Rattle.gw_configuration.specs.Configuration.{Configuration}
 use Rattle.gw_configuration.specs.declared.fault.ConfigFault.{ConfigFault}
 use Rattle.gw_configuration.specs.declared.fault.ConfigFault.TheVariants as config
 use Rattle.gw_configuration.specs.declared.port.Port.{Port as ConfiguredPort}
-use Rattle.gw_core.specs.Resumed.{saved}
+use Rattle.gw_core.specs.Resumed.{carried, saved_of}
 use Rattle.gw_core.specs.State.{State}
 use Rattle.gw_policy_text.specs.Document.{configuration}
 use Rattle.gw_relay.specs.declared.port.PortState.{PortState}
-use Rattle.gw_saved.specs.Saved.{Saved}
-use Rattle.gw_takeover.specs.Finding.{take_over}
+use Rattle.gw_rule_changes.specs.Changes.{changes_of, changes_text}
+use Rattle.gw_saved.specs.Saved.{Origin, Saved, origin_of}
+use Rattle.gw_takeover.specs.Findings.{take_over}
 use Rattle.gw_takeover.specs.Words.{take_over_words}
 use Rattle.gw_system.specs.declared.reading.ReadFailure.{ReadFailure}
 use Rattle.gw_system.specs.declared.reading.ReadFailure.TheVariants as reading
-use Rattle.gw_service.specs.RuleChanges.{changes_text}
+use Rattle.gw_service.specs.declared.reload.Adopted.{Adopted}
 use Rattle.gw_service.specs.declared.reload.ReloadFault.{ReloadFault}
 use Rattle.gw_service.specs.declared.reload.ReloadFault.TheVariants as fault
 
@@ -60,11 +61,50 @@ refusal_words (fault.Configuration f) = codes "configuration: " ++ name_of f
 refusal_words fault.Ports = codes "the ports differ: restart for them"
 refusal_words fault.Memory = codes "out of memory"
 
+abbrev pub fault_of_configuration : ConfigFault → ReloadFault
+fault_of_configuration config.Memory = fault.Memory
+fault_of_configuration f = fault.Configuration f
+
+abbrev pub fault_of_reading : ReadFailure → ReloadFault
+fault_of_reading reading.Unreadable = fault.Unreadable
+fault_of_reading reading.Memory = fault.Memory
+
+-- of a text that is a configuration only its ports or memory can be why
+abbrev pub IsPortsOrMemory : State → Configuration → ReloadFault → Type 0
+IsPortsOrMemory w c fault.Memory = ⊤
+IsPortsOrMemory w c fault.Ports = have_same_ports w.relay.links c.ports ≡ false
+IsPortsOrMemory w c f = ⊥
+
 -- ---- what is reported
 
--- the line of a configuration that is taken over by a gateway in this state: how many rules it has and how they differ, how many objects,
--- and what of the state goes on
+-- the line of a configuration that isn't taken over
+abbrev pub refusal_line : ReloadFault → List ℕ
+refusal_line f = codes "reload refused: " ++ refusal_words f ++ 10 ∷ []
+
+-- the line of a configuration that is taken over by a gateway in this state, of which this is saved: how many rules it has
+-- and how they differ from those in force, how many objects, and what goes on
 abbrev pub reload_line : State → Configuration → Saved → List ℕ
 reload_line w c s =
-    codes "reload: " ++ decimal (length c.rules) ++ codes " rules (" ++ changes_text w.rules c.rules ++ codes "), "
-    ++ decimal (length c.objects) ++ codes " objects; " ++ take_over_words (take_over c s) ++ 10 ∷ []
+    codes "reload: " ++ decimal (length c.rules) ++ codes " rules (" ++ changes_text (changes_of w.rules c.rules)
+    ++ codes "), " ++ decimal (length c.objects) ++ codes " objects; " ++ take_over_words (take_over c s) ++ 10 ∷ []
+
+-- ---- what a gateway goes on by
+
+-- By what a gateway in this state, of which this is configured, goes on as one of another configuration: it takes over what
+-- is saved.
+pub record IsAdopted (w : State) (o : Origin) (c : Configuration) (made : Adopted) : Type 0 where
+  pub gateway : made.gateway ≡ carried c (saved_of o w)
+  pub origin : made.origin ≡ origin_of c
+  pub kept : made.kept ≡ origin_of c
+  pub line : made.line.items ≡ reload_line w c (saved_of o w)
+
+-- the configuration is that of this text, and has the ports that are served
+pub record IsReloadedBy (w : State) (o : Origin) (text : List ℕ) (made : Adopted) : Type 0 where
+  pub config : Configuration
+  pub text : configuration text ≡ Ok config
+  pub ports : have_same_ports w.relay.links config.ports ≡ true
+  pub adopted : IsAdopted w o config made
+
+abbrev pub IsReloaded : State → Origin → Result (List ℕ) ReadFailure → Adopted → Type 0
+IsReloaded w o (Ok text) made = IsReloadedBy w o text made
+IsReloaded w o (Err failure) made = ⊥

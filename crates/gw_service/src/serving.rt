@@ -15,7 +15,7 @@ ghost use Rattle.gw_service.specs.Serving.{AreOpen, ArentOpen, IsFlushedFor, Lea
 ghost use Rattle.gw_service.specs.declared.fault.ServiceFault.TheVariants as fault;
 
 use crate::announcement::{startup_line, warning_of};
-use crate::ending::tell;
+use crate::telling::tell;
 use crate::fault::ServiceFault;
 use crate::options::RunOptions;
 use gw_configuration::Config;

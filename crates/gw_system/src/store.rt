@@ -107,7 +107,7 @@ impl<'a, R: Files> FileStore<'a, R> {
 }
 
 impl<R: Files> Store for FileStore<'_, R> {
-    ghost use Rattle.std.specs.Prelude.{None, ⊥};
+    ghost use Rattle.std.specs.Prelude.{None};
 
     ghost held = { λ _. None };
 

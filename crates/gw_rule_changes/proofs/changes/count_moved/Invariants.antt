@@ -1,4 +1,4 @@
-use Rattle.std.proofs.Common.{◌≡◌, ◌+◌, ◌×◌, ◌≤◌, drop}
+use Rattle.std.proofs.Common.{◌≡◌, ◌+◌, ◌≤◌, drop}
 use Rattle.gw_rule_changes.specs.Changes.{count_moved}
 use Rattle.gw_rule_changes.proofs.changes.count_moved.Given as goal
 
