@@ -6,3 +6,4 @@ pub mod Notices
 pub mod Reload
 pub mod Serving
 pub mod Start
+pub mod Keeping

@@ -1,14 +1,14 @@
 //! What keeps the state of a gateway from stretch to stretch, or doesn't.
 
-ghost use Rattle.std.specs.Prelude.{◌≡◌, ℕ, None, Option};
+ghost use Rattle.std.specs.Prelude.{◌≡◌, ℕ, Option};
 ghost use Rattle.gw_core.specs.State.{State};
 ghost use Rattle.gw_saved.specs.Saved.{Origin};
-ghost use Rattle.gw_serving.specs.Keeping.{IsTried, KeepsAtTick, failing_of};
+ghost use Rattle.gw_service.specs.Keeping.{IsKeptAtTick, IsKeptFor, IsPassed, failing_in, unkept_in};
 ghost use Rattle.gw_serving.specs.declared.store.StoreFault.{StoreFault};
 
-use gw_core::Gateway;
+use gw_core::{Gateway, Taken};
 use gw_saved::Origin;
-use gw_serving::{Guard, Keeper, Store, StoreFault, Unguarded};
+use gw_serving::{Guard, Keeper, Store, StoreFault};
 use std::alloc::Global;
 
 /// What keeps the state of a gateway from stretch to stretch.
@@ -42,50 +42,58 @@ pub trait StateKeeper: Guard {
         ensures { result ≡ unkept self.now };
 }
 
-impl<S: Store> StateKeeper for Keeper<S> {
-    ghost Ticks = { KeepsAtTick S.held };
+/// What keeps the state of a gateway, if something does.
+#[derive(Drop)]
+pub enum Kept<S> {
+    /// Nothing keeps it.
+    Nowhere,
+    /// It is kept in a store.
+    In(Keeper<S>),
+}
 
-    ghost Adopts = { λ k origin w l. IsTried S.held (record k { origin = origin }) w l };
+impl<S: Store> Guard for Kept<S> {
+    ghost Passes = { IsPassed S.held };
 
-    ghost failing = { λ k. failing_of k.kept };
-
-    ghost unkept = { λ k. k.unkept };
-
-    fn keep_at_tick(&mut self, alloc: Global, gateway: &Gateway) {
-        Keeper::keep_at_tick(self, alloc, gateway);
-    }
-
-    fn adopt(&mut self, alloc: Global, origin: Origin, gateway: &Gateway) {
-        Keeper::adopt(self, alloc, origin, gateway);
-    }
-
-    fn failing(&self) -> Option<StoreFault> {
-        Keeper::failing(self)
-    }
-
-    fn unkept(&self) -> u64 {
-        Keeper::unkept(self)
+    fn pass(&mut self, alloc: Global, gateway: &Gateway, taken: &Taken) -> bool {
+        match self {
+            Kept::Nowhere => true,
+            Kept::In(keeper) => keeper.pass(alloc, gateway, taken),
+        }
     }
 }
 
-impl StateKeeper for Unguarded {
-    ghost Ticks = { λ k _ l. l ≡ k };
+impl<S: Store> StateKeeper for Kept<S> {
+    ghost Ticks = { IsKeptAtTick S.held };
 
-    ghost Adopts = { λ k _ _ l. l ≡ k };
+    ghost Adopts = { IsKeptFor S.held };
 
-    ghost failing = { λ _. None };
+    ghost failing = { failing_in };
 
-    ghost unkept = { λ _. 0 };
+    ghost unkept = { unkept_in };
 
-    fn keep_at_tick(&mut self, _alloc: Global, _gateway: &Gateway) {}
+    fn keep_at_tick(&mut self, alloc: Global, gateway: &Gateway) {
+        if let Kept::In(keeper) = self {
+            keeper.keep_at_tick(alloc, gateway);
+        }
+    }
 
-    fn adopt(&mut self, _alloc: Global, _origin: Origin, _gateway: &Gateway) {}
+    fn adopt(&mut self, alloc: Global, origin: Origin, gateway: &Gateway) {
+        if let Kept::In(keeper) = self {
+            keeper.adopt(alloc, origin, gateway);
+        }
+    }
 
     fn failing(&self) -> Option<StoreFault> {
-        None
+        match self {
+            Kept::Nowhere => None,
+            Kept::In(keeper) => keeper.failing(),
+        }
     }
 
     fn unkept(&self) -> u64 {
-        0
+        match self {
+            Kept::Nowhere => 0,
+            Kept::In(keeper) => keeper.unkept(),
+        }
     }
 }

@@ -30,3 +30,8 @@ abbrev pub text_found : Result (Option (Vec ℕ)) ReadFailure → Result (Option
 text_found (Ok None) = Ok None
 text_found (Ok (Some text)) = Ok (Some text.items)
 text_found (Err failure) = Err failure
+
+-- what is told of requests, if there is something that asks
+abbrev pub told_by : {Q : Type 0} → (Q → Option (List Exchange)) → Option Q → Option (List Exchange)
+told_by told None = None
+told_by told (Some requests) = told requests

@@ -13,7 +13,7 @@ ghost use Rattle.gw_serving.specs.declared.store.StoreFault.{StoreFault};
 use crate::opening::{LogFailure, SocketFailure, Step};
 use crate::poll_waiter::PollWaiter;
 use crate::reading::{ReadFailure, read_file, read_last_line};
-use crate::requests::{FileRequests, Requests, make_request};
+use crate::requests::{FileRequests, Requests, make_request, wait_for_answer};
 use crate::store::FileStore;
 use crate::system_clock::SystemClock;
 use crate::udp::{UdpSock, open_pairs};
@@ -128,6 +128,15 @@ pub trait Host {
 
     /// Asks by the file of this name to read the configuration again, after an older answer was taken away.
     fn request_reload(&self, alloc: Global, request: &str) -> Result<(), StoreFault>;
+
+    /// Waits at most so many seconds for the answer to a request, gives its octets and takes its file away. `None` if
+    /// none came. Faults: `Unreadable`, also if the system can't wait, and `Memory`.
+    fn await_answer(
+        &self,
+        alloc: Global,
+        request: &str,
+        seconds: u8,
+    ) -> Result<Option<Vec<u8>>, ReadFailure>;
 
     /// Closes the sockets and the log.
     fn close(&mut self, sockets: Self::Sockets, log: Option<Self::Log>)
@@ -309,6 +318,15 @@ impl<'a, R: Files + Net + Clock> Host for SystemHost<'a, R> {
 
     fn request_reload(&self, alloc: Global, request: &str) -> Result<(), StoreFault> {
         make_request(self.rt, alloc, request)
+    }
+
+    fn await_answer(
+        &self,
+        alloc: Global,
+        request: &str,
+        seconds: u8,
+    ) -> Result<Option<Vec<u8>>, ReadFailure> {
+        wait_for_answer(self.rt, alloc, request, seconds)
     }
 
     fn close(
