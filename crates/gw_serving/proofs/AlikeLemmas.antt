@@ -1,9 +1,9 @@
 -- That saved states of which the same lasts have equal lasting parts, and those with equal ones are alike.
-use Rattle.std.proofs.Common.{◌≡◌, ◌∙◌, refl, sym, ap, ap₂, true≢false, ℕ, Bool, true, false, not, ◌&&◌, ◌||◌, nat_eq, nat_lt, length, List, [], ◌∷◌, map, Option, Some, None}
+use Rattle.std.proofs.Common.{◌≡◌, ◌∙◌, refl, sym, ap, ap₂, true≢false, arith, ℕ, Bool, true, false, not, ◌&&◌, ◌||◌, nat_eq, nat_lt, length, List, [], ◌∷◌, map, Option, Some, None}
 use Rattle.std.specs.Cmp.{nat_eq_equiv}
 use Rattle.std.specs.Cmp.Lexicographic.{pointwise, same_text}
 use Rattle.std.specs.List.{list_any}
-use Rattle.std.proofs.lemmas.Bool.{and_from, and_parts, eqb-true, or_parts}
+use Rattle.std.proofs.lemmas.Bool.{and_from, and_parts, eqb-true, ltb-false, or_parts}
 use Rattle.std.proofs.lemmas.Cmp.{nat_list_eq_equiv}
 use Rattle.gw_addr.specs.declared.bip.BipAddr.{BipAddr}
 use Rattle.gw_addr.specs.declared.entry.BdtEntry.{BdtEntry}
@@ -155,7 +155,7 @@ no_devices p none = none_of p.devices none
   where
     none_of : (devices : List KeptDevice) → nat_lt 0 (length devices) ≡ false → record p { devices = [] } ≡ record p { devices = devices }
     none_of [] e = refl
-    none_of (d ∷ ds) e = absurd (true≢false e)
+    none_of (d ∷ ds) e = absurd (omega (arith, ltb-false 0 (length (d ∷ ds)) e))
 
 stay : (ports : List SavedPort) → list_any has_device ports ≡ false → map lasting_port ports ≡ ports
 stay [] none = refl

@@ -11,7 +11,7 @@ use Rattle.gw_core.specs.State.{State}
 use Rattle.gw_relay.specs.Sends.{Sending}
 use Rattle.gw_serving.specs.Serve.{LeadTo, Scene, Turn, count_turn, counts_after, empty_turn, events_of, failed_turn, failures, lines_of, lost_event, scene, successes, taken_event, turn_events}
 use Rattle.gw_serving.specs.ServeTurn.{AreTried, GuardedEnd, NextEnd, TurnEnd}
-use Rattle.gw_serving.specs.Stretch.{AreGuarded, GuardsTurn, IsLoggedLast, IsTaken, Moment, count_taken, moment}
+use Rattle.gw_serving.specs.Stretch.{AreGuarded, GuardsTurn, IsLoggedLast, IsTaken, Moment, count_taken, moment, wire_counts}
 use Rattle.gw_serving.specs.Tally.{tally_from}
 use Rattle.gw_serving.specs.Wire.{Call}
 use Rattle.gw_serving.specs.declared.serving.ServeFault.{ServeFault}
@@ -36,6 +36,11 @@ pub tried_counts : (s t u : Served) (sendings : List Sending) (told tells : Opti
 tried_counts s t u sendings told tells n k event counted tried =
     tried.counts
     ∙ ap (λ (x : Served). record x { sends = x.sends + successes tried.tries; send_failures = x.send_failures + failures tried.tries }) counted
+
+-- before its datagrams are tried, no send is counted
+pub next_counts : (a m : Scene) (s t : Served) (was is : Tally) (taken : Taken) → NextEnd a s was m t is (Ok (Some taken))
+    → wire_counts t ≡ wire_counts s
+next_counts a m s t was is taken p = ap wire_counts p.3
 
 -- ---- a turn
 

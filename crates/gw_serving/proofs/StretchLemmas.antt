@@ -1,5 +1,5 @@
 -- What the turns of a stretch come to, one after the other.
-use Rattle.std.proofs.Common.{◌≡◌, ℕ, ◌+◌, ◌<◌, List, [], ◌∷◌, ◌++◌, length, map, Option, Bool, true, false, refl, sym, ap, subst, ◌∙◌, arith}
+use Rattle.std.proofs.Common.{◌≡◌, ℕ, ◌+◌, ◌<◌, ◌≤◌, List, [], ◌∷◌, ◌++◌, length, map, Option, Bool, true, false, refl, sym, ap, subst, ◌∙◌, arith}
 use Rattle.std.specs.Prelude.{Ok, Err}
 use Rattle.std.specs.List.{flat_map}
 use Rattle.std.specs.Io.KnownBytes.{Appends}
@@ -53,6 +53,26 @@ go_along Passes a m b turns turn p q = record {
 }
 
 -- ---- a stretch, turn by turn
+
+-- the ticks rise by one at most in a turn
+turn_ticks : (w : State) (turn : Turn)
+    → (w.ticks ≤ (state_from w (turn_events turn)).ticks) × ((state_from w (turn_events turn)).ticks ≤ w.ticks + 1)
+unfolding state_from next
+turn_ticks w empty_turn = (omega arith, omega arith)
+turn_ticks w failed_turn = (omega arith, omega arith)
+turn_ticks w (lost_event event) = (omega arith, omega arith)
+turn_ticks w (taken_event (Datagram port from octets) tries) = (omega arith, omega arith)
+turn_ticks w (taken_event Tick tries) = (omega arith, omega arith)
+
+pub ticks_step : {G : Type 0} (Passes : G → State → Event → G → Bool → Type 0) (m b : Moment G) → GuardedEnd Passes m (Ok true) b
+    → (m.scene.gateway.ticks ≤ b.scene.gateway.ticks) × (b.scene.gateway.ticks ≤ m.scene.gateway.ticks + 1)
+ticks_step Passes m b last =
+    let turn = last.0 in
+    let w = m.scene.gateway in
+    let moved : b.scene.gateway ≡ state_from w (turn_events turn) = last.1.went.gateway ∙ ap (state_from w) (single turn_events turn) in
+    let rise = turn_ticks w turn in
+    let same : b.scene.gateway.ticks ≡ (state_from w (turn_events turn)).ticks = ap (λ (v : State). v.ticks) moved in
+    (omega (arith, rise.0, same), omega (arith, rise.1, same))
 
 -- nothing was done yet
 pub stretch_none : {G : Type 0} (Passes : G → State → Event → G → Bool → Type 0) (a : Moment G) → EndsAtTurns Passes 0 a a

@@ -1,5 +1,5 @@
 -- What is kept of a gateway in a store: the text of its state, before what lasts is answered, and each ten ticks.
-use Rattle.std.specs.Prelude.{◌≡◌, ◌⊎◌, ℕ, ◌+◌, ◌<◌, ◌^◌, ◌&&◌, Bool, true, false, if◌then◌else◌, nat_eq, nat_le, nat_lt, not, length, List, [], map, Option, Some, None, ⊤}
+use Rattle.std.specs.Prelude.{◌≡◌, ◌⊎◌, ℕ, ◌+◌, ◌-◌, ◌<◌, ◌^◌, ◌&&◌, Bool, true, false, if◌then◌else◌, nat_eq, nat_le, nat_lt, not, length, List, [], map, Option, Some, None, ⊤}
 use Rattle.std.specs.Prelude.{Result, Ok, Err}
 use Rattle.std.specs.Cmp.Lexicographic.{pointwise}
 use Rattle.std.specs.List.{list_any}
@@ -215,5 +215,5 @@ IsRecent (Err fault) due = ⊤
 
 -- so it is after each tick
 abbrev pub TicksKeepRecent : Type 1
-TicksKeepRecent = {S : Type 0} (held : S → Option (List ℕ)) (k l : Keeping S) (w : State) →
+TicksKeepRecent = (S : Type 0) (held : S → Option (List ℕ)) (k l : Keeping S) (w : State) →
     KeepsAtTick held k w l → IsRecent l.kept (saved_of l.origin w)

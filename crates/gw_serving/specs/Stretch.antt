@@ -135,8 +135,8 @@ abbrev pub wire_counts : Served → ℕ
 wire_counts s = s.recv_failures + s.sends + s.send_failures
 
 -- so many turns more can be counted, after those that were
-pub record CanCount (s : Served) (t : Tally) (wire_failures turns : ℕ) : Type 0 where
-  pub turns : s.turns + turns < 2 ^ 63
+pub record CanCount (s : Served) (t : Tally) (wire_failures more : ℕ) : Type 0 where
+  pub turns : s.turns + more < 2 ^ 63
   pub each : s.taken + s.memory_drops + s.recv_failures ≤ s.turns
   pub calls : wire_counts s ≤ s.turns * (2 ^ 64 - 1)
   pub failures : wire_failures < 2 ^ 127 + s.recv_failures + s.send_failures

@@ -1,9 +1,9 @@
 //! What keeps the state of a gateway in a store.
 
-ghost use Rattle.std.specs.Prelude.{◌≡◌, Bool, OnOk, OnErr, true};
+ghost use Rattle.std.specs.Prelude.{◌≡◌, ◌⊎◌, OnOk, OnErr, Err};
 ghost use Rattle.gw_core.specs.Resumed.{saved_of};
 ghost use Rattle.gw_state_text.specs.Text.{state_text};
-ghost use Rattle.gw_serving.specs.Keeping.{HasPassed, Holds, IsTried, KeepsAtTick, KeepsChanged, Tries, failing_of, is_due, is_kept, nothing_kept};
+ghost use Rattle.gw_serving.specs.Keeping.{HasPassed, Holds, IsTried, KeepsAtTick, KeepsChanged, Tries, failing_of, is_due, is_kept, nothing_kept, one_more};
 
 use crate::alike::{Part, is_same};
 use crate::guard::Guard;
@@ -21,7 +21,7 @@ const KEPT_TICKS: u64 = 10;
 /// anything of it is sent, unless what lasts is kept already; and doesn't let it be answered if that
 /// fails. Contracts see the store, what was configured, what the store holds the text of, or why the last
 /// try failed, and how many tries failed.
-pub struct Keeper<S> {
+pub struct Keeper<S: Store + Drop> {
     store: S,
     origin: Origin,
     text: Vec<u8>,
@@ -30,7 +30,7 @@ pub struct Keeper<S> {
 }
 
 // By hand: a derived one is proved part by part wherever one is dropped (docs/GATE.md).
-impl<S: Drop> Drop for Keeper<S> {
+impl<S: Store + Drop> Drop for Keeper<S> {
     fn drop(self) {
         let Keeper {
             store: _,
@@ -42,7 +42,7 @@ impl<S: Drop> Drop for Keeper<S> {
     }
 }
 
-impl<S: Store> Model for Keeper<S> {
+impl<S: Store + Drop> Model for Keeper<S> {
     ghost use Rattle.gw_serving.specs.Keeping.{IsHeld, Keeping};
 
     ghost Value = { Keeping S };
@@ -64,7 +64,14 @@ fn put<S: Store>(store: &mut S, text: &mut Vec<u8>, saved: &Saved) -> Result<(),
     }
 }
 
-impl<S: Store> Keeper<S> {
+/// A count and one more, unless it would pass its end.
+fn one_more(count: u64) -> u64
+    ensures { result ≡ one_more count }
+{
+    if count < u64::MAX { count + 1 } else { count }
+}
+
+impl<S: Store + Drop> Keeper<S> {
     /// Keeps the state of a gateway in this store, and does so at once. The origin is that of the gateway's
     /// configuration ([`Origin::of`]). If that fails, it is [failing](Keeper::failing) then.
     pub fn begin(alloc: Global, store: S, origin: Origin, gateway: &Gateway) -> Self
@@ -143,12 +150,12 @@ impl<S: Store> Keeper<S> {
         }
     }
 
-    /// Counts a try that failed.
-    fn fail(&mut self, fault: StoreFault) {
-        self.kept = Err(fault);
-        if self.unkept < u64::MAX {
-            self.unkept += 1;
-        }
+    /// Counts a try for which memory was refused.
+    fn fail(&mut self)
+        ensures { self.new ≡ record self.old { kept = Err StoreFault.Memory; unkept = one_more self.old.unkept } }
+    {
+        self.kept = Err(StoreFault::Memory);
+        self.unkept = one_more(self.unkept);
     }
 
     /// Tries to keep a state, and says whether it is kept.
@@ -161,7 +168,8 @@ impl<S: Store> Keeper<S> {
                 true
             }
             Err(fault) => {
-                self.fail(fault);
+                self.kept = Err(fault);
+                self.unkept = one_more(self.unkept);
                 false
             }
         }
@@ -174,7 +182,7 @@ impl<S: Store> Keeper<S> {
         match gateway.save(alloc, &self.origin) {
             Ok(saved) => self.keep(saved),
             Err(_) => {
-                self.fail(StoreFault::Memory);
+                self.fail();
                 false
             }
         }
@@ -187,14 +195,14 @@ impl<S: Store> Keeper<S> {
         match gateway.save(alloc, &self.origin) {
             Ok(saved) => self.is_kept(part, &saved) || self.keep(saved),
             Err(_) => {
-                self.fail(StoreFault::Memory);
+                self.fail();
                 false
             }
         }
     }
 }
 
-impl<S: Store> Guard for Keeper<S> {
+impl<S: Store + Drop> Guard for Keeper<S> {
     ghost Passes = { HasPassed S.held };
 
     fn pass(&mut self, alloc: Global, gateway: &Gateway, taken: &Taken) -> bool {

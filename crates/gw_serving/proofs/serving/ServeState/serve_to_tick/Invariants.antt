@@ -2,7 +2,7 @@ use Rattle.std.proofs.Common.{◌≡◌, ◌+◌, ◌-◌, ◌*◌, ◌^◌, ◌
 use Rattle.gw_serving.specs.Tally.{IsBelow}
 use Rattle.gw_serving.specs.Serve.{scene}
 use Rattle.gw_serving.specs.Stretch.{EndsAtTurns, moment, wire_counts}
-use Rattle.gw_serving.proofs.stretch.ServeState.serve_to_tick.Given as goal
+use Rattle.gw_serving.proofs.serving.ServeState.serve_to_tick.Given as goal
 
 abbrev pub invariant-loop : goal.invariant-loop
 invariant-loop g l =
