@@ -1,0 +1,1 @@
+-- What the lines say of what a gateway takes over.

@@ -1,0 +1,4 @@
+pub mod Findings
+pub mod Losses
+pub mod Words
+pub mod Laws

@@ -1,0 +1,249 @@
+//! The line of what is found of a part.
+ghost use Rattle.std.specs.Prelude.{◌≡◌, ◌++◌, OnOk};
+ghost use Rattle.gw_takeover.specs.Words.{by_words, finding_words, held_words, line, lost_object_words, lost_port_words, new_words, port_line_words, reason_words, refusal_words, route_words, slots_words, table_words, verdict_words, way_words, written_words};
+
+use crate::words::{
+    put_absence, put_counted, put_devices, put_numbered, put_object, put_peers, put_port,
+    put_tables, put_value,
+};
+use crate::{
+    Absence, Finding, Held, ObjectName, PortName, RouteFate, RouteFinding, Sizes, TableFate,
+    ValueFate, ValueFinding,
+};
+use gw_addr::put_decimal;
+use std::alloc::AllocError;
+
+/// Appends the line of what is found of a part.
+pub(crate) fn put_line(out: &mut Vec<u8>, finding: &Finding) -> Result<(), AllocError>
+    ensures { OnOk result (out.new.items ≡ out.old.items ++ line finding.now) }
+{
+    put_finding(out, finding)?;
+    out.extend_from_slice(b"\n")
+}
+
+fn put_finding(out: &mut Vec<u8>, finding: &Finding) -> Result<(), AllocError>
+    ensures { OnOk result (out.new.items ≡ out.old.items ++ finding_words finding.now) }
+{
+    match finding {
+        Finding::Port {
+            number,
+            port,
+            sizes,
+            table,
+        } => put_kept_port(out, *number, *port, *sizes, *table),
+        Finding::NewPort { number, port } => {
+            put_numbered(out, *number, *port)?;
+            put_new(out)
+        }
+        Finding::LostPort {
+            port,
+            sizes,
+            absence,
+        } => put_lost_port(out, *port, *sizes, *absence),
+        Finding::Route(route) => put_route(out, *route),
+        Finding::Value(value) => put_written(out, value),
+        Finding::NewObject(object) => {
+            put_object(out, *object)?;
+            put_new(out)
+        }
+        Finding::LostObject {
+            object,
+            slots,
+            default,
+            absence,
+        } => put_lost_object(out, *object, *slots, *default, *absence),
+    }
+}
+
+fn put_new(out: &mut Vec<u8>) -> Result<(), AllocError>
+    ensures { OnOk result (out.new.items ≡ out.old.items ++ new_words) }
+{
+    out.extend_from_slice(b": not in the state: begins anew")
+}
+
+// ---- ports
+
+fn put_kept_port(
+    out: &mut Vec<u8>,
+    number: usize,
+    port: PortName,
+    sizes: Sizes,
+    table: TableFate,
+) -> Result<(), AllocError>
+    ensures { OnOk result (out.new.items ≡ out.old.items ++ port_line_words number port sizes table) }
+{
+    put_numbered(out, number, port)?;
+    out.extend_from_slice(b": ")?;
+    put_table(out, table, sizes)?;
+    out.extend_from_slice(b" taken over")
+}
+
+fn put_table(out: &mut Vec<u8>, table: TableFate, sizes: Sizes) -> Result<(), AllocError>
+    ensures { OnOk result (out.new.items ≡ out.old.items ++ table_words table sizes) }
+{
+    match table {
+        TableFate::AsConfigured => {
+            out.extend_from_slice(b"peers as configured, ")?;
+            put_devices(out, sizes.devices)
+        }
+        TableFate::TakenOver => put_tables(out, sizes),
+        TableFate::OtherPeers => put_other_peers(out, sizes),
+    }
+}
+
+fn put_other_peers(out: &mut Vec<u8>, sizes: Sizes) -> Result<(), AllocError>
+    ensures { OnOk result (out.new.items ≡ out.old.items ++ table_words TableFate.OtherPeers sizes) }
+{
+    out.extend_from_slice(b"other peers are configured: ")?;
+    put_peers(out, sizes)?;
+    out.extend_from_slice(b" dropped, ")?;
+    put_devices(out, sizes.devices)
+}
+
+fn put_lost_port(
+    out: &mut Vec<u8>,
+    port: PortName,
+    sizes: Sizes,
+    absence: Absence,
+) -> Result<(), AllocError>
+    ensures { OnOk result (out.new.items ≡ out.old.items ++ lost_port_words port sizes absence) }
+{
+    out.extend_from_slice(b"port of ")?;
+    put_port(out, port)?;
+    out.extend_from_slice(b": ")?;
+    put_absence(out, absence)?;
+    out.extend_from_slice(b": ")?;
+    put_tables(out, sizes)?;
+    out.extend_from_slice(b" dropped")
+}
+
+// ---- routes
+
+fn put_route(out: &mut Vec<u8>, route: RouteFinding) -> Result<(), AllocError>
+    ensures { OnOk result (out.new.items ≡ out.old.items ++ finding_words (Finding.Route route)) }
+{
+    out.extend_from_slice(b"route to ")?;
+    put_way(out, route)?;
+    out.extend_from_slice(b": ")?;
+    put_route_fate(out, route.fate)
+}
+
+fn put_way(out: &mut Vec<u8>, route: RouteFinding) -> Result<(), AllocError>
+    ensures { OnOk result (out.new.items ≡ out.old.items ++ way_words route) }
+{
+    put_decimal(out, route.network)?;
+    put_by(out, route.port)?;
+    out.extend_from_slice(b", next router ")?;
+    route.next.put_text(out)
+}
+
+fn put_by(out: &mut Vec<u8>, port: Option<u8>) -> Result<(), AllocError>
+    ensures { OnOk result (out.new.items ≡ out.old.items ++ by_words port) }
+{
+    match port {
+        Some(port) => {
+            out.extend_from_slice(b" by port ")?;
+            put_decimal(out, port)
+        }
+        None => Ok(()),
+    }
+}
+
+fn put_route_fate(out: &mut Vec<u8>, fate: RouteFate) -> Result<(), AllocError>
+    ensures { OnOk result (out.new.items ≡ out.old.items ++ route_words fate) }
+{
+    if matches!(fate, RouteFate::TakenOver) {
+        return out.extend_from_slice(b"taken over");
+    }
+    put_refusal(out, fate)?;
+    out.extend_from_slice(b": dropped")
+}
+
+/// Appends why a route isn't taken over.
+pub(crate) fn put_refusal(out: &mut Vec<u8>, fate: RouteFate) -> Result<(), AllocError>
+    ensures { OnOk result (out.new.items ≡ out.old.items ++ refusal_words fate) }
+{
+    match fate {
+        RouteFate::TakenOver => Ok(()),
+        RouteFate::NoPort => out.extend_from_slice(b"its port is not configured"),
+        RouteFate::Own => out.extend_from_slice(b"the network is one of the gateway's own"),
+        RouteFate::Configured => out.extend_from_slice(b"another route is configured"),
+        RouteFate::Replaced => {
+            out.extend_from_slice(b"a later route of the state is taken over")
+        }
+        RouteFate::Full => out.extend_from_slice(b"512 other networks have a route"),
+    }
+}
+
+// ---- objects
+
+fn put_written(out: &mut Vec<u8>, value: &ValueFinding) -> Result<(), AllocError>
+    ensures { OnOk result (out.new.items ≡ out.old.items ++ written_words value.now) }
+{
+    put_object(out, value.object)?;
+    put_held(out, value.held)?;
+    put_value(out, &value.value)?;
+    put_verdict(out, value.fate)
+}
+
+fn put_held(out: &mut Vec<u8>, held: Held) -> Result<(), AllocError>
+    ensures { OnOk result (out.new.items ≡ out.old.items ++ held_words held) }
+{
+    match held {
+        Held::Slot(priority) => {
+            out.extend_from_slice(b", priority ")?;
+            put_decimal(out, priority)?;
+            out.extend_from_slice(b": ")
+        }
+        Held::Default => out.extend_from_slice(b", default: "),
+    }
+}
+
+fn put_verdict(out: &mut Vec<u8>, fate: ValueFate) -> Result<(), AllocError>
+    ensures { OnOk result (out.new.items ≡ out.old.items ++ verdict_words fate) }
+{
+    if matches!(fate, ValueFate::TakenOver) {
+        return out.extend_from_slice(b": taken over");
+    }
+    put_reason(out, fate)?;
+    out.extend_from_slice(b": dropped")
+}
+
+/// Appends why a value isn't taken over.
+pub(crate) fn put_reason(out: &mut Vec<u8>, fate: ValueFate) -> Result<(), AllocError>
+    ensures { OnOk result (out.new.items ≡ out.old.items ++ reason_words fate) }
+{
+    match fate {
+        ValueFate::TakenOver => Ok(()),
+        ValueFate::OutOfRange => out.extend_from_slice(b" is out of range"),
+        ValueFate::OtherDefault => out.extend_from_slice(b": another default is configured"),
+    }
+}
+
+fn put_lost_object(
+    out: &mut Vec<u8>,
+    object: ObjectName,
+    slots: usize,
+    default: bool,
+    absence: Absence,
+) -> Result<(), AllocError>
+    ensures { OnOk result (out.new.items ≡
+        out.old.items ++ lost_object_words object slots default absence) }
+{
+    put_object(out, object)?;
+    out.extend_from_slice(b": ")?;
+    put_absence(out, absence)?;
+    out.extend_from_slice(b": ")?;
+    put_slots(out, slots, default)
+}
+
+fn put_slots(out: &mut Vec<u8>, slots: usize, default: bool) -> Result<(), AllocError>
+    ensures { OnOk result (out.new.items ≡ out.old.items ++ slots_words slots default) }
+{
+    put_counted(out, slots as u64, " slot", " slots")?;
+    if default {
+        out.extend_from_slice(b" and its default dropped")
+    } else {
+        out.extend_from_slice(b" dropped")
+    }
+}
