@@ -7,7 +7,8 @@ ghost use Rattle.gw_shell.specs.declared.fault.Fault.TheVariants.{CommandLine, M
 
 use gw_command_line::WordsFault;
 use gw_configuration::ConfigFault;
-use gw_core::{RunFault, ServeFault};
+use gw_core::RunFault;
+use gw_serving::ServeFault;
 use gw_migration::MigrationFault;
 use gw_script::{LineFlaw, LinesFault};
 use gw_state_text::{FaultKind, StateFault};

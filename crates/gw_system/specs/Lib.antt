@@ -1,3 +1,4 @@
 pub mod Host
 pub mod Opening
 pub mod Waiting
+pub mod Requests

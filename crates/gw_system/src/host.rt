@@ -6,16 +6,22 @@ ghost use Rattle.gw_configuration.specs.declared.port.Port.{Port};
 ghost use Rattle.gw_system.specs.Host.{IsSocketFailure, OpensAtLine};
 ghost use Rattle.gw_system.specs.declared.opening.LogFailure.{LogFailure};
 ghost use Rattle.gw_system.specs.declared.opening.SocketFailure.{SocketFailure};
+ghost use Rattle.gw_system.specs.Requests.{text_found};
+ghost use Rattle.gw_system.specs.declared.reading.ReadFailure.{ReadFailure};
+ghost use Rattle.gw_serving.specs.declared.store.StoreFault.{StoreFault};
 
 use crate::opening::{LogFailure, SocketFailure, Step};
 use crate::poll_waiter::PollWaiter;
+use crate::reading::{ReadFailure, read_file, read_last_line};
+use crate::requests::{FileRequests, Requests, make_request, wait_for_answer};
+use crate::store::FileStore;
 use crate::system_clock::SystemClock;
 use crate::udp::{UdpSock, open_pairs};
 use gw_configuration::Port;
-use gw_core::Wire;
+use gw_serving::{Store, StoreFault, Wire};
 use gw_ports::{Ports, SockPair, TimedPorts, Watch};
 use gw_script::{OctetSink, write_whole};
-use std::alloc::Global;
+use std::alloc::{AllocError, Global};
 use std::fs::File;
 use std::io::{ErrorKind, Read, Seek, SeekFrom};
 use std::net::Net;
@@ -31,6 +37,24 @@ pub trait Host {
 
     /// A wire over the sockets of some ports.
     type Sockets: Wire + Drop;
+
+    /// A place that holds a state.
+    type StateStore: Store + Drop;
+
+    /// What asks to read the configuration again.
+    type Reloads: Requests + Drop;
+
+    /// What reading a file of a name, or the last line of a log of a name, may give.
+    ghost FileReads: { Self → List ℕ → Result (Option (List ℕ)) ReadFailure → Type 0 };
+
+    /// What looking for the last whole line of the log of a name may give.
+    ghost LastLines: { Self → List ℕ → Result (Option (List ℕ)) ReadFailure → Type 0 };
+
+    /// What opening the store of a name may give.
+    ghost StoreOpens: { Self → List ℕ → Result Self.StateStore StoreFault → Type 0 };
+
+    /// What asks by the file of a name to read the configuration of another name.
+    ghost ReloadsOpen: { Self → List ℕ → List ℕ → Result Self.Reloads AllocError → Type 0 };
 
     /// What opening the log of a name may give.
     ghost LogOpens: { Self → List ℕ → Result Self.Log LogFailure → Type 0 };
@@ -72,6 +96,48 @@ pub trait Host {
         ensures fresh { IfOk result (λ wire. Self.Sockets.failure_count wire ≡ 0) }
         ensures failure { IfErr result (IsSocketFailure (length ports.now)) };
 
+    /// The octets of the regular file of this name, or `None` if there is no such file. Faults: `Unreadable` if
+    /// it can't be read, is no regular file or has more than so many octets; and `Memory`.
+    fn read_file(
+        &self,
+        alloc: Global,
+        name: &str,
+        most: usize,
+    ) -> Result<Option<Vec<u8>>, ReadFailure>
+        ensures { FileReads self.now name.now (text_found result) };
+
+    /// The last whole line of the log of this name without its line feed, looked for in its last 65,536 octets.
+    /// `None` if there is no such file, it isn't a regular one, or no whole line is there. Faults: `Unreadable`,
+    /// and `Memory`.
+    fn last_line(&self, alloc: Global, name: &str) -> Result<Option<Vec<u8>>, ReadFailure>
+        ensures { LastLines self.now name.now (text_found result) };
+
+    /// Opens the place that holds a state under this name, without reading or making anything. Faults:
+    /// `NotPermitted` if it is a symbolic link, and those of the system.
+    fn open_store(&self, alloc: Global, name: &str) -> Result<Self::StateStore, StoreFault>
+        ensures { StoreOpens self.now name.now result };
+
+    /// What asks by the file of this name to read that configuration again. The only fault is want of memory.
+    fn open_reloads(
+        &self,
+        alloc: Global,
+        request: &str,
+        config: &str,
+    ) -> Result<Self::Reloads, AllocError>
+        ensures { ReloadsOpen self.now request.now config.now result };
+
+    /// Asks by the file of this name to read the configuration again, after an older answer was taken away.
+    fn request_reload(&self, alloc: Global, request: &str) -> Result<(), StoreFault>;
+
+    /// Waits at most so many seconds for the answer to a request, gives its octets and takes its file away. `None` if
+    /// none came. Faults: `Unreadable`, also if the system can't wait, and `Memory`.
+    fn await_answer(
+        &self,
+        alloc: Global,
+        request: &str,
+        seconds: u8,
+    ) -> Result<Option<Vec<u8>>, ReadFailure>;
+
     /// Closes the sockets and the log.
     fn close(&mut self, sockets: Self::Sockets, log: Option<Self::Log>)
         ensures { Closes self.new sockets log };
@@ -92,14 +158,14 @@ pub fn open_at_line<H: Host>(name: &str, host: &H) -> Result<H::Log, LogFailure>
     }
 }
 
-/// Who may read and write a log that is made: its owner alone.
-const LOG_MODE: u32 = 0o600;
+/// Who may read and write a file that is made: its owner alone.
+pub(crate) const MODE: u32 = 0o600;
 
 /// Where Linux says whether it routes IP: `0` if it doesn't.
 const FORWARDING: &str = "/proc/sys/net/ipv4/ip_forward";
 
 /// Whether the file of this name is a symbolic link.
-fn is_link<R: Files>(rt: &R, name: &str) -> bool {
+pub(crate) fn is_link<R: Files>(rt: &R, name: &str) -> bool {
     match rt.symlink_metadata(name) {
         Ok(metadata) => metadata.is_symlink(),
         Err(_) => false,
@@ -158,6 +224,18 @@ impl<'a, R: Files + Net + Clock> Host for SystemHost<'a, R> {
 
     type Sockets = TimedPorts<UdpSock, SystemClock<'a, R>, PollWaiter>;
 
+    type StateStore = FileStore<'a, R>;
+
+    type Reloads = FileRequests<'a, R>;
+
+    ghost FileReads = { λ _ _ _. ⊤ };
+
+    ghost LastLines = { λ _ _ _. ⊤ };
+
+    ghost StoreOpens = { λ _ _ _. ⊤ };
+
+    ghost ReloadsOpen = { λ _ _ _ _. ⊤ };
+
     ghost LogOpens = { λ _ _ _. ⊤ };
 
     ghost LogIsCut = { λ _ _ _. ⊤ };
@@ -175,7 +253,7 @@ impl<'a, R: Files + Net + Clock> Host for SystemHost<'a, R> {
         match File::options()
             .append(true)
             .create(true)
-            .mode(LOG_MODE)
+            .mode(MODE)
             .open(self.rt, name)
         {
             Ok(file) => Ok(file),
@@ -210,6 +288,45 @@ impl<'a, R: Files + Net + Clock> Host for SystemHost<'a, R> {
             Ok(timed) => Ok(timed),
             Err(error) => Err(SocketFailure::at(1, Step::Waiting, ports[0].address, &error)),
         }
+    }
+
+    fn read_file(
+        &self,
+        alloc: Global,
+        name: &str,
+        most: usize,
+    ) -> Result<Option<Vec<u8>>, ReadFailure> {
+        read_file(self.rt, alloc, name, most)
+    }
+
+    fn last_line(&self, alloc: Global, name: &str) -> Result<Option<Vec<u8>>, ReadFailure> {
+        read_last_line(self.rt, alloc, name)
+    }
+
+    fn open_store(&self, alloc: Global, name: &str) -> Result<FileStore<'a, R>, StoreFault> {
+        FileStore::open(self.rt, alloc, name)
+    }
+
+    fn open_reloads(
+        &self,
+        alloc: Global,
+        request: &str,
+        config: &str,
+    ) -> Result<FileRequests<'a, R>, AllocError> {
+        FileRequests::new(self.rt, alloc, request, config)
+    }
+
+    fn request_reload(&self, alloc: Global, request: &str) -> Result<(), StoreFault> {
+        make_request(self.rt, alloc, request)
+    }
+
+    fn await_answer(
+        &self,
+        alloc: Global,
+        request: &str,
+        seconds: u8,
+    ) -> Result<Option<Vec<u8>>, ReadFailure> {
+        wait_for_answer(self.rt, alloc, request, seconds)
     }
 
     fn close(

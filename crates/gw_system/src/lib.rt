@@ -1,4 +1,5 @@
-//! The system that the program runs on: its log, its UDP sockets, its clock, and what waits at the sockets.
+//! The system that the program runs on: its log, its UDP sockets, its clock, what waits at the sockets, the file
+//! of a state, and requests to read the configuration again.
 //!
 //! [`Host`] is what `run` takes of a machine; [`SystemHost`] is the machine of the process, whose sockets
 //! and clock are a wire of `gw_ports`.
@@ -7,11 +8,17 @@
 mod host;
 mod opening;
 mod poll_waiter;
+mod reading;
+mod requests;
+mod store;
 mod system_clock;
 mod udp;
 
 pub use host::{Host, SystemHost, open_at_line};
 pub use opening::{FailedStep, LogFailure, OpenFailure, Reason, SocketFailure, Step, note_of};
 pub use poll_waiter::PollWaiter;
+pub use reading::{MAX_LOG_END, ReadFailure};
+pub use requests::{FileRequests, Requests};
+pub use store::FileStore;
 pub use system_clock::SystemClock;
 pub use udp::UdpSock;

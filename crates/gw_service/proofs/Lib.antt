@@ -1,0 +1,3 @@
+mod AnnouncementLemmas
+mod ChainLemmas
+pub mod ServingLemmas

@@ -1,0 +1,65 @@
+-- From where a gateway begins that keeps its state: what its file holds, and the last line of its log.
+use Rattle.std.specs.Prelude.{◌≡◌, ⊤, ⊥, ℕ, List, [], ◌++◌, ◌∷◌, Bool, true, false, map, codes, Option, Some, None, Result, Ok, Err}
+use Rattle.gw_configuration.specs.Configuration.{Configuration}
+use Rattle.gw_core.specs.History.{state_after}
+use Rattle.gw_core.specs.Replay.{no_counts}
+use Rattle.gw_core.specs.Resumed.{carried}
+use Rattle.gw_core.specs.State.{State}
+use Rattle.gw_core.specs.declared.event.Counts.{Counts}
+use Rattle.gw_permissions.specs.Words.{shown}
+use Rattle.gw_saved.specs.Saved.{Saved}
+use Rattle.gw_state_text.specs.Place.{IsPlaceOf}
+use Rattle.gw_state_text.specs.Text.{state_text}
+use Rattle.gw_state_text.specs.declared.fault.FaultKind.{FaultKind}
+use Rattle.gw_state_text.specs.declared.fault.FaultKind.TheVariants as kinds
+use Rattle.gw_state_text.specs.declared.fault.StateFault.{StateFault}
+use Rattle.gw_system.specs.declared.reading.ReadFailure.{ReadFailure}
+use Rattle.gw_system.specs.declared.reading.ReadFailure.TheVariants as reading
+use Rattle.gw_takeover.specs.Words.{dropped_words}
+use Rattle.gw_service.specs.Counts.{GoesOnFrom}
+use Rattle.gw_service.specs.declared.fault.ServiceFault.{ServiceFault}
+use Rattle.gw_service.specs.declared.fault.ServiceFault.TheVariants as fault
+
+-- What is known of a state by reading its file. There is none if there is no file. A file that is there is never passed over:
+-- it is the text of a state, or why it isn't is the fault.
+abbrev pub IsStateRead : Result (Option (List ℕ)) ReadFailure → Result (Option Saved) ServiceFault → Type 0
+IsStateRead read (Err fault.Memory) = ⊤
+IsStateRead (Ok None) (Ok None) = ⊤
+IsStateRead (Ok (Some text)) (Ok (Some s)) = text ≡ state_text s
+IsStateRead (Ok (Some text)) (Err (fault.State f)) = IsPlaceOf text f.line
+IsStateRead (Err reading.Unreadable) (Err fault.StateUnreadable) = ⊤
+IsStateRead read outcome = ⊥
+
+-- memory is no fault of the text
+abbrev pub by_kind : FaultKind → StateFault → ServiceFault
+by_kind kinds.Memory f = fault.Memory
+by_kind kind f = fault.State f
+
+-- the fault of a text that is none of a state
+abbrev pub fault_of_text : StateFault → ServiceFault
+fault_of_text f = by_kind f.kind f
+
+-- the fault of a file that can't be read
+abbrev pub fault_of_reading : ReadFailure → ServiceFault
+fault_of_reading reading.Unreadable = fault.StateUnreadable
+fault_of_reading reading.Memory = fault.Memory
+
+-- the state in which a gateway of this configuration begins with what was saved, if something was
+abbrev pub begun : Configuration → Option Saved → State
+begun c None = state_after c no_counts []
+begun c (Some s) = carried c s
+
+abbrev pub counts_of : State → Counts
+counts_of w = record { ticks = w.ticks; denials = w.denials }
+
+-- It goes on from the greater ones of the counts of the state and those of the last line of its log.
+pub record BeginsAs (c : Configuration) (saved : Option Saved) (line : Option (List ℕ)) (w : State) : Type 0 where
+  pub counts : Counts
+  pub from : GoesOnFrom (counts_of (begun c saved)) line counts
+  pub state : w ≡ record (begun c saved) { ticks = counts.ticks; denials = counts.denials }
+
+-- what is told of a state at the start: that it is new, if more is asked for, or what of it isn't taken over
+abbrev pub start_text : Bool → List ℕ → Configuration → Option Saved → List ℕ
+start_text true name c None = codes "state: " ++ map shown name ++ codes " is new\n"
+start_text false name c None = []
+start_text verbose name c (Some s) = dropped_words c s

@@ -1,0 +1,48 @@
+//! The counts from which a gateway goes on.
+
+ghost use Rattle.std.specs.Prelude.{◌≡◌, ◌≤◌, ◌^◌, option_map};
+ghost use Rattle.gw_service.specs.Counts.{GoesOnAfter, GoesOnFrom, counts_after, greater, less};
+ghost use Rattle.gw_audit.specs.Entry.{denial_of};
+
+use gw_audit::{Shown, read_line};
+use gw_core::Counts;
+
+/// Where each count of a gateway ends.
+const LAST_COUNT: u64 = 1 << 63;
+
+/// The counts after what a line of a log shows.
+fn after_denial(counts: Counts, shown: Shown<'_>) -> Counts
+    ensures { result ≡ counts_after counts (denial_of shown) }
+{
+    Counts {
+        ticks: counts.ticks.max(shown.tick.min(LAST_COUNT)),
+        denials: counts.denials.max(shown.number.min(LAST_COUNT)),
+    }
+}
+
+/// The counts after a line of a log: the greater ones, if it shows a denial.
+fn after_line(counts: Counts, line: &[u8]) -> Counts
+    ensures { GoesOnAfter counts line.now result }
+{
+    match read_line(line) {
+        Some(shown) => after_denial(counts, shown),
+        None => counts,
+    }
+}
+
+/// The counts from which a gateway goes on after the last line of its log, if there is one: no number of a denial that is
+/// shown there or was counted is used again.
+pub(crate) fn go_on_from(counts: Counts, line: &Option<Vec<u8>>) -> Counts
+    requires ticks { counts.ticks ≤ 2 ^ 63 }
+    requires denials { counts.denials ≤ 2 ^ 63 }
+    ensures from { GoesOnFrom counts (option_map (λ line. line.items) line.now) result }
+    ensures least_ticks { counts.ticks ≤ result.ticks }
+    ensures least_denials { counts.denials ≤ result.denials }
+    ensures ticks { result.ticks ≤ 2 ^ 63 }
+    ensures denials { result.denials ≤ 2 ^ 63 }
+{
+    match line {
+        Some(line) => after_line(counts, line),
+        None => counts,
+    }
+}

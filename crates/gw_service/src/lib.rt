@@ -1,0 +1,24 @@
+//! The gateway at work: what `run` opens, and a gateway that serves it, also one that keeps its state and reads its
+//! configuration again.
+#![tactic(auto)]
+
+mod announcement;
+mod counts;
+mod fault;
+mod keeping;
+mod line;
+mod notices;
+mod reload;
+mod running;
+mod serving;
+mod start;
+mod telling;
+
+pub use fault::ServiceFault;
+pub use keeping::StateKeeper;
+pub use line::name_of;
+pub use gw_command_line::RunOptions;
+pub use reload::{Adopted, ReloadFault, reloaded};
+pub use running::Running;
+pub use serving::{serve_fresh, serve_ports};
+pub use telling::tell;

@@ -1,0 +1,220 @@
+//! The configuration that is read again while the gateway runs: whether it is taken over, and by what the gateway goes on.
+
+ghost use Rattle.std.specs.Prelude.{◌≡◌, IfErr, IfOk, true};
+ghost use Rattle.std.specs.Cmp.Lexicographic.{pointwise};
+ghost use Rattle.gw_core.specs.Resumed.{saved_of};
+ghost use Rattle.gw_saved.specs.Saved.{origin_of};
+ghost use Rattle.gw_service.specs.Reload.{IsAdopted, IsPortsOrMemory, IsRefused, IsReloaded, have_same_ports, reload_line, same_port};
+ghost use Rattle.gw_system.specs.Requests.{text_read};
+
+use crate::line::reload_line;
+use gw_configuration::{Config, ConfigFault, Port};
+use gw_core::Gateway;
+use gw_policy_text::read_config;
+use gw_relay::PortState;
+use gw_saved::{Origin, Saved};
+use gw_system::ReadFailure;
+use std::alloc::{AllocError, Global};
+
+/// Why a configuration that was read again isn't taken over. The gateway then goes on as it is.
+#[derive(Clone, Copy)]
+pub enum ReloadFault {
+    /// 1: its file can't be read.
+    Unreadable,
+    /// 2: what the file says is none, and why.
+    Configuration(ConfigFault),
+    /// 3: its ports aren't those that are served: in this order, with these networks, own and broadcast addresses.
+    Ports,
+    /// 4: a growth was refused.
+    Memory,
+}
+
+impl From<ConfigFault> for ReloadFault {
+    ghost use Rattle.std.specs.Prelude.{◌≡◌};
+    ghost use Rattle.gw_service.specs.Reload.{fault_of_configuration};
+
+    ghost from_gives = { λ config fault. fault ≡ fault_of_configuration config };
+
+    fn from(fault: ConfigFault) -> ReloadFault {
+        match fault {
+            ConfigFault::Memory => ReloadFault::Memory,
+            _ => ReloadFault::Configuration(fault),
+        }
+    }
+}
+
+impl From<ReadFailure> for ReloadFault {
+    ghost use Rattle.std.specs.Prelude.{◌≡◌};
+    ghost use Rattle.gw_service.specs.Reload.{fault_of_reading};
+
+    ghost from_gives = { λ reading fault. fault ≡ fault_of_reading reading };
+
+    fn from(failure: ReadFailure) -> ReloadFault {
+        match failure {
+            ReadFailure::Unreadable => ReloadFault::Unreadable,
+            ReadFailure::Memory => ReloadFault::Memory,
+        }
+    }
+}
+
+impl From<AllocError> for ReloadFault {
+    ghost use Rattle.std.specs.Prelude.{◌≡◌};
+    ghost use Rattle.gw_service.specs.declared.reload.ReloadFault.TheVariants.{Memory};
+
+    ghost from_gives = { λ _ fault. fault ≡ Memory };
+
+    fn from(_refused: AllocError) -> ReloadFault {
+        ReloadFault::Memory
+    }
+}
+
+/// Whether a port has the network and the addresses that another one is configured with.
+fn same_port(link: &PortState, port: &Port) -> bool
+    ensures { result ≡ same_port link.now port.now }
+{
+    link.port.network == port.network
+        && link.port.address == port.address
+        && link.port.broadcast == port.broadcast
+}
+
+/// Whether the ports that are served are those of a configuration, in the same order.
+fn have_same_ports(links: &[PortState], ports: &[Port]) -> bool
+    ensures { result ≡ have_same_ports links.now ports.now }
+{
+    if links.len() != ports.len() {
+        return false;
+    }
+    for (place, link) in links.iter().enumerate() {
+        if !same_port(link, &ports[place]) {
+            return false;
+        }
+    }
+    true
+}
+
+/// By what a gateway goes on: the gateway, what is configured of it, once for whoever saves it and once for the
+/// keeper of its state, and the line that is reported.
+pub struct Adopted {
+    /// The gateway.
+    pub gateway: Gateway,
+    /// What is configured of what can be written.
+    pub origin: Origin,
+    /// The same.
+    pub kept: Origin,
+    /// The line.
+    pub line: Vec<u8>,
+}
+
+// By hand: a derived one is proved part by part wherever one is dropped (docs/GATE.md).
+impl Drop for Adopted {
+    fn drop(self) {
+        let Adopted {
+            gateway: _,
+            origin: _,
+            kept: _,
+            line: _,
+        } = self;
+    }
+}
+
+/// What is made of a configuration before the gateway that goes on by it.
+struct Prepared {
+    saved: Saved,
+    origin: Origin,
+    kept: Origin,
+    line: Vec<u8>,
+}
+
+impl Drop for Prepared {
+    fn drop(self) {
+        let Prepared {
+            saved: _,
+            origin: _,
+            kept: _,
+            line: _,
+        } = self;
+    }
+}
+
+/// Saves a gateway, and makes what is needed to go on by another configuration.
+fn prepared(
+    alloc: Global,
+    gateway: &Gateway,
+    origin: &Origin,
+    config: &Config,
+) -> Result<Prepared, AllocError>
+    ensures saved { IfOk result (λ made. made.saved ≡ saved_of origin.now gateway.now) }
+    ensures origin { IfOk result (λ made. made.origin ≡ origin_of config.now) }
+    ensures kept { IfOk result (λ made. made.kept ≡ origin_of config.now) }
+    ensures line { IfOk result
+        (λ made. made.line.items ≡ reload_line gateway.now config.now (saved_of origin.now gateway.now)) }
+{
+    let saved = gateway.save(alloc, origin)?;
+    let line = reload_line(alloc, gateway, config, &saved)?;
+    let origin = Origin::of(alloc, config)?;
+    let kept = Origin::of(alloc, config)?;
+    Ok(Prepared {
+        saved,
+        origin,
+        kept,
+        line,
+    })
+}
+
+/// A gateway of another configuration that goes on from what is saved of this one. The only fault is want of memory.
+fn adopt(
+    alloc: Global,
+    gateway: &Gateway,
+    origin: &Origin,
+    config: Config,
+) -> Result<Adopted, AllocError>
+    ensures { IfOk result (IsAdopted gateway.now origin.now config) }
+{
+    let Prepared {
+        saved,
+        origin,
+        kept,
+        line,
+    } = prepared(alloc, gateway, origin, &config)?;
+    let gateway = Gateway::resume(alloc, config, &saved)?;
+    Ok(Adopted {
+        gateway,
+        origin,
+        kept,
+        line,
+    })
+}
+
+/// A gateway of this configuration that goes on from what is saved of this one, if it has the same ports.
+fn adopt_ports(
+    alloc: Global,
+    gateway: &Gateway,
+    origin: &Origin,
+    config: Config,
+) -> Result<Adopted, ReloadFault>
+    ensures adopted { IfOk result (IsAdopted gateway.now origin.now config) }
+    ensures same { IfOk result (λ _. have_same_ports gateway.now.relay.links config.ports ≡ true) }
+    ensures fault { IfErr result (IsPortsOrMemory gateway.now config) }
+{
+    if !have_same_ports(gateway.relay().ports(), config.ports()) {
+        return Err(ReloadFault::Ports);
+    }
+    Ok(adopt(alloc, gateway, origin, config)?)
+}
+
+/// What becomes of a text that was read again: the gateway of its configuration with what is saved of this one, or why this
+/// one goes on. Both gateways are there for a moment; this one is only read.
+pub fn reloaded(
+    alloc: Global,
+    gateway: &Gateway,
+    origin: &Origin,
+    text: &Result<Vec<u8>, ReadFailure>,
+) -> Result<Adopted, ReloadFault>
+    ensures adopted { IfOk result (IsReloaded gateway.now origin.now (text_read text.now)) }
+    ensures fault { IfErr result (IsRefused gateway.now (text_read text.now)) }
+{
+    match text {
+        Ok(text) => adopt_ports(alloc, gateway, origin, read_config(alloc, text)?),
+        Err(failure) => Err(ReloadFault::from(*failure)),
+    }
+}

@@ -1,0 +1,218 @@
+//! A gateway that runs by stretches: each is served to a tick, and then its state is kept, and its configuration read again
+//! if that was asked for.
+
+ghost use Rattle.std.specs.Prelude.{◌≡◌, ◌+◌, ◌≤◌, ◌<◌, ◌^◌, ◌∷◌, [], ℕ, List, Option, IfOk, IsErrOf, Ok, OnOk};
+ghost use Rattle.std.specs.Io.KnownBytes.{Appends};
+ghost use Rattle.gw_configuration.specs.Configuration.{Configuration};
+ghost use Rattle.gw_saved.specs.Saved.{origin_of};
+ghost use Rattle.gw_serving.specs.Serve.{scene};
+ghost use Rattle.gw_serving.specs.Stretch.{CanCount, moment};
+ghost use Rattle.gw_system.specs.Requests.{Exchange, GoesOn, asked, text_read};
+ghost use Rattle.gw_service.specs.Chain.{Advances, AtTick, IsLooked, Link, Look, Runs, chain_text, look_text, manner, stage, standing};
+ghost use Rattle.gw_service.specs.Notices.{notice_of};
+
+use crate::keeping::StateKeeper;
+use crate::line::refusal_line;
+use crate::notices::notice_of;
+use crate::reload::{Adopted, reloaded};
+use crate::telling::tell;
+use gw_core::Gateway;
+use gw_policy_text::MAX_OCTETS;
+use gw_saved::Origin;
+use gw_script::OctetSink;
+use gw_serving::{Pause, ServeFault, ServeState, StoreFault, Wire};
+use gw_system::{ReadFailure, Requests};
+use std::alloc::Global;
+
+/// A gateway that runs by stretches, with what is configured of it, what keeps its state and what asks to read the
+/// configuration again.
+pub struct Running<K, Q> {
+    /// The gateway.
+    pub gateway: Gateway,
+    /// What is configured of what can be written.
+    pub origin: Origin,
+    /// What keeps its state.
+    pub keeper: K,
+    /// What asks to read the configuration again.
+    pub requests: Q,
+    /// What is kept from turn to turn, and what was counted.
+    pub state: ServeState,
+    /// What was told last of the state: why it isn't kept, or that it is.
+    pub told: Option<StoreFault>,
+}
+
+// By hand: a derived one is proved part by part wherever one is dropped (docs/GATE.md).
+impl<K: Drop, Q: Drop> Drop for Running<K, Q> {
+    fn drop(self) {
+        let Running {
+            gateway: _,
+            origin: _,
+            keeper: _,
+            requests: _,
+            state: _,
+            told: _,
+        } = self;
+    }
+}
+
+impl<K: StateKeeper, Q: Requests> Running<K, Q> {
+    /// Takes the configuration of a text over, or goes on as before; answers the request, and tells it.
+    fn reload<E: OctetSink>(
+        &mut self,
+        alloc: Global,
+        text: &Result<Vec<u8>, ReadFailure>,
+        errors: &mut E,
+    )
+        ensures looked { (c : Configuration) (first : Option (List Exchange)) → self.old.origin ≡ origin_of c →
+            GoesOn first (Q.told self.old.requests) (asked (text_read text.now) ∷ []) →
+            let before = standing self.old.gateway self.old.keeper first in
+            let after = standing self.new.gateway self.new.keeper (Q.told self.new.requests) in
+            (d : Configuration) × (look : Look) × (self.new.origin ≡ origin_of d)
+            × IsLooked (manner K.Passes K.Ticks K.Adopts K.failing) c before look d after
+            × (E.NeverFails errors.old → Appends (E.held errors.old) (E.held errors.new) (look_text c before look)) }
+        ensures state { self.new.state ≡ self.old.state }
+        ensures told { self.new.told ≡ self.old.told }
+        ensures lasts { E.NeverFails errors.old → E.NeverFails errors.new }
+    {
+        match reloaded(alloc, &self.gateway, &self.origin, text) {
+            Ok(
+                Adopted {
+                    gateway,
+                    origin,
+                    kept,
+                    line,
+                },
+            ) => {
+                self.gateway = gateway;
+                self.origin = origin;
+                self.keeper.adopt(alloc, kept, &self.gateway);
+                self.requests.answer(&line);
+                tell(&line, errors);
+            }
+            Err(fault) => {
+                let line = refusal_line(fault).as_bytes();
+                self.requests.answer(line);
+                tell(line, errors);
+            }
+        }
+    }
+
+    /// Looks for a request, and if there is one reads the configuration again.
+    fn look<E: OctetSink>(&mut self, alloc: Global, errors: &mut E)
+        ensures looked { (c : Configuration) → self.old.origin ≡ origin_of c →
+            let before = standing self.old.gateway self.old.keeper (Q.told self.old.requests) in
+            let after = standing self.new.gateway self.new.keeper (Q.told self.new.requests) in
+            (d : Configuration) × (look : Look) × (self.new.origin ≡ origin_of d)
+            × IsLooked (manner K.Passes K.Ticks K.Adopts K.failing) c before look d after
+            × (E.NeverFails errors.old → Appends (E.held errors.old) (E.held errors.new) (look_text c before look)) }
+        ensures state { self.new.state ≡ self.old.state }
+        ensures told { self.new.told ≡ self.old.told }
+        ensures lasts { E.NeverFails errors.old → E.NeverFails errors.new }
+    {
+        if let Some(text) = self.requests.take(alloc, MAX_OCTETS) {
+            self.reload(alloc, &text, errors);
+        }
+    }
+
+    /// Tells whether the state is kept, if that changed since it was told last.
+    fn notice<E: OctetSink>(&mut self, errors: &mut E)
+        ensures told { self.new ≡ record self.old { told = K.failing self.old.keeper } }
+        ensures text { E.NeverFails errors.old →
+            Appends (E.held errors.old) (E.held errors.new) (notice_of self.old.told self.new.told) }
+        ensures lasts { E.NeverFails errors.old → E.NeverFails errors.new }
+    {
+        let failing = self.keeper.failing();
+        tell(notice_of(self.told, failing).as_bytes(), errors);
+        self.told = failing;
+    }
+
+    /// Does what is due at a tick: keeps the state, and looks for a request.
+    fn at_tick<E: OctetSink>(&mut self, alloc: Global, errors: &mut E)
+        ensures done { (c : Configuration) → self.old.origin ≡ origin_of c →
+            let before = standing self.old.gateway self.old.keeper (Q.told self.old.requests) in
+            let after = standing self.new.gateway self.new.keeper (Q.told self.new.requests) in
+            (d : Configuration) × (look : Look) × (self.new.origin ≡ origin_of d)
+            × AtTick (manner K.Passes K.Ticks K.Adopts K.failing) c before look d after
+            × (E.NeverFails errors.old → Appends (E.held errors.old) (E.held errors.new) (look_text c before look)) }
+        ensures state { self.new.state ≡ self.old.state }
+        ensures told { self.new.told ≡ self.old.told }
+        ensures lasts { E.NeverFails errors.old → E.NeverFails errors.new }
+    {
+        self.keeper.keep_at_tick(alloc, &self.gateway);
+        self.look(alloc, errors);
+    }
+
+    /// Serves a stretch of at most so many turns, and does what is due after it. Faults: those of serving.
+    fn advance<W: Wire, L: OctetSink, E: OctetSink>(
+        &mut self,
+        alloc: Global,
+        wire: &mut W,
+        log: &mut L,
+        errors: &mut E,
+        turns: u64,
+    ) -> Result<(), ServeFault>
+        requires count { CanCount self.old.state.served self.old.state.tally (W.failure_count wire.old) turns }
+        ensures advances { (c : Configuration) → self.old.origin ≡ origin_of c →
+            let before = stage c (moment (scene self.old.gateway (L.held log.old) (W.calls wire.old)) self.old.keeper
+            self.old.state.served self.old.state.tally) (Q.told self.old.requests) self.old.told in
+            (d : Configuration) × (text : List ℕ) × (self.new.origin ≡ origin_of d)
+            × Advances (manner K.Passes K.Ticks K.Adopts K.failing) turns before result text
+            (stage d (moment (scene self.new.gateway (L.held log.new) (W.calls wire.new)) self.new.keeper
+            self.new.state.served self.new.state.tally) (Q.told self.new.requests) self.new.told)
+            × (E.NeverFails errors.old → Appends (E.held errors.old) (E.held errors.new) text) }
+        ensures rest { (rest : ℕ) → self.new.state.served.turns + rest ≤ self.old.state.served.turns + turns →
+            CanCount self.new.state.served self.new.state.tally (W.failure_count wire.new) rest }
+        ensures more { 0 < turns → OnOk result (self.old.state.served.turns < self.new.state.served.turns) }
+        ensures most { self.new.state.served.turns ≤ self.old.state.served.turns + turns }
+        ensures lasts { E.NeverFails errors.old → E.NeverFails errors.new }
+    {
+        let keeper = &mut self.keeper;
+        match self.state.serve_to_tick(alloc, &mut self.gateway, wire, log, keeper, turns) {
+            Ok(Pause::Turns) => {}
+            Ok(Pause::Tick) => {
+                self.at_tick(alloc, errors);
+                self.notice(errors);
+            }
+            Ok(Pause::Withheld) => self.notice(errors),
+            Err(fault) => return Err(fault),
+        }
+        Ok(())
+    }
+
+    /// Serves a wire for so many turns, by stretches. After each tick the keeper does what is due, and a request is looked
+    /// for; if there is one the configuration is read again, and the gateway goes on by it, or as it is.
+    ///
+    /// # Errors
+    ///
+    /// Those of [`serve`](gw_serving::serve).
+    pub fn serve<W: Wire, L: OctetSink, E: OctetSink>(
+        &mut self,
+        alloc: Global,
+        wire: &mut W,
+        log: &mut L,
+        errors: &mut E,
+        turns: u64,
+    ) -> Result<(), ServeFault>
+        requires count { CanCount self.old.state.served self.old.state.tally (W.failure_count wire.old) turns }
+        ensures runs { (c : Configuration) → self.old.origin ≡ origin_of c →
+            let before = stage c (moment (scene self.old.gateway (L.held log.old) (W.calls wire.old)) self.old.keeper
+            self.old.state.served self.old.state.tally) (Q.told self.old.requests) self.old.told in
+            (d : Configuration) × (links : List Link) × (self.new.origin ≡ origin_of d)
+            × Runs (manner K.Passes K.Ticks K.Adopts K.failing) turns before result links
+            (stage d (moment (scene self.new.gateway (L.held log.new) (W.calls wire.new)) self.new.keeper
+            self.new.state.served self.new.state.tally) (Q.told self.new.requests) self.new.told)
+            × (E.NeverFails errors.old → Appends (E.held errors.old) (E.held errors.new) (chain_text links)) }
+        ensures lasts { E.NeverFails errors.old → E.NeverFails errors.new }
+    {
+        let mut left = turns;
+        for _ in 0..turns {
+            if left == 0 {
+                return Ok(());
+            }
+            let before = self.state.served.turns;
+            self.advance(alloc, wire, log, errors, left)?;
+            left -= self.state.served.turns - before;
+        }
+        Ok(())
+    }
+}

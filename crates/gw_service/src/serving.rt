@@ -1,0 +1,271 @@
+//! The gateway at work: what `run` opens, and a fresh gateway that serves it.
+//!
+//! A function that owns a configuration or a gateway does nothing fallible after making it, and passes
+//! a reference on: each way out would drop a large value.
+
+ghost use Rattle.std.specs.Prelude.{◌≡◌, ◌⊎◌, ◌≤◌, ◌<◌, ◌^◌, [], ℕ, List, Ok, Err, None, Some, MatchResult, length, option_map, string_bytes, IfErr, IfOk, IfSome, OnErr, OnOk};
+ghost use Rattle.std.specs.Io.Buffered.{writer_buffer, writer_contents};
+ghost use Rattle.std.specs.Io.KnownBytes.{Appends, Keeps};
+ghost use Rattle.gw_core.specs.History.{state_after};
+ghost use Rattle.gw_core.specs.Replay.{no_counts};
+ghost use Rattle.gw_serving.specs.Serve.{scene};
+ghost use Rattle.gw_service.specs.Announcement.{startup_line};
+ghost use Rattle.gw_system.specs.Host.{OpensAtLine};
+ghost use Rattle.gw_service.specs.Serving.{AreOpen, ArentOpen, IsFlushedFor, LeavesServed, LogIsOpen, LogIsShut, LogStays, Serves, ServesFrom, ends, log_held, machine, outcome_of, service};
+ghost use Rattle.gw_service.specs.declared.fault.ServiceFault.TheVariants as fault;
+
+use crate::announcement::{startup_line, warning_of};
+use crate::telling::tell;
+use crate::fault::ServiceFault;
+use gw_command_line::RunOptions;
+use gw_configuration::Config;
+use gw_core::{Counts, Gateway};
+use gw_serving::{ServeStop, Served, Wire, serve, serve_with_reports};
+use gw_script::OctetSink;
+use gw_system::{Host, LogFailure, OpenFailure, SocketFailure, note_of, open_at_line};
+use std::alloc::Global;
+use std::io::{BufWriter, Write};
+
+/// A gateway of this configuration that nothing came to yet.
+fn fresh_gateway(alloc: Global, config: Config) -> Result<Gateway, ServiceFault>
+    ensures state { IfOk result (λ gateway. gateway ≡ state_after config no_counts []) }
+    ensures fault { IfErr result (λ f. f ≡ fault.Memory) }
+{
+    let counts = Counts {
+        ticks: 0,
+        denials: 0,
+    };
+    match Gateway::new(alloc, config, counts) {
+        Ok(gateway) => Ok(gateway),
+        Err(_) => Err(ServiceFault::Memory),
+    }
+}
+
+/// The outcome of the program, by the answer of serving.
+fn outcome_of(answer: Result<Served, ServeStop>) -> Result<(), ServiceFault>
+    ensures { result ≡ outcome_of answer }
+{
+    match answer {
+        Ok(_) => Ok(()),
+        Err(stop) => Err(ServiceFault::from(stop.fault)),
+    }
+}
+
+/// Serves sockets for so many turns, and tells what was done each so many seconds, where that is
+/// asked for. Faults: `Log`, `Memory` and `CountEnd`.
+fn serve_by<S: Wire, L: OctetSink, E: OctetSink>(
+    alloc: Global,
+    gateway: &mut Gateway,
+    sockets: &mut S,
+    log: &mut L,
+    errors: &mut E,
+    turns: u64,
+    stats: Option<u64>,
+) -> Result<(), ServiceFault>
+    requires turns { turns < 2 ^ 63 }
+    requires seconds { IfSome stats (λ n. 0 < n) }
+    requires failures { S.failure_count sockets.old < 2 ^ 127 }
+    ensures serves { let before = scene gateway.old (L.held log.old) (S.calls sockets.old) in
+        let after = scene gateway.new (L.held log.new) (S.calls sockets.new) in
+        (reports : List ℕ) × ServesFrom (service turns stats) before after reports result
+        × (E.NeverFails errors.old → Appends (E.held errors.old) (E.held errors.new) reports) }
+    ensures lasting { E.NeverFails errors.old → E.NeverFails errors.new }
+{
+    match stats {
+        Some(seconds) => {
+            let answer = serve_with_reports(alloc, gateway, sockets, log, errors, seconds, turns);
+            outcome_of(answer)
+        }
+        None => outcome_of(serve(alloc, gateway, sockets, log, turns)),
+    }
+}
+
+/// Serves sockets for so many turns, by a gateway of this configuration that nothing came to yet, and
+/// tells what was done each so many seconds, where that is asked for. Faults: `Log`, `Memory` and
+/// `CountEnd`.
+pub fn serve_fresh<S: Wire, L: OctetSink, E: OctetSink>(
+    alloc: Global,
+    config: Config,
+    sockets: &mut S,
+    log: &mut L,
+    errors: &mut E,
+    turns: u64,
+    stats: Option<u64>,
+) -> Result<(), ServiceFault>
+    requires turns { turns < 2 ^ 63 }
+    requires seconds { IfSome stats (λ n. 0 < n) }
+    requires failures { S.failure_count sockets.old < 2 ^ 127 }
+    ensures serves { let before = ends (L.held log.old) (S.calls sockets.old) in
+        let after = ends (L.held log.new) (S.calls sockets.new) in
+        (reports : List ℕ) × Serves config (service turns stats) before after reports result
+        × (E.NeverFails errors.old → Appends (E.held errors.old) (E.held errors.new) reports) }
+    ensures lasting { E.NeverFails errors.old → E.NeverFails errors.new }
+{
+    let mut gateway = fresh_gateway(alloc, config)?;
+    serve_by(alloc, &mut gateway, sockets, log, errors, turns, stats)
+}
+
+/// Opens the log: the file of this name, or standard output, whose buffer is flushed.
+fn open_log<H: Host, W: Write + Drop>(
+    log: &Option<String>,
+    host: &H,
+    output: &mut BufWriter<W>,
+) -> Result<Option<H::Log>, LogFailure>
+    ensures log { let name = option_map string_bytes log.now in
+        let held = writer_contents W.contents output.old in
+        let holds = writer_contents W.contents output.new in
+        let LogOpens = OpensAtLine (H.LogOpens host.now) (H.LogIsCut host.now) H.Log.held in
+        MatchResult result (LogIsOpen LogOpens name held holds) (LogIsShut LogOpens name held holds) }
+    ensures unbuffered { IfOk result (λ opened. opened ≡ None → writer_buffer output.new ≡ []) }
+    ensures buffer { OnOk result (IsFlushedFor (option_map string_bytes log.now)
+        (writer_buffer output.old) (writer_buffer output.new)) }
+{
+    match log {
+        Some(name) => Ok(Some(open_at_line(name, host)?)),
+        None => match output.flush() {
+            Ok(()) => Ok(None),
+            Err(_) => Err(LogFailure::Failed),
+        },
+    }
+}
+
+/// What is told at the start, and what is open then: the log where it is a file, and the sockets.
+#[derive(Drop)]
+struct Opening<L, S> {
+    line: Vec<u8>,
+    log: Option<L>,
+    sockets: S,
+}
+
+/// Opens the sockets of a configuration.
+fn open_sockets<H: Host>(
+    alloc: Global,
+    config: &Config,
+    host: &H,
+) -> Result<H::Sockets, SocketFailure>
+    ensures opens { H.SocketsOpen host.now config.now.ports result }
+    ensures fresh { IfOk result (λ sockets. H.Sockets.failure_count sockets ≡ 0) }
+{
+    host.open_sockets(alloc, config.ports())
+}
+
+/// Makes the line that is told at the start, opens the log and then the sockets.
+fn open<H: Host, W: Write + Drop>(
+    alloc: Global,
+    config: &Config,
+    options: &RunOptions,
+    host: &H,
+    output: &mut BufWriter<W>,
+) -> Result<Opening<H::Log, H::Sockets>, OpenFailure>
+    ensures line { let name = option_map string_bytes options.now.log in
+        IfOk result (λ opening. opening.line.items ≡ startup_line options.now.verbose config.now name) }
+    ensures open { let name = option_map string_bytes options.now.log in
+        let held = writer_contents W.contents output.old in
+        let holds = writer_contents W.contents output.new in
+        let LogOpens = OpensAtLine (H.LogOpens host.now) (H.LogIsCut host.now) H.Log.held in
+        let SocketsOpen = H.SocketsOpen host.now config.now.ports in
+        MatchResult result
+        (λ opening. AreOpen LogOpens SocketsOpen name held holds opening.log opening.sockets)
+        (ArentOpen LogOpens SocketsOpen name held holds) }
+    ensures unbuffered { IfOk result (λ opening. opening.log ≡ None → writer_buffer output.new ≡ []) }
+    ensures fresh { IfOk result (λ opening. H.Sockets.failure_count opening.sockets ≡ 0) }
+    ensures buffer { OnOk result (IsFlushedFor (option_map string_bytes options.now.log)
+        (writer_buffer output.old) (writer_buffer output.new)) }
+{
+    let line = startup_line(alloc, config, &options.log, options.verbose)?;
+    let log = match open_log(&options.log, host, output) {
+        Ok(log) => log,
+        Err(failure) => return Err(OpenFailure::Log(failure)),
+    };
+    match open_sockets(alloc, config, host) {
+        Ok(sockets) => Ok(Opening { line, log, sockets }),
+        Err(failure) => Err(OpenFailure::Sockets(failure)),
+    }
+}
+
+/// Serves what is open as the options ask. Each event's lines are written to standard output at once
+/// where the log is there.
+fn serve_open<L: OctetSink, S: Wire, W: Write + Drop, E: OctetSink>(
+    alloc: Global,
+    config: Config,
+    options: &RunOptions,
+    log: &mut Option<L>,
+    sockets: &mut S,
+    output: &mut BufWriter<W>,
+    errors: &mut E,
+) -> Result<(), ServiceFault>
+    requires failures { S.failure_count sockets.old < 2 ^ 127 }
+    requires unbuffered { log.old ≡ None → writer_buffer output.old ≡ [] }
+    ensures serves { let held = writer_contents W.contents output.old in
+        let holds = writer_contents W.contents output.new in
+        let how = service options.now.turns options.now.stats in
+        (reports : List ℕ)
+        × Serves config how (ends (log_held L.held log.old held) (S.calls sockets.old))
+        (ends (log_held L.held log.new holds) (S.calls sockets.new)) reports result
+        × (E.NeverFails errors.old → Appends (E.held errors.old) (E.held errors.new) reports) }
+    ensures lasting { E.NeverFails errors.old → E.NeverFails errors.new }
+    ensures log { LogStays log.old log.new (writer_contents W.contents output.old)
+        (writer_contents W.contents output.new) }
+    ensures buffer { writer_buffer output.new ≡ writer_buffer output.old }
+{
+    let RunOptions { turns, stats, .. } = options;
+    match log {
+        Some(log) => serve_fresh(alloc, config, sockets, log, errors, *turns, *stats),
+        None => {
+            let log = output.get_mut();
+            serve_fresh(alloc, config, sockets, log, errors, *turns, *stats)
+        }
+    }
+}
+
+/// Serves the ports of a configuration as the options ask. If they ask for more it writes at the start what is
+/// served and whether the machine routes IP past the gateway, or why sockets can't be opened. Faults: `Log`, `Socket`, `Memory` and
+/// `CountEnd`.
+pub fn serve_ports<H: Host, W: Write + Drop, E: OctetSink>(
+    alloc: Global,
+    config: Config,
+    options: &RunOptions,
+    host: &mut H,
+    output: &mut BufWriter<W>,
+    errors: &mut E,
+) -> Result<(), ServiceFault>
+    ensures served { let name = option_map string_bytes options.now.log in
+        (told : List ℕ)
+        × LeavesServed (machine (OpensAtLine (H.LogOpens host.old) (H.LogIsCut host.old) H.Log.held)
+        (H.SocketsOpen host.old) (H.RoutesIp host.old) (H.Closes host.new) H.Log.held H.Sockets.calls)
+        name (writer_contents W.contents output.old) (writer_contents W.contents output.new) config
+        (service options.now.turns options.now.stats) options.now.verbose (startup_line options.now.verbose config name) told result
+        × (E.NeverFails errors.old → Appends (E.held errors.old) (E.held errors.new) told) }
+    ensures lasting { E.NeverFails errors.old → E.NeverFails errors.new }
+    ensures flush { OnOk result (IsFlushedFor (option_map string_bytes options.now.log)
+        (writer_buffer output.old) (writer_buffer output.new)) }
+{
+    match open(alloc, &config, options, host, output) {
+        Ok(
+            Opening {
+                line,
+                mut log,
+                mut sockets,
+            },
+        ) => {
+            tell(&line, errors);
+            tell(warning_of(host, options.verbose), errors);
+            let outcome = serve_open(
+                alloc,
+                config,
+                options,
+                &mut log,
+                &mut sockets,
+                output,
+                errors,
+            );
+            host.close(sockets, log);
+            outcome
+        }
+        Err(failure) => {
+            let note = note_of(alloc, options.verbose, failure);
+            tell(&note, errors);
+            Err(ServiceFault::from(failure))
+        }
+    }
+}
