@@ -1,6 +1,5 @@
-mod AnnouncementLemmas
 mod AppendLemmas
 mod ChoiceLemmas
+mod KeptLemmas
 mod LinesLemmas
 mod ReplayLemmas
-mod ServingLemmas

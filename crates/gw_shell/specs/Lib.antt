@@ -1,4 +1,3 @@
-pub mod Announcement
 pub mod Asking
 pub mod Checked
 pub mod Configured

@@ -1,6 +1,6 @@
 -- The program as a whole: what the words chose, what stands on standard output then, the line on standard error and
 -- the exit status.
-use Rattle.std.specs.Prelude.{◌≡◌, ◌≢◌, ◌⊎◌, ⊤, Bool, ℕ, List, [], ◌++◌, Option, Some, Result, Ok, Err, OnOk, option_map}
+use Rattle.std.specs.Prelude.{◌≡◌, ◌≢◌, ◌⊎◌, ⊤, Bool, true, false, ℕ, List, [], ◌++◌, Option, Some, Result, Ok, Err, OnOk, option_map}
 use Rattle.std.specs.Prelude.{string_bytes}
 use Rattle.std.specs.Io.KnownBytes.{Appends}
 use Rattle.gw_script.specs.Known.{OnKnown}
@@ -19,11 +19,15 @@ use Rattle.gw_shell.specs.declared.fault.Fault.{Fault}
 use Rattle.gw_shell.specs.declared.fault.Fault.TheVariants as fault
 use Rattle.gw_shell.specs.Asking.{Answers}
 use Rattle.gw_shell.specs.Configured.{IsConfigurationOf, IsConfigured}
-use Rattle.gw_shell.specs.Ending.{FaultNote, chosen, error_text, status_by, usage_of}
+use Rattle.gw_shell.specs.Ending.{FaultNote, chosen, error_text, outcome_of_answer, status_by, usage_of}
 use Rattle.gw_shell.specs.Checked.{IsChecked}
 use Rattle.gw_shell.specs.Kept.{IsSaidOfText}
 use Rattle.gw_shell.specs.Replay.{Plays}
-use Rattle.gw_shell.specs.Serving.{IsFlushedFor, LeavesRun, Machine}
+use Rattle.gw_rules.specs.declared.rule.Rule.{Rule}
+use Rattle.gw_service.specs.Serving.{IsFlushedFor, Machine}
+use Rattle.gw_shell.specs.Serving.{LeavesRun}
+use Rattle.gw_tally.specs.Counting.{CountsAll, EndsAtLine}
+use Rattle.gw_tally.specs.Tally.{tally_text}
 use Rattle.gw_shell.specs.Telling.{Tells}
 
 -- what the words of a call choose, or why they choose nothing
@@ -127,13 +131,47 @@ abbrev pub LeavesState : Option (List ℕ) → Option (List ℕ) → Result Conf
 LeavesState held holds (Ok c) text outcome = LeavesSaid held holds c text outcome
 LeavesState held holds (Err f) text outcome = (outcome ≡ Err f) × (holds ≡ held)
 
+-- a request to read the configuration again that has no answer
+abbrev pub IsUnanswered : Fault → Type 0
+IsUnanswered (fault.Request f) = ⊤
+IsUnanswered fault.NoAnswer = ⊤
+IsUnanswered fault.Memory = ⊤
+IsUnanswered _ = ⊥
+
+-- What an answer leaves: its text, of which a failed write may leave a front; and it says how the request ends.
+abbrev pub LeavesAnswer : List ℕ → Option (List ℕ) → Option (List ℕ) → Result (Unit {0}) Fault → Type 0
+LeavesAnswer answer held holds (Err fault.Write) = AppendsFront held holds answer
+LeavesAnswer answer held holds outcome = (outcome ≡ outcome_of_answer answer) × Appends held holds answer
+
+-- What `reload` leaves if the configuration is one: an answer, or nothing if there is none.
+abbrev pub LeavesReload : Option (List ℕ) → Option (List ℕ) → Result Configuration Fault → Result (Unit {0}) Fault
+    → Type 0
+LeavesReload held holds (Ok c) outcome =
+    ((f : Fault) × IsUnanswered f × (outcome ≡ Err f) × (holds ≡ held))
+    ⊎ ((answer : List ℕ) × LeavesAnswer answer held holds outcome)
+LeavesReload held holds (Err f) outcome = (outcome ≡ Err f) × (holds ≡ held)
+
+-- What `why --count` leaves of a text: how many of its asks each of these rules decides, of which a failed write may
+-- leave a front, and nothing at any other fault; one is the first line that says no ask.
+abbrev pub LeavesCounts : List Rule → List ℕ → Option (List ℕ) → Option (List ℕ) → Result (Unit {0}) Fault → Type 0
+LeavesCounts rules text held holds (Ok done) =
+    (counts : List ℕ) × CountsAll rules text counts × Appends held holds (tally_text rules counts)
+LeavesCounts rules text held holds (Err fault.Write) =
+    (counts : List ℕ) × CountsAll rules text counts × AppendsFront held holds (tally_text rules counts)
+LeavesCounts rules text held holds (Err (fault.Line n)) = EndsAtLine n text × (holds ≡ held)
+LeavesCounts rules text held holds (Err fault.Read) = holds ≡ held
+LeavesCounts rules text held holds (Err fault.Memory) = holds ≡ held
+LeavesCounts rules text held holds (Err _) = ⊥
+
 -- What `why` leaves by the rules of the configuration that was read. Where there is none nothing is answered, and the
 -- outcome is why.
-abbrev pub LeavesAnswered : Option (List ℕ) → Option (List ℕ) → Option (List ℕ)
+abbrev pub LeavesAnswered : Bool → Option (List ℕ) → Option (List ℕ) → Option (List ℕ)
     → Result Configuration Fault → Result (Unit {0}) Fault → Type 0
-LeavesAnswered input held holds (Ok c) outcome =
+LeavesAnswered false input held holds (Ok c) outcome =
     OnKnown input held holds (λ text before. Answers c.rules text before outcome)
-LeavesAnswered input held holds (Err f) outcome = (outcome ≡ Err f) × (holds ≡ held)
+LeavesAnswered true input held holds (Ok c) outcome =
+    (text : List ℕ) → input ≡ Some text → LeavesCounts c.rules text held holds outcome
+LeavesAnswered counts input held holds (Err f) outcome = (outcome ≡ Err f) × (holds ≡ held)
 
 -- What stands on standard output, which held `held` before, if files give what `Reads` and `ReadsState` say and `run`
 -- opens what the machine says: at `check`, `replay` and `why` what they leave of some configuration that is the one they name,
@@ -155,9 +193,12 @@ LeavesOutput Reads ReadsState machine input held holds told (Ok (choice.Run opti
     (text : Result (List ℕ) Fault) × Reads (string_bytes options.config) text
     × (c : Result Configuration Fault) × IsConfigurationOf text c
     × LeavesRun machine text held holds options c told outcome
-LeavesOutput Reads ReadsState machine input held holds told (Ok (choice.Why file)) outcome =
+LeavesOutput Reads ReadsState machine input held holds told (Ok (choice.Why file counts)) outcome =
     (c : Result Configuration Fault) × IsConfigured Reads (Some (string_bytes file)) c
-    × LeavesAnswered input held holds c outcome
+    × LeavesAnswered counts input held holds c outcome
+LeavesOutput Reads ReadsState machine input held holds told (Ok (choice.Reload config request)) outcome =
+    (c : Result Configuration Fault) × IsConfigured Reads (Some (string_bytes config)) c
+    × LeavesReload held holds c outcome
 LeavesOutput Reads ReadsState machine input held holds told (Ok (choice.Compare old new most)) outcome =
     (a : Result Configuration Fault) × IsConfigured Reads (Some (string_bytes old)) a
     × (b : Result Configuration Fault) × IsConfigured Reads (Some (string_bytes new)) b

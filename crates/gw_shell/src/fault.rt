@@ -1,18 +1,18 @@
 //! Why the program ends without success, and its exit status.
 
 ghost use Rattle.std.specs.Prelude.{◌≡◌, ◌≢◌};
-ghost use Rattle.gw_shell.specs.Ending.{cause_of, fault_of, fault_of_configuration, fault_of_migration, fault_of_opening, fault_of_serving, fault_of_state, fault_of_words, name_of, reason_of, status_of, status_of_comparison, words_of};
+ghost use Rattle.gw_shell.specs.Ending.{cause_of, fault_of, fault_of_configuration, fault_of_migration, fault_of_request, fault_of_service, fault_of_state, fault_of_store, fault_of_words, name_of, reason_of, status_of, status_of_comparison, store_words, words_of};
 ghost use Rattle.gw_shell.specs.Lines.{fault_of_lines};
 ghost use Rattle.gw_shell.specs.declared.fault.Fault.TheVariants.{CommandLine, Memory};
 
 use gw_command_line::WordsFault;
 use gw_configuration::ConfigFault;
 use gw_core::RunFault;
-use gw_serving::ServeFault;
 use gw_migration::MigrationFault;
 use gw_script::{LineFlaw, LinesFault};
+use gw_service::ServiceFault;
+use gw_serving::StoreFault;
 use gw_state_text::{FaultKind, StateFault};
-use gw_system::{LogFailure, OpenFailure, SocketFailure};
 use std::alloc::AllocError;
 use std::io::ErrorKind;
 
@@ -48,6 +48,14 @@ pub enum Fault {
     StateUnreadable,
     /// What the file of the state says is none, at this line, and why.
     State(StateFault),
+    /// The place of the state can't be opened, and why.
+    Store(StoreFault),
+    /// The file of a request can't be made, and why.
+    Request(StoreFault),
+    /// No answer to a request came.
+    NoAnswer,
+    /// The answer says why the configuration wasn't read again.
+    Refused,
     /// Two configurations that were compared decide some ask otherwise, or the comparison isn't finished.
     Different,
 }
@@ -61,6 +69,26 @@ impl Fault {
         Fault::from(WordsFault::of_words(kind))
     }
 
+    /// The fault if the place of the state can't be opened.
+    fn of_store(fault: StoreFault) -> Fault
+        ensures { result ≡ fault_of_store fault }
+    {
+        match fault {
+            StoreFault::Memory => Fault::Memory,
+            _ => Fault::Store(fault),
+        }
+    }
+
+    /// The fault if a request can't be made.
+    pub fn of_request(fault: StoreFault) -> Fault
+        ensures { result ≡ fault_of_request fault }
+    {
+        match fault {
+            StoreFault::Memory => Fault::Memory,
+            _ => Fault::Request(fault),
+        }
+    }
+
     /// The exit status: 2 where what the program was given is wrong, and 1 where what it stands on failed.
     pub fn status(self) -> u8
         ensures { result ≡ status_of self }
@@ -71,8 +99,12 @@ impl Fault {
             | Fault::Migration(_)
             | Fault::Line(_)
             | Fault::FlawedLine(_, _)
-            | Fault::State(_) => 2,
+            | Fault::State(_)
+            | Fault::Refused => 2,
             Fault::Unreadable
+            | Fault::Store(_)
+            | Fault::Request(_)
+            | Fault::NoAnswer
             | Fault::StateUnreadable
             | Fault::Read
             | Fault::Write
@@ -134,6 +166,19 @@ pub fn cause_of(kind: FaultKind) -> &'static str
         FaultKind::TooMany => "too many",
         FaultKind::Cut => "the text is cut",
         FaultKind::Memory => "out of memory",
+    }
+}
+
+/// Why a file isn't written.
+pub fn store_words(fault: StoreFault) -> &'static str
+    ensures { result.now ≡ store_words fault }
+{
+    match fault {
+        StoreFault::NoSpace => "no space",
+        StoreFault::NotPermitted => "not permitted",
+        StoreFault::ReadOnly => "read-only",
+        StoreFault::Memory => "out of memory",
+        StoreFault::System => "refused by the system",
     }
 }
 
@@ -210,27 +255,18 @@ impl From<RunFault> for Fault {
     }
 }
 
-impl From<ServeFault> for Fault {
-    ghost from_gives = { λ serving fault. fault ≡ fault_of_serving serving };
+impl From<ServiceFault> for Fault {
+    ghost from_gives = { λ service fault. fault ≡ fault_of_service service };
 
-    fn from(serving: ServeFault) -> Fault {
-        match serving {
-            ServeFault::Log => Fault::Log,
-            ServeFault::Memory => Fault::Memory,
-            ServeFault::CountEnd => Fault::CountEnd,
-        }
-    }
-}
-
-impl From<OpenFailure> for Fault {
-    ghost from_gives = { λ failure fault. fault ≡ fault_of_opening failure };
-
-    fn from(failure: OpenFailure) -> Fault {
-        match failure {
-            OpenFailure::Log(LogFailure::Failed) => Fault::Log,
-            OpenFailure::Log(LogFailure::Memory) => Fault::Memory,
-            OpenFailure::Sockets(SocketFailure::Failed(failed)) => Fault::Socket(failed.port),
-            OpenFailure::Sockets(SocketFailure::Memory) => Fault::Memory,
+    fn from(fault: ServiceFault) -> Fault {
+        match fault {
+            ServiceFault::Log => Fault::Log,
+            ServiceFault::Socket(port) => Fault::Socket(port),
+            ServiceFault::Memory => Fault::Memory,
+            ServiceFault::CountEnd => Fault::CountEnd,
+            ServiceFault::StateUnreadable => Fault::StateUnreadable,
+            ServiceFault::State(state) => Fault::from(state),
+            ServiceFault::Store(store) => Fault::of_store(store),
         }
     }
 }

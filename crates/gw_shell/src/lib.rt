@@ -4,7 +4,6 @@
 //! `run` or `why` is done under it; `compare` takes two files; `log` and help need none. A fault is one line on standard error, and the exit status says of which kind it is.
 #![tactic(auto)]
 
-mod announcement;
 mod asking;
 mod checked;
 mod configured;
@@ -14,8 +13,8 @@ mod files;
 mod kept;
 mod lines;
 mod program;
+mod reloading;
 mod script;
-mod serving;
 mod telling;
 
 pub use ending::end;
@@ -28,4 +27,3 @@ pub use gw_system::{
 };
 pub use program::run;
 pub use script::replay;
-pub use serving::serve_fresh;

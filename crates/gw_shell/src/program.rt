@@ -1,6 +1,6 @@
 //! The whole program, over any words, reader and writers.
 
-ghost use Rattle.std.specs.Prelude.{◌≡◌, ◌⊎◌, ◌++◌, ◌∷◌, [], List, ℕ, Ok, Result, map, option_map, string_bytes, MatchResult, IfErr, IfOk, IsOk, OnOk, OnErr};
+ghost use Rattle.std.specs.Prelude.{◌≡◌, ◌⊎◌, ◌++◌, ◌∷◌, [], List, ℕ, Ok, Some, Result, map, option_map, string_bytes, MatchResult, IfErr, IfOk, IsOk, OnOk, OnErr};
 ghost use Rattle.std.specs.Io.Buffered.{writer_buffer, writer_contents};
 ghost use Rattle.std.specs.Io.KnownBytes.{Appends};
 ghost use Rattle.std.specs.Process.{exit_status};
@@ -8,31 +8,34 @@ ghost use Rattle.gw_configuration.specs.Configuration.{Configuration};
 ghost use Rattle.gw_migration.specs.declared.fault.MigrationFault.TheVariants as migration;
 ghost use Rattle.gw_rules.specs.declared.format.Format.TheVariants as formats;
 ghost use Rattle.gw_shell.specs.Configured.{IsConfigurationOf};
-ghost use Rattle.gw_shell.specs.Ending.{outcome_of_comparison};
+ghost use Rattle.gw_shell.specs.Ending.{outcome_of_comparison, served};
 ghost use Rattle.gw_shell.specs.Ending.{FaultNote, IsExplainedBy};
 ghost use Rattle.gw_shell.specs.Files.{result_map};
 ghost use Rattle.gw_system.specs.Host.{OpensAtLine};
-ghost use Rattle.gw_shell.specs.Program.{AppendsFront, IsChoiceOf, IsFlushed, IsFollowed, IsRun, LeavesAnswered, LeavesCompared, LeavesComparison, LeavesConfigured, LeavesInFormatThree, LeavesMigrated, LeavesOfText, LeavesOutput, LeavesPlayed, LeavesSaid, LeavesState};
-ghost use Rattle.gw_shell.specs.Serving.{IsFlushedFor, LeavesRun, machine};
+ghost use Rattle.gw_shell.specs.Program.{AppendsFront, IsChoiceOf, IsFlushed, IsFollowed, IsRun, LeavesAnswer, LeavesAnswered, LeavesCompared, LeavesComparison, LeavesConfigured, LeavesCounts, LeavesInFormatThree, LeavesMigrated, LeavesOfText, LeavesOutput, LeavesPlayed, LeavesReload, LeavesSaid, LeavesState};
+ghost use Rattle.gw_service.specs.Serving.{IsFlushedFor, machine};
+ghost use Rattle.gw_shell.specs.Serving.{LeavesRun};
 ghost use Rattle.gw_shell.specs.declared.fault.Fault.{Fault};
 ghost use Rattle.gw_shell.specs.declared.fault.Fault.TheVariants as fault;
 
-use crate::asking::why;
+use crate::asking::{count, why};
 use crate::checked::checked_text;
 use crate::configured::{configuration, configuration_in, configuration_of};
 use crate::ending::{end_by, tell, usage_of};
 use crate::fault::Fault;
 use crate::files::ConfigFiles;
 use crate::kept::words_of_text;
+use crate::reloading::{self, ask};
 use crate::script::replay;
-use crate::serving::serve_ports;
 use crate::telling;
 use gw_command_line::{Choice, RunOptions, choice_of};
 use gw_compare::{Compared, put_comparison};
 use gw_configuration::{Config, ConfigFault};
 use gw_explanation::{Explanation, explain};
 use gw_migration::migrate;
+use gw_rules::RuleList;
 use gw_script::{OctetSink, OctetSource, write_whole};
+use gw_service::{ServiceFault, serve_ports};
 use gw_system::Host;
 use std::alloc::{AllocError, Global};
 use std::io::{BufWriter, Write};
@@ -282,19 +285,80 @@ fn print_state<W: Write + Drop>(
     print_said(alloc, &config, text, output)
 }
 
-/// Answers each ask of standard input by the rules of a configuration.
+/// Prints the answer to a request, which says how it ends.
+fn print_answer<W: Write + Drop>(answer: &[u8], output: &mut BufWriter<W>) -> Result<(), Fault>
+    ensures output { LeavesAnswer answer.now (writer_contents W.contents output.old)
+        (writer_contents W.contents output.new) result }
+    ensures flush { OnOk result (writer_buffer output.new ≡ []) }
+{
+    print(answer, output)?;
+    reloading::outcome_of(answer)
+}
+
+/// Asks the gateway that runs under the configuration that was read to read it again, and prints what it answers.
+fn reload<H: Host, W: Write + Drop>(
+    alloc: Global,
+    config: Result<Config, Fault>,
+    request: &str,
+    host: &H,
+    output: &mut BufWriter<W>,
+) -> Result<(), Fault>
+    ensures output { LeavesReload (writer_contents W.contents output.old)
+        (writer_contents W.contents output.new) config result }
+    ensures flush { OnOk result (writer_buffer output.new ≡ []) }
+{
+    let _config = config?;
+    match ask(alloc, request, host) {
+        Ok(answer) => print_answer(&answer, output),
+        Err(fault) => Err(fault),
+    }
+}
+
+/// Answers each ask of standard input by the rules of a configuration, or counts them.
 fn answer<R: OctetSource, W: Write + Drop>(
     alloc: Global,
+    counts: bool,
     config: Result<Config, Fault>,
     input: &mut R,
     output: &mut BufWriter<W>,
 ) -> Result<(), Fault>
-    ensures output { LeavesAnswered (R.left input.old) (writer_contents W.contents output.old)
+    ensures output { LeavesAnswered counts (R.left input.old) (writer_contents W.contents output.old)
         (writer_contents W.contents output.new) config result }
     ensures flush { OnOk result (writer_buffer output.new ≡ []) }
 {
     let config = config?;
-    why(alloc, config.rules(), input, output)
+    if counts {
+        print_counts(alloc, config.rules(), input, output)
+    } else {
+        why(alloc, config.rules(), input, output)
+    }
+}
+
+/// Prints how many asks of standard input each rule decides.
+fn print_counts<R: OctetSource, W: Write + Drop>(
+    alloc: Global,
+    rules: &RuleList,
+    input: &mut R,
+    output: &mut BufWriter<W>,
+) -> Result<(), Fault>
+    ensures output { (text : List ℕ) → R.left input.old ≡ Some text → LeavesCounts rules.now text
+        (writer_contents W.contents output.old) (writer_contents W.contents output.new) result }
+    ensures flush { OnOk result (writer_buffer output.new ≡ []) }
+{
+    match count(alloc, rules, input) {
+        Ok(text) => print(&text, output),
+        Err(fault) => Err(fault),
+    }
+}
+
+/// How serving ended.
+fn served(done: Result<(), ServiceFault>) -> Result<(), Fault>
+    ensures { result ≡ served done }
+{
+    match done {
+        Ok(()) => Ok(()),
+        Err(fault) => Err(Fault::from(fault)),
+    }
 }
 
 /// Serves the ports of the configuration of a text that was read, or tells where its fault is, where
@@ -320,7 +384,7 @@ fn serve<H: Host, W: Write + Drop, E: OctetSink>(
         (writer_buffer output.old) (writer_buffer output.new)) }
 {
     match configuration_of(alloc, text) {
-        Ok(config) => serve_ports(alloc, config, options, host, output, errors),
+        Ok(config) => served(serve_ports(alloc, config, options, host, output, errors)),
         Err(fault) => {
             tell(&fault_note(alloc, options.verbose, text, fault), errors);
             Err(fault)
@@ -372,9 +436,13 @@ fn follow<F: ConfigFiles, H: Host, R: OctetSource, W: Write + Drop, E: OctetSink
             let text = files.read(alloc, &options.config);
             serve(alloc, &text, options, host, output, errors)
         }
-        Ok(Choice::Why(file)) => {
+        Ok(Choice::Why { file, counts }) => {
             let config = configuration_in(alloc, files, file);
-            answer(alloc, config, input, output)
+            answer(alloc, *counts, config, input, output)
+        }
+        Ok(Choice::Reload { config, request }) => {
+            let config = configuration_in(alloc, files, config);
+            reload(alloc, config, request, host, output)
         }
         Ok(Choice::Compare { old, new, most }) => {
             let before = configuration_in(alloc, files, old);

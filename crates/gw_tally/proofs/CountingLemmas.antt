@@ -91,7 +91,7 @@ module _ (rules : List Rule) (text : List ℕ) where
       untold = said.1.untold;
     }
     ends_at Read said = tt
-    ends_at Write said = tt
+    ends_at Write said = absurd said
     ends_at Memory said = tt
 
     pub ends_passed : (fault : LinesFault) (r : Result (Unit {0}) LinesFault) → Passes fault r

@@ -7,7 +7,7 @@ use Rattle.gw_rules.specs.declared.rule.Rule.{Rule}
 use Rattle.gw_script.specs.Lines.{BeginsUntold, IsUntold}
 use Rattle.gw_script.specs.Script.{lines_of}
 use Rattle.gw_script.specs.declared.lines.LinesFault.{LinesFault}
-use Rattle.gw_script.specs.declared.lines.LinesFault.TheVariants.{Line}
+use Rattle.gw_script.specs.declared.lines.LinesFault.TheVariants.{Line, Memory, Read, Write}
 use Rattle.gw_tally.specs.Tally.{AddsOne, IsTally, place}
 
 -- a line of at most 4096 octets that says this ask
@@ -49,7 +49,9 @@ pub record EndsAtLine (n : ℕ) (text : List ℕ) : Type 0 where
 abbrev pub IsCounted : List Rule → List ℕ → Result (List ℕ) LinesFault → Type 0
 IsCounted rules text (Ok counts) = CountsAll rules text counts
 IsCounted rules text (Err (Line n)) = EndsAtLine n text
-IsCounted rules text (Err _) = ⊤
+IsCounted rules text (Err Read) = ⊤
+IsCounted rules text (Err Memory) = ⊤
+IsCounted rules text (Err Write) = ⊥
 
 -- the first line says an ask, which is counted
 pub record CountsOne (rules : List Rule) (text : List ℕ) (left : Option (List ℕ)) (before after : List ℕ) : Type 0 where
@@ -66,10 +68,14 @@ abbrev pub IsNext : List Rule → ℕ → List ℕ → Option (List ℕ) → (be
 IsNext rules n text left before after (Ok true) = CountsOne rules text left before after
 IsNext rules n text left before after (Ok false) = (lines_of text ≡ []) × (after ≡ before)
 IsNext rules n text left before after (Err (Line m)) = (m ≡ n) × BeginsUntold SaysNone text
-IsNext rules n text left before after (Err _) = ⊤
+IsNext rules n text left before after (Err Read) = ⊤
+IsNext rules n text left before after (Err Memory) = ⊤
+IsNext rules n text left before after (Err Write) = ⊥
 
 -- what was counted of the whole text, by the outcome
 abbrev pub IsCountedIn : List Rule → List ℕ → List ℕ → Result (Unit {0}) LinesFault → Type 0
 IsCountedIn rules text counts (Ok done) = CountsAll rules text counts
 IsCountedIn rules text counts (Err (Line n)) = EndsAtLine n text
-IsCountedIn rules text counts (Err _) = ⊤
+IsCountedIn rules text counts (Err Read) = ⊤
+IsCountedIn rules text counts (Err Memory) = ⊤
+IsCountedIn rules text counts (Err Write) = ⊥

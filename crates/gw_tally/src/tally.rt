@@ -1,6 +1,7 @@
 //! How many asks each rule of a policy decides.
 
-ghost use Rattle.std.specs.Prelude.{◌≡◌, ◌+◌, ◌<◌, [], length, slice_index, IfOk, OnOk};
+ghost use Rattle.std.specs.Prelude.{◌≡◌, ◌+◌, ◌<◌, [], length, slice_index, IfErr, IfOk, OnOk};
+ghost use Rattle.gw_script.specs.declared.lines.LinesFault.TheVariants as fault;
 ghost use Rattle.gw_tally.specs.Tally.{AddsOne, IsTally, place};
 
 use gw_rules::{Ask, RuleList};
@@ -46,6 +47,7 @@ impl Tally {
     /// Counts one ask more at its place. `Read` if the count is at its end.
     pub(crate) fn add(&mut self, at: usize) -> Result<(), LinesFault>
         ensures ok { OnOk result (AddsOne at self.old self.new) }
+        ensures fault { IfErr result (λ f. f ≡ fault.Read) }
         ensures places { length self.new ≡ length self.old }
     {
         if at >= self.counts.len() {

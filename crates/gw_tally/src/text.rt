@@ -49,7 +49,7 @@ fn put_rule(
     put_slice(out, b"rule ")?;
     put_decimal(out, number)?;
     put_slice(out, b" ")?;
-    put_slice(out, rule.name.as_bytes())?;
+    put_slice(out, rule.name.as_str().as_bytes())?;
     put_slice(out, b": ")?;
     put_decimal(out, count)?;
     put_slice(out, b"\n")
