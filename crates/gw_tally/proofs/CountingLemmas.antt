@@ -1,5 +1,5 @@
 -- The count goes on line by line.
-use Rattle.std.proofs.Common.{◌≡◌, ◌∙◌, ◌≤◌, ◌<◌, ◌+◌, ℕ, suc, List, [], ◌∷◌, ◌++◌, length, Option, Some, Result, Ok, Err, true, false, refl, sym, ap, subst, arith, append_assoc}
+use Rattle.std.proofs.Common.{◌≡◌, ◌∙◌, ◌≤◌, ◌<◌, ◌+◌, ℕ, suc, List, [], ◌∷◌, ◌++◌, length, rules, Option, Some, None, Result, Ok, Err, true, false, refl, sym, ap, subst, arith, append_assoc}
 use Rattle.std.specs.Prelude.{cond, count_by, slice_index, nat_eq}
 use Rattle.std.proofs.lemmas.List.{append-nil, length-append}
 use Rattle.std.proofs.lemmas.List.Sums.{sum_by-append}
@@ -30,10 +30,18 @@ say_more [] (x ∷ asks) line ask say says = absurd say
 say_more (l ∷ lines) [] line ask say says = absurd say
 say_more (l ∷ lines) (x ∷ asks) line ask say says = (say.0, say_more lines asks line ask say.1 says)
 
+pub none_is_none : {A : Type 0} (x : A) → None ≡ Some x → ⊥
+none_is_none x is = search rules
+
+after_none : (n : ℕ) → 0 + n ≡ n
+after_none n = omega arith
+
 -- one ask more is counted
 decided_more : (rules : List Rule) (k : ℕ) (asks : List Ask) (ask : Ask)
     → decided rules k (asks ++ ask ∷ []) ≡ decided rules k asks + cond (nat_eq (place rules ask) k) 1 0
-decided_more rules k asks ask = sum_by-append (λ (a : Ask). cond (nat_eq (place rules a) k) 1 0) asks (ask ∷ [])
+decided_more rules k asks ask =
+    sum_by-append (λ (a : Ask). cond (nat_eq (place rules a) k) 1 0) asks (ask ∷ [])
+    ∙ ap (λ (n : ℕ). decided rules k asks + n) (after_none (cond (nat_eq (place rules ask) k) 1 0))
 
 tally_more : (rules : List Rule) (asks : List Ask) (ask : Ask) (before after : List ℕ) → IsTally rules asks before
     → AddsOne (place rules ask) before after → IsTally rules (asks ++ ask ∷ []) after

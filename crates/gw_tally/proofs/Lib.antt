@@ -1,2 +1,1 @@
 mod CountingLemmas
-mod TextLemmas

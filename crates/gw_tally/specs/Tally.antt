@@ -4,6 +4,7 @@ use Rattle.std.specs.Option.{option_map_or}
 use Rattle.gw_rules.specs.Ask.{Ask}
 use Rattle.gw_rules.specs.RuleList.{first}
 use Rattle.gw_rules.specs.declared.rule.Rule.{Rule}
+use Rattle.gw_script.specs.Order.{in_order}
 
 -- the place of an ask: the number of the first rule that matches, from 1, or 0 if none does
 abbrev pub place : List Rule → Ask → ℕ
@@ -28,15 +29,13 @@ abbrev pub rule_line : ℕ → Rule → ℕ → List ℕ
 rule_line number rule count =
     codes "rule " ++ decimal number ++ codes " " ++ rule.name ++ codes ": " ++ decimal count ++ codes "\n"
 
--- those of rules, of which the first has this number
-unfoldable pub rule_lines : ℕ → List Rule → List ℕ → List ℕ
-rule_lines number [] counts = []
-rule_lines number (rule ∷ rules) counts =
-    rule_line number rule (slice_index counts number) ++ rule_lines (number + 1) rules counts
+-- the line of the rule of this number by these counts
+abbrev pub line_in : List ℕ → ℕ → Rule → List ℕ
+line_in counts number rule = rule_line number rule (slice_index counts number)
 
--- and the one for no rule behind them: `default: 17`
+-- and the one for no rule: `default: 17`
 abbrev pub default_line : List ℕ → List ℕ
 default_line counts = codes "default: " ++ decimal (slice_index counts 0) ++ codes "\n"
 
 abbrev pub tally_text : List Rule → List ℕ → List ℕ
-tally_text rules counts = rule_lines 1 rules counts ++ default_line counts
+tally_text rules counts = in_order (line_in counts) 1 rules ++ default_line counts

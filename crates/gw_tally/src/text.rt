@@ -2,7 +2,8 @@
 
 ghost use Rattle.std.specs.Prelude.{◌≡◌, ◌++◌, ◌+◌, length, OnOk};
 ghost use Rattle.gw_addr.specs.Appending.{IsAppended};
-ghost use Rattle.gw_tally.specs.Tally.{default_line, rule_line, rule_lines, tally_text};
+ghost use Rattle.gw_script.specs.Order.{in_order};
+ghost use Rattle.gw_tally.specs.Tally.{line_in, rule_line, tally_text};
 
 use crate::tally::Tally;
 use gw_addr::{put_decimal, put_slice};
@@ -30,10 +31,10 @@ pub fn put_tally(rules: &RuleList, tally: &Tally, out: &mut Vec<u8>) -> Result<(
 
 fn put_rules(rules: &[Rule], tally: &Tally, out: &mut Vec<u8>) -> Result<(), AllocError>
     requires { length tally.now ≡ length rules.now + 1 }
-    ensures { OnOk result (out.new.items ≡ out.old.items ++ rule_lines 1 rules.now tally.now) }
+    ensures { OnOk result (out.new.items ≡ out.old.items ++ in_order (line_in tally.now) 1 rules.now) }
 {
-    for (index, rule) in rules.iter().enumerate() {
-        put_rule(index + 1, rule, tally.count(index + 1), out)?;
+    for place in 0..rules.len() {
+        put_rule(place + 1, &rules[place], tally.count(place + 1), out)?;
     }
     Ok(())
 }
