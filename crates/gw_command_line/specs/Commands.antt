@@ -63,7 +63,11 @@ suggest = with_rule (with_rule (of_file (codes "suggest")) (flag (codes "fill"))
 abbrev pub reload : App
 reload = with_rule (of_file (codes "reload")) (needed (codes "reload"))
 
--- the commands of the program, of which the call has to name one
+-- the program, whose call has to name a command
+abbrev pub program : App
+program = on_top (λ top. record top { subcommand_required = true; has_version = true }) (new_app (codes "bacgw"))
+
+-- the commands of the program
 abbrev pub commands : App
 commands =
     with_subcommand
@@ -74,8 +78,7 @@ commands =
     (with_subcommand
     (with_subcommand
     (with_subcommand
-    (with_subcommand
-    (on_top (λ top. record top { subcommand_required = true; has_version = true }) (new_app (codes "bacgw"))) check.top)
+    (with_subcommand program check.top)
     replay.top)
     run.top)
     why.top)

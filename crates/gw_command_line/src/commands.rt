@@ -3,7 +3,7 @@
 ghost use Rattle.std.specs.Prelude.{◌≡◌, false, codes, IfOk};
 ghost use Rattle.clap.specs.Words.{app_of, rule_of};
 ghost use Rattle.clap.specs.declared.builder.command.Command.TheViews.{out-Command};
-ghost use Rattle.gw_command_line.specs.Commands.{check, check_of_explanation, commands, compare, flag, log, needed, of_file, option, reload, replay, run, run_of_reports, run_of_turns, state, suggest, why};
+ghost use Rattle.gw_command_line.specs.Commands.{check, check_of_explanation, commands, compare, flag, log, needed, of_file, option, program, reload, replay, run, run_of_reports, run_of_turns, state, suggest, why};
 
 use clap::{Arg, ArgAction, Command};
 use std::alloc::{AllocError, Global};
@@ -229,6 +229,16 @@ fn make_reload<'a>(alloc: Global) -> Result<Command<'a>, AllocError>
         .arg(request)
 }
 
+/// The program, with no command yet.
+fn make_program<'a>(alloc: Global) -> Command<'a>
+    ensures { app_of result ≡ program }
+{
+    Command::new(alloc, "bacgw")
+        .about("A gateway of BACnet/IP")
+        .version(VERSION)
+        .subcommand_required(true)
+}
+
 /// The commands of the program. An `Err` only if a growth of memory was refused.
 pub fn make_commands<'a>(alloc: Global) -> Result<Command<'a>, AllocError>
     ensures { IfOk result (λ command. app_of command ≡ commands) }
@@ -242,10 +252,7 @@ pub fn make_commands<'a>(alloc: Global) -> Result<Command<'a>, AllocError>
     let state = make_state(alloc)?;
     let suggest = make_suggest(alloc)?;
     let reload = make_reload(alloc)?;
-    Command::new(alloc, "bacgw")
-        .about("A gateway of BACnet/IP")
-        .version(VERSION)
-        .subcommand_required(true)
+    make_program(alloc)
         .subcommand(check)?
         .subcommand(replay)?
         .subcommand(run)?

@@ -3,3 +3,4 @@ mod ChoiceLemmas
 mod KeptLemmas
 mod LinesLemmas
 mod ReplayLemmas
+mod SuggestLemmas

@@ -14,6 +14,8 @@ use Rattle.gw_service.specs.declared.fault.ServiceFault.{ServiceFault}
 use Rattle.gw_service.specs.declared.fault.ServiceFault.TheVariants as service
 use Rattle.gw_serving.specs.declared.store.StoreFault.{StoreFault}
 use Rattle.gw_serving.specs.declared.store.StoreFault.TheVariants as store
+use Rattle.gw_suggest.specs.declared.fault.SuggestFault.{SuggestFault}
+use Rattle.gw_suggest.specs.declared.fault.SuggestFault.TheVariants as suggest
 use Rattle.gw_shell.specs.declared.fault.Fault.{Fault}
 use Rattle.gw_shell.specs.declared.fault.Fault.TheVariants as fault
 use Rattle.gw_compare.specs.declared.comparison.Compared.{Compared}
@@ -91,6 +93,9 @@ text_of (fault.State f) = codes "bacgw: state: line " ++ decimal f.line ++ codes
 text_of (fault.Store f) = codes "bacgw: state isn't kept: " ++ store_words f
 text_of (fault.Request f) = codes "bacgw: request failed: " ++ store_words f
 text_of fault.NoAnswer = codes "bacgw: no answer"
+text_of fault.TooManyAsks = codes "bacgw: suggestion: too many asks"
+text_of fault.TooManyRules = codes "bacgw: suggestion: too many rules"
+text_of fault.Unwritable = codes "bacgw: suggestion: the rules can't be written"
 text_of fault.Refused = []
 text_of fault.Different = []
 
@@ -120,6 +125,9 @@ status_of (fault.State f) = 2
 status_of (fault.Store f) = 1
 status_of (fault.Request f) = 1
 status_of fault.NoAnswer = 1
+status_of fault.TooManyAsks = 2
+status_of fault.TooManyRules = 2
+status_of fault.Unwritable = 2
 status_of fault.Refused = 2
 status_of fault.Different = 1
 
@@ -170,6 +178,17 @@ fault_of (run.Line n) = fault.Line n
 fault_of run.Write = fault.Write
 fault_of run.Memory = fault.Memory
 fault_of run.CountEnd = fault.CountEnd
+
+-- why no rules are suggested, as the program tells it
+abbrev pub fault_of_suggestion : SuggestFault → Fault
+fault_of_suggestion (suggest.Configuration f) = fault_of_configuration f
+fault_of_suggestion suggest.Read = fault.Read
+fault_of_suggestion (suggest.Line n) = fault.Line n
+fault_of_suggestion suggest.TooManyAsks = fault.TooManyAsks
+fault_of_suggestion suggest.TooManyRules = fault.TooManyRules
+fault_of_suggestion suggest.Unlike = fault.Unwritable
+fault_of_suggestion suggest.Write = fault.Write
+fault_of_suggestion suggest.Memory = fault.Memory
 
 -- why a configuration isn't served, or not to the end, as the program tells it
 abbrev pub fault_of_service : ServiceFault → Fault

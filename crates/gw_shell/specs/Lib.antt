@@ -8,4 +8,5 @@ pub mod Lines
 pub mod Program
 pub mod Replay
 pub mod Serving
+pub mod Suggesting
 pub mod Telling

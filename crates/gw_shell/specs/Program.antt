@@ -26,6 +26,8 @@ use Rattle.gw_shell.specs.Replay.{Plays}
 use Rattle.gw_rules.specs.declared.rule.Rule.{Rule}
 use Rattle.gw_service.specs.Serving.{IsFlushedFor, Machine}
 use Rattle.gw_shell.specs.Serving.{LeavesRun}
+use Rattle.gw_shell.specs.Suggesting.{Suggests}
+use Rattle.gw_suggest.specs.declared.suggestion.Manner.{Manner}
 use Rattle.gw_tally.specs.Counting.{CountsAll, EndsAtLine}
 use Rattle.gw_tally.specs.Tally.{tally_text}
 use Rattle.gw_shell.specs.Telling.{Tells}
@@ -131,6 +133,13 @@ abbrev pub LeavesState : Option (List ℕ) → Option (List ℕ) → Result Conf
 LeavesState held holds (Ok c) text outcome = LeavesSaid held holds c text outcome
 LeavesState held holds (Err f) text outcome = (outcome ≡ Err f) × (holds ≡ held)
 
+-- What `suggest` leaves under the configuration of a text that was read. If there is none, the outcome is why.
+abbrev pub LeavesSuggested : Manner → Option (List ℕ) → Option (List ℕ) → Option (List ℕ) → Result (List ℕ) Fault
+    → Result (Unit {0}) Fault → Type 0
+LeavesSuggested manner input held holds (Ok text) outcome =
+    OnKnown input held holds (λ log before. Suggests text manner log before outcome)
+LeavesSuggested manner input held holds (Err f) outcome = (outcome ≡ Err f) × (holds ≡ held)
+
 -- a request to read the configuration again that has no answer
 abbrev pub IsUnanswered : Fault → Type 0
 IsUnanswered (fault.Request f) = ⊤
@@ -207,6 +216,9 @@ LeavesOutput Reads ReadsState machine input held holds told (Ok (choice.State co
     (c : Result Configuration Fault) × IsConfigured Reads (Some (string_bytes config)) c
     × (text : Result (List ℕ) Fault) × ReadsState (string_bytes state) text
     × LeavesState held holds c text outcome
+LeavesOutput Reads ReadsState machine input held holds told (Ok (choice.Suggest file fills exact)) outcome =
+    (text : Result (List ℕ) Fault) × Reads (string_bytes file) text
+    × LeavesSuggested (record { keeps_services = exact; fills = fills }) input held holds text outcome
 LeavesOutput Reads ReadsState machine input held holds told (Ok (choice.Log start)) outcome =
     OnKnown input held holds (λ log before. Tells start log before outcome)
 LeavesOutput Reads ReadsState machine input held holds told (Ok (choice.Help text)) (Ok done) =

@@ -134,6 +134,11 @@ fn write_fault<E: OctetSink>(fault: Fault, errors: &mut E) -> Result<(), WriteFa
         Fault::Store(why) => write_store_fault("bacgw: state isn't kept: ", why, errors),
         Fault::Request(why) => write_store_fault("bacgw: request failed: ", why, errors),
         Fault::NoAnswer => write_whole(errors, b"bacgw: no answer\n"),
+        Fault::TooManyAsks => write_whole(errors, b"bacgw: suggestion: too many asks\n"),
+        Fault::TooManyRules => write_whole(errors, b"bacgw: suggestion: too many rules\n"),
+        Fault::Unwritable => {
+            write_whole(errors, b"bacgw: suggestion: the rules can't be written\n")
+        }
         Fault::Refused | Fault::Different => write_whole(errors, b""),
     }
 }

@@ -1,7 +1,7 @@
 //! Why the program ends without success, and its exit status.
 
 ghost use Rattle.std.specs.Prelude.{◌≡◌, ◌≢◌};
-ghost use Rattle.gw_shell.specs.Ending.{cause_of, fault_of, fault_of_configuration, fault_of_migration, fault_of_request, fault_of_service, fault_of_state, fault_of_store, fault_of_words, name_of, reason_of, status_of, status_of_comparison, store_words, words_of};
+ghost use Rattle.gw_shell.specs.Ending.{cause_of, fault_of, fault_of_configuration, fault_of_migration, fault_of_request, fault_of_service, fault_of_state, fault_of_store, fault_of_suggestion, fault_of_words, name_of, reason_of, status_of, status_of_comparison, store_words, words_of};
 ghost use Rattle.gw_shell.specs.Lines.{fault_of_lines};
 ghost use Rattle.gw_shell.specs.declared.fault.Fault.TheVariants.{CommandLine, Memory};
 
@@ -13,6 +13,7 @@ use gw_script::{LineFlaw, LinesFault};
 use gw_service::ServiceFault;
 use gw_serving::StoreFault;
 use gw_state_text::{FaultKind, StateFault};
+use gw_suggest::SuggestFault;
 use std::alloc::AllocError;
 use std::io::ErrorKind;
 
@@ -56,6 +57,12 @@ pub enum Fault {
     NoAnswer,
     /// The answer says why the configuration wasn't read again.
     Refused,
+    /// There are more asks than rules are suggested for.
+    TooManyAsks,
+    /// There would be more rules than a configuration may have.
+    TooManyRules,
+    /// The suggested rules aren't read again as they are.
+    Unwritable,
     /// Two configurations that were compared decide some ask otherwise, or the comparison isn't finished.
     Different,
 }
@@ -100,6 +107,9 @@ impl Fault {
             | Fault::Line(_)
             | Fault::FlawedLine(_, _)
             | Fault::State(_)
+            | Fault::TooManyAsks
+            | Fault::TooManyRules
+            | Fault::Unwritable
             | Fault::Refused => 2,
             Fault::Unreadable
             | Fault::Store(_)
@@ -267,6 +277,23 @@ impl From<ServiceFault> for Fault {
             ServiceFault::StateUnreadable => Fault::StateUnreadable,
             ServiceFault::State(state) => Fault::from(state),
             ServiceFault::Store(store) => Fault::of_store(store),
+        }
+    }
+}
+
+impl From<SuggestFault> for Fault {
+    ghost from_gives = { λ suggest fault. fault ≡ fault_of_suggestion suggest };
+
+    fn from(fault: SuggestFault) -> Fault {
+        match fault {
+            SuggestFault::Configuration(config) => Fault::from(config),
+            SuggestFault::Read => Fault::Read,
+            SuggestFault::Line(number) => Fault::Line(number),
+            SuggestFault::TooManyAsks => Fault::TooManyAsks,
+            SuggestFault::TooManyRules => Fault::TooManyRules,
+            SuggestFault::Unlike => Fault::Unwritable,
+            SuggestFault::Write => Fault::Write,
+            SuggestFault::Memory => Fault::Memory,
         }
     }
 }

@@ -15,6 +15,7 @@ mod lines;
 mod program;
 mod reloading;
 mod script;
+mod suggesting;
 mod telling;
 
 pub use ending::end;

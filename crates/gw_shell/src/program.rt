@@ -12,7 +12,7 @@ ghost use Rattle.gw_shell.specs.Ending.{outcome_of_comparison, served};
 ghost use Rattle.gw_shell.specs.Ending.{FaultNote, IsExplainedBy};
 ghost use Rattle.gw_shell.specs.Files.{result_map};
 ghost use Rattle.gw_system.specs.Host.{OpensAtLine};
-ghost use Rattle.gw_shell.specs.Program.{AppendsFront, IsChoiceOf, IsFlushed, IsFollowed, IsRun, LeavesAnswer, LeavesAnswered, LeavesCompared, LeavesComparison, LeavesConfigured, LeavesCounts, LeavesInFormatThree, LeavesMigrated, LeavesOfText, LeavesOutput, LeavesPlayed, LeavesReload, LeavesSaid, LeavesState};
+ghost use Rattle.gw_shell.specs.Program.{AppendsFront, IsChoiceOf, IsFlushed, IsFollowed, IsRun, LeavesAnswer, LeavesAnswered, LeavesCompared, LeavesComparison, LeavesConfigured, LeavesCounts, LeavesInFormatThree, LeavesMigrated, LeavesOfText, LeavesOutput, LeavesPlayed, LeavesReload, LeavesSaid, LeavesState, LeavesSuggested};
 ghost use Rattle.gw_service.specs.Serving.{IsFlushedFor, machine};
 ghost use Rattle.gw_shell.specs.Serving.{LeavesRun};
 ghost use Rattle.gw_shell.specs.declared.fault.Fault.{Fault};
@@ -27,6 +27,7 @@ use crate::files::ConfigFiles;
 use crate::kept::words_of_text;
 use crate::reloading::{self, ask};
 use crate::script::replay;
+use crate::suggesting::suggest;
 use crate::telling;
 use gw_command_line::{Choice, RunOptions, choice_of};
 use gw_compare::{Compared, put_comparison};
@@ -36,6 +37,7 @@ use gw_migration::migrate;
 use gw_rules::RuleList;
 use gw_script::{OctetSink, OctetSource, write_whole};
 use gw_service::{ServiceFault, serve_ports};
+use gw_suggest::Manner;
 use gw_system::Host;
 use std::alloc::{AllocError, Global};
 use std::io::{BufWriter, Write};
@@ -351,6 +353,24 @@ fn print_counts<R: OctetSource, W: Write + Drop>(
     }
 }
 
+/// Suggests rules for the asks of standard input under the configuration of a text that was read.
+fn suggest_rules<R: OctetSource, W: Write + Drop>(
+    alloc: Global,
+    text: &Result<Vec<u8>, Fault>,
+    manner: Manner,
+    input: &mut R,
+    output: &mut BufWriter<W>,
+) -> Result<(), Fault>
+    ensures output { LeavesSuggested manner (R.left input.old) (writer_contents W.contents output.old)
+        (writer_contents W.contents output.new) (result_map (λ octets. octets.items) text.now) result }
+    ensures flush { OnOk result (writer_buffer output.new ≡ []) }
+{
+    match text {
+        Ok(text) => suggest(alloc, text, manner, input, output),
+        Err(fault) => Err(*fault),
+    }
+}
+
 /// How serving ended.
 fn served(done: Result<(), ServiceFault>) -> Result<(), Fault>
     ensures { result ≡ served done }
@@ -453,6 +473,20 @@ fn follow<F: ConfigFiles, H: Host, R: OctetSource, W: Write + Drop, E: OctetSink
             let text = files.read_state(alloc, state);
             let config = configuration_in(alloc, files, config);
             print_state(alloc, config, &text, output)
+        }
+        Ok(
+            Choice::Suggest {
+                file,
+                fills,
+                exact,
+            },
+        ) => {
+            let text = files.read(alloc, file);
+            let manner = Manner {
+                keeps_services: *exact,
+                fills: *fills,
+            };
+            suggest_rules(alloc, &text, manner, input, output)
         }
         Ok(Choice::Log(start)) => telling::tell(alloc, *start, input, output),
         Ok(Choice::Help(text)) => print(text.as_bytes(), output),

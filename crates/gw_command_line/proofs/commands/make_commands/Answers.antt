@@ -1,12 +1,12 @@
-use Rattle.std.proofs.Common.{rules, ap, ap₂, true, codes, ◌≡◌, ◌∙◌}
+use Rattle.std.proofs.Common.{ap, ap₂, ◌≡◌, ◌∙◌}
 use Rattle.std.proofs.lemmas.Result.{IfOk-weaker}
-use Rattle.clap.specs.Words.{App, app_of, new_app, with_subcommand}
-use Rattle.clap.specs.Simple.{on_top}
+use Rattle.clap.specs.Words.{App, app_of, with_subcommand}
+use Rattle.gw_command_line.specs.Commands.{program}
 use Rattle.gw_command_line.proofs.commands.make_commands.Goals as goal
 
 pub returns : goal.returns
 returns c =
-    let top : app_of c.subcommand_required.result ≡ on_top (λ top. record top { subcommand_required = true; has_version = true }) (new_app (codes "bacgw")) = search rules in
+    let top : app_of c.make_program.result ≡ program = c.make_program.ensures in
     let one = c.in_ok-subcommand.ensures.shape c.in_ok-check.ensures.local ∙ ap₂ with_subcommand top (ap (λ (a : App). a.top) c.in_ok-check.ensures.app) in
     let two = c.in_ok-subcommand-2.ensures.shape c.in_ok-replay.ensures.local ∙ ap₂ with_subcommand one (ap (λ (a : App). a.top) c.in_ok-replay.ensures.app) in
     let three = c.in_ok-subcommand-3.ensures.shape c.in_ok-run.ensures.local ∙ ap₂ with_subcommand two (ap (λ (a : App). a.top) c.in_ok-run.ensures.app) in

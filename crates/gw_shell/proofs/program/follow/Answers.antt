@@ -82,3 +82,12 @@ returns-in-Ok-Reload-clause-followed g c =
     c.deref-in-Ok-Reload.ensures c.configuration_in-config-in-Ok-Reload.ensures in
     followed _ _ c.args.choice.now (Ok chosen) c.reload.result is refl (config, configured, c.reload.ensures.output)
     (λ never. appends_nothing (g.E.OctetSink.held c.args.errors.now))
+
+pub returns-in-Ok-Suggest-clause-followed : goal.returns-in-Ok-Suggest-clause-followed
+returns-in-Ok-Suggest-clause-followed g c =
+    let chosen = choice.Suggest c.in-Ok-Suggest.file c.in-Ok-Suggest.fills c.in-Ok-Suggest.exact in
+    let is : c.args.choice.now ≡ Ok chosen = search rules in
+    let text = result_map (λ (octets : Vec ℕ). octets.items) c.read-text-in-Ok-Suggest.result in
+    let reads = subst (λ (name : List ℕ). g.F.ConfigFiles.Reads c.args.files.now name text) c.deref-in-Ok-Suggest.ensures c.read-text-in-Ok-Suggest.ensures in
+    followed _ _ c.args.choice.now (Ok chosen) c.suggest_rules.result is refl (text, reads, c.suggest_rules.ensures.output)
+    (λ never. appends_nothing (g.E.OctetSink.held c.args.errors.now))
