@@ -23,6 +23,7 @@ pub use comparing::{MAX_STEPS, compare};
 pub use comparison::{Comparison, Found};
 pub use deciders::DEFAULT;
 pub use merging::merge;
+pub use ranges::united;
 pub use region::{Region, lies, part};
 pub use summary::{Summary, summarize};
 pub use values::Values;

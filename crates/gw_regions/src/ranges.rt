@@ -250,8 +250,8 @@ fn with_all(
     Ok(all)
 }
 
-/// The numbers of both lists, in order, and each range as long as it can be.
-pub(crate) fn united(
+/// The numbers of both lists, in order, and each range as long as it can be. An `Err` if there is no memory.
+pub fn united(
     alloc: Global,
     xs: &[Range],
     ys: &[Range],

@@ -1,0 +1,4 @@
+pub mod GivenLaw
+pub mod GroupLaw
+pub mod LinesLaw
+pub mod SuggestLaw
