@@ -1,22 +1,18 @@
 -- What a run is that keeps its state or reads its configuration again: a chain of stretches of serving, with what is done
 -- between two of them.
-use Rattle.std.specs.Prelude.{◌≡◌, ℕ, ◌+◌, ◌&&◌, ◌==◌, ◌-◌, ◌%◌, Bool, if◌then◌else◌, true, List, [], ◌∷◌, ◌++◌, Option, Some, None, Result, Ok, Err}
-use Rattle.std.specs.Prelude.{codes, decimal}
+use Rattle.std.specs.Prelude.{◌≡◌, ℕ, ◌+◌, Bool, true, List, [], ◌∷◌, ◌++◌, Option, Result, Ok, Err}
 use Rattle.std.specs.List.{flat_map}
 use Rattle.gw_configuration.specs.Configuration.{Configuration}
 use Rattle.gw_policy_text.specs.Document.{configuration}
 use Rattle.gw_core.specs.Resumed.{carried, saved}
 use Rattle.gw_core.specs.State.{State}
-use Rattle.gw_core.specs.declared.event.Counts.{Counts}
 use Rattle.gw_saved.specs.Saved.{Origin, origin_of}
 use Rattle.gw_script.specs.Event.{Event}
-use Rattle.gw_serving.specs.Reports.{report_line, report_of}
-use Rattle.gw_serving.specs.Serve.{Turn}
+use Rattle.gw_script.specs.Event as event
+use Rattle.gw_serving.specs.Serve.{Try, Turn, taken_event}
 use Rattle.gw_serving.specs.Stretch.{EndsFaulty, GoOn, IsWithheld, Moment}
 use Rattle.gw_serving.specs.declared.serving.ServeFault.{ServeFault}
-use Rattle.gw_serving.specs.declared.serving.Served.{Served}
 use Rattle.gw_serving.specs.declared.store.StoreFault.{StoreFault}
-use Rattle.gw_serving.specs.declared.tally.Tally.{Tally}
 use Rattle.gw_system.specs.Requests.{Exchange, GoesOn, answered, asked, unasked}
 use Rattle.gw_system.specs.declared.reading.ReadFailure.{ReadFailure}
 use Rattle.gw_service.specs.Reload.{IsRefused, have_same_ports, refusal_line, reload_line}
@@ -133,8 +129,11 @@ pub record IsServed {K : Type 0} (manner : Manner K) (s : Stage K) (turns : List
   pub requests : t.requests ≡ s.requests
   pub told : t.told ≡ s.told
 
--- turns were served to a tick, and what was due then was done and told
+-- turns were served, the last of which took a tick, and what was due then was done and told
 pub record IsTicked {K : Type 0} (manner : Manner K) (s : Stage K) (turns : List Turn) (look : Look) (text : List ℕ) (t : Stage K) : Type 0 where
+  pub before : List Turn
+  pub tries : List Try
+  pub tick : turns ≡ before ++ taken_event event.Tick tries ∷ []
   pub then : Moment K
   pub went : GoOn manner.Passes s.now turns then
   pub ticks : then.scene.gateway.ticks ≡ s.now.scene.gateway.ticks + 1

@@ -44,14 +44,14 @@ pub trait StateKeeper: Guard {
 
 /// What keeps the state of a gateway, if something does.
 #[derive(Drop)]
-pub enum Kept<S> {
+pub enum Kept<S: Store + Drop> {
     /// Nothing keeps it.
     Nowhere,
     /// It is kept in a store.
     In(Keeper<S>),
 }
 
-impl<S: Store> Guard for Kept<S> {
+impl<S: Store + Drop> Guard for Kept<S> {
     ghost Passes = { IsPassed S.held };
 
     fn pass(&mut self, alloc: Global, gateway: &Gateway, taken: &Taken) -> bool {
@@ -62,7 +62,7 @@ impl<S: Store> Guard for Kept<S> {
     }
 }
 
-impl<S: Store> StateKeeper for Kept<S> {
+impl<S: Store + Drop> StateKeeper for Kept<S> {
     ghost Ticks = { IsKeptAtTick S.held };
 
     ghost Adopts = { IsKeptFor S.held };

@@ -53,8 +53,8 @@ pub trait Host {
     /// What opening the store of a name may give.
     ghost StoreOpens: { Self → List ℕ → Result Self.StateStore StoreFault → Type 0 };
 
-    /// What asks by the file of a name to read the configuration of another name.
-    ghost ReloadsOpen: { Self → List ℕ → List ℕ → Result Self.Reloads AllocError → Type 0 };
+    /// What asks by the file of a name to read the configuration of another name, if there is memory for it.
+    ghost ReloadsOpen: { Self → List ℕ → List ℕ → Self.Reloads → Type 0 };
 
     /// What opening the log of a name may give.
     ghost LogOpens: { Self → List ℕ → Result Self.Log LogFailure → Type 0 };
@@ -124,7 +124,7 @@ pub trait Host {
         request: &str,
         config: &str,
     ) -> Result<Self::Reloads, AllocError>
-        ensures { ReloadsOpen self.now request.now config.now result };
+        ensures { IfOk result (ReloadsOpen self.now request.now config.now) };
 
     /// Asks by the file of this name to read the configuration again, after an older answer was taken away.
     fn request_reload(&self, alloc: Global, request: &str) -> Result<(), StoreFault>;
