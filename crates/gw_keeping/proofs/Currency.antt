@@ -16,16 +16,16 @@ use Rattle.gw_core.specs.Resumed.{saved_of, saved_ports}
 use Rattle.gw_core.specs.State.{State}
 use Rattle.gw_continuity.specs.Laws.{entries_of}
 use Rattle.gw_continuity.proofs.LastingChanges.{only_lasting_changes}
-use Rattle.gw_serving.specs.Keeping.{HasPassed, Holds, IsHeld, IsUnkept, IsUpToDate, Keeping, KeptBy, PassesBy, is_kept, lasting_of, lasting_port, lasts_alike}
+use Rattle.gw_serving.specs.Keeping.{HasPassed, Holds, IsHeld, IsTried, IsUnkept, IsUpToDate, KeepsAtTick, KeepsChanged, Keeping, KeptBy, PassesBy, TicksBy, Tries, is_due, is_kept, lasting_of, lasting_port}
 use Rattle.gw_serving.specs.Serve.{Turn, empty_turn, events_of, failed_turn, lost_event, taken_event, turn_events}
 use Rattle.gw_serving.specs.Stretch.{AreGuarded, GoOn, GuardsTurn, Moment}
 use Rattle.gw_serving.specs.declared.stretch.Pause.TheVariants.{Turns, Tick, Withheld}
 use Rattle.gw_script.specs.Event as event
-use Rattle.gw_serving.specs.declared.alike.Part.TheVariants.{Lasting}
+use Rattle.gw_serving.specs.declared.alike.Part.TheVariants.{AllButTicks, Lasting}
 use Rattle.gw_serving.specs.declared.store.StoreFault.{StoreFault}
 use Rattle.gw_serving.proofs.AlikeLemmas.{alike_is_equal}
 use Rattle.gw_serving.proofs.ServeLemmas.{single, state_along}
-use Rattle.gw_keeping.specs.Laws.{AnsweredIsKept, CurrentIsUpToDate, FaultsKeep, HeldStays, IsCurrent, LastsAs, PausesKeep, WithheldIsOldOrNew}
+use Rattle.gw_keeping.specs.Laws.{AnsweredIsKept, CurrentIsUpToDate, FaultsKeep, HeldStays, IsCurrent, LastsAs, PausesKeep, TicksKeepCurrent, TriedIsCurrent, WithheldIsOldOrNew}
 
 -- ---- what doesn't last leaves what lasts
 
@@ -170,6 +170,44 @@ withheld_by held k l w event false p = absurd (true≢false (sym p.1))
 
 pub withheld_is_old_or_new : {S : Type 0} (held : S → Option (List ℕ)) → WithheldIsOldOrNew held
 withheld_is_old_or_new held k l w event p = withheld_by held k l w event (lasts w event) p
+
+-- ---- at each try
+
+-- a keeper that has what is due of this state is current
+has_current : {S : Type 0} (held : S → Option (List ℕ)) (k l : Keeping S) (w : State) → Has held l (saved_of k.origin w) × (l.origin ≡ k.origin)
+    → IsCurrent held l w
+has_current held k l w has = record {
+  text = has.0.0;
+  lasts = subst (λ (o : Origin). LastsAs l.kept (saved_of o w)) (sym has.1) has.0.1;
+}
+
+tried_by : {S : Type 0} (held : S → Option (List ℕ)) (k l : Keeping S) (w : State) (kept : Bool) → Tries held k (saved_of k.origin w) l kept
+    → IsCurrent held l w
+tried_by held k l w true p = has_current held k l w (just_kept held l (saved_of k.origin w) p.kept p.text, p.origin)
+tried_by held k l w false p = has_current held k l w (unkept_has held k l (saved_of k.origin w) p)
+
+pub tried_is_current : {S : Type 0} (held : S → Option (List ℕ)) → TriedIsCurrent held
+tried_is_current held k l w p = tried_by held k l w p.0 p.1
+
+stays_current : {S : Type 0} (held : S → Option (List ℕ)) (k l : Keeping S) (w : State) → l ≡ k → IsCurrent held k w → IsCurrent held l w
+stays_current held k l w same current = subst (λ (j : Keeping _). IsCurrent held j w) (sym same) current
+
+changed_current : {S : Type 0} (held : S → Option (List ℕ)) (k l : Keeping S) (w : State) (is : Bool)
+    → KeptBy is held k (saved_of k.origin w) l → IsCurrent held k w → IsCurrent held l w
+changed_current held k l w true same current = stays_current held k l w same current
+changed_current held k l w false kept current = tried_by held k l w true kept
+
+ticked_by : {S : Type 0} (held : S → Option (List ℕ)) (k l : Keeping S) (w : State) (is : Bool)
+    → TicksBy is held k (saved_of k.origin w) l → IsCurrent held k w → IsCurrent held l w
+ticked_by {S} held k l w true p current = by p.0 p.1
+  where
+    by : (b : Bool) → KeepsChanged AllButTicks held k (saved_of k.origin w) l b → IsCurrent held l w
+    by true q = changed_current held k l w (is_kept AllButTicks k.kept (saved_of k.origin w)) q current
+    by false q = tried_by held k l w false q
+ticked_by held k l w false same current = stays_current held k l w same current
+
+pub ticks_keep_current : {S : Type 0} (held : S → Option (List ℕ)) → TicksKeepCurrent held
+ticks_keep_current held k l w p current = ticked_by held k l w (is_due k.kept w.ticks) p current
 
 -- ---- turn by turn
 

@@ -6,7 +6,7 @@ use Rattle.gw_core.specs.History.{next}
 use Rattle.gw_core.specs.Lasting.{lasts}
 use Rattle.gw_core.specs.Resumed.{saved_of}
 use Rattle.gw_core.specs.State.{State}
-use Rattle.gw_serving.specs.Keeping.{HasPassed, IsHeld, IsUnkept, IsUpToDate, Keeping, lasting_of}
+use Rattle.gw_serving.specs.Keeping.{HasPassed, IsHeld, IsTried, IsUnkept, IsUpToDate, KeepsAtTick, Keeping, lasting_of}
 use Rattle.gw_serving.specs.Stretch.{EndsFaulty, EndsStretch, Moment}
 use Rattle.gw_serving.specs.declared.serving.ServeFault.{ServeFault}
 use Rattle.gw_serving.specs.declared.store.StoreFault.{StoreFault}
@@ -41,6 +41,16 @@ AnsweredIsKept {S} held = (k l : Keeping S) (w : State) (event : Event) →
 abbrev pub WithheldIsOldOrNew : {S : Type 0} → (S → Option (List ℕ)) → Type 0
 WithheldIsOldOrNew {S} held = (k l : Keeping S) (w : State) (event : Event) →
     HasPassed held k w event l false → (lasts w event ≡ true) × IsUnkept held k (saved_of k.origin (next w event)) l
+
+-- ---- at each try
+
+-- After a try the keeper is current.
+abbrev pub TriedIsCurrent : {S : Type 0} → (S → Option (List ℕ)) → Type 0
+TriedIsCurrent {S} held = (k l : Keeping S) (w : State) → IsTried held k w l → IsCurrent held l w
+
+-- After what it does at a tick it is current, if it was.
+abbrev pub TicksKeepCurrent : {S : Type 0} → (S → Option (List ℕ)) → Type 0
+TicksKeepCurrent {S} held = (k l : Keeping S) (w : State) → KeepsAtTick held k w l → IsCurrent held k w → IsCurrent held l w
 
 -- ---- at each end
 

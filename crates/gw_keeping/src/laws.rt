@@ -1,5 +1,5 @@
 //! Laws of a keeper that guards a gateway, over any store. The functions do nothing: their contracts are the laws.
-ghost use Rattle.gw_keeping.specs.Laws.{AnsweredIsKept, CurrentIsUpToDate, FaultsKeep, HeldStays, PausesKeep, WithheldIsOldOrNew};
+ghost use Rattle.gw_keeping.specs.Laws.{AnsweredIsKept, CurrentIsUpToDate, FaultsKeep, HeldStays, PausesKeep, TicksKeepCurrent, TriedIsCurrent, WithheldIsOldOrNew};
 
 use gw_serving::Store;
 
@@ -10,6 +10,12 @@ pub fn at_each_answer<S: Store>()
     ensures answered { AnsweredIsKept S.held }
     ensures withheld { WithheldIsOldOrNew S.held }
     ensures held { HeldStays S.held }
+{}
+
+/// What a store holds after a try to keep a state, and after a tick: it is up to date, or the try failed.
+pub fn at_each_try<S: Store>()
+    ensures tried { TriedIsCurrent S.held }
+    ensures ticked { TicksKeepCurrent S.held }
 {}
 
 /// What a store holds at every pause: if it is up to date at the beginning of a stretch, or its last try failed, then it is so
