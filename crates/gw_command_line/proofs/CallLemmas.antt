@@ -3,9 +3,10 @@ use Rattle.std.proofs.Common.{refl, Some, None, codes}
 use Rattle.clap.proofs.OnLiterals.{clap_on_literals}
 use Rattle.gw_audit.proofs.MomentExamples.{morning, morning_is_read}
 use Rattle.gw_command_line.specs.Calls.{CallsAreTaken}
+use Rattle.gw_command_line.specs.Commands.{commands, first_commands}
 
 pub calls_are_taken : CallsAreTaken
-unfolding clap_on_literals
+unfolding clap_on_literals commands first_commands
 calls_are_taken = record {
   check = λ program. record { taken = refl; asked = refl; sound = λ void. void };
   explain = λ program. record { taken = refl; asked = refl; sound = λ void. void };

@@ -9,7 +9,7 @@ use Rattle.clap.specs.declared.error.kind.ErrorKind.{ErrorKind}
 use Rattle.clap.specs.declared.error.kind.ErrorKind.TheVariants as parse
 use Rattle.clap.proofs.OnLiterals.{clap_on_literals}
 use Rattle.gw_command_line.specs.CommandLine.{AskFor, Chooses, IsAnswer, IsChosen, IsRefusal, IsShown}
-use Rattle.gw_command_line.specs.Commands.{commands}
+use Rattle.gw_command_line.specs.Commands.{commands, first_commands}
 use Rattle.gw_command_line.specs.Requests.{Request, asked_in}
 use Rattle.gw_command_line.specs.declared.command_line.Choice.{Choice}
 use Rattle.gw_command_line.specs.declared.command_line.Choice.TheVariants as choice
@@ -18,11 +18,11 @@ use Rattle.gw_command_line.specs.declared.fault.WordsFault.TheVariants as fault
 
 -- clap says exactly which kinds of fault the program's words have
 pub commands_are_simple : is_simple_and_free commands ≡ true
-unfolding clap_on_literals
+unfolding clap_on_literals commands first_commands
 commands_are_simple = refl
 
 pub parse_is_simple : is_simple commands ≡ true
-unfolding clap_on_literals
+unfolding clap_on_literals commands first_commands
 parse_is_simple = refl
 
 -- want of memory is no request to show something

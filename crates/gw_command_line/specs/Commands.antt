@@ -67,22 +67,25 @@ reload = with_rule (of_file (codes "reload")) (needed (codes "reload"))
 abbrev pub program : App
 program = on_top (λ top. record top { subcommand_required = true; has_version = true }) (new_app (codes "bacgw"))
 
--- the commands of the program
-abbrev pub commands : App
-commands =
+-- The commands of the program: the first four, and then the others. Both stay closed in proofs, since what they
+-- compute to is long.
+unfoldable pub first_commands : App
+first_commands =
     with_subcommand
-    (with_subcommand
-    (with_subcommand
-    (with_subcommand
-    (with_subcommand
-    (with_subcommand
     (with_subcommand
     (with_subcommand
     (with_subcommand program check.top)
     replay.top)
     run.top)
-    why.top)
-    log.top)
+    why.top
+
+unfoldable pub commands : App
+commands =
+    with_subcommand
+    (with_subcommand
+    (with_subcommand
+    (with_subcommand
+    (with_subcommand first_commands log.top)
     compare.top)
     state.top)
     suggest.top)

@@ -3,7 +3,7 @@
 ghost use Rattle.std.specs.Prelude.{◌≡◌, false, codes, IfOk};
 ghost use Rattle.clap.specs.Words.{app_of, rule_of};
 ghost use Rattle.clap.specs.declared.builder.command.Command.TheViews.{out-Command};
-ghost use Rattle.gw_command_line.specs.Commands.{check, check_of_explanation, commands, compare, flag, log, needed, of_file, option, program, reload, replay, run, run_of_reports, run_of_turns, state, suggest, why};
+ghost use Rattle.gw_command_line.specs.Commands.{check, check_of_explanation, commands, compare, first_commands, flag, log, needed, of_file, option, program, reload, replay, run, run_of_reports, run_of_turns, state, suggest, why};
 
 use clap::{Arg, ArgAction, Command};
 use std::alloc::{AllocError, Global};
@@ -239,24 +239,31 @@ fn make_program<'a>(alloc: Global) -> Command<'a>
         .subcommand_required(true)
 }
 
-/// The commands of the program. An `Err` only if a growth of memory was refused.
-pub fn make_commands<'a>(alloc: Global) -> Result<Command<'a>, AllocError>
-    ensures { IfOk result (λ command. app_of command ≡ commands) }
+/// The program with its first four commands.
+fn make_first_commands<'a>(alloc: Global) -> Result<Command<'a>, AllocError>
+    ensures { IfOk result (λ command. app_of command ≡ first_commands) }
 {
     let check = make_check(alloc)?;
     let replay = make_replay(alloc)?;
     let run = make_run(alloc)?;
     let why = make_why(alloc)?;
+    make_program(alloc)
+        .subcommand(check)?
+        .subcommand(replay)?
+        .subcommand(run)?
+        .subcommand(why)
+}
+
+/// The commands of the program. An `Err` only if a growth of memory was refused.
+pub fn make_commands<'a>(alloc: Global) -> Result<Command<'a>, AllocError>
+    ensures { IfOk result (λ command. app_of command ≡ commands) }
+{
     let log = make_log(alloc)?;
     let compare = make_compare(alloc)?;
     let state = make_state(alloc)?;
     let suggest = make_suggest(alloc)?;
     let reload = make_reload(alloc)?;
-    make_program(alloc)
-        .subcommand(check)?
-        .subcommand(replay)?
-        .subcommand(run)?
-        .subcommand(why)?
+    make_first_commands(alloc)?
         .subcommand(log)?
         .subcommand(compare)?
         .subcommand(state)?
