@@ -1,6 +1,6 @@
 -- The program as a whole: what the words chose, what stands on standard output then, the line on standard error and
 -- the exit status.
-use Rattle.std.specs.Prelude.{◌≡◌, ◌≢◌, ◌⊎◌, ⊤, Bool, true, false, ℕ, List, [], ◌++◌, Option, Some, Result, Ok, Err, OnOk, option_map}
+use Rattle.std.specs.Prelude.{◌≡◌, ◌≢◌, ◌⊎◌, ⊤, Bool, true, false, ℕ, List, [], ◌++◌, Option, Some, Result, Ok, Err, IfErr, OnOk, option_map}
 use Rattle.std.specs.Prelude.{string_bytes}
 use Rattle.std.specs.Io.KnownBytes.{Appends}
 use Rattle.gw_script.specs.Known.{OnKnown}
@@ -17,7 +17,7 @@ use Rattle.gw_command_line.specs.CommandLine.{IsAnswer}
 use Rattle.gw_command_line.specs.declared.fault.WordsFault.{WordsFault}
 use Rattle.gw_shell.specs.declared.fault.Fault.{Fault}
 use Rattle.gw_shell.specs.declared.fault.Fault.TheVariants as fault
-use Rattle.gw_shell.specs.Asking.{Answers}
+use Rattle.gw_shell.specs.Asking.{Answers, Counts}
 use Rattle.gw_shell.specs.Configured.{IsConfigurationOf, IsConfigured}
 use Rattle.gw_shell.specs.Ending.{FaultNote, chosen, error_text, outcome_of_answer, status_by, usage_of}
 use Rattle.gw_shell.specs.Checked.{IsChecked}
@@ -28,8 +28,6 @@ use Rattle.gw_service.specs.Serving.{IsFlushedFor, Machine}
 use Rattle.gw_shell.specs.Serving.{LeavesRun}
 use Rattle.gw_shell.specs.Suggesting.{Suggests}
 use Rattle.gw_suggest.specs.declared.suggestion.Manner.{Manner}
-use Rattle.gw_tally.specs.Counting.{CountsAll, EndsAtLine}
-use Rattle.gw_tally.specs.Tally.{tally_text}
 use Rattle.gw_shell.specs.Telling.{Tells}
 
 -- what the words of a call choose, or why they choose nothing
@@ -118,19 +116,18 @@ LeavesComparison most held holds (Ok old) (Ok new) outcome = LeavesCompared most
 LeavesComparison most held holds (Ok old) (Err f) outcome = (outcome ≡ Err f) × (holds ≡ held)
 LeavesComparison most held holds (Err f) new outcome = (outcome ≡ Err f) × (holds ≡ held)
 
--- What `state` leaves of a configuration and the text of a state that was read: what it says of them, of which a failed
--- write may leave a front. If there is no such text, the outcome is why.
-abbrev pub LeavesSaid : Option (List ℕ) → Option (List ℕ) → Configuration → Result (List ℕ) Fault
-    → Result (Unit {0}) Fault → Type 0
-LeavesSaid held holds c text (Ok done) = (words : List ℕ) × IsSaidOfText c text (Ok words) × Appends held holds words
-LeavesSaid held holds c text (Err f) =
-    (IsSaidOfText c text (Err f) × (holds ≡ held))
-    ⊎ ((f ≡ fault.Write) × (words : List ℕ) × IsSaidOfText c text (Ok words) × AppendsFront held holds words)
+-- What printing leaves of a text that was made, of which a failed write may leave a front; or of why none was.
+abbrev pub LeavesPrinted : Result (List ℕ) Fault → Option (List ℕ) → Option (List ℕ) → Result (Unit {0}) Fault → Type 0
+LeavesPrinted (Ok text) held holds (Ok done) = Appends held holds text
+LeavesPrinted (Ok text) held holds (Err f) = (f ≡ fault.Write) × AppendsFront held holds text
+LeavesPrinted (Err f) held holds outcome = (outcome ≡ Err f) × (holds ≡ held)
 
--- What it leaves of the configuration that was read. If there is none, the outcome is why.
+-- What `state` leaves of the configuration and of the text of a state that were read: what it says of them. If there is
+-- no configuration, the outcome is why.
 abbrev pub LeavesState : Option (List ℕ) → Option (List ℕ) → Result Configuration Fault → Result (List ℕ) Fault
     → Result (Unit {0}) Fault → Type 0
-LeavesState held holds (Ok c) text outcome = LeavesSaid held holds c text outcome
+LeavesState held holds (Ok c) text outcome =
+    (words : Result (List ℕ) Fault) × IsSaidOfText c text words × LeavesPrinted words held holds outcome
 LeavesState held holds (Err f) text outcome = (outcome ≡ Err f) × (holds ≡ held)
 
 -- What `suggest` leaves under the configuration of a text that was read. If there is none, the outcome is why.
@@ -147,30 +144,25 @@ IsUnanswered fault.NoAnswer = ⊤
 IsUnanswered fault.Memory = ⊤
 IsUnanswered _ = ⊥
 
--- What an answer leaves: its text, of which a failed write may leave a front; and it says how the request ends.
-abbrev pub LeavesAnswer : List ℕ → Option (List ℕ) → Option (List ℕ) → Result (Unit {0}) Fault → Type 0
-LeavesAnswer answer held holds (Err fault.Write) = AppendsFront held holds answer
-LeavesAnswer answer held holds outcome = (outcome ≡ outcome_of_answer answer) × Appends held holds answer
+-- What an answer leaves: its text, and it says how the request ends; or a front of it, if a write failed. If there is
+-- none, the outcome is why.
+abbrev pub LeavesAnswer : Result (List ℕ) Fault → Option (List ℕ) → Option (List ℕ) → Result (Unit {0}) Fault → Type 0
+LeavesAnswer (Ok answer) held holds outcome =
+    ((outcome ≡ outcome_of_answer answer) × Appends held holds answer)
+    ⊎ ((outcome ≡ Err fault.Write) × AppendsFront held holds answer)
+LeavesAnswer (Err f) held holds outcome = (outcome ≡ Err f) × (holds ≡ held)
 
 -- What `reload` leaves if the configuration is one: an answer, or nothing if there is none.
 abbrev pub LeavesReload : Option (List ℕ) → Option (List ℕ) → Result Configuration Fault → Result (Unit {0}) Fault
     → Type 0
 LeavesReload held holds (Ok c) outcome =
-    ((f : Fault) × IsUnanswered f × (outcome ≡ Err f) × (holds ≡ held))
-    ⊎ ((answer : List ℕ) × LeavesAnswer answer held holds outcome)
+    (answer : Result (List ℕ) Fault) × IfErr answer IsUnanswered × LeavesAnswer answer held holds outcome
 LeavesReload held holds (Err f) outcome = (outcome ≡ Err f) × (holds ≡ held)
 
--- What `why --count` leaves of a text: how many of its asks each of these rules decides, of which a failed write may
--- leave a front, and nothing at any other fault; one is the first line that says no ask.
+-- What `why --count` leaves of a text: how many of its asks each of these rules decides, or the first line that says none.
 abbrev pub LeavesCounts : List Rule → List ℕ → Option (List ℕ) → Option (List ℕ) → Result (Unit {0}) Fault → Type 0
-LeavesCounts rules text held holds (Ok done) =
-    (counts : List ℕ) × CountsAll rules text counts × Appends held holds (tally_text rules counts)
-LeavesCounts rules text held holds (Err fault.Write) =
-    (counts : List ℕ) × CountsAll rules text counts × AppendsFront held holds (tally_text rules counts)
-LeavesCounts rules text held holds (Err (fault.Line n)) = EndsAtLine n text × (holds ≡ held)
-LeavesCounts rules text held holds (Err fault.Read) = holds ≡ held
-LeavesCounts rules text held holds (Err fault.Memory) = holds ≡ held
-LeavesCounts rules text held holds (Err _) = ⊥
+LeavesCounts rules text held holds outcome =
+    (lines : Result (List ℕ) Fault) × Counts rules text lines × LeavesPrinted lines held holds outcome
 
 -- What `why` leaves by the rules of the configuration that was read. Where there is none nothing is answered, and the
 -- outcome is why.

@@ -12,7 +12,7 @@ ghost use Rattle.gw_shell.specs.Ending.{outcome_of_comparison, served};
 ghost use Rattle.gw_shell.specs.Ending.{FaultNote, IsExplainedBy};
 ghost use Rattle.gw_shell.specs.Files.{result_map};
 ghost use Rattle.gw_system.specs.Host.{OpensAtLine};
-ghost use Rattle.gw_shell.specs.Program.{AppendsFront, IsChoiceOf, IsFlushed, IsFollowed, IsRun, LeavesAnswer, LeavesAnswered, LeavesCompared, LeavesComparison, LeavesConfigured, LeavesCounts, LeavesInFormatThree, LeavesMigrated, LeavesOfText, LeavesOutput, LeavesPlayed, LeavesReload, LeavesSaid, LeavesState, LeavesSuggested};
+ghost use Rattle.gw_shell.specs.Program.{AppendsFront, IsChoiceOf, IsFlushed, IsFollowed, IsRun, LeavesAnswer, LeavesAnswered, LeavesCompared, LeavesComparison, LeavesConfigured, LeavesCounts, LeavesInFormatThree, LeavesMigrated, LeavesOfText, LeavesOutput, LeavesPlayed, LeavesPrinted, LeavesReload, LeavesState, LeavesSuggested};
 ghost use Rattle.gw_service.specs.Serving.{IsFlushedFor, machine};
 ghost use Rattle.gw_shell.specs.Serving.{LeavesRun};
 ghost use Rattle.gw_shell.specs.declared.fault.Fault.{Fault};
@@ -83,7 +83,13 @@ fn choice_from(alloc: Global, words: Result<Vec<String>, Fault>) -> Result<Choic
         (λ w. IsChoiceOf (map string_bytes w.items) result)
         (λ f. result ≡ Err f) }
 {
-    match choice_of(alloc, words?.as_slice()) {
+    choice_by(alloc, words?.as_slice())
+}
+
+fn choice_by(alloc: Global, words: &[String]) -> Result<Choice, Fault>
+    ensures { IsChoiceOf (map string_bytes words.now) result }
+{
+    match choice_of(alloc, words) {
         Ok(choice) => Ok(choice),
         Err(fault) => Err(Fault::from(fault)),
     }
@@ -254,20 +260,17 @@ fn compare<W: Write + Drop>(
     print_compared(alloc, most, &old, &new, output)
 }
 
-/// Prints what the text of a state holds, and what of it a configuration takes over.
-fn print_said<W: Write + Drop>(
-    alloc: Global,
-    config: &Config,
-    text: &Result<Vec<u8>, Fault>,
+/// Prints a text that was made.
+fn print_made<W: Write + Drop>(
+    made: Result<Vec<u8>, Fault>,
     output: &mut BufWriter<W>,
 ) -> Result<(), Fault>
-    ensures output { let held = writer_contents W.contents output.old in
-        let holds = writer_contents W.contents output.new in
-        LeavesSaid held holds config.now (result_map (λ octets. octets.items) text.now) result }
+    ensures output { LeavesPrinted (result_map (λ octets. octets.items) made)
+        (writer_contents W.contents output.old) (writer_contents W.contents output.new) result }
     ensures flush { OnOk result (writer_buffer output.new ≡ []) }
 {
-    match words_of_text(alloc, config, text) {
-        Ok(words) => print(&words, output),
+    match made {
+        Ok(text) => print(&text, output),
         Err(fault) => Err(fault),
     }
 }
@@ -284,17 +287,23 @@ fn print_state<W: Write + Drop>(
     ensures flush { OnOk result (writer_buffer output.new ≡ []) }
 {
     let config = config?;
-    print_said(alloc, &config, text, output)
+    print_made(words_of_text(alloc, &config, text), output)
 }
 
 /// Prints the answer to a request, which says how it ends.
-fn print_answer<W: Write + Drop>(answer: &[u8], output: &mut BufWriter<W>) -> Result<(), Fault>
-    ensures output { LeavesAnswer answer.now (writer_contents W.contents output.old)
-        (writer_contents W.contents output.new) result }
+fn print_answer<W: Write + Drop>(
+    answer: Result<Vec<u8>, Fault>,
+    output: &mut BufWriter<W>,
+) -> Result<(), Fault>
+    ensures output { LeavesAnswer (result_map (λ octets. octets.items) answer)
+        (writer_contents W.contents output.old) (writer_contents W.contents output.new) result }
     ensures flush { OnOk result (writer_buffer output.new ≡ []) }
 {
-    print(answer, output)?;
-    reloading::outcome_of(answer)
+    let answer = answer?;
+    match print(&answer, output) {
+        Ok(()) => reloading::outcome_of(&answer),
+        Err(fault) => Err(fault),
+    }
 }
 
 /// Asks the gateway that runs under the configuration that was read to read it again, and prints what it answers.
@@ -310,10 +319,7 @@ fn reload<H: Host, W: Write + Drop>(
     ensures flush { OnOk result (writer_buffer output.new ≡ []) }
 {
     let _config = config?;
-    match ask(alloc, request, host) {
-        Ok(answer) => print_answer(&answer, output),
-        Err(fault) => Err(fault),
-    }
+    print_answer(ask(alloc, request, host), output)
 }
 
 /// Answers each ask of standard input by the rules of a configuration, or counts them.
@@ -347,10 +353,7 @@ fn print_counts<R: OctetSource, W: Write + Drop>(
         (writer_contents W.contents output.old) (writer_contents W.contents output.new) result }
     ensures flush { OnOk result (writer_buffer output.new ≡ []) }
 {
-    match count(alloc, rules, input) {
-        Ok(text) => print(&text, output),
-        Err(fault) => Err(fault),
-    }
+    print_made(count(alloc, rules, input), output)
 }
 
 /// Suggests rules for the asks of standard input under the configuration of a text that was read.
