@@ -37,7 +37,10 @@ pub enum Choice {
     Run(RunOptions),
     /// Say of each ask on standard input which rule of the configuration in the file of this name
     /// decides it, or how many each rule decides.
-    Why { file: String, counts: bool },
+    Why {
+        file: String,
+        counts: bool,
+    },
     /// Say which asks the rules of the configurations in these files decide otherwise, in at most so many
     /// lines.
     Compare {
@@ -46,10 +49,16 @@ pub enum Choice {
         most: u64,
     },
     /// Say what the file of a state holds, and what of it the configuration in the other file takes over.
-    State { config: String, state: String },
+    State {
+        config: String,
+        state: String,
+    },
     /// Ask the gateway that runs under the configuration in the first file to read it again, by making the
     /// file of the request.
-    Reload { config: String, request: String },
+    Reload {
+        config: String,
+        request: String,
+    },
     /// Write rules that allow the asks on standard input, to be put in front of those of the configuration in
     /// this file: for each station what it did with all objects that it asked for, if that is asked for, and
     /// with the services of reads and lists, if that is.
@@ -105,11 +114,7 @@ fn check_choice(matches: &ArgMatches<'_>, file: String) -> Result<Choice, WordsF
 }
 
 /// What `run` asks for under the configuration in this file.
-fn run_choice(
-    alloc: Global,
-    matches: &ArgMatches<'_>,
-    config: String,
-) -> Result<Choice, WordsFault>
+fn run_choice(alloc: Global, matches: &ArgMatches<'_>, config: String) -> Result<Choice, WordsFault>
     ensures { IsChosen (run_asked (string_bytes config) (first_value (found_of matches.now))) result }
 {
     let Some(turns) = count_of(matches, "turns") else {

@@ -70,11 +70,7 @@ fn make_needed<'a>(alloc: Global, name: &'a str, help: &'a str) -> Arg<'a>
 }
 
 /// A command of this name that needs the file of a configuration, with what help says of it.
-fn make_of_file<'a>(
-    alloc: Global,
-    name: &'a str,
-    about: &'a str,
-) -> Result<Command<'a>, AllocError>
+fn make_of_file<'a>(alloc: Global, name: &'a str, about: &'a str) -> Result<Command<'a>, AllocError>
     ensures app { IfOk result (λ command. app_of command ≡ of_file name.now) }
     ensures local { IfOk result (λ command. (out-Command command).has_globals ≡ false) }
 {
@@ -99,9 +95,7 @@ fn make_check_of_explanation<'a>(alloc: Global) -> Result<Command<'a>, AllocErro
     let explain = make_flag(alloc, "explain", help);
     let lint = make_flag(alloc, "lint", "Also prints which rules never decide");
     let about = "Says what a configuration has, or its first fault";
-    make_of_file(alloc, "check", about)?
-        .arg(explain)?
-        .arg(lint)
+    make_of_file(alloc, "check", about)?.arg(explain)?.arg(lint)
 }
 
 fn make_replay<'a>(alloc: Global) -> Result<Command<'a>, AllocError>
@@ -160,7 +154,11 @@ fn make_why<'a>(alloc: Global) -> Result<Command<'a>, AllocError>
     ensures local { IfOk result (λ command. (out-Command command).has_globals ≡ false) }
 {
     let about = "Says which rule decides each ask of standard input, in the words of the log";
-    let count = make_flag(alloc, "count", "Prints how many asks each rule decides instead");
+    let count = make_flag(
+        alloc,
+        "count",
+        "Prints how many asks each rule decides instead",
+    );
     make_of_file(alloc, "why", about)?
         .after_help(WHY_EXAMPLE)
         .arg(count)
@@ -209,7 +207,11 @@ fn make_suggest<'a>(alloc: Global) -> Result<Command<'a>, AllocError>
 {
     let help = "Lets each station do what it did with each object that it asked for";
     let fill = make_flag(alloc, "fill", help);
-    let exact = make_flag(alloc, "exact", "Keeps the services of reads and lists apart");
+    let exact = make_flag(
+        alloc,
+        "exact",
+        "Keeps the services of reads and lists apart",
+    );
     let about = "Writes rules that allow the asks of standard input, to be put in front";
     make_of_file(alloc, "suggest", about)?
         .after_help(SUGGEST_EXAMPLE)

@@ -71,13 +71,7 @@ fn put_choice(
         Ok(Choice::Reload { config, request }) => {
             put(out, &["reload ", config.as_str(), " by=", request.as_str()])
         }
-        Ok(
-            Choice::Suggest {
-                file,
-                fills,
-                exact,
-            },
-        ) => {
+        Ok(Choice::Suggest { file, fills, exact }) => {
             put(out, &["suggest ", file.as_str()])?;
             put_flag(out, " fill", *fills)?;
             put_flag(out, " exact", *exact)

@@ -477,13 +477,7 @@ fn follow<F: ConfigFiles, H: Host, R: OctetSource, W: Write + Drop, E: OctetSink
             let config = configuration_in(alloc, files, config);
             print_state(alloc, config, &text, output)
         }
-        Ok(
-            Choice::Suggest {
-                file,
-                fills,
-                exact,
-            },
-        ) => {
+        Ok(Choice::Suggest { file, fills, exact }) => {
             let text = files.read(alloc, file);
             let manner = Manner {
                 keeps_services: *exact,

@@ -39,12 +39,7 @@ fn put_rules(rules: &[Rule], tally: &Tally, out: &mut Vec<u8>) -> Result<(), All
     Ok(())
 }
 
-fn put_rule(
-    number: usize,
-    rule: &Rule,
-    count: u64,
-    out: &mut Vec<u8>,
-) -> Result<(), AllocError>
+fn put_rule(number: usize, rule: &Rule, count: u64, out: &mut Vec<u8>) -> Result<(), AllocError>
     ensures { OnOk result (out.new.items ≡ out.old.items ++ rule_line number rule.now count) }
 {
     put_slice(out, b"rule ")?;
