@@ -7,9 +7,9 @@ ghost use Rattle.gw_shell.specs.declared.fault.Fault.TheVariants.{CommandLine, M
 
 use gw_configuration::ConfigFault;
 use gw_core::RunFault;
-use gw_serving::ServeFault;
 use gw_migration::MigrationFault;
 use gw_script::{LineFlaw, LinesFault};
+use gw_serving::ServeFault;
 use gw_system::{LogFailure, OpenFailure, SocketFailure};
 use std::alloc::AllocError;
 use std::io::ErrorKind;
