@@ -1,0 +1,7 @@
+mod Networks
+mod Firsts
+mod PortLaws
+mod RouteLaws
+mod FullLaw
+mod ObjectLaws
+mod TextLaws

@@ -141,9 +141,12 @@ fn add_default(
 fn default_fate(configured: &PropertyValue, object: &ObjectValue, saved: &SavedObject) -> ValueFate
     ensures { result ≡ default_fate_by configured.now (details_of object.now) saved.now }
 {
-    if saved.configured().is_same(configured) {
-        value_fate(object, saved.slots().default())
-    } else {
-        ValueFate::OtherDefault
+    let default = saved.slots().default();
+    if default.is_same(configured) {
+        return ValueFate::TakenOver;
     }
+    if !saved.configured().is_same(configured) {
+        return ValueFate::OtherDefault;
+    }
+    value_fate(object, default)
 }
