@@ -2,3 +2,4 @@ pub mod GivenLaw
 pub mod GroupLaw
 pub mod LinesLaw
 pub mod SuggestLaw
+pub mod TextLaw
