@@ -5,7 +5,7 @@ use Rattle.gw_rules.specs.declared.rule.Rule.{Rule}
 use Rattle.gw_shell.specs.Lines.{Leaves}
 use Rattle.gw_shell.specs.declared.fault.Fault.{Fault}
 
--- `before` was written before the asks of this text were answered by these rules with this outcome, and `after` when
--- that ended
-abbrev pub Answers : List Rule → List ℕ → List ℕ → Result (Unit {0}) Fault → List ℕ → Type 0
-Answers rules = Leaves (IsAnswered rules) TellsNoAsk
+-- `before` was written before the asks of this text were answered by these rules, with these notes and this outcome,
+-- and `after` when that ended
+abbrev pub Answers : List Rule → (notes : List (List ℕ)) → List ℕ → List ℕ → Result (Unit {0}) Fault → List ℕ → Type 0
+Answers rules notes = Leaves (IsAnswered rules notes) TellsNoAsk

@@ -110,7 +110,7 @@ LeavesComparison most held holds (Err f) new outcome = (outcome ≡ Err f) × (h
 abbrev pub LeavesAnswered : Option (List ℕ) → Option (List ℕ) → Option (List ℕ)
     → Result Configuration Fault → Result (Unit {0}) Fault → Type 0
 LeavesAnswered input held holds (Ok c) outcome =
-    OnKnown input held holds (λ text before. Answers c.rules text before outcome)
+    OnKnown input held holds (λ text before. Answers c.rules c.notes text before outcome)
 LeavesAnswered input held holds (Err f) outcome = (outcome ≡ Err f) × (holds ≡ held)
 
 -- What stands on standard output, which held `held` before, where files give what `Reads` says and `run` opens what

@@ -259,7 +259,7 @@ fn answer<R: OctetSource, W: Write + Drop>(
     ensures flush { OnOk result (writer_buffer output.new ≡ []) }
 {
     let config = config?;
-    why(alloc, config.rules(), input, output)
+    why(alloc, &config, input, output)
 }
 
 /// Serves the ports of the configuration of a text that was read, or tells where its fault is, where
