@@ -1,5 +1,5 @@
 -- What an event does to the counts, and what a tick does.
-use Rattle.std.proofs.Common.{◌≡◌, ℕ, ◌+◌, ◌^◌, ◌<◌, ◌≤◌, Bool, true, false, nat_lt, ◌||◌, arith, length, List, [], Option, None, true≢false, refl, sym, ap, ◌∙◌, inl, inr}
+use Rattle.std.proofs.Common.{◌≡◌, ℕ, ◌+◌, ◌^◌, ◌<◌, ◌≤◌, Bool, true, false, nat_lt, ◌||◌, arith, length, List, [], Option, None, is_some, true≢false, refl, sym, ap, ap₂, ◌∙◌, inl, inr}
 use Rattle.std.specs.Prelude.{IsTrue}
 use Rattle.std.specs.Option.{option_map}
 use Rattle.std.proofs.lemmas.Bool.{cases_lt}
@@ -7,7 +7,8 @@ use Rattle.std.proofs.lemmas.Bool.Decides.{nat_tests}
 use Rattle.gw_addr.specs.declared.bip.BipAddr.{BipAddr}
 use Rattle.gw_core.specs.declared.effects.Effects.{Effects}
 use Rattle.gw_relay.specs.Sends.{Sending}
-use Rattle.gw_relay.specs.State.{Commit}
+use Rattle.gw_objects.specs.Write.{Write}
+use Rattle.gw_relay.specs.State.{Commit, Move}
 use Rattle.gw_relay.specs.declared.change.Change.{Change}
 use Rattle.gw_relay.specs.declared.port.PortState.{PortState}
 use Rattle.gw_audit.specs.declared.denial.Denial.{Denial}
@@ -18,6 +19,7 @@ use Rattle.gw_core.specs.Asks.{asks}
 use Rattle.gw_core.specs.Drops.{drop_at, drop_on}
 use Rattle.gw_core.specs.declared.drops.DropReason.{DropReason}
 use Rattle.gw_core.specs.Effects.{NeedsNoMemory, change_at, change_for, effects_at, effects_for, move_at, move_for, nothing, passes_end, relay_change_for, sends, sends_for, ticks_of}
+use Rattle.gw_core.specs.Lasting.{lasting_move, lasts}
 use Rattle.gw_core.specs.Receive.{Received, admit, receive, receive_on}
 use Rattle.gw_core.specs.State.{State, device_network}
 
@@ -30,6 +32,20 @@ effects_at-tick w = refl
 pub drop_at-tick : (w : State) → None ≡ drop_at w Tick
 unfolding drop_at
 drop_at-tick w = refl
+
+-- a tick doesn't last
+pub lasts-tick : (w : State) → false ≡ lasts w Tick
+unfolding lasts move_at change_at receive
+lasts-tick w = refl
+
+-- a datagram lasts, by the changes that the code is granted
+pub lasts_as : (w : State) (port : ℕ) (from : BipAddr) (octets : List ℕ) (change : Option Change) (write : Option Write) (is : Bool)
+    → is ≡ (lasting_move (option_map Commit change) || is_some write)
+    → option_map Commit change ≡ move_at w (Datagram port from octets) → write ≡ change_at w (Datagram port from octets)
+    → is ≡ lasts w (Datagram port from octets)
+unfolding lasts
+lasts_as w port from octets change write is same moves writes =
+    same ∙ ap₂ (λ (m : Option Move) (n : Option Write). lasting_move m || is_some n) moves writes
 
 -- why a datagram is dropped, by the parts that the code reads
 pub drop_as : (w : State) (links : List PortState) (network port : ℕ) (from : BipAddr) (octets : List ℕ) (why : Option DropReason)

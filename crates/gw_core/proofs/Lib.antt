@@ -9,8 +9,6 @@ pub mod ExampleRuns
 pub mod LogLemmas
 pub mod ShownLemmas
 pub mod LineOutcomeLemmas
-pub mod ServeLemmas
-pub mod ReportLemmas
 pub mod ReplayLemmas
 pub mod ExplainedLemmas
 pub mod TurnLemmas
@@ -24,7 +22,6 @@ pub mod FormatLemmas
 pub mod DeviceAskLemmas
 pub mod RelayAskLemmas
 pub mod RefusedLemmas
-pub mod ServedLemmas
 pub mod StationLemmas
 pub mod Whence
 pub mod Resuming

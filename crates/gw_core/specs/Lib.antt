@@ -21,12 +21,6 @@ pub mod Explained
 pub mod Replay
 pub mod LineOutcome
 pub mod Flawed
-pub mod Wire
-pub mod Serve
-pub mod ServeTurn
-pub mod Reports
-pub mod ReportTurn
 pub mod NoLeak
-pub mod Served
 pub mod Refused
 pub mod internal

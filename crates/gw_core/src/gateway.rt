@@ -1,6 +1,6 @@
 //! The gateway: its state, and what it answers to one event.
 
-ghost use Rattle.std.specs.Prelude.{◌≡◌, ◌+◌, ◌≤◌, ◌<◌, ◌^◌, ◌↔◌, ◌++◌, [], true, length, map, None, vec_capacity};
+ghost use Rattle.std.specs.Prelude.{◌≡◌, ◌+◌, ◌≤◌, ◌<◌, ◌^◌, ◌↔◌, ◌++◌, ◌||◌, [], true, length, map, None, is_some, vec_capacity};
 ghost use Rattle.std.specs.Prelude.{IsOk, IfOk, OnOk, OnErr, IsErrOf};
 ghost use Rattle.std.specs.Option.{option_map};
 ghost use Rattle.gw_addr.specs.declared.TheConstants.{MAX_PORTS};
@@ -9,6 +9,7 @@ ghost use Rattle.gw_relay.specs.History.{initial_acts};
 ghost use Rattle.gw_relay.specs.State.{Commit, moved};
 ghost use Rattle.gw_core.specs.Effects.{changed};
 ghost use Rattle.gw_core.specs.Explained.{asks_text};
+ghost use Rattle.gw_core.specs.Lasting.{lasting_move, lasts};
 ghost use Rattle.gw_core.specs.Resumed.{carried, saved_of};
 ghost use Rattle.gw_script.specs.Event.{Datagram, Tick};
 
@@ -28,7 +29,7 @@ use gw_device::{Change, Device};
 use gw_npdu::NpduFault;
 use gw_relay::{Change as RelayChange, Relay, Sends, Turn};
 use gw_rule_index::Policy;
-use gw_rules::{Authorizer, Recorder};
+use gw_rules::{Authorizer, Recorder, RuleList};
 use gw_saved::{Origin, Saved, SavedCounts};
 use std::alloc::{AllocError, Global};
 use std::marker::Model;
@@ -45,13 +46,22 @@ struct Outcome {
     write: Option<Change>,
 }
 
-/// What an event that was taken does, and why it was dropped, if it was.
+/// What an event that was taken does, why it was dropped, if it was, and whether it lasts.
 #[derive(Drop)]
-pub(crate) struct Taken {
+pub struct Taken {
     /// What it does.
     pub effects: Effects,
     /// Why it was dropped.
     pub drop: Option<DropReason>,
+    /// Whether it was granted a table of peers (Annex J.4), or the device makes a write (clause 15.9).
+    pub lasts: bool,
+}
+
+/// Whether what was granted lasts: a table of peers, or a write to the device.
+fn is_lasting(change: &Option<RelayChange>, write: &Option<Change>) -> bool
+    ensures { result ≡ (lasting_move (option_map Commit change.now) || is_some write.now) }
+{
+    matches!(change, Some(RelayChange::Entries { .. })) || write.is_some()
 }
 
 /// Makes a change of the relay, where there is one. The only fault is want of memory; then nothing
@@ -203,19 +213,38 @@ impl Gateway {
     }
 
     /// How many ticks it has counted, and the number of the last denial.
-    pub(crate) fn counts(&self) -> Counts
+    pub fn counts(&self) -> Counts
         ensures ticks { result.ticks ≡ self.now.ticks }
         ensures denials { result.denials ≡ self.now.denials }
     {
         self.counts
     }
 
+    /// Goes on from other counts, none of which is less than its own: those that a log ends with. The caller
+    /// sees to it.
+    pub fn count_on(&mut self, counts: Counts)
+        requires ticks { self.old.ticks ≤ counts.ticks }
+        requires denials { self.old.denials ≤ counts.denials }
+        requires last_tick { counts.ticks ≤ 2 ^ 63 }
+        requires last_denial { counts.denials ≤ 2 ^ 63 }
+        ensures { self.new ≡ record self.old { ticks = counts.ticks; denials = counts.denials } }
+    {
+        self.counts = counts;
+    }
+
     /// The ports with their tables, and the routes.
-    pub(crate) fn relay(&self) -> &Relay
+    pub fn relay(&self) -> &Relay
         ensures parts { result.now ≡ self.now.relay }
         ensures few { length self.now.relay.links ≤ MAX_PORTS }
     {
         &self.relay
+    }
+
+    /// The rules of its policy, in order.
+    pub fn rules(&self) -> &RuleList
+        ensures { result.now ≡ self.now.rules }
+    {
+        self.policy.rules()
     }
 
     /// How many denials more may be numbered.
@@ -322,9 +351,14 @@ impl Gateway {
         }
     }
 
-    /// Does what [`Gateway::step`] does, and says why the datagram was dropped, if it was.
+    /// Does what [`Gateway::step`] does, and says why the datagram was dropped, if it was, and whether it
+    /// lasts.
+    ///
+    /// # Errors
+    ///
+    /// Those of [`Gateway::step`].
     #[inline(never)]
-    pub(crate) fn take(
+    pub fn take(
         &mut self,
         alloc: Global,
         port: u8,
@@ -335,6 +369,8 @@ impl Gateway {
             (λ taken. IsStep self.old (Datagram port from octets.now) taken.effects self.new) }
         ensures drop { IfOk result
             (λ taken. taken.drop ≡ drop_at self.old (Datagram port from octets.now)) }
+        ensures lasts { IfOk result
+            (λ taken. taken.lasts ≡ lasts self.old (Datagram port from octets.now)) }
         ensures count_end { IsErrOf result StepFault.CountEnd
             → passes_end self.old (Datagram port from octets.now) ≡ true }
         // Memory only where something is asked or sent.
@@ -355,10 +391,12 @@ impl Gateway {
             change,
             write,
         } = now.outcome(alloc, &received)?;
+        let lasts = is_lasting(&change, &write);
         self.move_on(change, write, denials.len() as u64)?;
         Ok(Taken {
             effects: Effects { sends, denials },
             drop,
+            lasts,
         })
     }
 

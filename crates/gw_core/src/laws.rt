@@ -6,15 +6,8 @@ ghost use Rattle.gw_core.specs.Drops.{DropsHaveReasons};
 ghost use Rattle.gw_core.specs.NoLeak.{AsksCarryTheirClaim, QuietIsUnseen, WritesAreHidden, WritesAreUnread};
 ghost use Rattle.gw_core.specs.Laws.{ActsLeaveTheTables, AllowedTrafficIsSent, ConfigurationStays, DeniedAsksAreLogged, DeniedBroadcastsAreKept, DeniedLinesAreLogged, DeniedReadsAreRefused, DeniedWritesAreRefused, DenialsAreCounted, DenialsHaveTheirTick, DroppedNeedsNoMemory, FormatOneIsAsBefore, FormatOneRunsAsBefore, FormatStays, FormatTwoIsAsBefore, FormatTwoRunsAsBefore, FormatWasUnread, NoDeliveryOutside, NoForgedClaim, NoStranger, LearningsLeaveTheRoutes, LogIsNumbered, NothingAskedIsChanged, NothingAskedIsLogged, NothingAskedIsWritten, PortsStay, RelayTicksAreCounted, RunsAreTold, RunsExtendHistories, StepsExtendHistories, TicksAreCounted, TicksOnlyCount, WritesLeaveTheSlots};
 ghost use Rattle.gw_core.specs.Refused.{DeniedListingsAreSilent, DeniedManagementIsRefused, DeniedMembersAreRefused, DeniedPropertiesAreRefused, OthersAreAnswered, RepliesAreTheirParts};
-ghost use Rattle.gw_core.specs.Served.{StopsAreServed, TurnsAreServed};
 
-use crate::wire::RECEIVE_ROOM;
 use gw_relay::laws::{delivery, entry};
-
-/// A datagram is received to 1508 octets, one more than the longest that is heard.
-pub fn limits()
-    ensures { RECEIVE_ROOM ≡ 1508 }
-{}
 
 /// What holds after every history: each step extends it, and so does each list of events; the ports'
 /// tables, the routes, and the slots and the defaults of the device are what the acts left that it
@@ -103,14 +96,6 @@ pub fn counts()
 pub fn replays()
     ensures told { RunsAreTold }
     ensures denied { DeniedLinesAreLogged }
-{}
-
-/// What `serve` promises, in the words of a wire: the turns are the receives; the events that were handed in are those
-/// that the gateway took, those lost to memory, and one at the end of a count; and what was tried to be sent is what the
-/// taken events send.
-pub fn served()
-    ensures turns { TurnsAreServed }
-    ensures stops { StopsAreServed }
 {}
 
 /// What frames do to a gateway of the built-in configuration, computed from the definitions.

@@ -4,6 +4,7 @@ ghost use Rattle.std.specs.Prelude.{◌≡◌, ℕ, IfOk, IsOk, IsErrOf, OnOk, O
 ghost use Rattle.gw_script.specs.Event.{event_view};
 ghost use Rattle.gw_core.specs.Drops.{drop_at};
 ghost use Rattle.gw_core.specs.Effects.{NeedsNoMemory, effects_at, passes_end};
+ghost use Rattle.gw_core.specs.Lasting.{lasts};
 ghost use Rattle.gw_core.specs.History.{HasTaken, StopsAtEnd, next, run_from, state_from};
 
 use crate::effects::Effects;
@@ -12,9 +13,10 @@ use crate::gateway::{Gateway, Taken};
 use gw_script::Event;
 use std::alloc::Global;
 
-/// Takes one event of either kind.
+/// Takes one event of either kind: what it does, why it was dropped, if it was, and whether it lasts. The
+/// faults are those of [`Gateway::step`] and [`Gateway::tick`]; then nothing changed.
 #[inline(always)]
-pub(crate) fn take_event(
+pub fn take_event(
     alloc: Global,
     gateway: &mut Gateway,
     event: &Event<'_>,
@@ -22,6 +24,7 @@ pub(crate) fn take_event(
     ensures given { IfOk result
         (λ taken. taken.effects ≡ effects_at gateway.old (event_view event.now)) }
     ensures drop { IfOk result (λ taken. taken.drop ≡ drop_at gateway.old (event_view event.now)) }
+    ensures lasts { IfOk result (λ taken. taken.lasts ≡ lasts gateway.old (event_view event.now)) }
     ensures moved { OnOk result (gateway.new ≡ next gateway.old (event_view event.now)) }
     ensures within { IsOk result → passes_end gateway.old (event_view event.now) ≡ false }
     ensures count_end { IsErrOf result StepFault.CountEnd →
@@ -37,6 +40,7 @@ pub(crate) fn take_event(
             Ok(Taken {
                 effects: Effects::none(alloc),
                 drop: None,
+                lasts: false,
             })
         }
     }
@@ -61,7 +65,7 @@ pub fn run(
     let mut given = Vec::new(alloc);
     let mut rest = events;
     while let [event, later @ ..] = rest {
-        let Taken { effects, drop: _ } = take_event(alloc, gateway, event)?;
+        let Taken { effects, .. } = take_event(alloc, gateway, event)?;
         if given.push(effects).is_err() {
             return Err(StepFault::Memory);
         }

@@ -4,7 +4,8 @@
 use crate::replays::make_gateway;
 use crate::wire::MemWire;
 use gw_cases::{MemWriter, number, number_or_none, put_word, unfolded};
-use gw_core::{Counts, Gateway, ServeStop, Served, Wire, serve, serve_with_reports};
+use gw_core::{Counts, Gateway};
+use gw_serving::{ServeStop, Served, Wire, serve, serve_with_reports};
 use std::alloc::Global;
 use std::io;
 use std::io::{ErrorKind, Write};

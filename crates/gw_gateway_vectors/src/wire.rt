@@ -1,14 +1,15 @@
 //! A wire over memory, whose calls fail at the choice of a case, and which tells each call with its answer.
 
 ghost use Rattle.std.specs.Prelude.{◌≡◌, ◌∷◌, [], None, IfOk, IfErr, if◌then◌else◌};
-ghost use Rattle.gw_core.specs.Wire.{Tells, arrival, departure, failed_send};
+ghost use Rattle.gw_serving.specs.Wire.{Tells, arrival, departure, failed_send};
 ghost use Rattle.gw_relay.specs.Sends.{sending};
 ghost use Rattle.gw_script.specs.Event.{Datagram};
 ghost use Rattle.gw_gateway_vectors.specs.Calls.{call_of, calls_of};
 
 use crate::replays::event_of;
 use gw_addr::BipAddr;
-use gw_core::{Event, Got, RECEIVE_ROOM, Wire, WireFault};
+use gw_core::Event;
+use gw_serving::{Got, RECEIVE_ROOM, Wire, WireFault};
 use gw_script::MAX_DATAGRAM;
 use std::alloc::{AllocError, Global};
 

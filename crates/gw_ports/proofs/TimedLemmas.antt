@@ -1,9 +1,9 @@
 -- What a receive of the ports in time comes to, from what each of its steps does.
 use Rattle.std.proofs.Common.{◌≡◌, ◌∙◌, ap, refl, sym, subst, inl, inr, ℕ, ◌+◌, ◌<◌, Bool, true, false, List, Result, Ok, Err, IfOk}
 use Rattle.std.specs.List.{list_any}
-use Rattle.gw_core.specs.declared.wire.Got.{Got}
-use Rattle.gw_core.specs.declared.wire.Got.TheVariants as got
-use Rattle.gw_core.specs.declared.wire.WireFault.{WireFault}
+use Rattle.gw_serving.specs.declared.wire.Got.{Got}
+use Rattle.gw_serving.specs.declared.wire.Got.TheVariants as got
+use Rattle.gw_serving.specs.declared.wire.WireFault.{WireFault}
 use Rattle.gw_ports.specs.Ports.{IsNext, Ports}
 use Rattle.gw_ports.specs.Socket.{Answer}
 use Rattle.gw_ports.specs.Waking.{is_awake}

@@ -7,11 +7,11 @@ use Rattle.gw_addr.specs.declared.bip.BipAddr.{BipAddr}
 use Rattle.gw_ports.specs.declared.sock_pair.SockPair.{SockPair}
 use Rattle.gw_ports.specs.declared.socket.SockFault.{SockFault}
 use Rattle.gw_ports.specs.declared.socket.SockFault.TheVariants as sock_fault
-use Rattle.gw_core.specs.declared.wire.Got.{Got}
-use Rattle.gw_core.specs.declared.wire.Got.TheVariants as got
-use Rattle.gw_core.specs.declared.wire.WireFault.{WireFault}
-use Rattle.gw_core.specs.declared.wire.WireFault.TheVariants as wire_fault
-use Rattle.gw_core.specs.Wire.{failures_of}
+use Rattle.gw_serving.specs.declared.wire.Got.{Got}
+use Rattle.gw_serving.specs.declared.wire.Got.TheVariants as got
+use Rattle.gw_serving.specs.declared.wire.WireFault.{WireFault}
+use Rattle.gw_serving.specs.declared.wire.WireFault.TheVariants as wire_fault
+use Rattle.gw_serving.specs.Wire.{failures_of}
 use Rattle.gw_ports.specs.Socket.{Answer, HasAnswered, IsPassed, Said, some_answer}
 use Rattle.gw_ports.specs.SockPair.{HasSentOwn, socket}
 

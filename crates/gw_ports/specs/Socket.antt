@@ -1,7 +1,7 @@
 -- What a socket answers where it is asked for a datagram.
 use Rattle.std.specs.Prelude.{◌≡◌, ⊤, ◌≤◌, ℕ, ◌+◌, ◌%◌, ◌^◌, List, Bool, true, false, Option, Some, None, Result, Ok, Err}
 use Rattle.gw_addr.specs.declared.bip.BipAddr.{BipAddr}
-use Rattle.gw_core.specs.declared.wire.TheConstants.{RECEIVE_ROOM}
+use Rattle.gw_serving.specs.declared.wire.TheConstants.{RECEIVE_ROOM}
 use Rattle.gw_ports.specs.declared.socket.SockFault.{SockFault}
 
 -- how many octets came and from whom, or nothing, or that it failed

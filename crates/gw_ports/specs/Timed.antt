@@ -2,9 +2,9 @@
 use Rattle.std.specs.Prelude.{◌≡◌, ◌⊎◌, ℕ, ◌+◌, ◌-◌, ◌*◌, ◌/◌, ◌%◌, ◌^◌, ◌≤◌, ◌<◌, min, Bool, true, false, List, Result, Ok, Err}
 use Rattle.std.specs.Duration.{as_nanos, max_nanos}
 use Rattle.std.specs.List.{list_any}
-use Rattle.gw_core.specs.declared.wire.Got.{Got}
-use Rattle.gw_core.specs.declared.wire.Got.TheVariants as got
-use Rattle.gw_core.specs.declared.wire.WireFault.{WireFault}
+use Rattle.gw_serving.specs.declared.wire.Got.{Got}
+use Rattle.gw_serving.specs.declared.wire.Got.TheVariants as got
+use Rattle.gw_serving.specs.declared.wire.WireFault.{WireFault}
 use Rattle.gw_ports.specs.Ports.{IsNext, Ports}
 use Rattle.gw_ports.specs.Socket.{Answer}
 use Rattle.gw_ports.specs.Waking.{AreAllWoken, is_awake}

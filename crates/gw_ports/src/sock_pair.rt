@@ -6,7 +6,7 @@ ghost use Rattle.gw_ports.specs.SockPair.{ArePassed, HasSentOwn, IsAnswer, socke
 
 use crate::socket::{Sock, SockFault};
 use gw_addr::BipAddr;
-use gw_core::RECEIVE_ROOM;
+use gw_serving::RECEIVE_ROOM;
 
 /// What a socket answered, other than nothing.
 pub(crate) type Said = Result<(usize, BipAddr), SockFault>;

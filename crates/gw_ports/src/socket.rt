@@ -6,7 +6,7 @@ ghost use Rattle.gw_ports.specs.declared.socket.SockFault.{SockFault};
 ghost use Rattle.gw_ports.specs.Socket.{Answer, FitsBuffer, is_nothing};
 
 use gw_addr::BipAddr;
-use gw_core::RECEIVE_ROOM;
+use gw_serving::RECEIVE_ROOM;
 use thiserror::Error;
 
 /// A call of a socket failed.

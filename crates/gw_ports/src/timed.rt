@@ -2,7 +2,7 @@
 
 ghost use Rattle.std.specs.Prelude.{◌≡◌, ◌+◌, ◌-◌, ◌*◌, ◌<◌, ◌^◌, ◌∷◌, [], length, min, slice_index_or, true, false, IfOk, OnErr, OnOk, None};
 ghost use Rattle.std.specs.Duration.{as_nanos, max_nanos};
-ghost use Rattle.gw_core.specs.Wire.{IsHandedIn, Tells, failures_of, receive_answer, receive_call, send_call};
+ghost use Rattle.gw_serving.specs.Wire.{IsHandedIn, Tells, failures_of, receive_answer, receive_call, send_call};
 ghost use Rattle.gw_ports.specs.Ports.{HasSentOn};
 ghost use Rattle.gw_ports.specs.Timed.{WatchesNext, HasLooked, HasWaited, IsCounted, IsLookedInTime, IsReceived, IsReceivedLater, KeepsCount, is_idle, rest_between, second, seconds_between, with_due, with_ports};
 ghost use Rattle.gw_ports.specs.Watch.{HasSent};
@@ -14,7 +14,7 @@ use crate::waiter::Waiter;
 use crate::waking::{is_any_awake, wake_all};
 use crate::watch::Watch;
 use gw_addr::BipAddr;
-use gw_core::{Got, RECEIVE_ROOM, Wire, WireFault};
+use gw_serving::{Got, RECEIVE_ROOM, Wire, WireFault};
 use std::io;
 use std::time::Duration;
 

@@ -4,7 +4,7 @@ ghost use Rattle.std.specs.Prelude.{◌≡◌, ◌∷◌, [], ◌+◌, ◌-◌, 
 ghost use Rattle.std.specs.Borrow.{sem};
 ghost use Rattle.gw_addr.specs.declared.TheConstants.{MAX_PORTS};
 ghost use Rattle.gw_ports.specs.declared.sock_pair.SockPair.{SockPair};
-ghost use Rattle.gw_core.specs.Wire.{IsHandedIn, Tells, failures_of, receive_answer, receive_call, send_call};
+ghost use Rattle.gw_serving.specs.Wire.{IsHandedIn, Tells, failures_of, receive_answer, receive_call, send_call};
 ghost use Rattle.gw_ports.specs.Asking.{AreAsked, AreAskedInTurn, turn_of};
 ghost use Rattle.gw_ports.specs.Lending.{LendsPair};
 ghost use Rattle.gw_ports.specs.Ports.{AtPlace, HasSentOn, HasTried, IsNext, asked, got_of, handed_in, last_number, sockets_in_turn};
@@ -14,7 +14,7 @@ use crate::ports::Ports;
 use crate::sock_pair::{Said, SockPair};
 use crate::socket::{Sock, SockFault};
 use gw_addr::{BipAddr, MAX_PORTS};
-use gw_core::{Got, RECEIVE_ROOM, Wire, WireFault};
+use gw_serving::{Got, RECEIVE_ROOM, Wire, WireFault};
 
 /// Which socket answered, and what: that of the own address of the port at this place, or the other.
 #[derive(Drop)]

@@ -6,7 +6,7 @@ ghost use Rattle.gw_ports.specs.Watch.{HasReceived, HasSent, WatchAnswer, woken}
 
 use crate::socket::{Sock, SockFault};
 use gw_addr::BipAddr;
-use gw_core::RECEIVE_ROOM;
+use gw_serving::RECEIVE_ROOM;
 
 /// A socket that asks another one, but only while something may wait there: from the first time that
 /// nothing waits it answers so by itself, until it is woken.

@@ -10,7 +10,7 @@ use crate::words::{call, put, status_text};
 use gw_addr::BipAddr;
 use gw_cases::{MemReader, MemWriter, number_behind};
 use gw_configuration::Port;
-use gw_core::{Got, RECEIVE_ROOM, Wire, WireFault};
+use gw_serving::{Got, RECEIVE_ROOM, Wire, WireFault};
 use gw_shell::{
     ConfigFiles, FailedStep, Fault, Host, LogFailure, Reason, SocketFailure, Step, run,
 };

@@ -3,14 +3,14 @@ use Rattle.std.proofs.Common.{◌≡◌, ◌∙◌, sym, ◌++◌, ap, append_as
 use Rattle.std.specs.Io.KnownBytes.{Appends, append_known}
 use Rattle.gw_core.specs.History.{state_after}
 use Rattle.gw_core.specs.Replay.{no_counts}
-use Rattle.gw_core.specs.Reports.{IsRunWith, told_of}
-use Rattle.gw_core.specs.Serve.{Scene, ServesAll, Stops, counts_of_answer, scene}
+use Rattle.gw_serving.specs.Reports.{IsRunWith, told_of}
+use Rattle.gw_serving.specs.Serve.{Scene, ServesAll, Stops, counts_of_answer, scene}
 use Rattle.gw_core.specs.State.{State}
-use Rattle.gw_core.specs.Wire.{Call}
-use Rattle.gw_core.specs.declared.serving.Served.{Served}
-use Rattle.gw_core.specs.declared.serving.ServeFault.{ServeFault}
-use Rattle.gw_core.specs.declared.serving.ServeFault.TheVariants as serving
-use Rattle.gw_core.specs.declared.serving.ServeStop.{ServeStop}
+use Rattle.gw_serving.specs.Wire.{Call}
+use Rattle.gw_serving.specs.declared.serving.Served.{Served}
+use Rattle.gw_serving.specs.declared.serving.ServeFault.{ServeFault}
+use Rattle.gw_serving.specs.declared.serving.ServeFault.TheVariants as serving
+use Rattle.gw_serving.specs.declared.serving.ServeStop.{ServeStop}
 use Rattle.gw_configuration.specs.Configuration.{Configuration}
 use Rattle.gw_shell.specs.Ending.{fault_of_serving}
 use Rattle.gw_shell.specs.declared.fault.Fault.{Fault}

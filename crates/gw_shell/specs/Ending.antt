@@ -15,10 +15,10 @@ use Rattle.gw_migration.specs.declared.fault.MigrationFault.{MigrationFault}
 use Rattle.gw_migration.specs.declared.fault.MigrationFault.TheVariants as migration
 use Rattle.gw_core.specs.declared.replaying.RunFault.{RunFault}
 use Rattle.gw_core.specs.declared.replaying.RunFault.TheVariants as run
-use Rattle.gw_core.specs.declared.serving.ServeFault.{ServeFault}
+use Rattle.gw_serving.specs.declared.serving.ServeFault.{ServeFault}
 use Rattle.gw_script.specs.declared.flaw.LineFlaw.{LineFlaw}
 use Rattle.gw_script.specs.declared.flaw.LineFlaw.TheVariants as flaw
-use Rattle.gw_core.specs.declared.serving.ServeFault.TheVariants as serving
+use Rattle.gw_serving.specs.declared.serving.ServeFault.TheVariants as serving
 use Rattle.gw_system.specs.declared.opening.LogFailure.{LogFailure}
 use Rattle.gw_system.specs.declared.opening.LogFailure.TheVariants as log_failure
 use Rattle.gw_system.specs.declared.opening.OpenFailure.{OpenFailure}

@@ -5,14 +5,14 @@ use Rattle.std.specs.Prelude.{string_bytes}
 use Rattle.std.specs.Io.KnownBytes.{Keeps}
 use Rattle.gw_core.specs.History.{state_after}
 use Rattle.gw_core.specs.Replay.{no_counts}
-use Rattle.gw_core.specs.Reports.{IsRunWith, told_of}
-use Rattle.gw_core.specs.Serve.{Scene, ServesAll, Stops, Turn, counts_of_answer, scene}
+use Rattle.gw_serving.specs.Reports.{IsRunWith, told_of}
+use Rattle.gw_serving.specs.Serve.{Scene, ServesAll, Stops, Turn, counts_of_answer, scene}
 use Rattle.gw_core.specs.State.{State}
-use Rattle.gw_core.specs.Wire.{Call}
-use Rattle.gw_core.specs.declared.serving.Served.{Served}
-use Rattle.gw_core.specs.declared.serving.ServeFault.{ServeFault}
-use Rattle.gw_core.specs.declared.serving.ServeFault.TheVariants as serving
-use Rattle.gw_core.specs.declared.serving.ServeStop.{ServeStop}
+use Rattle.gw_serving.specs.Wire.{Call}
+use Rattle.gw_serving.specs.declared.serving.Served.{Served}
+use Rattle.gw_serving.specs.declared.serving.ServeFault.{ServeFault}
+use Rattle.gw_serving.specs.declared.serving.ServeFault.TheVariants as serving
+use Rattle.gw_serving.specs.declared.serving.ServeStop.{ServeStop}
 use Rattle.gw_configuration.specs.Configuration.{Configuration}
 use Rattle.gw_configuration.specs.declared.port.Port.{Port}
 use Rattle.gw_shell.specs.Announcement.{IsWarning, startup_line}

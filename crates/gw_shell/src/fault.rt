@@ -6,7 +6,8 @@ ghost use Rattle.gw_shell.specs.Lines.{fault_of_lines};
 ghost use Rattle.gw_shell.specs.declared.fault.Fault.TheVariants.{CommandLine, Memory};
 
 use gw_configuration::ConfigFault;
-use gw_core::{RunFault, ServeFault};
+use gw_core::RunFault;
+use gw_serving::ServeFault;
 use gw_migration::MigrationFault;
 use gw_script::{LineFlaw, LinesFault};
 use gw_system::{LogFailure, OpenFailure, SocketFailure};

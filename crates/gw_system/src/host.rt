@@ -12,7 +12,7 @@ use crate::poll_waiter::PollWaiter;
 use crate::system_clock::SystemClock;
 use crate::udp::{UdpSock, open_pairs};
 use gw_configuration::Port;
-use gw_core::Wire;
+use gw_serving::Wire;
 use gw_ports::{Ports, SockPair, TimedPorts, Watch};
 use gw_script::{OctetSink, write_whole};
 use std::alloc::Global;

@@ -8,7 +8,7 @@ ghost use Rattle.gw_ports.specs.Socket.{FitsBuffer};
 use crate::opening::{SocketFailure, Step};
 use gw_addr::BipAddr;
 use gw_configuration::Port;
-use gw_core::RECEIVE_ROOM;
+use gw_serving::RECEIVE_ROOM;
 use gw_ports::{Sock, SockFault, SockPair, Watch};
 use mio::net::UdpSocket;
 use mio::{Interest, Registry, Token};

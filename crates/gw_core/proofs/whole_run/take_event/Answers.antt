@@ -3,7 +3,8 @@ use Rattle.gw_script.specs.declared.event.Event.{Event as LentEvent}
 use Rattle.gw_script.specs.Event.{event_view}
 use Rattle.gw_core.specs.Drops.{drop_at}
 use Rattle.gw_core.specs.Effects.{effects_at}
-use Rattle.gw_core.proofs.EffectLemmas.{drop_at-tick, nothing_is, effects_at-tick}
+use Rattle.gw_core.specs.Lasting.{lasts}
+use Rattle.gw_core.proofs.EffectLemmas.{drop_at-tick, lasts-tick, nothing_is, effects_at-tick}
 use Rattle.gw_core.proofs.whole_run.take_event.Goals as goal
 
 pub returns-in_ok-tick-in-Tick-clause-given : goal.returns-in_ok-tick-in-Tick-clause-given
@@ -14,3 +15,7 @@ returns-in_ok-tick-in-Tick-clause-given c =
 pub returns-in_ok-tick-in-Tick-clause-drop : goal.returns-in_ok-tick-in-Tick-clause-drop
 returns-in_ok-tick-in-Tick-clause-drop c =
     drop_at-tick c.args.gateway.now ∙ ap (λ (e : LentEvent). drop_at c.args.gateway.now (event_view e)) (sym c.in-Tick.is)
+
+pub returns-in_ok-tick-in-Tick-clause-lasts : goal.returns-in_ok-tick-in-Tick-clause-lasts
+returns-in_ok-tick-in-Tick-clause-lasts c =
+    lasts-tick c.args.gateway.now ∙ ap (λ (e : LentEvent). lasts c.args.gateway.now (event_view e)) (sym c.in-Tick.is)

@@ -7,7 +7,7 @@ use Rattle.gw_core.specs.Receive.{receive}
 use Rattle.gw_core.specs.State.{State, device_network}
 use Rattle.gw_core.specs.View.{admitted_view}
 use Rattle.gw_core.proofs.DenialLemmas.{asks_received, denials_received}
-use Rattle.gw_core.proofs.EffectLemmas.{change_received, drop_as, effects_are, effects_received, move_received, passes_end-within, passes_end-denials, received_as, sends_received}
+use Rattle.gw_core.proofs.EffectLemmas.{change_received, drop_as, effects_are, effects_received, lasts_as, move_received, passes_end-within, passes_end-denials, received_as, sends_received}
 use Rattle.gw_core.proofs.HistoryLemmas.{fault_of_call, moves_on}
 use Rattle.gw_core.proofs.SilenceLemmas.{unchanged}
 use Rattle.gw_core.proofs.gateway.Gateway.take.Goals as goal
@@ -76,3 +76,15 @@ returns-clause-drop c =
     ∙ drop_as w c.ports.result.now c.network_of-device.result c.args.port c.args.from c.args.octets.now _ c.receive-received.ensures.drop
     (c.ports.ensures ∙ ap (λ (s : State). s.relay.links) c.now.view_is)
     (c.network_of-device.ensures ∙ ap (λ (s : State). device_network s.device) c.now.view_is)
+
+pub returns-clause-lasts : goal.returns-clause-lasts
+returns-clause-lasts c =
+    let w = c.args.self.now in
+    let event = Datagram c.args.port c.args.from c.args.octets.now in
+    let received : admitted_view w c.receive-received.result ≡ receive w event =
+    received_as w c.ports.result.now c.network_of-device.result c.args.port c.args.from c.args.octets.now _ c.receive-received.ensures.received
+    (c.ports.ensures ∙ ap (λ (s : State). s.relay.links) c.now.view_is)
+    (c.network_of-device.ensures ∙ ap (λ (s : State). device_network s.device) c.now.view_is) in
+    lasts_as w c.args.port c.args.from c.args.octets.now c.in_ok-sends.field-0.change c.in_ok-sends.field-0.write _ c.is_lasting-lasts.ensures
+    (move_received w c.args.port c.args.from c.args.octets.now _ c.in_ok-sends.field-0.change received c.in_ok-sends.ensures.change)
+    (c.in_ok-sends.ensures.write ∙ change_received w event _ received)

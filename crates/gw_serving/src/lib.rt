@@ -1,0 +1,24 @@
+//! A gateway behind a wire: what comes is taken, what is denied is logged, and what is to go is sent.
+#![tactic(auto)]
+
+mod alike;
+mod guard;
+mod keeper;
+pub mod laws;
+mod report;
+mod reporting;
+mod serving;
+mod store;
+mod stretch;
+mod tally;
+mod wire;
+
+pub use guard::{Guard, Unguarded};
+pub use keeper::Keeper;
+pub use report::{Report, report_of, tell_report};
+pub use reporting::serve_with_reports;
+pub use serving::{ServeFault, ServeState, ServeStop, Served, serve};
+pub use store::{Store, StoreFault};
+pub use stretch::Pause;
+pub use tally::Tally;
+pub use wire::{Got, RECEIVE_ROOM, Wire, WireFault};
