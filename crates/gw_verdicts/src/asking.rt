@@ -80,7 +80,7 @@ impl<'a> LineTeller for Answerer<'a> {
 impl Answerer<'_> {
     /// Makes the answer to an ask that is shown.
     fn make_answer(&self, shown: &ShownAsk, text: &mut Vec<u8>) -> Result<(), AllocError>
-        ensures { OnOk result (text.new.items ≡ answer_to self.rules.now self.notes.now shown.now) }
+        ensures { OnOk result (text.new.items ≡ answer_to self.now.rules.now self.now.notes.now shown.now) }
     {
         text.clear();
         self.put_answer(text, &shown.ask())
@@ -88,11 +88,12 @@ impl Answerer<'_> {
 
     /// Appends the answer to an ask.
     fn put_answer(&self, out: &mut Vec<u8>, ask: &Ask) -> Result<(), AllocError>
-        ensures { OnOk result (out.new.items ≡ out.old.items ++ answer self.rules.now self.notes.now ask.now) }
+        ensures { OnOk result (out.new.items ≡ out.old.items ++ answer self.now.rules.now self.now.notes.now ask.now) }
     {
         put_verdict(out, self.rules, ask)?;
         put_note_of(out, self.notes, self.rules.first(ask))?;
-        out.push(b'\n')
+        out.push(b'\n')?;
+        Ok(())
     }
 }
 
