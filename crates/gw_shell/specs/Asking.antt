@@ -8,10 +8,10 @@ use Rattle.gw_tally.specs.Tally.{tally_text}
 use Rattle.gw_shell.specs.declared.fault.Fault.{Fault}
 use Rattle.gw_shell.specs.declared.fault.Fault.TheVariants as fault
 
--- `before` was written before the asks of this text were answered by these rules with this outcome, and `after` when
--- that ended
-abbrev pub Answers : List Rule → List ℕ → List ℕ → Result (Unit {0}) Fault → List ℕ → Type 0
-Answers rules = Leaves (IsAnswered rules) TellsNoAsk
+-- `before` was written before the asks of this text were answered by these rules, with these notes and this outcome,
+-- and `after` when that ended
+abbrev pub Answers : List Rule → (notes : List (List ℕ)) → List ℕ → List ℕ → Result (Unit {0}) Fault → List ℕ → Type 0
+Answers rules notes = Leaves (IsAnswered rules notes) TellsNoAsk
 
 -- how many of the asks of a text each of these rules decides, in lines; or the first line that says none
 abbrev pub Counts : List Rule → List ℕ → Result (List ℕ) Fault → Type 0

@@ -169,7 +169,7 @@ LeavesCounts rules text held holds outcome =
 abbrev pub LeavesAnswered : Bool → Option (List ℕ) → Option (List ℕ) → Option (List ℕ)
     → Result Configuration Fault → Result (Unit {0}) Fault → Type 0
 LeavesAnswered false input held holds (Ok c) outcome =
-    OnKnown input held holds (λ text before. Answers c.rules text before outcome)
+    OnKnown input held holds (λ text before. Answers c.rules c.notes text before outcome)
 LeavesAnswered true input held holds (Ok c) outcome =
     (text : List ℕ) → input ≡ Some text → LeavesCounts c.rules text held holds outcome
 LeavesAnswered counts input held holds (Err f) outcome = (outcome ≡ Err f) × (holds ≡ held)

@@ -9,25 +9,25 @@ ghost use Rattle.gw_tally.specs.Tally.{tally_text};
 
 use crate::fault::Fault;
 use crate::lines::first_lines_fault;
-use gw_rules::RuleList;
+use gw_configuration::Config;
 use gw_script::OctetSource;
 use gw_tally::{Tally, count_asks, put_tally};
 use std::alloc::{AllocError, Global};
 use std::io::{BufWriter, Write};
 
-/// Answers each ask that `reader` has left by these rules. What was written is flushed at every outcome.
+/// Answers each ask that `reader` has left by the rules of a configuration, with their notes. What was written is flushed at every outcome.
 /// Faults: those of the answers, and `Write` also where the flush alone fails.
 pub fn why<R: OctetSource, W: Write + Drop>(
     alloc: Global,
-    rules: &RuleList,
+    config: &Config,
     reader: &mut R,
     writer: &mut BufWriter<W>,
 ) -> Result<(), Fault>
     ensures answers { OnKnown (R.left reader.old) (writer_contents W.contents writer.old)
-        (writer_contents W.contents writer.new) (λ text before. Answers rules.now text before result) }
+        (writer_contents W.contents writer.new) (λ text before. Answers config.now.rules config.now.notes text before result) }
     ensures flushed { OnOk result (writer_buffer writer.new ≡ []) }
 {
-    let answers = gw_verdicts::why(alloc, rules, reader, writer);
+    let answers = gw_verdicts::why(alloc, config, reader, writer);
     let is_flushed = writer.flush().is_ok();
     first_lines_fault(answers, is_flushed)
 }

@@ -338,7 +338,7 @@ fn answer<R: OctetSource, W: Write + Drop>(
     if counts {
         print_counts(alloc, config.rules(), input, output)
     } else {
-        why(alloc, config.rules(), input, output)
+        why(alloc, &config, input, output)
     }
 }
 
