@@ -10,13 +10,14 @@ ghost use Rattle.gw_tally.specs.Tally.{tally_text};
 use crate::fault::Fault;
 use crate::lines::first_lines_fault;
 use gw_configuration::Config;
+use gw_rules::RuleList;
 use gw_script::OctetSource;
 use gw_tally::{Tally, count_asks, put_tally};
 use std::alloc::{AllocError, Global};
 use std::io::{BufWriter, Write};
 
-/// Answers each ask that `reader` has left by the rules of a configuration, with their notes. What was written is flushed at every outcome.
-/// Faults: those of the answers, and `Write` also where the flush alone fails.
+/// Answers each ask that `reader` has left by the rules of a configuration, with their notes. What was written is flushed
+/// at every outcome. Faults: those of the answers, and `Write` also where the flush alone fails.
 pub fn why<R: OctetSource, W: Write + Drop>(
     alloc: Global,
     config: &Config,
@@ -24,7 +25,8 @@ pub fn why<R: OctetSource, W: Write + Drop>(
     writer: &mut BufWriter<W>,
 ) -> Result<(), Fault>
     ensures answers { OnKnown (R.left reader.old) (writer_contents W.contents writer.old)
-        (writer_contents W.contents writer.new) (λ text before. Answers config.now.rules config.now.notes text before result) }
+        (writer_contents W.contents writer.new)
+        (λ text before. Answers config.now.rules config.now.notes text before result) }
     ensures flushed { OnOk result (writer_buffer writer.new ≡ []) }
 {
     let answers = gw_verdicts::why(alloc, config, reader, writer);
