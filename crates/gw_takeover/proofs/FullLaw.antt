@@ -89,9 +89,9 @@ at_first : (l : ℕ × Route) (ls : Routed) (t : Table) (m : ℕ) (b : Bool) →
 at_first l ls t m true q e free none =
     let now : is_learned (with_granted t l.0 l.1) l.0 ≡ true =
     ap (λ (b : Bool). is_learned (if b then with_learned t l.0 l.1 else t) l.0) e ∙ learned_now t.learned l.0 l.1 in
-    let then : is_learned (learned_by t (l ∷ ls)) m ≡ true =
+    let still : is_learned (learned_by t (l ∷ ls)) m ≡ true =
     ap (λ (n : ℕ). is_learned (learned_by t (l ∷ ls)) n) q ∙ stays_learned ls (with_granted t l.0 l.1) l.0 now in
-    absurd (true≢false (sym then ∙ none))
+    absurd (true≢false (sym still ∙ none))
 at_first l ls t m false q e free none =
     let held = no_room (is_fixed t l.0) (is_learned t l.0) (routes_held t) e (ap (is_fixed t) (sym q) ∙ free) in
     let same : with_granted t l.0 l.1 ≡ t = ap (λ (b : Bool). if b then with_learned t l.0 l.1 else t) e in
@@ -116,7 +116,9 @@ not_found : (p : ℕ → Bool) (xs : List ℕ) → list_any p xs ≡ false → p
 not_found p [] e = refl
 not_found p (x ∷ xs) e =
     let parts = or_parts (p x) (list_any p xs) e in
+    let one_more : 1 + length xs ≡ length (x ∷ xs) = omega arith in
     ap (λ (b : Bool). cond (not b) (1 + position_or_len p xs) 0) parts.0 ∙ ap (λ (n : ℕ). 1 + n) (not_found p xs parts.1)
+    ∙ one_more
 
 below : (n : ℕ) (b : Bool) → nat_lt n n ≡ b → is_some (cond b (Some n) None) ≡ false
 below n true q = let less = ltb-true n n q in absurd (omega (arith, less))
