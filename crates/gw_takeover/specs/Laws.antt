@@ -1,6 +1,6 @@
 -- What the lines say is what a gateway takes over.
 use Rattle.std.specs.Prelude.{◌≡◌, ◌↔◌, ℕ, ◌+◌, ◌<◌, ◌≤◌, Bool, true, false, not, nat_eq, nat_le, ◌&&◌, List, [], ◌∷◌, ◌++◌, length}
-use Rattle.std.specs.Prelude.{map, find, filter_map, is_some, ⊥, Option, Some, None}
+use Rattle.std.specs.Prelude.{map, find, filter_map, is_some, Option, Some, None}
 use Rattle.std.specs.List.{AllByRecursion, list_all, list_any, sum_by}
 use Rattle.gw_addr.specs.declared.entry.BdtEntry.{BdtEntry}
 use Rattle.gw_bdt_fdt.specs.Kept.{row_of}
