@@ -13,3 +13,4 @@ mod subnets;
 
 pub use fault::MigrationFault;
 pub use migration::migrate;
+pub use rules::put_field;
