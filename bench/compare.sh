@@ -402,7 +402,7 @@ def operations_rule(allow, *operations):
 def site_list(dice, length):
     tail = dice.choice([
         [operations_rule(False, "read-table", "write-table"), operations_rule(False, "write"), operations_rule(True)],
-        [operations_rule(True, "read"), operations_rule(True, "cast", "route", "list", "learn", "network")],
+        [operations_rule(True, "read"), operations_rule(True, "cast", "route", "list", "network")],
     ])
     return [site_rule(dice) for _ in range(length - len(tail))] + tail
 

@@ -2,10 +2,8 @@
 use Rattle.std.proofs.Common.{◌⊎◌, inl, inr, List, [], ◌∷◌, ◌++◌}
 use Rattle.gw_rules.specs.Ask.{Ask}
 use Rattle.gw_rules.specs.Fields.{value_of}
-use Rattle.gw_rules.specs.declared.field.FieldName.{FieldName}
 use Rattle.gw_rules.specs.declared.field.FieldName.TheVariants.{Operation, Port, SourceNetwork, SourceKey, DestinationNetwork, Service, ObjectType, Instance, Property, Priority, Sender, Station}
 use Rattle.gw_shapes.specs.Shape.{IsWithin, LiesIn, LiesInOne, Shape}
-use Rattle.gw_shapes.specs.declared.side.Side.{Side}
 
 -- an ask lies in a shape by its twelve fields
 pub lies_by : (shape : Shape) (ask : Ask)

@@ -1,12 +1,13 @@
 -- What a rule matches of a shape, and what a step of the search keeps of the asks that come to a rule.
-use Rattle.std.proofs.Common.{◌≡◌, ◌⊎◌, inl, inr, ℕ, ◌-◌, ◌<◌, Bool, true, false, ◌&&◌, ◌||◌, ◌==◌, List, [], ◌∷◌, ◌++◌, length, Option, Some, None, refl, sym, ap, subst, ◌∙◌, arith, slice_get, nat_le, map, Vec}
+use Rattle.std.proofs.Common.{◌≡◌, ℕ, ◌+◌, ◌-◌, ◌<◌, Bool, true, false, ◌&&◌, ◌||◌, ◌==◌, List, [], ◌∷◌, ◌++◌, length, Option, Some, None, refl, sym, ap, subst, ◌∙◌, arith, slice_get, nat_le, map, Vec, add-one, get_or, take}
 use Rattle.std.specs.Prelude.{not, vec_items, vec_len}
 use Rattle.std.specs.List.{Any, list_any}
 use Rattle.std.specs.Option.{IsSomeAnd}
 use Rattle.std.specs.Prelude.{IfSome}
 use Rattle.std.specs.Global.{Global}
+use Rattle.std.proofs.Math.Seq.{take-suc}
 use Rattle.std.proofs.lemmas.List.{nil_from_length}
-use Rattle.std.proofs.lemmas.Bool.{and_from, and_parts, both_ways, eqb-true, false_from_ne_true, le-leb, ne_eqb, or_cases, or_left, or_right}
+use Rattle.std.proofs.lemmas.Bool.{and_from, and_parts, both_ways, eqb-true, false_from_ne_true, le-leb, ne_eqb, or_left, or_right}
 use Rattle.std.proofs.lemmas.List.Folds.{list_any-append, list_any-from_Any}
 use Rattle.gw_regions.specs.Regions.{IsParted, Region, lies, lies_in_one}
 use Rattle.gw_rules.specs.Ask.{Ask}
@@ -21,7 +22,7 @@ use Rattle.gw_rules.proofs.Matching.{matches_iff}
 use Rattle.gw_shapes.specs.Meeting.{has_number, meets, meets_side, overlaps}
 use Rattle.gw_shapes.specs.Regions.{region_of}
 use Rattle.gw_shapes.specs.Search.{AreMatched, IsLeft, IsNeverFirst, IsPutBack, is_matched}
-use Rattle.gw_shapes.specs.Shape.{IsIn, IsWithin, LiesIn, LiesInOne, Shape}
+use Rattle.gw_shapes.specs.Shape.{IsIn, IsWithin, LiesIn, Shape}
 use Rattle.gw_shapes.specs.declared.side.Side.{Side}
 use Rattle.gw_shapes.proofs.RegionLaw.{inner_one, is_inner, whole_one}
 
@@ -125,6 +126,15 @@ matched_step done shape rule former latter is pushed ask =
         either : (a b c : Bool) → (a || (b || c)) ≡ ((a || b) || c)
         either true b c = refl
         either false b c = refl
+
+pub matched_next : (shapes : List Shape) (place : ℕ) (d : Shape) (rule : Rule) (former latter : List Region) → place < length shapes
+    → AreMatched (take place shapes) rule former
+    → ((ask : Ask) → lies_in_one latter ask ≡ (lies_in_one former ask || (lies (region_of (get_or shapes place d)) ask && matches rule ask)))
+    → AreMatched (take (place + 1) shapes) rule latter
+matched_next shapes place d rule former latter within is pushed =
+    let shape = get_or shapes place d in
+    let more : take (place + 1) shapes ≡ take place shapes ++ shape ∷ [] = ap (λ n. take n shapes) (add-one place) ∙ take-suc shapes place d within in
+    subst (λ (done : List Shape). AreMatched done rule latter) (sym more) (matched_step (take place shapes) shape rule former latter is pushed)
 
 -- so they are where a search starts
 pub started : (shapes : List Shape) (rules : List Rule) (number : ℕ) (rule : Rule) (regions : List Region) → slice_get rules (number - 1) ≡ Some rule

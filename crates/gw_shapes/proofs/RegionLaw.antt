@@ -1,6 +1,6 @@
 -- An ask lies in the region of a shape exactly if it lies in the shape.
 use Rattle.std.proofs.Common.{◌≡◌, ◌∙◌, inl, inr, sym, ap, refl, subst, ℕ, Bool, true, false, List, [], ◌∷◌, Option, Some, None, arith, nat_le, map}
-use Rattle.std.specs.Prelude.{◌⊎◌, ◌||◌, if◌then◌else◌}
+use Rattle.std.specs.Prelude.{◌⊎◌, if◌then◌else◌}
 use Rattle.std.specs.List.{list_any}
 use Rattle.std.proofs.lemmas.Bool.{and_from, and_parts, both_ways, le-leb, leb-true, or_cases, or_left, or_right}
 use Rattle.gw_regions.specs.Regions.{Region, lies, lies_in_one}
