@@ -15,7 +15,7 @@ use Rattle.gw_routes.specs.declared.route.Route.{Route}
 use Rattle.gw_routes.specs.Table.{Routed, Table, grants, is_fixed, is_learned, learned_by, routes_held, table_of, with_granted, with_learned}
 use Rattle.gw_saved.specs.Carried.{routes_carried}
 use Rattle.gw_takeover.specs.declared.finding.RouteFate.TheVariants as routes
-use Rattle.gw_takeover.specs.Findings.{fate_beside, first_table, is_own, is_routed, is_same_route, refusal, route_fate, routed_of, routes_kept}
+use Rattle.gw_takeover.specs.Findings.{fate_beside, first_table, is_own, is_routed, is_same_route, refusal, routed_of, routes_kept}
 use Rattle.gw_takeover.specs.Laws.{FullTablesAreFull}
 
 -- ---- learning

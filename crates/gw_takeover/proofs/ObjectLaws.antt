@@ -1,5 +1,5 @@
 -- What is said of objects is so.
-use Rattle.std.proofs.Common.{◌≡◌, ◌∙◌, refl, sym, ap, ap₂, ℕ, ◌+◌, Bool, true, false, not, ◌&&◌, nat_eq, List, [], ◌∷◌, ◌++◌, map, take, Option, Some, None}
+use Rattle.std.proofs.Common.{◌≡◌, ◌∙◌, refl, sym, ap, ap₂, ℕ, ◌+◌, Bool, true, false, not, ◌&&◌, List, [], ◌∷◌, ◌++◌, map, take, Option, Some, None}
 use Rattle.std.specs.Prelude.{◌↔◌, ◌==◌, count_by, find, filter_map, is_some, if◌then◌else◌}
 use Rattle.std.specs.Option.{option_map_or}
 use Rattle.std.specs.List.{flat_map, list_any}
@@ -17,7 +17,7 @@ use Rattle.gw_objects.specs.Values.{fits, same_value}
 use Rattle.gw_routes.specs.Table.{Routed}
 use Rattle.gw_saved.specs.Carried.{default_from, is_object, is_port, slot_from, slots_from, states_carried}
 use Rattle.gw_saved.specs.declared.port.SavedPort.{SavedPort}
-use Rattle.gw_saved.specs.Saved.{Saved, SavedObject, id_of}
+use Rattle.gw_saved.specs.Saved.{SavedObject, id_of}
 use Rattle.gw_takeover.proofs.Firsts.{absent, firsts}
 use Rattle.gw_takeover.specs.declared.finding.Absence.{Absence}
 use Rattle.gw_takeover.specs.declared.finding.Finding.{Finding}
@@ -26,7 +26,7 @@ use Rattle.gw_takeover.specs.declared.finding.Held.TheVariants.{Default, Slot}
 use Rattle.gw_takeover.specs.declared.finding.ObjectName.{ObjectName}
 use Rattle.gw_takeover.specs.declared.finding.ValueFate.{ValueFate}
 use Rattle.gw_takeover.specs.declared.finding.ValueFate.TheVariants as values
-use Rattle.gw_takeover.specs.Findings.{default_fate, default_finding, finding_of_route, findings, is_same_object, is_written, lost_objects, lost_ports, object_absence, object_finding, object_findings, object_name, objects_found, port_absence, port_finding, port_findings, port_name, ports_found, routes_kept, sizes_of, slot_findings, value_finding}
+use Rattle.gw_takeover.specs.Findings.{default_fate, default_finding, finding_of_route, is_same_object, is_written, lost_objects, lost_ports, object_absence, object_finding, object_findings, object_name, objects_found, port_absence, port_finding, port_findings, port_name, ports_found, routes_kept, sizes_of, slot_findings, value_finding}
 use Rattle.gw_takeover.specs.Laws.{DefaultsAreAsSaid, DroppedSlotsAreEmpty, LostObjectsAreLost, SlotValue, SlotsAreAsSaid, held_by, held_in, lost_in, name_of, said_dropped, said_kept}
 
 -- ---- slots
@@ -211,10 +211,10 @@ unwritten object s e = by (same_value s.configured (default_of object.value)) (f
 
 pub defaults_are_as_said : DefaultsAreAsSaid
 defaults_are_as_said object s = (
-      said s.slots.default (default_of object.value) (same_value s.slots.default (default_of object.value))
-          (same_value s.configured (default_of object.value)) (fits (details_of object.value) s.slots.default) refl,
-      unwritten object s,
-    )
+  said s.slots.default (default_of object.value) (same_value s.slots.default (default_of object.value))
+      (same_value s.configured (default_of object.value)) (fits (details_of object.value) s.slots.default) refl,
+  unwritten object s,
+)
 
 -- ---- which objects are lost
 

@@ -1,16 +1,14 @@
 -- What is said of routes is so.
-use Rattle.std.proofs.Common.{◌≡◌, ◌∙◌, refl, sym, ap, ap₂, ℕ, Bool, true, false, ◌&&◌, nat_eq, List, [], ◌∷◌, Option, Some, None}
+use Rattle.std.proofs.Common.{◌≡◌, ◌∙◌, refl, sym, ap, ap₂, ℕ, Bool, true, false, nat_eq, List, [], ◌∷◌, Option, Some, None}
 use Rattle.std.specs.Prelude.{◌↔◌, find, if◌then◌else◌}
 use Rattle.std.specs.Cmp.{nat_eq_equiv}
 use Rattle.std.specs.Option.{option_map_or}
 use Rattle.std.proofs.lemmas.Bool.{and_from, and_parts, eqb-true}
-use Rattle.gw_addr.specs.declared.bip.BipAddr.{BipAddr}
 use Rattle.gw_bdt_fdt.proofs.Same.{equal_of, own}
 use Rattle.gw_bdt_fdt.specs.Registrations.{same as same_address}
 use Rattle.gw_configuration.specs.Configuration.{Configuration}
 use Rattle.gw_routes.specs.declared.route.Route.{Route}
 use Rattle.gw_routes.specs.Table.{Routed, route_by}
-use Rattle.gw_takeover.specs.declared.finding.RouteFate.{RouteFate}
 use Rattle.gw_takeover.specs.declared.finding.RouteFate.TheVariants as routes
 use Rattle.gw_takeover.specs.Findings.{fate_beside, is_own, is_routed, is_same_route, refusal, route_fate, routes_kept}
 use Rattle.gw_takeover.specs.Laws.{RoutesAreAsSaid}
@@ -49,6 +47,7 @@ beside route kept same = (by (is_same_route kept.1 route.1) refl, back)
         → Some kept ≡ Some route
     by true e f = ap₂ (λ (n : ℕ) (r : Route). Some (n, r)) (sym same) (same_route kept.1 route.1 e)
     by false e f = absurd cc
+
     back : Some kept ≡ Some route → fate_beside route.1 kept ≡ routes.TakenOver
     back f =
         ap (λ (k : ℕ × Route). fate_beside route.1 k) (inside kept route f)

@@ -187,7 +187,7 @@ pub(crate) fn put_refusal(out: &mut Vec<u8>, fate: RouteFate) -> Result<(), Allo
         RouteFate::TakenOver => Ok(()),
         RouteFate::NoPort => out.extend_from_slice(b"its port is not configured"),
         RouteFate::Own => out.extend_from_slice(b"the network is one of the gateway's own"),
-        RouteFate::Configured => out.extend_from_slice(b"another route is configured"),
+        RouteFate::Configured => out.extend_from_slice(b"a route to it is configured"),
         RouteFate::Replaced => {
             out.extend_from_slice(b"a later route of the state is taken over")
         }
