@@ -1,13 +1,14 @@
 -- How the text of groups grows, region by region.
-use Rattle.std.proofs.Common.{◌≡◌, ◌∙◌, ap, sym, refl, ℕ, ◌+◌, ◌<◌, ◌≤◌, Bool, true, false, add-one, append_assoc, append-nil, arith, drop, drop-cons, get_or, length, length-append, take, List, [], ◌∷◌, ◌++◌, nat_lt}
+use Rattle.std.proofs.Common.{◌≡◌, ◌∙◌, ap, sym, refl, ℕ, ◌+◌, ◌<◌, ◌≤◌, Bool, true, false, add-one, append_assoc, append-nil, arith, drop, drop-cons, get_or, length, take, List, [], ◌∷◌, ◌++◌, nat_lt}
 use Rattle.std.specs.Prelude.{◌&&◌, if◌then◌else◌}
 use Rattle.std.specs.List.{filter, flat_map, list_any}
 use Rattle.std.proofs.Math.ListN.{drop_of_length-le}
 use Rattle.std.proofs.Math.Seq.{take-suc}
 use Rattle.std.proofs.lemmas.Bool.{ltb-false, ltb-true}
 use Rattle.std.proofs.lemmas.Grind.{flat_map-append}
-use Rattle.std.proofs.lemmas.List.{take-append-le, take_all}
+use Rattle.std.proofs.lemmas.List.{length-append, take-append-le, take_all}
 use Rattle.std.proofs.lemmas.List.Elements.{filter_more}
+use Rattle.std.proofs.lemmas.List.Filters.{length-filter_more}
 use Rattle.gw_regions.specs.declared.comparison.Found.{Found}
 use Rattle.gw_compare.specs.Groups.{firsts, firsts_after, is_like}
 
@@ -55,8 +56,8 @@ shown : (text : Found → List ℕ) (most : ℕ) (group : List Found) (f : Found
 shown text most group f true e =
     let few = ltb-true (length group) most e in
     let one_more : length (group ++ f ∷ []) ≡ length group + 1 = length-append group (f ∷ []) in
-    let all : take most (group ++ f ∷ []) ≡ group ++ f ∷ [] = take_all (group ++ f ∷ []) most (omega (arith, few, one_more)) in
-    let before : take most group ≡ group = take_all group most (omega (arith, few)) in
+    let all : take most (group ++ f ∷ []) ≡ group ++ f ∷ [] = take_all most (group ++ f ∷ []) (omega (arith, few, one_more)) in
+    let before : take most group ≡ group = take_all most group (omega (arith, few)) in
     ap (flat_map text) all ∙ flat_map-append text group (f ∷ [])
     ∙ ap (λ (xs : List ℕ). flat_map text group ++ xs) (append-nil (text f))
     ∙ ap (λ (fs : List Found). flat_map text fs ++ text f) (sym before)
@@ -86,3 +87,16 @@ member_step text like most found place d false count before out new within is co
     let same : filter like (take (place + 1) found) ≡ group =
     filter_more like found place d within ∙ ap (λ b. group ++ (if b then f ∷ [] else [])) is ∙ append-nil group in
     grown ∙ append-nil out ∙ e ∙ ap (λ (fs : List Found). before ++ flat_map text (take most fs)) (sym same)
+
+-- and one more is counted
+pub member_count : (like : Found → Bool) (found : List Found) (place : ℕ) (d : Found) (m : Bool) (count more : ℕ) → place < length found
+    → like (get_or found place d) ≡ m → count ≡ length (filter like (take place found)) → more ≡ count + (if m then 1 else 0)
+    → more ≡ length (filter like (take (place + 1) found))
+member_count like found place d m count more within is counted e =
+    e ∙ ap (λ n. n + (if m then 1 else 0)) counted
+    ∙ ap (λ b. length (filter like (take place found)) + (if b then 1 else 0)) (sym is)
+    ∙ sym (length-filter_more like found place d within)
+
+pub member_bound : (m : Bool) (place count more : ℕ) → count ≤ place → more ≡ count + (if m then 1 else 0) → more ≤ place + 1
+member_bound true place count more few e = omega (arith, few, e)
+member_bound false place count more few e = omega (arith, few, e)

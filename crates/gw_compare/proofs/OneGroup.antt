@@ -1,10 +1,11 @@
 -- Each region that was found is in the group of exactly one of the first regions.
-use Rattle.std.proofs.Common.{◌≡◌, ◌∙◌, ap, sym, refl, subst, ℕ, ◌+◌, Bool, true, false, ◌&&◌, ◌||◌, append_assoc, List, [], ◌∷◌, ◌++◌, nat_eq}
+use Rattle.std.proofs.Common.{◌≡◌, ◌∙◌, ap, sym, refl, subst, ℕ, ◌+◌, Bool, true, false, ◌&&◌, ◌||◌, append_assoc, zero-add, List, [], ◌∷◌, ◌++◌, nat_eq}
 use Rattle.std.specs.Prelude.{count_by, if◌then◌else◌, not}
 use Rattle.std.specs.Cmp.Lexicographic.{pointwise}
 use Rattle.std.specs.List.{AllByRecursion, list_any}
 use Rattle.std.proofs.lemmas.Bool.{and_from, and_parts, both_ways, or_left, or_right}
 use Rattle.std.proofs.lemmas.List.Folds.{list_any-append}
+use Rattle.std.proofs.lemmas.List.Sums.{sum_by-cons}
 use Rattle.std.proofs.lemmas.Slice.Eq.{bytes_eq-Decides}
 use Rattle.gw_regions.specs.Comparing.{unlike}
 use Rattle.gw_regions.specs.declared.comparison.Found.{Found}
@@ -77,14 +78,14 @@ abbrev count : Found → List Found → ℕ
 count f found = count_by (λ g. is_like g f) found
 
 first_one : (f x : Found) (rest : List Found) (b : Bool) → count f ((if b then [] else x ∷ []) ++ rest) ≡ (if b then 0 else one_if (is_like x f)) + count f rest
-first_one f x rest true = refl
-first_one f x rest false = refl
+first_one f x rest true = sym (zero-add (count f rest))
+first_one f x rest false = sum_by-cons (λ y. if is_like y f then 1 else 0) x rest
 
 counted : (f : Found) (seen found : List Found)
     → count f (firsts_after seen found) ≡ (if list_any (is_like f) seen then 0 else one_if (list_any (is_like f) found))
 counted f seen [] = by (list_any (is_like f) seen)
   where
-    by : (b : Bool) → 0 ≡ (if b then 0 else 0)
+    by : (b : Bool) → ◌≡◌ {A = ℕ} 0 (if b then 0 else 0)
     by true = refl
     by false = refl
 counted f seen (x ∷ found) =
@@ -119,9 +120,9 @@ counted f seen (x ∷ found) =
       where
         other : (t s r : Bool) → (if t then 0 else 0) + (if (s || (false || false)) then 0 else one_if r) ≡ (if s then 0 else one_if (false || r))
         other true true r = refl
-        other true false r = refl
+        other true false r = zero-add (one_if r)
         other false true r = refl
-        other false false r = refl
+        other false false r = zero-add (one_if r)
 
 -- ---- each has one
 
@@ -129,9 +130,9 @@ there : (front found : List Found) → AllByRecursion (λ f. list_any (is_like f
 there front [] = tt
 there front (x ∷ found) = (
   list_any-append (is_like x) front (x ∷ found)
-  ∙ or_right (list_any (is_like x) front) (is_like x x || list_any (is_like x) found) (or_left (is_like x x) (list_any (is_like x) found) (like_itself x)),
+      ∙ or_right (list_any (is_like x) front) (is_like x x || list_any (is_like x) found) (or_left (is_like x x) (list_any (is_like x) found) (like_itself x)),
   subst (λ (all : List Found). AllByRecursion (λ f. list_any (is_like f) all ≡ true) found) (append_assoc front (x ∷ []) found)
-  (there (front ++ x ∷ []) found),
+      (there (front ++ x ∷ []) found),
 )
 
 one_of : (found : List Found) (f : Found) → list_any (is_like f) found ≡ true → count f (firsts found) ≡ 1

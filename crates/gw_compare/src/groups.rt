@@ -1,5 +1,5 @@
 //! The lines of what was found: many regions are grouped by the rules that decide in them.
-ghost use Rattle.std.specs.Prelude.{◌≡◌, ◌<◌, ◌+◌, ◌-◌, ◌^◌, ◌++◌, ◌==◌, [], codes, if◌then◌else◌, length, not, take, IfOk, OnOk};
+ghost use Rattle.std.specs.Prelude.{◌≡◌, ◌<◌, ◌+◌, ◌-◌, ◌^◌, ◌++◌, ◌==◌, ◌&&◌, [], codes, if◌then◌else◌, length, nat_lt, not, take, IfOk, OnOk};
 ghost use Rattle.std.specs.List.{flat_map, list_any};
 ghost use Rattle.gw_compare.specs.Groups.{before_text, count_text, firsts, found_text, group_head, group_of, group_text, groups_text, is_like, more_text, now_text, regions_text, was_text};
 ghost use Rattle.gw_compare.specs.Lines.{line_text};
@@ -25,7 +25,11 @@ pub(crate) struct Listing<'a> {
 }
 
 /// Appends the lines of regions: of so many in groups, with a line for each group in front.
-pub(crate) fn put_regions(alloc: Global, out: &mut Vec<u8>, listing: &Listing<'_>) -> Result<(), AllocError>
+pub(crate) fn put_regions(
+    alloc: Global,
+    out: &mut Vec<u8>,
+    listing: &Listing<'_>,
+) -> Result<(), AllocError>
     ensures { OnOk result (out.new.items ≡ out.old.items
         ++ regions_text listing.now.old.now listing.now.new.now listing.now.most listing.now.found.now) }
 {
@@ -249,10 +253,23 @@ fn put_group_lines(
     let mut count = 0;
     for each in listing.found {
         let like = is_like(first, each);
-        put_if(alloc, out, listing, like && count < listing.most, each)?;
+        put_if(
+            alloc,
+            out,
+            listing,
+            is_shown(like, count, listing.most),
+            each,
+        )?;
         count = with_one(count, like);
     }
     Ok(count)
+}
+
+/// Whether a region is shown: if it is one of the group, and fewer than the most are shown before it.
+fn is_shown(like: bool, count: usize, most: usize) -> bool
+    ensures { result ≡ (like && nat_lt count most) }
+{
+    like && count < most
 }
 
 /// Appends the line of a region, if it is to be shown.

@@ -71,7 +71,11 @@ fn put_deciders(
 }
 
 /// Appends the names of the rules of these numbers.
-pub(crate) fn put_names(out: &mut Vec<u8>, rules: &[Rule], numbers: &[usize]) -> Result<(), AllocError>
+pub(crate) fn put_names(
+    out: &mut Vec<u8>,
+    rules: &[Rule],
+    numbers: &[usize],
+) -> Result<(), AllocError>
     ensures { OnOk result (out.new.items ≡ out.old.items ++ names_text rules.now numbers.now) }
 {
     let Some((first, rest)) = numbers.split_first() else {
