@@ -1,5 +1,7 @@
 -- Where a route is said to find no room, 512 networks have a route.
-use Rattle.std.proofs.Common.{◌≡◌, ◌∙◌, refl, sym, ap, subst, arith, ℕ, ◌+◌, ◌≤◌, Bool, true, false, true≢false, cond, not, ◌&&◌, ◌||◌, nat_eq, nat_lt, List, [], ◌∷◌, ◌++◌, length, map, is_some, Option, Some, None}
+use Rattle.std.proofs.Common.{◌≡◌, ◌∙◌, refl, sym, ap, subst, arith, ℕ, ◌+◌, ◌≤◌, Bool, true, false, true≢false, cond}
+use Rattle.std.proofs.Common.{not, ◌&&◌, ◌||◌, nat_eq, nat_lt, List, [], ◌∷◌, ◌++◌, length, map, is_some, Option}
+use Rattle.std.proofs.Common.{Some, None}
 use Rattle.std.specs.Prelude.{find, if◌then◌else◌, position}
 use Rattle.std.specs.Cmp.{nat_eq_equiv}
 use Rattle.std.specs.List.{list_any, position_or_len}
@@ -12,7 +14,8 @@ use Rattle.gw_configuration.specs.declared.port.Port.{Port as ConfiguredPort}
 use Rattle.gw_configuration.specs.declared.route.Route.{Route as ConfiguredRoute}
 use Rattle.gw_routes.proofs.Room.{length-insert_entry}
 use Rattle.gw_routes.specs.declared.route.Route.{Route}
-use Rattle.gw_routes.specs.Table.{Routed, Table, grants, is_fixed, is_learned, learned_by, routes_held, table_of, with_granted, with_learned}
+use Rattle.gw_routes.specs.Table.{Routed, Table, grants, is_fixed, is_learned, learned_by, routes_held, table_of}
+use Rattle.gw_routes.specs.Table.{with_granted, with_learned}
 use Rattle.gw_saved.specs.Carried.{routes_carried}
 use Rattle.gw_takeover.specs.declared.finding.RouteFate.TheVariants as routes
 use Rattle.gw_takeover.specs.Findings.{fate_beside, first_table, is_own, is_routed, is_same_route, refusal, routed_of, routes_kept}
@@ -129,7 +132,8 @@ no_position p xs e =
     ap (λ (n : ℕ). is_some (cond (nat_lt n (length xs)) (Some n) None)) (not_found p xs e)
     ∙ below (length xs) (nat_lt (length xs) (length xs)) refl
 
-of_ports : (n : ℕ) (ports : List ConfiguredPort) → list_any (nat_eq n) (map (λ p. p.network) ports) ≡ list_any (λ p. nat_eq n p.network) ports
+of_ports : (n : ℕ) (ports : List ConfiguredPort)
+    → list_any (nat_eq n) (map (λ p. p.network) ports) ≡ list_any (λ p. nat_eq n p.network) ports
 of_ports n [] = refl
 of_ports n (p ∷ ports) = ap (λ (b : Bool). nat_eq n p.network || b) (of_ports n ports)
 

@@ -1,5 +1,6 @@
 -- What is said of objects is so.
-use Rattle.std.proofs.Common.{◌≡◌, ◌∙◌, refl, sym, ap, ap₂, ℕ, ◌+◌, Bool, true, false, not, ◌&&◌, List, [], ◌∷◌, ◌++◌, map, take, Option, Some, None}
+use Rattle.std.proofs.Common.{◌≡◌, ◌∙◌, refl, sym, ap, ap₂, ℕ, ◌+◌, Bool, true, false, not, ◌&&◌, List, [], ◌∷◌, ◌++◌}
+use Rattle.std.proofs.Common.{map, take, Option, Some, None}
 use Rattle.std.specs.Prelude.{◌↔◌, ◌==◌, count_by, find, filter_map, is_some, if◌then◌else◌}
 use Rattle.std.specs.Option.{option_map_or}
 use Rattle.std.specs.List.{flat_map, list_any}
@@ -26,8 +27,12 @@ use Rattle.gw_takeover.specs.declared.finding.Held.TheVariants.{Default, Slot}
 use Rattle.gw_takeover.specs.declared.finding.ObjectName.{ObjectName}
 use Rattle.gw_takeover.specs.declared.finding.ValueFate.{ValueFate}
 use Rattle.gw_takeover.specs.declared.finding.ValueFate.TheVariants as values
-use Rattle.gw_takeover.specs.Findings.{default_fate, default_finding, finding_of_route, is_same_object, is_written, lost_objects, lost_ports, object_absence, object_finding, object_findings, object_name, objects_found, port_absence, port_finding, port_findings, port_name, ports_found, routes_kept, sizes_of, slot_findings, value_finding}
-use Rattle.gw_takeover.specs.Laws.{DefaultsAreAsSaid, DroppedSlotsAreEmpty, LostObjectsAreLost, SlotValue, SlotsAreAsSaid, held_by, held_in, lost_in, name_of, said_dropped, said_kept}
+use Rattle.gw_takeover.specs.Findings.{default_fate, default_finding, finding_of_route, is_same_object, is_written}
+use Rattle.gw_takeover.specs.Findings.{lost_objects, lost_ports, object_absence, object_finding, object_findings}
+use Rattle.gw_takeover.specs.Findings.{object_name, objects_found, port_absence, port_finding, port_findings}
+use Rattle.gw_takeover.specs.Findings.{port_name, ports_found, routes_kept, sizes_of, slot_findings, value_finding}
+use Rattle.gw_takeover.specs.Laws.{DefaultsAreAsSaid, DroppedSlotsAreEmpty, LostObjectsAreLost, SlotValue}
+use Rattle.gw_takeover.specs.Laws.{SlotsAreAsSaid, held_by, held_in, lost_in, name_of, said_dropped, said_kept}
 
 -- ---- slots
 
@@ -167,7 +172,8 @@ slots_are_as_said c s =
     let objects = flat_map (object_findings s.objects) c.objects in
     let lost = lost_objects c.objects s.objects 0 s.objects in
     skipped (ports_found c s) (routes ++ objects_found c s)
-    (both_none (port_findings 1 c.ports s.ports) (lost_ports c.ports s.ports 0 s.ports) (ports_none 1 c.ports s.ports) (lost_ports_none c.ports s.ports 0 s.ports))
+    (both_none (port_findings 1 c.ports s.ports) (lost_ports c.ports s.ports 0 s.ports) (ports_none 1 c.ports s.ports)
+    (lost_ports_none c.ports s.ports 0 s.ports))
     ∙ skipped routes (objects_found c s) (routes_none c s.ports (routes_kept c s) s.routes)
     ∙ filter_map-append said_kept objects lost
     ∙ ap₂ (λ (a b : List SlotValue). a ++ b) (objects_kept c.objects s.objects) (lost_objects_none c.objects s.objects 0 s.objects)
@@ -189,7 +195,8 @@ differ value configured e f =
 
 -- the default of an object: by whether it is the configured one, whether that is the one of then, and whether it fits
 said : (value configured : PropertyValue) (same unchanged inside : Bool) → same_value value configured ≡ same
-    → (if same then values.TakenOver else if unchanged then (if inside then values.TakenOver else values.OutOfRange) else values.OtherDefault)
+    → (if same then values.TakenOver
+    else if unchanged then (if inside then values.TakenOver else values.OutOfRange) else values.OtherDefault)
     ≡ values.TakenOver ↔ ((if unchanged && inside then value else configured) ≡ value)
 said value configured true true true e = (λ f. refl, λ f. refl)
 said value configured true true false e = (λ f. sym (equal value configured e), λ f. refl)
