@@ -55,7 +55,7 @@ pub record IsSuggested (text : List ℕ) (manner : Manner) (log added : List ℕ
   pub configured : configuration text ≡ Ok old
   pub asks : List Ask
   pub seen : AreSeen old.rules (lines_of log) asks
-  pub added : IsAdded old text manner asks added
+  pub made : IsAdded old text manner asks added
 
 -- the whole of a text is written, or after a failed write a front of it
 abbrev pub LeavesText : List ℕ → Result (Unit {0}) SuggestFault → (before after : List ℕ) → Type 0
