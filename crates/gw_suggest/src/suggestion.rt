@@ -100,7 +100,13 @@ fn added_for(
 {
     let rules = rules_in(alloc, manner, seen.given.as_slice(), config.rules().rules())?;
     let mut added = Vec::new(alloc);
-    put_text(&mut added, config.format(), rules.as_slice(), &seen.given, seen.unread)?;
+    put_text(
+        &mut added,
+        config.format(),
+        rules.as_slice(),
+        &seen.given,
+        seen.unread,
+    )?;
     read_in_front(alloc, config, text, rules.as_slice(), added.as_slice())?;
     Ok(added)
 }

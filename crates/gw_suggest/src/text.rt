@@ -3,6 +3,7 @@
 use crate::given::Given;
 use gw_addr::{BipAddr, put_decimal};
 use gw_configuration::Format;
+use gw_migration::put_field;
 use gw_rules::{Ask, FieldName, Operation, Range, Rule};
 use std::alloc::AllocError;
 
@@ -95,7 +96,7 @@ fn put_ranges(
     ranges: &[Range],
 ) -> Result<(), AllocError> {
     if format.names_stations() {
-        return put_plain(out, field, ranges);
+        return put_field(out, field, ranges);
     }
     put_plain(out, field, ranges)
 }
