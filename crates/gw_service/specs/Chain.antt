@@ -67,7 +67,7 @@ pub record IsRefusedSo {K : Type 0} (c : Configuration) (s : Standing K) (text :
 pub record IsTakenOver {K : Type 0} (manner : Manner K) (c : Configuration) (s : Standing K) (text : List ℕ) (new : Configuration)
     (d : Configuration) (t : Standing K) : Type 0 where
   pub config : d ≡ new
-  pub text : configuration text ≡ Ok new
+  pub reads : configuration text ≡ Ok new
   pub ports : have_same_ports s.gateway.relay.links new.ports ≡ true
   pub gateway : t.gateway ≡ carried new (saved c s.gateway)
   pub keeper : manner.Adopts s.keeper (origin_of new) t.gateway t.keeper
@@ -140,7 +140,7 @@ pub record IsTicked {K : Type 0} (manner : Manner K) (s : Stage K) (turns : List
   pub done : AtTick manner s.config (standing_at then s.requests) look t.config (standing_at t.now t.requests)
   pub rest : IsIdle then t.now
   pub told : t.told ≡ manner.failing t.now.guard
-  pub text : text ≡ look_text s.config (standing_at then s.requests) look ++ notice_of s.told t.told
+  pub lines : text ≡ look_text s.config (standing_at then s.requests) look ++ notice_of s.told t.told
 
 -- The keeper didn't let the datagrams of the last event go, and that was told.
 pub record IsHeldBack {K : Type 0} (manner : Manner K) (s : Stage K) (turns : List Turn) (event : Event) (text : List ℕ) (t : Stage K)
@@ -151,7 +151,7 @@ pub record IsHeldBack {K : Type 0} (manner : Manner K) (s : Stage K) (turns : Li
   pub config : t.config ≡ s.config
   pub requests : t.requests ≡ s.requests
   pub told : t.told ≡ manner.failing t.now.guard
-  pub text : text ≡ notice_of s.told t.told
+  pub lines : text ≡ notice_of s.told t.told
 
 abbrev pub IsLink : {K : Type 0} → Manner K → Stage K → Link → Stage K → Type 0
 IsLink manner s (served turns) t = IsServed manner s turns t

@@ -6,6 +6,7 @@ mod announcement;
 mod counts;
 mod fault;
 mod keeping;
+mod kept;
 mod line;
 mod notices;
 mod options;

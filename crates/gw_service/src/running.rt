@@ -114,16 +114,16 @@ impl<K: StateKeeper, Q: Requests> Running<K, Q> {
         }
     }
 
-    /// Tells whether the state is kept, if that changed since it was told last.
-    fn notice<E: OctetSink>(&mut self, errors: &mut E)
-        ensures told { self.new ≡ record self.old { told = K.failing self.old.keeper } }
+    /// Tells whether the state is kept, if that changed since it was told last; and answers why it isn't.
+    pub(crate) fn notice<E: OctetSink>(&self, errors: &mut E) -> Option<StoreFault>
+        ensures failing { result ≡ K.failing self.now.keeper }
         ensures text { E.NeverFails errors.old →
-            Appends (E.held errors.old) (E.held errors.new) (notice_of self.old.told self.new.told) }
+            Appends (E.held errors.old) (E.held errors.new) (notice_of self.now.told result) }
         ensures lasts { E.NeverFails errors.old → E.NeverFails errors.new }
     {
         let failing = self.keeper.failing();
         tell(notice_of(self.told, failing).as_bytes(), errors);
-        self.told = failing;
+        failing
     }
 
     /// Does what is due at a tick: keeps the state, and looks for a request.
@@ -171,9 +171,9 @@ impl<K: StateKeeper, Q: Requests> Running<K, Q> {
             Ok(Pause::Turns) => {}
             Ok(Pause::Tick) => {
                 self.at_tick(alloc, errors);
-                self.notice(errors);
+                self.told = self.notice(errors);
             }
-            Ok(Pause::Withheld) => self.notice(errors),
+            Ok(Pause::Withheld) => self.told = self.notice(errors),
             Err(fault) => return Err(fault),
         }
         Ok(())
