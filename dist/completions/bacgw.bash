@@ -9,26 +9,29 @@ _bacgw() {
         equals=yes before=${COMP_WORDS[COMP_CWORD - 2]}
     elif [[ $word == --*=* ]]; then
         case $word in
-            --config=* | --with=* | --log=*) mapfile -t COMPREPLY < <(compgen -f -P "${word%%=*}=" -- "${word#*=}") ;;
+            --config=* | --with=* | --log=* | --state=* | --reload=*) mapfile -t COMPREPLY < <(compgen -f -P "${word%%=*}=" -- "${word#*=}") ;;
         esac
         return
     fi
     if [ "$COMP_CWORD" = 1 ]; then
-        options='check replay run why compare log help --help --version'
+        options='check replay run why compare log state reload suggest help --help --version'
     else
         case $before in
-            --config | --with | --log) compopt -o default; return ;;
+            --config | --with | --log | --state | --reload) compopt -o default; return ;;
             --turns | --stats | --start | --most) return ;;
         esac
         if [ "$equals" ]; then return; fi
         case ${COMP_WORDS[1]} in
             check) options='--config --explain --lint --help' ;;
             replay) options='--config --explain --help' ;;
-            run) options='--config --log --turns --stats --verbose --help' ;;
-            why) options='--config --help' ;;
+            run) options='--config --log --turns --stats --verbose --state --reload --help' ;;
+            why) options='--config --count --help' ;;
+            state) options='--config --state --help' ;;
+            reload) options='--config --reload --help' ;;
+            suggest) options='--config --fill --exact --help' ;;
             compare) options='--config --with --most --help' ;;
             log) options='--start --help' ;;
-            help) options='check replay run why compare log' ;;
+            help) options='check replay run why compare log state reload suggest' ;;
             *) return ;;
         esac
     fi

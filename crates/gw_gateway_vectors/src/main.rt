@@ -2,6 +2,7 @@
 #![tactic(auto)]
 
 mod configurations;
+mod keeping;
 mod objects;
 mod replays;
 mod serving;
@@ -27,6 +28,7 @@ impl Kinds for GatewayKinds {
             "edits" => configurations::edit(alloc, config, line, out),
             "octets" => configurations::octets(alloc, line, out),
             "streams" => streams::stream(alloc, config, line, out),
+            "keep" => keeping::keeping(alloc, config, line, out),
             "serve" => serving::call(alloc, config, line, out),
             "reports" => serving::reports(alloc, config, line, out),
             "turns" => turns::turns(alloc, line, out),

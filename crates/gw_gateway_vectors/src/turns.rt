@@ -6,8 +6,8 @@ ghost use Rattle.gw_ports.specs.Socket.{FitsBuffer};
 
 use gw_addr::BipAddr;
 use gw_cases::number_behind;
-use gw_serving::{Got, RECEIVE_ROOM, Wire, WireFault};
 use gw_ports::{Ports, Sock, SockFault, SockPair, TimedPorts, Timepiece, Waiter, Watch};
+use gw_serving::{Got, RECEIVE_ROOM, Wire, WireFault};
 use std::alloc::{AllocError, Global};
 use std::io;
 use std::io::{ErrorKind, Write};

@@ -9,8 +9,8 @@ ghost use Rattle.gw_gateway_vectors.specs.Calls.{call_of, calls_of};
 use crate::replays::event_of;
 use gw_addr::BipAddr;
 use gw_core::Event;
-use gw_serving::{Got, RECEIVE_ROOM, Wire, WireFault};
 use gw_script::MAX_DATAGRAM;
+use gw_serving::{Got, RECEIVE_ROOM, Wire, WireFault};
 use std::alloc::{AllocError, Global};
 
 /// How many ports a wire over memory has.

@@ -8,8 +8,8 @@ mod migration;
 mod objects;
 mod ports;
 mod rules;
-mod same;
 mod subnets;
 
 pub use fault::MigrationFault;
 pub use migration::migrate;
+pub use rules::put_field;

@@ -53,8 +53,9 @@ fn key_of(field: FieldName) -> &'static str {
     }
 }
 
-/// Appends the items for a field that the rule names.
-fn put_field(out: &mut Vec<u8>, field: FieldName, ranges: &[Range]) -> Result<(), AllocError> {
+/// Appends a line with the items for a field that a rule names, as format 3 writes them; for another field
+/// nothing. An `Err` if there is no memory.
+pub fn put_field(out: &mut Vec<u8>, field: FieldName, ranges: &[Range]) -> Result<(), AllocError> {
     if ranges.is_empty() {
         return Ok(());
     }

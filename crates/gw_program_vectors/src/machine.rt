@@ -44,6 +44,15 @@ impl ConfigFiles for MemFiles<'_> {
         }
         Ok(Vec::from_slice(alloc, self.text.as_bytes())?)
     }
+
+    ghost ReadsState = { λ _ _ _. ⊤ };
+
+    fn read_state(&self, alloc: Global, name: &str) -> Result<Vec<u8>, Fault> {
+        if name == UNREADABLE {
+            return Err(Fault::StateUnreadable);
+        }
+        Ok(Vec::from_slice(alloc, self.text.as_bytes())?)
+    }
 }
 
 /// A read of Binary Value 2, which the built-in policy denies.

@@ -4,7 +4,9 @@ use gw_audit::Moment;
 use gw_configuration::ConfigFault;
 use gw_migration::MigrationFault;
 use gw_script::LineFlaw;
-use gw_shell::{Choice, Fault, RunOptions, choice_of, end};
+use gw_serving::StoreFault;
+use gw_shell::{Choice, Fault, RunOptions, WordsFault, choice_of, end};
+use gw_state_text::{FaultKind, StateFault};
 use itoa::Buffer;
 use std::alloc::{AllocError, Global};
 use std::io;
@@ -34,7 +36,7 @@ pub fn words(alloc: Global, line: &str, out: &mut Vec<u8>) -> io::Result<()> {
 /// What is chosen.
 fn put_choice(
     alloc: Global,
-    choice: &Result<Choice, Fault>,
+    choice: &Result<Choice, WordsFault>,
     out: &mut Vec<u8>,
 ) -> Result<(), AllocError> {
     match choice {
@@ -59,7 +61,21 @@ fn put_choice(
             }
         }
         Ok(Choice::Run(options)) => put_options(options, out),
-        Ok(Choice::Why(file)) => put(out, &["why ", file.as_str()]),
+        Ok(Choice::Why { file, counts }) => {
+            put(out, &["why ", file.as_str()])?;
+            put_flag(out, " count", *counts)
+        }
+        Ok(Choice::State { config, state }) => {
+            put(out, &["state ", config.as_str(), " of=", state.as_str()])
+        }
+        Ok(Choice::Reload { config, request }) => {
+            put(out, &["reload ", config.as_str(), " by=", request.as_str()])
+        }
+        Ok(Choice::Suggest { file, fills, exact }) => {
+            put(out, &["suggest ", file.as_str()])?;
+            put_flag(out, " fill", *fills)?;
+            put_flag(out, " exact", *exact)
+        }
         Ok(Choice::Compare { old, new, most }) => put(
             out,
             &[
@@ -73,9 +89,8 @@ fn put_choice(
         ),
         Ok(Choice::Log(start)) => put_log(alloc, *start, out),
         Ok(Choice::Help(_)) => put(out, &["help"]),
-        Ok(Choice::Usage(_)) | Err(Fault::CommandLine) => put(out, &["refused"]),
-        Err(Fault::Memory) => put(out, &["out of memory"]),
-        Err(_) => put(out, &["another fault"]),
+        Ok(Choice::Usage(_)) | Err(WordsFault::CommandLine) => put(out, &["refused"]),
+        Err(WordsFault::Memory) => put(out, &["out of memory"]),
     }
 }
 
@@ -98,7 +113,17 @@ fn put_options(options: &RunOptions, out: &mut Vec<u8>) -> Result<(), AllocError
     if let Some(seconds) = options.stats {
         put(out, &[" stats=", Buffer::new().format(seconds)])?;
     }
-    put_flag(out, " verbose", options.verbose)
+    put_flag(out, " verbose", options.verbose)?;
+    put_file(out, " state=", &options.state)?;
+    put_file(out, " reload=", &options.reload)
+}
+
+/// Appends what is in front of a file and its name, if there is one.
+fn put_file(out: &mut Vec<u8>, front: &str, file: &Option<String>) -> Result<(), AllocError> {
+    match file {
+        Some(file) => put(out, &[front, file.as_str()]),
+        None => Ok(()),
+    }
 }
 
 /// Appends a word where it is given.
@@ -135,6 +160,21 @@ pub fn faults(alloc: Global, out: &mut Vec<u8>) -> io::Result<()> {
         Fault::Socket(8),
         Fault::Memory,
         Fault::CountEnd,
+        Fault::StateUnreadable,
+        Fault::State(StateFault {
+            line: 7,
+            kind: FaultKind::Range,
+        }),
+        Fault::State(StateFault {
+            line: u64::MAX,
+            kind: FaultKind::Cut,
+        }),
+        Fault::Store(StoreFault::NoSpace),
+        Fault::Request(StoreFault::NotPermitted),
+        Fault::NoAnswer,
+        Fault::TooManyAsks,
+        Fault::TooManyRules,
+        Fault::Unwritable,
     ];
     for fault in faults {
         let mut errors = Vec::with_capacity(alloc, LINE_ROOM)?;

@@ -14,7 +14,7 @@ ghost use Rattle.gw_service.specs.Start.{BeginsAs};
 
 use crate::fault::ServiceFault;
 use crate::keeping::{Kept, StateKeeper};
-use crate::options::RunOptions;
+use gw_command_line::RunOptions;
 use crate::running::Running;
 use crate::start::{MAX_STATE_OCTETS, begin_after, saved_in, start_text};
 use gw_configuration::Config;

@@ -17,11 +17,11 @@ ghost use Rattle.gw_service.specs.declared.fault.ServiceFault.TheVariants as fau
 use crate::announcement::{startup_line, warning_of};
 use crate::telling::tell;
 use crate::fault::ServiceFault;
-use crate::options::RunOptions;
+use gw_command_line::RunOptions;
 use gw_configuration::Config;
 use gw_core::{Counts, Gateway};
-use gw_serving::{ServeStop, Served, Wire, serve, serve_with_reports};
 use gw_script::OctetSink;
+use gw_serving::{ServeStop, Served, Wire, serve, serve_with_reports};
 use gw_system::{Host, LogFailure, OpenFailure, SocketFailure, note_of, open_at_line};
 use std::alloc::Global;
 use std::io::{BufWriter, Write};

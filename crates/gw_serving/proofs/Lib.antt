@@ -4,3 +4,4 @@ pub mod ServedLemmas
 pub mod StretchLemmas
 pub mod NextLemmas
 pub mod AlikeLemmas
+pub mod KeepingLemmas

@@ -214,6 +214,5 @@ IsRecent (Ok s) due = (due.counts.ticks < s.counts.ticks + 10) ⊎ (but_ticks s 
 IsRecent (Err fault) due = ⊤
 
 -- so it is after each tick
-abbrev pub TicksKeepRecent : Type 1
-TicksKeepRecent = (S : Type 0) (held : S → Option (List ℕ)) (k l : Keeping S) (w : State) →
-    KeepsAtTick held k w l → IsRecent l.kept (saved_of l.origin w)
+abbrev pub TicksKeepRecent : {S : Type 0} → (S → Option (List ℕ)) → Type 0
+TicksKeepRecent {S} held = (k l : Keeping S) (w : State) → KeepsAtTick held k w l → IsRecent l.kept (saved_of l.origin w)

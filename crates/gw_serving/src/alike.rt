@@ -12,7 +12,7 @@ use gw_saved::{Saved, SavedObject, SavedPort};
 
 /// What of two saved states is compared.
 #[derive(Clone, Copy)]
-pub(crate) enum Part {
+pub enum Part {
     /// What lasts: the ports with their tables of peers, and the objects with their slots and defaults.
     Lasting,
     /// All but how many ticks there were.

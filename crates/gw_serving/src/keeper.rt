@@ -3,7 +3,7 @@
 ghost use Rattle.std.specs.Prelude.{◌≡◌, ◌⊎◌, OnOk, OnErr, Err};
 ghost use Rattle.gw_core.specs.Resumed.{saved_of};
 ghost use Rattle.gw_state_text.specs.Text.{state_text};
-ghost use Rattle.gw_serving.specs.Keeping.{HasPassed, Holds, IsTried, KeepsAtTick, KeepsChanged, Tries, failing_of, is_due, is_kept, nothing_kept, one_more};
+ghost use Rattle.gw_serving.specs.Keeping.{HasPassed, Holds, IsHeld, IsTried, KeepsAtTick, KeepsChanged, Tries, failing_of, is_due, is_kept, nothing_kept, one_more};
 
 use crate::alike::{Part, is_same};
 use crate::guard::Guard;
@@ -123,9 +123,10 @@ impl<S: Store + Drop> Keeper<S> {
         self.unkept
     }
 
-    /// The store.
+    /// The store, which holds the text of what is kept.
     pub fn store(&self) -> &S
-        ensures { result.now ≡ self.now.store }
+        ensures store { result.now ≡ self.now.store }
+        ensures held { IsHeld (S.held self.now.store) self.now.kept }
     {
         &self.store
     }

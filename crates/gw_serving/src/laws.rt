@@ -1,8 +1,10 @@
 //! Laws of serving. The functions do nothing: their contracts are the laws.
 
 ghost use Rattle.std.specs.Prelude.{◌≡◌};
+ghost use Rattle.gw_serving.specs.Keeping.{AlikeButTicksIsEqual, AlikeIsEqual, EqualIsAlike, TicksKeepRecent};
 ghost use Rattle.gw_serving.specs.Served.{StopsAreServed, TurnsAreServed};
 
+use crate::store::Store;
 use crate::wire::RECEIVE_ROOM;
 
 /// A datagram is received to 1508 octets, one more than the longest that is heard.
@@ -16,4 +18,14 @@ pub fn limits()
 pub fn served()
     ensures turns { TurnsAreServed }
     ensures stops { StopsAreServed }
+{}
+
+/// When a keeper doesn't write: of two saved states that it takes for alike the same lasts, and it takes all such for
+/// alike; or they differ only in their ticks. And after each tick the text is that of a state fewer than ten ticks ago, or
+/// of one that differs only in its ticks, unless the last try failed.
+pub fn keeping<S: Store>()
+    ensures lasting { AlikeIsEqual }
+    ensures alike { EqualIsAlike }
+    ensures but_ticks { AlikeButTicksIsEqual }
+    ensures recent { TicksKeepRecent S.held }
 {}

@@ -13,6 +13,7 @@ mod stretch;
 mod tally;
 mod wire;
 
+pub use alike::Part;
 pub use guard::{Guard, Unguarded};
 pub use keeper::Keeper;
 pub use report::{Report, report_of, tell_report};

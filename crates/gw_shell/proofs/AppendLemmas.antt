@@ -35,3 +35,15 @@ front_written (Ok done) held holds text note same whole front = record {
   appends = subst (λ (t : List ℕ). Appends held holds t) same whole;
 }
 front_written (Err failed) held holds text note same whole front = subst (λ (t : List ℕ). AppendsFront held holds t) same front
+
+-- nothing is appended if nothing is written
+pub appends_nothing : (held : Option (List ℕ)) → Appends held held []
+appends_nothing None = tt
+appends_nothing (Some held) = search rules
+
+-- two texts that are appended are appended as one
+pub appends_two : (a b c : Option (List ℕ)) (x y : List ℕ) → Appends a b x → Appends b c y → Appends a c (x ++ y)
+appends_two None b c x y first second = tt
+appends_two (Some a) None c x y first second = absurd first
+appends_two (Some a) (Some b) None x y first second = absurd second
+appends_two (Some a) (Some b) (Some c) x y first second = second ∙ ap (λ (t : List ℕ). t ++ y) first ∙ append_assoc a x y

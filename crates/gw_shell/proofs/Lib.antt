@@ -1,7 +1,6 @@
-mod AnnouncementLemmas
 mod AppendLemmas
 mod ChoiceLemmas
+mod KeptLemmas
 mod LinesLemmas
 mod ReplayLemmas
-mod ServingLemmas
-mod WordsLemmas
+mod SuggestLemmas

@@ -1,11 +1,22 @@
 -- What `why` leaves written, at each outcome: over the definitions of `gw_verdicts`.
-use Rattle.std.specs.Prelude.{ℕ, List, Result}
+use Rattle.std.specs.Prelude.{◌≡◌, ⊤, ℕ, List, Result, Ok, Err}
 use Rattle.gw_verdicts.specs.Why.{IsAnswered, TellsNoAsk}
 use Rattle.gw_rules.specs.declared.rule.Rule.{Rule}
 use Rattle.gw_shell.specs.Lines.{Leaves}
+use Rattle.gw_tally.specs.Counting.{CountsAll, EndsAtLine}
+use Rattle.gw_tally.specs.Tally.{tally_text}
 use Rattle.gw_shell.specs.declared.fault.Fault.{Fault}
+use Rattle.gw_shell.specs.declared.fault.Fault.TheVariants as fault
 
--- `before` was written before the asks of this text were answered by these rules with this outcome, and `after` when
--- that ended
-abbrev pub Answers : List Rule → List ℕ → List ℕ → Result (Unit {0}) Fault → List ℕ → Type 0
-Answers rules = Leaves (IsAnswered rules) TellsNoAsk
+-- `before` was written before the asks of this text were answered by these rules, with these notes and this outcome,
+-- and `after` when that ended
+abbrev pub Answers : List Rule → (notes : List (List ℕ)) → List ℕ → List ℕ → Result (Unit {0}) Fault → List ℕ → Type 0
+Answers rules notes = Leaves (IsAnswered rules notes) TellsNoAsk
+
+-- how many of the asks of a text each of these rules decides, in lines; or the first line that says none
+abbrev pub Counts : List Rule → List ℕ → Result (List ℕ) Fault → Type 0
+Counts rules text (Ok lines) = (counts : List ℕ) × CountsAll rules text counts × (lines ≡ tally_text rules counts)
+Counts rules text (Err (fault.Line n)) = EndsAtLine n text
+Counts rules text (Err fault.Read) = ⊤
+Counts rules text (Err fault.Memory) = ⊤
+Counts rules text (Err _) = ⊥

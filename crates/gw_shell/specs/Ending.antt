@@ -1,10 +1,21 @@
 -- What the program tells of a fault: the line on standard error, and the exit status.
-use Rattle.std.specs.Prelude.{◌≡◌, ◌⊎◌, IsTrue, ℕ, Bool, true, false, List, [], ◌∷◌, ◌++◌, codes, decimal, Option, Some}
+use Rattle.std.specs.Prelude.{◌≡◌, ◌⊎◌, IsTrue, ℕ, Bool, true, false, List, [], ◌∷◌, ◌++◌, codes, decimal, nat_eq, if◌then◌else◌, Option, Some}
 use Rattle.std.specs.Prelude.{Result, Ok, Err, string_bytes}
-use Rattle.std.specs.List.{list_all}
+use Rattle.std.specs.List.{list_all, starts_with}
 use Rattle.gw_explanation.specs.Explanation.{ExplainsText, is_printed}
-use Rattle.gw_shell.specs.declared.command_line.Choice.{Choice}
-use Rattle.gw_shell.specs.declared.command_line.Choice.TheVariants as choice
+use Rattle.gw_command_line.specs.declared.command_line.Choice.{Choice}
+use Rattle.gw_command_line.specs.declared.command_line.Choice.TheVariants as choice
+use Rattle.gw_command_line.specs.declared.fault.WordsFault.{WordsFault}
+use Rattle.gw_command_line.specs.declared.fault.WordsFault.TheVariants as words
+use Rattle.gw_state_text.specs.declared.fault.FaultKind.{FaultKind}
+use Rattle.gw_state_text.specs.declared.fault.FaultKind.TheVariants as state_fault
+use Rattle.gw_state_text.specs.declared.fault.StateFault.{StateFault}
+use Rattle.gw_service.specs.declared.fault.ServiceFault.{ServiceFault}
+use Rattle.gw_service.specs.declared.fault.ServiceFault.TheVariants as service
+use Rattle.gw_serving.specs.declared.store.StoreFault.{StoreFault}
+use Rattle.gw_serving.specs.declared.store.StoreFault.TheVariants as store
+use Rattle.gw_suggest.specs.declared.fault.SuggestFault.{SuggestFault}
+use Rattle.gw_suggest.specs.declared.fault.SuggestFault.TheVariants as suggest
 use Rattle.gw_shell.specs.declared.fault.Fault.{Fault}
 use Rattle.gw_shell.specs.declared.fault.Fault.TheVariants as fault
 use Rattle.gw_compare.specs.declared.comparison.Compared.{Compared}
@@ -15,16 +26,8 @@ use Rattle.gw_migration.specs.declared.fault.MigrationFault.{MigrationFault}
 use Rattle.gw_migration.specs.declared.fault.MigrationFault.TheVariants as migration
 use Rattle.gw_core.specs.declared.replaying.RunFault.{RunFault}
 use Rattle.gw_core.specs.declared.replaying.RunFault.TheVariants as run
-use Rattle.gw_serving.specs.declared.serving.ServeFault.{ServeFault}
 use Rattle.gw_script.specs.declared.flaw.LineFlaw.{LineFlaw}
 use Rattle.gw_script.specs.declared.flaw.LineFlaw.TheVariants as flaw
-use Rattle.gw_serving.specs.declared.serving.ServeFault.TheVariants as serving
-use Rattle.gw_system.specs.declared.opening.LogFailure.{LogFailure}
-use Rattle.gw_system.specs.declared.opening.LogFailure.TheVariants as log_failure
-use Rattle.gw_system.specs.declared.opening.OpenFailure.{OpenFailure}
-use Rattle.gw_system.specs.declared.opening.OpenFailure.TheVariants as opening
-use Rattle.gw_system.specs.declared.opening.SocketFailure.{SocketFailure}
-use Rattle.gw_system.specs.declared.opening.SocketFailure.TheVariants as socket_failure
 
 -- the name of a fault of a configuration
 abbrev pub name_of : ConfigFault → List ℕ
@@ -53,6 +56,24 @@ reason_of migration.Already = codes "it is of format 3"
 reason_of migration.Unlike = codes "it has no text of format 3"
 reason_of migration.Memory = codes "out of memory"
 
+-- why a text is none of a state
+abbrev pub cause_of : FaultKind → List ℕ
+cause_of state_fault.Version = codes "another version"
+cause_of state_fault.Line = codes "no line that may be here"
+cause_of state_fault.Range = codes "out of range"
+cause_of state_fault.Twice = codes "comes twice"
+cause_of state_fault.TooMany = codes "too many"
+cause_of state_fault.Cut = codes "the text is cut"
+cause_of state_fault.Memory = codes "out of memory"
+
+-- why a file isn't written
+abbrev pub store_words : StoreFault → List ℕ
+store_words store.NoSpace = codes "no space"
+store_words store.NotPermitted = codes "not permitted"
+store_words store.ReadOnly = codes "read-only"
+store_words store.Memory = codes "out of memory"
+store_words store.System = codes "refused by the system"
+
 -- the line on standard error, without its line feed, of a fault that has one
 abbrev pub text_of : Fault → List ℕ
 text_of fault.CommandLine = codes "bacgw: bad command line"
@@ -67,11 +88,22 @@ text_of fault.Log = codes "bacgw: log failed"
 text_of (fault.Socket port) = codes "bacgw: socket failed on port " ++ decimal port
 text_of fault.Memory = codes "bacgw: out of memory"
 text_of fault.CountEnd = codes "bacgw: count at its end"
+text_of fault.StateUnreadable = codes "bacgw: cannot read state"
+text_of (fault.State f) = codes "bacgw: state: line " ++ decimal f.line ++ codes ": " ++ cause_of f.kind
+text_of (fault.Store f) = codes "bacgw: state isn't kept: " ++ store_words f
+text_of (fault.Request f) = codes "bacgw: request failed: " ++ store_words f
+text_of fault.NoAnswer = codes "bacgw: no answer"
+text_of fault.TooManyAsks = codes "bacgw: suggestion: too many asks"
+text_of fault.TooManyRules = codes "bacgw: suggestion: too many rules"
+text_of fault.Unwritable = codes "bacgw: suggestion: the rules can't be written"
+text_of fault.Refused = []
 text_of fault.Different = []
 
--- the line, of which there is none if `compare` found two configurations that aren't alike
+-- the line, of which there is none if `compare` found two configurations that aren't alike, or if the answer to `reload`
+-- says why it was refused
 abbrev pub line_of : Fault → List ℕ
 line_of fault.Different = []
+line_of fault.Refused = []
 line_of f = text_of f ++ 10 ∷ []
 
 -- 2 where what the program was given is wrong, 1 where what it stands on failed
@@ -88,12 +120,31 @@ status_of fault.Log = 1
 status_of (fault.Socket port) = 1
 status_of fault.Memory = 1
 status_of fault.CountEnd = 1
+status_of fault.StateUnreadable = 1
+status_of (fault.State f) = 2
+status_of (fault.Store f) = 1
+status_of (fault.Request f) = 1
+status_of fault.NoAnswer = 1
+status_of fault.TooManyAsks = 2
+status_of fault.TooManyRules = 2
+status_of fault.Unwritable = 2
+status_of fault.Refused = 2
 status_of fault.Different = 1
 
 -- of `compare`: 1 if it found that the two aren't alike, and 2 at any other fault
 abbrev pub status_of_comparison : Fault → ℕ
 status_of_comparison fault.Different = 1
 status_of_comparison _ = 2
+
+-- why words choose nothing, as the program tells it
+abbrev pub fault_of_words : WordsFault → Fault
+fault_of_words words.CommandLine = fault.CommandLine
+fault_of_words words.Memory = fault.Memory
+
+-- what words choose, or why they choose nothing, as the program tells it
+abbrev pub chosen : Result Choice WordsFault → Result Choice Fault
+chosen (Ok choice) = Ok choice
+chosen (Err f) = Err (fault_of_words f)
 
 -- the fault of a configuration, as the program tells it
 abbrev pub fault_of_configuration : ConfigFault → Fault
@@ -105,6 +156,21 @@ abbrev pub fault_of_migration : MigrationFault → Fault
 fault_of_migration migration.Memory = fault.Memory
 fault_of_migration f = fault.Migration f
 
+-- why a text is none of a state, as the program tells it
+abbrev pub fault_of_state : StateFault → FaultKind → Fault
+fault_of_state f state_fault.Memory = fault.Memory
+fault_of_state f _ = fault.State f
+
+-- why a state isn't kept, as the program tells it
+abbrev pub fault_of_store : StoreFault → Fault
+fault_of_store store.Memory = fault.Memory
+fault_of_store f = fault.Store f
+
+-- why a request isn't made, as the program tells it
+abbrev pub fault_of_request : StoreFault → Fault
+fault_of_request store.Memory = fault.Memory
+fault_of_request f = fault.Request f
+
 -- the fault of a run, as the program tells it
 abbrev pub fault_of : RunFault → Fault
 fault_of run.Read = fault.Read
@@ -113,26 +179,35 @@ fault_of run.Write = fault.Write
 fault_of run.Memory = fault.Memory
 fault_of run.CountEnd = fault.CountEnd
 
--- the fault of serving, as the program tells it
-abbrev pub fault_of_serving : ServeFault → Fault
-fault_of_serving serving.Log = fault.Log
-fault_of_serving serving.Memory = fault.Memory
-fault_of_serving serving.CountEnd = fault.CountEnd
+-- why no rules are suggested, as the program tells it
+abbrev pub fault_of_suggestion : SuggestFault → Fault
+fault_of_suggestion (suggest.Configuration f) = fault_of_configuration f
+fault_of_suggestion suggest.Read = fault.Read
+fault_of_suggestion (suggest.Line n) = fault.Line n
+fault_of_suggestion suggest.TooManyAsks = fault.TooManyAsks
+fault_of_suggestion suggest.TooManyRules = fault.TooManyRules
+fault_of_suggestion suggest.Unlike = fault.Unwritable
+fault_of_suggestion suggest.Write = fault.Write
+fault_of_suggestion suggest.Memory = fault.Memory
 
--- the fault where the log can't be opened
-abbrev pub fault_of_log : LogFailure → Fault
-fault_of_log log_failure.Memory = fault.Memory
-fault_of_log log_failure.Failed = fault.Log
+-- why a configuration isn't served, or not to the end, as the program tells it
+abbrev pub fault_of_service : ServiceFault → Fault
+fault_of_service service.Log = fault.Log
+fault_of_service (service.Socket port) = fault.Socket port
+fault_of_service service.Memory = fault.Memory
+fault_of_service service.CountEnd = fault.CountEnd
+fault_of_service service.StateUnreadable = fault.StateUnreadable
+fault_of_service (service.State f) = fault_of_state f f.kind
+fault_of_service (service.Store f) = fault_of_store f
 
--- the fault where sockets can't be opened
-abbrev pub fault_of_sockets : SocketFailure → Fault
-fault_of_sockets socket_failure.Memory = fault.Memory
-fault_of_sockets (socket_failure.Failed failed) = fault.Socket failed.port
+-- how serving ends, as the program tells it
+abbrev pub served : Result (Unit {0}) ServiceFault → Result (Unit {0}) Fault
+served (Ok done) = Ok done
+served (Err f) = Err (fault_of_service f)
 
--- the fault where not all can be opened
-abbrev pub fault_of_opening : OpenFailure → Fault
-fault_of_opening (opening.Log failure) = fault_of_log failure
-fault_of_opening (opening.Sockets failure) = fault_of_sockets failure
+-- how a request to read the configuration again ends: the answer says whether it was read
+abbrev pub outcome_of_answer : List ℕ → Result (Unit {0}) Fault
+outcome_of_answer answer = if starts_with nat_eq answer (codes "reload: ") then Ok tt else Err fault.Refused
 
 -- the outcome of a run, as the program tells it: also what is wrong with a line, where that is known
 abbrev pub outcome_of : Option LineFlaw → Result (Unit {0}) RunFault → Result (Unit {0}) Fault

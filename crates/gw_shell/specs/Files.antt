@@ -14,3 +14,10 @@ IsTold (Ok octets) = ⊤
 IsTold (Err fault.Unreadable) = ⊤
 IsTold (Err fault.Memory) = ⊤
 IsTold (Err _) = ⊥
+
+-- Nor of what a state's file holds.
+abbrev pub IsStateTold : Result (List ℕ) Fault → Type 0
+IsStateTold (Ok octets) = ⊤
+IsStateTold (Err fault.StateUnreadable) = ⊤
+IsStateTold (Err fault.Memory) = ⊤
+IsStateTold (Err _) = ⊥

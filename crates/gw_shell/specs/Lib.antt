@@ -1,12 +1,12 @@
-pub mod Announcement
 pub mod Asking
 pub mod Checked
-pub mod CommandLine
 pub mod Configured
 pub mod Ending
 pub mod Files
+pub mod Kept
 pub mod Lines
 pub mod Program
 pub mod Replay
 pub mod Serving
+pub mod Suggesting
 pub mod Telling

@@ -1,6 +1,6 @@
 -- The program as a whole: what the words chose, what stands on standard output then, the line on standard error and
 -- the exit status.
-use Rattle.std.specs.Prelude.{◌≡◌, ◌≢◌, ⊤, Bool, ℕ, List, [], ◌++◌, Option, Some, Result, Ok, Err, OnOk, option_map}
+use Rattle.std.specs.Prelude.{◌≡◌, ◌≢◌, ◌⊎◌, ⊤, Bool, true, false, ℕ, List, [], ◌++◌, Option, Some, Result, Ok, Err, IfErr, OnOk, option_map}
 use Rattle.std.specs.Prelude.{string_bytes}
 use Rattle.std.specs.Io.KnownBytes.{Appends}
 use Rattle.gw_script.specs.Known.{OnKnown}
@@ -11,17 +11,28 @@ use Rattle.gw_configuration.specs.Configuration.{Configuration}
 use Rattle.gw_migration.specs.Migration.{Migrates}
 use Rattle.gw_migration.specs.declared.fault.MigrationFault.TheVariants as migration
 use Rattle.gw_rules.specs.declared.format.Format.TheVariants as formats
-use Rattle.gw_shell.specs.declared.command_line.Choice.{Choice}
-use Rattle.gw_shell.specs.declared.command_line.Choice.TheVariants as choice
+use Rattle.gw_command_line.specs.declared.command_line.Choice.{Choice}
+use Rattle.gw_command_line.specs.declared.command_line.Choice.TheVariants as choice
+use Rattle.gw_command_line.specs.CommandLine.{IsAnswer}
+use Rattle.gw_command_line.specs.declared.fault.WordsFault.{WordsFault}
 use Rattle.gw_shell.specs.declared.fault.Fault.{Fault}
 use Rattle.gw_shell.specs.declared.fault.Fault.TheVariants as fault
-use Rattle.gw_shell.specs.Asking.{Answers}
+use Rattle.gw_shell.specs.Asking.{Answers, Counts}
 use Rattle.gw_shell.specs.Configured.{IsConfigurationOf, IsConfigured}
-use Rattle.gw_shell.specs.Ending.{FaultNote, error_text, status_by, usage_of}
+use Rattle.gw_shell.specs.Ending.{FaultNote, chosen, error_text, outcome_of_answer, status_by, usage_of}
 use Rattle.gw_shell.specs.Checked.{IsChecked}
+use Rattle.gw_shell.specs.Kept.{IsSaidOfText}
 use Rattle.gw_shell.specs.Replay.{Plays}
-use Rattle.gw_shell.specs.Serving.{IsFlushedFor, LeavesRun, Machine}
+use Rattle.gw_rules.specs.declared.rule.Rule.{Rule}
+use Rattle.gw_service.specs.Serving.{IsFlushedFor, Machine}
+use Rattle.gw_shell.specs.Serving.{LeavesRun}
+use Rattle.gw_shell.specs.Suggesting.{Suggests}
+use Rattle.gw_suggest.specs.declared.suggestion.Manner.{Manner}
 use Rattle.gw_shell.specs.Telling.{Tells}
+
+-- what the words of a call choose, or why they choose nothing
+abbrev pub IsChoiceOf : List (List ℕ) → Result Choice Fault → Type 0
+IsChoiceOf words choice = (read : Result Choice WordsFault) × IsAnswer words read × (choice ≡ chosen read)
 
 -- known octets grow by a front of a text
 pub record AppendsFront (held holds : Option (List ℕ)) (text : List ℕ) : Type 0 where
@@ -105,50 +116,110 @@ LeavesComparison most held holds (Ok old) (Ok new) outcome = LeavesCompared most
 LeavesComparison most held holds (Ok old) (Err f) outcome = (outcome ≡ Err f) × (holds ≡ held)
 LeavesComparison most held holds (Err f) new outcome = (outcome ≡ Err f) × (holds ≡ held)
 
+-- What printing leaves of a text that was made, of which a failed write may leave a front; or of why none was.
+abbrev pub LeavesPrinted : Result (List ℕ) Fault → Option (List ℕ) → Option (List ℕ) → Result (Unit {0}) Fault → Type 0
+LeavesPrinted (Ok text) held holds (Ok done) = Appends held holds text
+LeavesPrinted (Ok text) held holds (Err f) = (f ≡ fault.Write) × AppendsFront held holds text
+LeavesPrinted (Err f) held holds outcome = (outcome ≡ Err f) × (holds ≡ held)
+
+-- What `state` leaves of the configuration and of the text of a state that were read: what it says of them. If there is
+-- no configuration, the outcome is why.
+abbrev pub LeavesState : Option (List ℕ) → Option (List ℕ) → Result Configuration Fault → Result (List ℕ) Fault
+    → Result (Unit {0}) Fault → Type 0
+LeavesState held holds (Ok c) text outcome =
+    (words : Result (List ℕ) Fault) × IsSaidOfText c text words × LeavesPrinted words held holds outcome
+LeavesState held holds (Err f) text outcome = (outcome ≡ Err f) × (holds ≡ held)
+
+-- What `suggest` leaves under the configuration of a text that was read. If there is none, the outcome is why.
+abbrev pub LeavesSuggested : Manner → Option (List ℕ) → Option (List ℕ) → Option (List ℕ) → Result (List ℕ) Fault
+    → Result (Unit {0}) Fault → Type 0
+LeavesSuggested manner input held holds (Ok text) outcome =
+    OnKnown input held holds (λ log before. Suggests text manner log before outcome)
+LeavesSuggested manner input held holds (Err f) outcome = (outcome ≡ Err f) × (holds ≡ held)
+
+-- a request to read the configuration again that has no answer
+abbrev pub IsUnanswered : Fault → Type 0
+IsUnanswered (fault.Request f) = ⊤
+IsUnanswered fault.NoAnswer = ⊤
+IsUnanswered fault.Memory = ⊤
+IsUnanswered _ = ⊥
+
+-- What an answer leaves: its text, and it says how the request ends; or a front of it, if a write failed. If there is
+-- none, the outcome is why.
+abbrev pub LeavesAnswer : Result (List ℕ) Fault → Option (List ℕ) → Option (List ℕ) → Result (Unit {0}) Fault → Type 0
+LeavesAnswer (Ok answer) held holds outcome =
+    ((outcome ≡ outcome_of_answer answer) × Appends held holds answer)
+    ⊎ ((outcome ≡ Err fault.Write) × AppendsFront held holds answer)
+LeavesAnswer (Err f) held holds outcome = (outcome ≡ Err f) × (holds ≡ held)
+
+-- What `reload` leaves if the configuration is one: an answer, or nothing if there is none.
+abbrev pub LeavesReload : Option (List ℕ) → Option (List ℕ) → Result Configuration Fault → Result (Unit {0}) Fault
+    → Type 0
+LeavesReload held holds (Ok c) outcome =
+    (answer : Result (List ℕ) Fault) × IfErr answer IsUnanswered × LeavesAnswer answer held holds outcome
+LeavesReload held holds (Err f) outcome = (outcome ≡ Err f) × (holds ≡ held)
+
+-- What `why --count` leaves of a text: how many of its asks each of these rules decides, or the first line that says none.
+abbrev pub LeavesCounts : List Rule → List ℕ → Option (List ℕ) → Option (List ℕ) → Result (Unit {0}) Fault → Type 0
+LeavesCounts rules text held holds outcome =
+    (lines : Result (List ℕ) Fault) × Counts rules text lines × LeavesPrinted lines held holds outcome
+
 -- What `why` leaves by the rules of the configuration that was read. Where there is none nothing is answered, and the
 -- outcome is why.
-abbrev pub LeavesAnswered : Option (List ℕ) → Option (List ℕ) → Option (List ℕ)
+abbrev pub LeavesAnswered : Bool → Option (List ℕ) → Option (List ℕ) → Option (List ℕ)
     → Result Configuration Fault → Result (Unit {0}) Fault → Type 0
-LeavesAnswered input held holds (Ok c) outcome =
-    OnKnown input held holds (λ text before. Answers c.rules text before outcome)
-LeavesAnswered input held holds (Err f) outcome = (outcome ≡ Err f) × (holds ≡ held)
+LeavesAnswered false input held holds (Ok c) outcome =
+    OnKnown input held holds (λ text before. Answers c.rules c.notes text before outcome)
+LeavesAnswered true input held holds (Ok c) outcome =
+    (text : List ℕ) → input ≡ Some text → LeavesCounts c.rules text held holds outcome
+LeavesAnswered counts input held holds (Err f) outcome = (outcome ≡ Err f) × (holds ≡ held)
 
--- What stands on standard output, which held `held` before, where files give what `Reads` says and `run` opens what
--- the machine says: at `check`, `replay` and `why` what they leave of some configuration that is the one they name,
--- at `compare` of the two, at `run` also what was told at the start, at `log` what that leaves of the log, and at help its text, of which a
+-- What stands on standard output, which held `held` before, if files give what `Reads` and `ReadsState` say and `run`
+-- opens what the machine says: at `check`, `replay` and `why` what they leave of some configuration that is the one they name,
+-- at `compare` of the two, at `state` of the one and the state, at `run` also what was told at the start, at `log` what that leaves of the log, and at help its text, of which a
 -- failed write may leave a front. Words that choose nothing leave it as it was, and their fault is the outcome.
-abbrev pub LeavesOutput : {Log Sockets : Type 0} → (Reads : List ℕ → Result (List ℕ) Fault → Type 0)
+abbrev pub LeavesOutput : {Log Sockets : Type 0} → (Reads ReadsState : List ℕ → Result (List ℕ) Fault → Type 0)
     → Machine Log Sockets → Option (List ℕ) → Option (List ℕ) → Option (List ℕ) → List ℕ
     → Result Choice Fault → Result (Unit {0}) Fault → Type 0
-LeavesOutput Reads machine input held holds told (Ok (choice.Check file explains lints)) outcome =
+LeavesOutput Reads ReadsState machine input held holds told (Ok (choice.Check file explains lints)) outcome =
     (text : Result (List ℕ) Fault) × Reads (string_bytes file) text
     × LeavesOfText explains lints text held holds outcome
-LeavesOutput Reads machine input held holds told (Ok (choice.Migrate file)) outcome =
+LeavesOutput Reads ReadsState machine input held holds told (Ok (choice.Migrate file)) outcome =
     (c : Result Configuration Fault) × IsConfigured Reads (Some (string_bytes file)) c
     × LeavesMigrated held holds c outcome
-LeavesOutput Reads machine input held holds told (Ok (choice.Replay file explains)) outcome =
+LeavesOutput Reads ReadsState machine input held holds told (Ok (choice.Replay file explains)) outcome =
     (c : Result Configuration Fault) × IsConfigured Reads (option_map string_bytes file) c
     × LeavesPlayed explains input held holds c outcome
-LeavesOutput Reads machine input held holds told (Ok (choice.Run options)) outcome =
+LeavesOutput Reads ReadsState machine input held holds told (Ok (choice.Run options)) outcome =
     (text : Result (List ℕ) Fault) × Reads (string_bytes options.config) text
     × (c : Result Configuration Fault) × IsConfigurationOf text c
     × LeavesRun machine text held holds options c told outcome
-LeavesOutput Reads machine input held holds told (Ok (choice.Why file)) outcome =
+LeavesOutput Reads ReadsState machine input held holds told (Ok (choice.Why file counts)) outcome =
     (c : Result Configuration Fault) × IsConfigured Reads (Some (string_bytes file)) c
-    × LeavesAnswered input held holds c outcome
-LeavesOutput Reads machine input held holds told (Ok (choice.Compare old new most)) outcome =
+    × LeavesAnswered counts input held holds c outcome
+LeavesOutput Reads ReadsState machine input held holds told (Ok (choice.Reload config request)) outcome =
+    (c : Result Configuration Fault) × IsConfigured Reads (Some (string_bytes config)) c
+    × LeavesReload held holds c outcome
+LeavesOutput Reads ReadsState machine input held holds told (Ok (choice.Compare old new most)) outcome =
     (a : Result Configuration Fault) × IsConfigured Reads (Some (string_bytes old)) a
     × (b : Result Configuration Fault) × IsConfigured Reads (Some (string_bytes new)) b
     × LeavesComparison most held holds a b outcome
-LeavesOutput Reads machine input held holds told (Ok (choice.Log start)) outcome =
+LeavesOutput Reads ReadsState machine input held holds told (Ok (choice.State config state)) outcome =
+    (c : Result Configuration Fault) × IsConfigured Reads (Some (string_bytes config)) c
+    × (text : Result (List ℕ) Fault) × ReadsState (string_bytes state) text
+    × LeavesState held holds c text outcome
+LeavesOutput Reads ReadsState machine input held holds told (Ok (choice.Suggest file fills exact)) outcome =
+    (text : Result (List ℕ) Fault) × Reads (string_bytes file) text
+    × LeavesSuggested (record { keeps_services = exact; fills = fills }) input held holds text outcome
+LeavesOutput Reads ReadsState machine input held holds told (Ok (choice.Log start)) outcome =
     OnKnown input held holds (λ log before. Tells start log before outcome)
-LeavesOutput Reads machine input held holds told (Ok (choice.Help text)) (Ok done) =
+LeavesOutput Reads ReadsState machine input held holds told (Ok (choice.Help text)) (Ok done) =
     Appends held holds (string_bytes text)
-LeavesOutput Reads machine input held holds told (Ok (choice.Help text)) (Err f) =
+LeavesOutput Reads ReadsState machine input held holds told (Ok (choice.Help text)) (Err f) =
     (f ≡ fault.Write) × AppendsFront held holds (string_bytes text)
-LeavesOutput Reads machine input held holds told (Ok (choice.Usage text)) outcome =
+LeavesOutput Reads ReadsState machine input held holds told (Ok (choice.Usage text)) outcome =
     (outcome ≡ Err fault.CommandLine) × (holds ≡ held)
-LeavesOutput Reads machine input held holds told (Err f) outcome = (outcome ≡ Err f) × (holds ≡ held)
+LeavesOutput Reads ReadsState machine input held holds told (Err f) outcome = (outcome ≡ Err f) × (holds ≡ held)
 
 -- Only `run` tells something before a fault's line.
 abbrev pub IsQuiet : Result Choice Fault → List ℕ → Type 0

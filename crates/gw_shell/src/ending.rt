@@ -4,13 +4,15 @@ ghost use Rattle.std.specs.Prelude.{◌≡◌, ◌++◌, ◌∷◌, [], codes, d
 ghost use Rattle.std.specs.Io.KnownBytes.{Appends};
 ghost use Rattle.std.specs.Process.{exit_status};
 ghost use Rattle.gw_shell.specs.declared.fault.Fault.TheVariants as fault;
-ghost use Rattle.gw_shell.specs.Ending.{error_text, line_of, name_of, reason_of, status_after, status_by, text_of, usage_of, words_of};
+ghost use Rattle.gw_shell.specs.Ending.{cause_of, error_text, line_of, name_of, reason_of, status_after, status_by, store_words, text_of, usage_of, words_of};
 
-use crate::command_line::Choice;
-use crate::fault::{Fault, name_of, reason_of, words_of};
+use crate::fault::{Fault, cause_of, name_of, reason_of, store_words, words_of};
+use gw_command_line::Choice;
 use gw_configuration::ConfigFault;
 use gw_migration::MigrationFault;
 use gw_script::{LineFlaw, OctetSink, WriteFailed, write_whole};
+use gw_serving::StoreFault;
+use gw_state_text::StateFault;
 use itoa::Buffer;
 use std::process::ExitCode;
 
@@ -73,6 +75,34 @@ fn write_flaw<E: OctetSink>(number: u64, flaw: LineFlaw, errors: &mut E) -> Resu
     write_whole(errors, b"\n")
 }
 
+/// Writes the number of a line of a state's text, and what is wrong with it.
+fn write_state_fault<E: OctetSink>(flaw: StateFault, errors: &mut E) -> Result<(), WriteFailed>
+    ensures ok { OnOk result (Appends (E.held errors.old) (E.held errors.new)
+        (text_of (fault.State flaw) ++ 10 ∷ [])) }
+    ensures sure { E.NeverFails errors.old → IsOk result }
+    ensures lasts { E.NeverFails errors.old → E.NeverFails errors.new }
+{
+    write_number("bacgw: state: line ", flaw.line, ": ", errors)?;
+    write_whole(errors, cause_of(flaw.kind).as_bytes())?;
+    write_whole(errors, b"\n")
+}
+
+/// Writes a text, why a file isn't written, and a line feed.
+fn write_store_fault<E: OctetSink>(
+    text: &str,
+    why: StoreFault,
+    errors: &mut E,
+) -> Result<(), WriteFailed>
+    ensures ok { OnOk result (Appends (E.held errors.old) (E.held errors.new)
+        (text.now ++ (store_words why ++ 10 ∷ []))) }
+    ensures sure { E.NeverFails errors.old → IsOk result }
+    ensures lasts { E.NeverFails errors.old → E.NeverFails errors.new }
+{
+    write_whole(errors, text.as_bytes())?;
+    write_whole(errors, store_words(why).as_bytes())?;
+    write_whole(errors, b"\n")
+}
+
 /// Writes the line of a fault, if it has one.
 fn write_fault<E: OctetSink>(fault: Fault, errors: &mut E) -> Result<(), WriteFailed>
     ensures ok { OnOk result (Appends (E.held errors.old) (E.held errors.new) (line_of fault)) }
@@ -99,7 +129,17 @@ fn write_fault<E: OctetSink>(fault: Fault, errors: &mut E) -> Result<(), WriteFa
         }
         Fault::Memory => write_whole(errors, b"bacgw: out of memory\n"),
         Fault::CountEnd => write_whole(errors, b"bacgw: count at its end\n"),
-        Fault::Different => write_whole(errors, b""),
+        Fault::StateUnreadable => write_whole(errors, b"bacgw: cannot read state\n"),
+        Fault::State(fault) => write_state_fault(fault, errors),
+        Fault::Store(why) => write_store_fault("bacgw: state isn't kept: ", why, errors),
+        Fault::Request(why) => write_store_fault("bacgw: request failed: ", why, errors),
+        Fault::NoAnswer => write_whole(errors, b"bacgw: no answer\n"),
+        Fault::TooManyAsks => write_whole(errors, b"bacgw: suggestion: too many asks\n"),
+        Fault::TooManyRules => write_whole(errors, b"bacgw: suggestion: too many rules\n"),
+        Fault::Unwritable => {
+            write_whole(errors, b"bacgw: suggestion: the rules can't be written\n")
+        }
+        Fault::Refused | Fault::Different => write_whole(errors, b""),
     }
 }
 

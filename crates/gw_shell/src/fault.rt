@@ -1,16 +1,19 @@
 //! Why the program ends without success, and its exit status.
 
 ghost use Rattle.std.specs.Prelude.{◌≡◌, ◌≢◌};
-ghost use Rattle.gw_shell.specs.Ending.{fault_of, fault_of_configuration, fault_of_migration, fault_of_opening, fault_of_serving, name_of, reason_of, status_of, status_of_comparison, words_of};
+ghost use Rattle.gw_shell.specs.Ending.{cause_of, fault_of, fault_of_configuration, fault_of_migration, fault_of_request, fault_of_service, fault_of_state, fault_of_store, fault_of_suggestion, fault_of_words, name_of, reason_of, status_of, status_of_comparison, store_words, words_of};
 ghost use Rattle.gw_shell.specs.Lines.{fault_of_lines};
 ghost use Rattle.gw_shell.specs.declared.fault.Fault.TheVariants.{CommandLine, Memory};
 
+use gw_command_line::WordsFault;
 use gw_configuration::ConfigFault;
 use gw_core::RunFault;
-use gw_serving::ServeFault;
 use gw_migration::MigrationFault;
 use gw_script::{LineFlaw, LinesFault};
-use gw_system::{LogFailure, OpenFailure, SocketFailure};
+use gw_service::ServiceFault;
+use gw_serving::StoreFault;
+use gw_state_text::{FaultKind, StateFault};
+use gw_suggest::SuggestFault;
 use std::alloc::AllocError;
 use std::io::ErrorKind;
 
@@ -42,6 +45,24 @@ pub enum Fault {
     Memory,
     /// The count of ticks or the number of the last denial is at its end.
     CountEnd,
+    /// The file of the state can't be read.
+    StateUnreadable,
+    /// What the file of the state says is none, at this line, and why.
+    State(StateFault),
+    /// The place of the state can't be opened, and why.
+    Store(StoreFault),
+    /// The file of a request can't be made, and why.
+    Request(StoreFault),
+    /// No answer to a request came.
+    NoAnswer,
+    /// The answer says why the configuration wasn't read again.
+    Refused,
+    /// There are more asks than rules are suggested for.
+    TooManyAsks,
+    /// There would be more rules than a configuration may have.
+    TooManyRules,
+    /// The suggested rules aren't read again as they are.
+    Unwritable,
     /// Two configurations that were compared decide some ask otherwise, or the comparison isn't finished.
     Different,
 }
@@ -52,9 +73,26 @@ impl Fault {
         ensures memory { kind ≡ ErrorKind.OutOfMemory → result ≡ Memory }
         ensures other { kind ≢ ErrorKind.OutOfMemory → result ≡ CommandLine }
     {
-        match kind {
-            ErrorKind::OutOfMemory => Fault::Memory,
-            _ => Fault::CommandLine,
+        Fault::from(WordsFault::of_words(kind))
+    }
+
+    /// The fault if the place of the state can't be opened.
+    fn of_store(fault: StoreFault) -> Fault
+        ensures { result ≡ fault_of_store fault }
+    {
+        match fault {
+            StoreFault::Memory => Fault::Memory,
+            _ => Fault::Store(fault),
+        }
+    }
+
+    /// The fault if a request can't be made.
+    pub fn of_request(fault: StoreFault) -> Fault
+        ensures { result ≡ fault_of_request fault }
+    {
+        match fault {
+            StoreFault::Memory => Fault::Memory,
+            _ => Fault::Request(fault),
         }
     }
 
@@ -67,8 +105,17 @@ impl Fault {
             | Fault::Configuration(_)
             | Fault::Migration(_)
             | Fault::Line(_)
-            | Fault::FlawedLine(_, _) => 2,
+            | Fault::FlawedLine(_, _)
+            | Fault::State(_)
+            | Fault::TooManyAsks
+            | Fault::TooManyRules
+            | Fault::Unwritable
+            | Fault::Refused => 2,
             Fault::Unreadable
+            | Fault::Store(_)
+            | Fault::Request(_)
+            | Fault::NoAnswer
+            | Fault::StateUnreadable
             | Fault::Read
             | Fault::Write
             | Fault::Log
@@ -117,6 +164,34 @@ pub fn reason_of(fault: MigrationFault) -> &'static str
     }
 }
 
+/// Why a text is none of a state, by what is wrong with its line.
+pub fn cause_of(kind: FaultKind) -> &'static str
+    ensures { result.now ≡ cause_of kind }
+{
+    match kind {
+        FaultKind::Version => "another version",
+        FaultKind::Line => "no line that may be here",
+        FaultKind::Range => "out of range",
+        FaultKind::Twice => "comes twice",
+        FaultKind::TooMany => "too many",
+        FaultKind::Cut => "the text is cut",
+        FaultKind::Memory => "out of memory",
+    }
+}
+
+/// Why a file isn't written.
+pub fn store_words(fault: StoreFault) -> &'static str
+    ensures { result.now ≡ store_words fault }
+{
+    match fault {
+        StoreFault::NoSpace => "no space",
+        StoreFault::NotPermitted => "not permitted",
+        StoreFault::ReadOnly => "read-only",
+        StoreFault::Memory => "out of memory",
+        StoreFault::System => "refused by the system",
+    }
+}
+
 /// What is wrong with a line.
 pub fn words_of(flaw: LineFlaw) -> &'static str
     ensures { result.now ≡ words_of flaw }
@@ -129,6 +204,17 @@ pub fn words_of(flaw: LineFlaw) -> &'static str
         LineFlaw::Address => "behind its port stands no address and a space",
         LineFlaw::OddDigits => "its octets have an odd number of digits",
         LineFlaw::Digits => "its octets are no pairs of digits",
+    }
+}
+
+impl From<WordsFault> for Fault {
+    ghost from_gives = { λ words fault. fault ≡ fault_of_words words };
+
+    fn from(fault: WordsFault) -> Fault {
+        match fault {
+            WordsFault::CommandLine => Fault::CommandLine,
+            WordsFault::Memory => Fault::Memory,
+        }
     }
 }
 
@@ -154,6 +240,17 @@ impl From<MigrationFault> for Fault {
     }
 }
 
+impl From<StateFault> for Fault {
+    ghost from_gives = { λ state fault. fault ≡ fault_of_state state state.kind };
+
+    fn from(fault: StateFault) -> Fault {
+        match fault.kind {
+            FaultKind::Memory => Fault::Memory,
+            _ => Fault::State(fault),
+        }
+    }
+}
+
 impl From<RunFault> for Fault {
     ghost from_gives = { λ run fault. fault ≡ fault_of run };
 
@@ -168,27 +265,35 @@ impl From<RunFault> for Fault {
     }
 }
 
-impl From<ServeFault> for Fault {
-    ghost from_gives = { λ serving fault. fault ≡ fault_of_serving serving };
+impl From<ServiceFault> for Fault {
+    ghost from_gives = { λ service fault. fault ≡ fault_of_service service };
 
-    fn from(serving: ServeFault) -> Fault {
-        match serving {
-            ServeFault::Log => Fault::Log,
-            ServeFault::Memory => Fault::Memory,
-            ServeFault::CountEnd => Fault::CountEnd,
+    fn from(fault: ServiceFault) -> Fault {
+        match fault {
+            ServiceFault::Log => Fault::Log,
+            ServiceFault::Socket(port) => Fault::Socket(port),
+            ServiceFault::Memory => Fault::Memory,
+            ServiceFault::CountEnd => Fault::CountEnd,
+            ServiceFault::StateUnreadable => Fault::StateUnreadable,
+            ServiceFault::State(state) => Fault::from(state),
+            ServiceFault::Store(store) => Fault::of_store(store),
         }
     }
 }
 
-impl From<OpenFailure> for Fault {
-    ghost from_gives = { λ failure fault. fault ≡ fault_of_opening failure };
+impl From<SuggestFault> for Fault {
+    ghost from_gives = { λ suggest fault. fault ≡ fault_of_suggestion suggest };
 
-    fn from(failure: OpenFailure) -> Fault {
-        match failure {
-            OpenFailure::Log(LogFailure::Failed) => Fault::Log,
-            OpenFailure::Log(LogFailure::Memory) => Fault::Memory,
-            OpenFailure::Sockets(SocketFailure::Failed(failed)) => Fault::Socket(failed.port),
-            OpenFailure::Sockets(SocketFailure::Memory) => Fault::Memory,
+    fn from(fault: SuggestFault) -> Fault {
+        match fault {
+            SuggestFault::Configuration(config) => Fault::from(config),
+            SuggestFault::Read => Fault::Read,
+            SuggestFault::Line(number) => Fault::Line(number),
+            SuggestFault::TooManyAsks => Fault::TooManyAsks,
+            SuggestFault::TooManyRules => Fault::TooManyRules,
+            SuggestFault::Unlike => Fault::Unwritable,
+            SuggestFault::Write => Fault::Write,
+            SuggestFault::Memory => Fault::Memory,
         }
     }
 }

@@ -1,7 +1,7 @@
 //! The files that configurations are read from.
 
 ghost use Rattle.std.specs.Prelude.{ℕ, List, Result};
-ghost use Rattle.gw_shell.specs.Files.{IsTold, result_map};
+ghost use Rattle.gw_shell.specs.Files.{IsStateTold, IsTold, result_map};
 ghost use Rattle.gw_shell.specs.declared.fault.Fault.{Fault};
 
 use crate::fault::Fault;
@@ -11,7 +11,10 @@ use std::io::{ErrorKind, Read};
 use std::rt::Files;
 use std::{fs, io};
 
-/// Where configurations are read from.
+/// More octets than the text of any state has: 256 objects of 16 slots of a line of 526 octets are most of it.
+const MAX_STATE: u64 = 4_194_304;
+
+/// Where configurations and states are read from.
 pub trait ConfigFiles {
     /// What a read of the file of a name may give: its octets, or a fault.
     ghost Reads: { Self → List ℕ → Result (List ℕ) Fault → Type 0 };
@@ -20,6 +23,14 @@ pub trait ConfigFiles {
     /// more. Faults: `Unreadable`, and `Memory`.
     fn read(&self, alloc: Global, name: &str) -> Result<Vec<u8>, Fault>
         ensures { Reads self.now name.now (result_map (λ octets. octets.items) result) };
+
+    /// What a read of the file of a state of a name may give: its octets, or a fault.
+    ghost ReadsState: { Self → List ℕ → Result (List ℕ) Fault → Type 0 };
+
+    /// The octets of the file of this name, or so many of its first ones that no state has more. Faults:
+    /// `StateUnreadable`, and `Memory`.
+    fn read_state(&self, alloc: Global, name: &str) -> Result<Vec<u8>, Fault>
+        ensures { ReadsState self.now name.now (result_map (λ octets. octets.items) result) };
 }
 
 /// The files of the system.
@@ -33,7 +44,7 @@ impl<R: Files> ConfigFiles for SystemFiles<'_, R> {
     ghost Reads = { λ _ _ octets. IsTold octets };
 
     fn read(&self, alloc: Global, name: &str) -> Result<Vec<u8>, Fault> {
-        match read_front(self.rt, alloc, name) {
+        match read_front(self.rt, alloc, name, MAX_OCTETS as u64 + 1) {
             Ok(octets) => Ok(octets),
             Err(error) => match error.kind() {
                 ErrorKind::OutOfMemory => Err(Fault::Memory),
@@ -41,12 +52,24 @@ impl<R: Files> ConfigFiles for SystemFiles<'_, R> {
             },
         }
     }
+
+    ghost ReadsState = { λ _ _ octets. IsStateTold octets };
+
+    fn read_state(&self, alloc: Global, name: &str) -> Result<Vec<u8>, Fault> {
+        match read_front(self.rt, alloc, name, MAX_STATE) {
+            Ok(octets) => Ok(octets),
+            Err(error) => match error.kind() {
+                ErrorKind::OutOfMemory => Err(Fault::Memory),
+                _ => Err(Fault::StateUnreadable),
+            },
+        }
+    }
 }
 
-/// The first octets of a file: one more than a configuration has at most, where there are so many.
-fn read_front<R: Files>(rt: &R, alloc: Global, name: &str) -> io::Result<Vec<u8>> {
+/// The first octets of a file, at most so many.
+fn read_front<R: Files>(rt: &R, alloc: Global, name: &str, most: u64) -> io::Result<Vec<u8>> {
     let file = fs::open(rt, name)?;
     let mut octets = Vec::new(alloc);
-    file.take(MAX_OCTETS as u64 + 1).read_to_end(&mut octets)?;
+    file.take(most).read_to_end(&mut octets)?;
     Ok(octets)
 }

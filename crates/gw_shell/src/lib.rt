@@ -4,30 +4,27 @@
 //! `run` or `why` is done under it; `compare` takes two files; `log` and help need none. A fault is one line on standard error, and the exit status says of which kind it is.
 #![tactic(auto)]
 
-mod announcement;
 mod asking;
 mod checked;
-mod command_line;
 mod configured;
 mod ending;
 mod fault;
 mod files;
+mod kept;
 mod lines;
-mod options;
 mod program;
+mod reloading;
 mod script;
-mod serving;
+mod suggesting;
 mod telling;
 
-pub use command_line::{Choice, choice_of};
 pub use ending::end;
 pub use fault::{Fault, words_of};
 pub use files::{ConfigFiles, SystemFiles};
+pub use gw_command_line::{Choice, RunOptions, WordsFault, choice_of};
 pub use gw_system::{
     FailedStep, Host, LogFailure, OpenFailure, PollWaiter, Reason, SocketFailure, Step,
     SystemClock, SystemHost, UdpSock,
 };
-pub use options::RunOptions;
 pub use program::run;
 pub use script::replay;
-pub use serving::serve_fresh;

@@ -1,39 +1,43 @@
 //! The whole program, over any words, reader and writers.
 
-ghost use Rattle.std.specs.Prelude.{◌≡◌, ◌⊎◌, ◌++◌, ◌∷◌, [], List, ℕ, Ok, Result, map, option_map, string_bytes, MatchResult, IfErr, IfOk, IsOk, OnOk, OnErr};
+ghost use Rattle.std.specs.Prelude.{◌≡◌, ◌⊎◌, ◌++◌, ◌∷◌, [], List, ℕ, Ok, Some, Result, map, option_map, string_bytes, MatchResult, IfErr, IfOk, IsOk, OnOk, OnErr};
 ghost use Rattle.std.specs.Io.Buffered.{writer_buffer, writer_contents};
 ghost use Rattle.std.specs.Io.KnownBytes.{Appends};
 ghost use Rattle.std.specs.Process.{exit_status};
 ghost use Rattle.gw_configuration.specs.Configuration.{Configuration};
 ghost use Rattle.gw_migration.specs.declared.fault.MigrationFault.TheVariants as migration;
 ghost use Rattle.gw_rules.specs.declared.format.Format.TheVariants as formats;
-ghost use Rattle.gw_shell.specs.CommandLine.{IsAnswer};
 ghost use Rattle.gw_shell.specs.Configured.{IsConfigurationOf};
-ghost use Rattle.gw_shell.specs.Ending.{outcome_of_comparison};
+ghost use Rattle.gw_shell.specs.Ending.{outcome_of_comparison, served};
 ghost use Rattle.gw_shell.specs.Ending.{FaultNote, IsExplainedBy};
 ghost use Rattle.gw_shell.specs.Files.{result_map};
 ghost use Rattle.gw_system.specs.Host.{OpensAtLine};
-ghost use Rattle.gw_shell.specs.Program.{AppendsFront, IsFlushed, IsFollowed, IsRun, LeavesAnswered, LeavesCompared, LeavesComparison, LeavesConfigured, LeavesInFormatThree, LeavesMigrated, LeavesOfText, LeavesOutput, LeavesPlayed};
-ghost use Rattle.gw_shell.specs.Serving.{IsFlushedFor, LeavesRun, machine};
+ghost use Rattle.gw_shell.specs.Program.{AppendsFront, IsChoiceOf, IsFlushed, IsFollowed, IsRun, LeavesAnswer, LeavesAnswered, LeavesCompared, LeavesComparison, LeavesConfigured, LeavesCounts, LeavesInFormatThree, LeavesMigrated, LeavesOfText, LeavesOutput, LeavesPlayed, LeavesPrinted, LeavesReload, LeavesState, LeavesSuggested};
+ghost use Rattle.gw_service.specs.Serving.{IsFlushedFor, machine};
+ghost use Rattle.gw_shell.specs.Serving.{LeavesRun};
 ghost use Rattle.gw_shell.specs.declared.fault.Fault.{Fault};
 ghost use Rattle.gw_shell.specs.declared.fault.Fault.TheVariants as fault;
 
-use crate::asking::why;
+use crate::asking::{count, why};
 use crate::checked::checked_text;
-use crate::command_line::{Choice, choice_of};
 use crate::configured::{configuration, configuration_in, configuration_of};
 use crate::ending::{end_by, tell, usage_of};
 use crate::fault::Fault;
 use crate::files::ConfigFiles;
-use crate::options::RunOptions;
+use crate::kept::words_of_text;
+use crate::reloading::{self, ask};
 use crate::script::replay;
-use crate::serving::serve_ports;
+use crate::suggesting::suggest;
 use crate::telling;
+use gw_command_line::{Choice, RunOptions, choice_of};
 use gw_compare::{Compared, put_comparison};
 use gw_configuration::{Config, ConfigFault};
 use gw_explanation::{Explanation, explain};
 use gw_migration::migrate;
+use gw_rules::RuleList;
 use gw_script::{OctetSink, OctetSource, write_whole};
+use gw_service::{ServiceFault, serve_ports};
+use gw_suggest::Manner;
 use gw_system::Host;
 use std::alloc::{AllocError, Global};
 use std::io::{BufWriter, Write};
@@ -76,10 +80,19 @@ fn print<W: Write + Drop>(text: &[u8], output: &mut BufWriter<W>) -> Result<(), 
 /// What the words ask for, or the fault for which there are none.
 fn choice_from(alloc: Global, words: Result<Vec<String>, Fault>) -> Result<Choice, Fault>
     ensures { MatchResult words
-        (λ w. IsAnswer (map string_bytes w.items) result)
+        (λ w. IsChoiceOf (map string_bytes w.items) result)
         (λ f. result ≡ Err f) }
 {
-    choice_of(alloc, words?.as_slice())
+    choice_by(alloc, words?.as_slice())
+}
+
+fn choice_by(alloc: Global, words: &[String]) -> Result<Choice, Fault>
+    ensures { IsChoiceOf (map string_bytes words.now) result }
+{
+    match choice_of(alloc, words) {
+        Ok(choice) => Ok(choice),
+        Err(fault) => Err(Fault::from(fault)),
+    }
 }
 
 /// Prints what a configuration has, and what else is asked for of it.
@@ -247,19 +260,128 @@ fn compare<W: Write + Drop>(
     print_compared(alloc, most, &old, &new, output)
 }
 
-/// Answers each ask of standard input by the rules of a configuration.
+/// Prints a text that was made.
+fn print_made<W: Write + Drop>(
+    made: Result<Vec<u8>, Fault>,
+    output: &mut BufWriter<W>,
+) -> Result<(), Fault>
+    ensures output { LeavesPrinted (result_map (λ octets. octets.items) made)
+        (writer_contents W.contents output.old) (writer_contents W.contents output.new) result }
+    ensures flush { OnOk result (writer_buffer output.new ≡ []) }
+{
+    match made {
+        Ok(text) => print(&text, output),
+        Err(fault) => Err(fault),
+    }
+}
+
+/// Says what the text of a state holds under the configuration that was read.
+fn print_state<W: Write + Drop>(
+    alloc: Global,
+    config: Result<Config, Fault>,
+    text: &Result<Vec<u8>, Fault>,
+    output: &mut BufWriter<W>,
+) -> Result<(), Fault>
+    ensures output { LeavesState (writer_contents W.contents output.old)
+        (writer_contents W.contents output.new) config (result_map (λ octets. octets.items) text.now) result }
+    ensures flush { OnOk result (writer_buffer output.new ≡ []) }
+{
+    let config = config?;
+    print_made(words_of_text(alloc, &config, text), output)
+}
+
+/// Prints the answer to a request, which says how it ends.
+fn print_answer<W: Write + Drop>(
+    answer: Result<Vec<u8>, Fault>,
+    output: &mut BufWriter<W>,
+) -> Result<(), Fault>
+    ensures output { LeavesAnswer (result_map (λ octets. octets.items) answer)
+        (writer_contents W.contents output.old) (writer_contents W.contents output.new) result }
+    ensures flush { OnOk result (writer_buffer output.new ≡ []) }
+{
+    let answer = answer?;
+    match print(&answer, output) {
+        Ok(()) => reloading::outcome_of(&answer),
+        Err(fault) => Err(fault),
+    }
+}
+
+/// Asks the gateway that runs under the configuration that was read to read it again, and prints what it answers.
+fn reload<H: Host, W: Write + Drop>(
+    alloc: Global,
+    config: Result<Config, Fault>,
+    request: &str,
+    host: &H,
+    output: &mut BufWriter<W>,
+) -> Result<(), Fault>
+    ensures output { LeavesReload (writer_contents W.contents output.old)
+        (writer_contents W.contents output.new) config result }
+    ensures flush { OnOk result (writer_buffer output.new ≡ []) }
+{
+    let _config = config?;
+    print_answer(ask(alloc, request, host), output)
+}
+
+/// Answers each ask of standard input by the rules of a configuration, or counts them.
 fn answer<R: OctetSource, W: Write + Drop>(
     alloc: Global,
+    counts: bool,
     config: Result<Config, Fault>,
     input: &mut R,
     output: &mut BufWriter<W>,
 ) -> Result<(), Fault>
-    ensures output { LeavesAnswered (R.left input.old) (writer_contents W.contents output.old)
+    ensures output { LeavesAnswered counts (R.left input.old) (writer_contents W.contents output.old)
         (writer_contents W.contents output.new) config result }
     ensures flush { OnOk result (writer_buffer output.new ≡ []) }
 {
     let config = config?;
-    why(alloc, config.rules(), input, output)
+    if counts {
+        print_counts(alloc, config.rules(), input, output)
+    } else {
+        why(alloc, &config, input, output)
+    }
+}
+
+/// Prints how many asks of standard input each rule decides.
+fn print_counts<R: OctetSource, W: Write + Drop>(
+    alloc: Global,
+    rules: &RuleList,
+    input: &mut R,
+    output: &mut BufWriter<W>,
+) -> Result<(), Fault>
+    ensures output { (text : List ℕ) → R.left input.old ≡ Some text → LeavesCounts rules.now text
+        (writer_contents W.contents output.old) (writer_contents W.contents output.new) result }
+    ensures flush { OnOk result (writer_buffer output.new ≡ []) }
+{
+    print_made(count(alloc, rules, input), output)
+}
+
+/// Suggests rules for the asks of standard input under the configuration of a text that was read.
+fn suggest_rules<R: OctetSource, W: Write + Drop>(
+    alloc: Global,
+    text: &Result<Vec<u8>, Fault>,
+    manner: Manner,
+    input: &mut R,
+    output: &mut BufWriter<W>,
+) -> Result<(), Fault>
+    ensures output { LeavesSuggested manner (R.left input.old) (writer_contents W.contents output.old)
+        (writer_contents W.contents output.new) (result_map (λ octets. octets.items) text.now) result }
+    ensures flush { OnOk result (writer_buffer output.new ≡ []) }
+{
+    match text {
+        Ok(text) => suggest(alloc, text, manner, input, output),
+        Err(fault) => Err(*fault),
+    }
+}
+
+/// How serving ended.
+fn served(done: Result<(), ServiceFault>) -> Result<(), Fault>
+    ensures { result ≡ served done }
+{
+    match done {
+        Ok(()) => Ok(()),
+        Err(fault) => Err(Fault::from(fault)),
+    }
 }
 
 /// Serves the ports of the configuration of a text that was read, or tells where its fault is, where
@@ -285,7 +407,7 @@ fn serve<H: Host, W: Write + Drop, E: OctetSink>(
         (writer_buffer output.old) (writer_buffer output.new)) }
 {
     match configuration_of(alloc, text) {
-        Ok(config) => serve_ports(alloc, config, options, host, output, errors),
+        Ok(config) => served(serve_ports(alloc, config, options, host, output, errors)),
         Err(fault) => {
             tell(&fault_note(alloc, options.verbose, text, fault), errors);
             Err(fault)
@@ -304,7 +426,7 @@ fn follow<F: ConfigFiles, H: Host, R: OctetSource, W: Write + Drop, E: OctetSink
     errors: &mut E,
 ) -> Result<(), Fault>
     ensures followed { IsFollowed
-        (LeavesOutput (F.Reads files.now)
+        (LeavesOutput (F.Reads files.now) (F.ReadsState files.now)
         (machine (OpensAtLine (H.LogOpens host.old) (H.LogIsCut host.old) H.Log.held)
         (H.SocketsOpen host.old) (H.RoutesIp host.old) (H.Closes host.new) H.Log.held H.Sockets.calls) (R.left input.old)
         (writer_contents W.contents output.old) (writer_contents W.contents output.new))
@@ -337,14 +459,31 @@ fn follow<F: ConfigFiles, H: Host, R: OctetSource, W: Write + Drop, E: OctetSink
             let text = files.read(alloc, &options.config);
             serve(alloc, &text, options, host, output, errors)
         }
-        Ok(Choice::Why(file)) => {
+        Ok(Choice::Why { file, counts }) => {
             let config = configuration_in(alloc, files, file);
-            answer(alloc, config, input, output)
+            answer(alloc, *counts, config, input, output)
+        }
+        Ok(Choice::Reload { config, request }) => {
+            let config = configuration_in(alloc, files, config);
+            reload(alloc, config, request, host, output)
         }
         Ok(Choice::Compare { old, new, most }) => {
             let before = configuration_in(alloc, files, old);
             let after = configuration_in(alloc, files, new);
             compare(alloc, *most, before, after, output)
+        }
+        Ok(Choice::State { config, state }) => {
+            let text = files.read_state(alloc, state);
+            let config = configuration_in(alloc, files, config);
+            print_state(alloc, config, &text, output)
+        }
+        Ok(Choice::Suggest { file, fills, exact }) => {
+            let text = files.read(alloc, file);
+            let manner = Manner {
+                keeps_services: *exact,
+                fills: *fills,
+            };
+            suggest_rules(alloc, &text, manner, input, output)
         }
         Ok(Choice::Log(start)) => telling::tell(alloc, *start, input, output),
         Ok(Choice::Help(text)) => print(text.as_bytes(), output),
@@ -371,9 +510,9 @@ pub fn run<F: ConfigFiles, H: Host, R: OctetSource, W: Write + Drop, E: OctetSin
 ) -> ExitCode
     ensures run { IsRun
         (λ choice. MatchResult words
-        (λ w. IsAnswer (map string_bytes w.items) choice)
+        (λ w. IsChoiceOf (map string_bytes w.items) choice)
         (λ f. choice ≡ Err f))
-        (LeavesOutput (F.Reads files.now)
+        (LeavesOutput (F.Reads files.now) (F.ReadsState files.now)
         (machine (OpensAtLine (H.LogOpens host.old) (H.LogIsCut host.old) H.Log.held)
         (H.SocketsOpen host.old) (H.RoutesIp host.old) (H.Closes host.new) H.Log.held H.Sockets.calls) (R.left input.old)
         (writer_contents W.contents output.old) (writer_contents W.contents output.new))

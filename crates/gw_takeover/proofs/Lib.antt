@@ -1,0 +1,8 @@
+mod Appending
+mod Networks
+mod Firsts
+mod PortLaws
+mod RouteLaws
+mod FullLaw
+mod ObjectLaws
+mod TextLaws

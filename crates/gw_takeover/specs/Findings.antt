@@ -5,6 +5,7 @@ use Rattle.std.specs.Cmp.Lexicographic.{pointwise}
 use Rattle.std.specs.List.{flat_map, list_any, sum_by}
 use Rattle.std.specs.Option.{option_map_or}
 use Rattle.gw_addr.specs.declared.bip.BipAddr.{BipAddr}
+use Rattle.gw_addr.specs.declared.entry.BdtEntry.{BdtEntry}
 use Rattle.gw_bdt_fdt.specs.Registrations.{same as same_address}
 use Rattle.gw_configuration.specs.Configuration.{Configuration}
 use Rattle.gw_configuration.specs.declared.object.Object.{Object as ConfiguredObject}
@@ -37,7 +38,6 @@ use Rattle.gw_takeover.specs.declared.finding.TableFate.{TableFate}
 use Rattle.gw_takeover.specs.declared.finding.TableFate.TheVariants as tables
 use Rattle.gw_takeover.specs.declared.finding.ValueFate.{ValueFate}
 use Rattle.gw_takeover.specs.declared.finding.ValueFate.TheVariants as values
-use Rattle.gw_takeover.specs.declared.finding.ValueFinding.{ValueFinding}
 
 -- nothing is taken over of what isn't configured, nor of what stands in the state for the second time
 abbrev pub absence_of : Bool → Bool → Option Absence
@@ -52,12 +52,16 @@ port_name network address = record { network = network; address = address }
 abbrev pub sizes_of : SavedPort → Sizes
 sizes_of s = record { peers = length s.entries; devices = length s.devices }
 
--- the table of peers that a port has: the configured one if none was written, the written one unless other peers are
--- configured now than then
+abbrev pub are_same : List BdtEntry → List BdtEntry → Bool
+are_same a b = pointwise same_entry a b
+
+-- no table was written if the port had the peers that were configured then; and it has the peers that are configured now
+-- if they are those of the table
 abbrev pub table_fate : ConfiguredPort → SavedPort → TableFate
 table_fate p s =
-    if pointwise same_entry s.entries s.peers then tables.AsConfigured
-    else if pointwise same_entry s.peers p.peers then tables.TakenOver else tables.OtherPeers
+    if are_same s.entries p.peers then tables.AsConfigured
+    else if are_same s.peers p.peers then tables.TakenOver
+    else if are_same s.entries s.peers then tables.AsConfigured else tables.OtherPeers
 
 -- a configured port, which was saved or not
 abbrev pub port_finding : ℕ → ConfiguredPort → Option SavedPort → Finding
@@ -186,7 +190,8 @@ is_written s = not (same_value s.slots.default s.configured)
 -- the fate of a default, if this one is configured now
 abbrev pub default_fate_by : PropertyValue → Details → SavedObject → ValueFate
 default_fate_by configured details s =
-    if same_value s.configured configured then value_fate details s.slots.default else values.OtherDefault
+    if same_value s.slots.default configured then values.TakenOver
+    else if same_value s.configured configured then value_fate details s.slots.default else values.OtherDefault
 
 abbrev pub default_fate : ConfiguredObject → SavedObject → ValueFate
 default_fate object s = default_fate_by (default_of object.value) (details_of object.value) s

@@ -1,8 +1,8 @@
 -- What a gateway of a configuration takes over of a saved state, in words.
-use Rattle.std.specs.Prelude.{ℕ, ◌/◌, ◌%◌, ◌==◌, Bool, true, false, not, nat_le, ◌&&◌, if◌then◌else◌, List, [], ◌∷◌, ◌++◌}
+use Rattle.std.specs.Prelude.{ℕ, ◌==◌, Bool, true, false, not, nat_le, ◌&&◌, if◌then◌else◌, List, [], ◌∷◌, ◌++◌}
 use Rattle.std.specs.Prelude.{codes, find, count_by, is_some, Option, Some, None}
 use Rattle.std.specs.Fmt.{decimal, signed_decimal}
-use Rattle.std.specs.List.{flat_map, list_any}
+use Rattle.std.specs.List.{flat_map}
 use Rattle.std.specs.Option.{option_map_or}
 use Rattle.gw_addr.specs.Address.{text_of}
 use Rattle.gw_addr.specs.Station.{two_digits}
@@ -79,11 +79,17 @@ devices_words devices = counted devices (codes " foreign device") (codes " forei
 abbrev pub tables_words : Sizes → List ℕ
 tables_words sizes = peers_words sizes ++ codes " and " ++ devices_words sizes.devices
 
+-- a table of peers that is dropped, and what is taken over beside it
+abbrev pub other_words : Sizes → List ℕ
+other_words sizes = codes "other peers are configured: " ++ peers_words sizes
+
+abbrev pub beside_words : ℕ → List ℕ
+beside_words devices = codes " dropped, " ++ devices_words devices
+
 abbrev pub table_words : TableFate → Sizes → List ℕ
 table_words tables.AsConfigured sizes = codes "peers as configured, " ++ devices_words sizes.devices
 table_words tables.TakenOver sizes = tables_words sizes
-table_words tables.OtherPeers sizes =
-    codes "other peers are configured: " ++ peers_words sizes ++ codes " dropped, " ++ devices_words sizes.devices
+table_words tables.OtherPeers sizes = other_words sizes ++ beside_words sizes.devices
 
 abbrev pub absence_words : Absence → List ℕ
 absence_words NotConfigured = codes "not configured"
@@ -105,7 +111,7 @@ abbrev pub refusal_words : RouteFate → List ℕ
 refusal_words routes.TakenOver = []
 refusal_words routes.NoPort = codes "its port is not configured"
 refusal_words routes.Own = codes "the network is one of the gateway's own"
-refusal_words routes.Configured = codes "another route is configured"
+refusal_words routes.Configured = codes "a route to it is configured"
 refusal_words routes.Replaced = codes "a later route of the state is taken over"
 refusal_words routes.Full = codes "512 other networks have a route"
 
@@ -134,9 +140,13 @@ reason_words values.TakenOver = []
 reason_words values.OutOfRange = codes " is out of range"
 reason_words values.OtherDefault = codes ": another default is configured"
 
+abbrev pub ending_words : ValueFate → List ℕ
+ending_words values.TakenOver = codes ": taken over"
+ending_words values.OutOfRange = codes ": dropped"
+ending_words values.OtherDefault = codes ": dropped"
+
 abbrev pub verdict_words : ValueFate → List ℕ
-verdict_words values.TakenOver = codes ": taken over"
-verdict_words fate = reason_words fate ++ codes ": dropped"
+verdict_words fate = reason_words fate ++ ending_words fate
 
 abbrev pub held_words : Held → List ℕ
 held_words (Slot priority) = codes ", priority " ++ decimal priority ++ codes ": "
@@ -146,18 +156,23 @@ abbrev pub written_words : ValueFinding → List ℕ
 written_words value =
     object_words value.object ++ held_words value.held ++ value_words value.value ++ verdict_words value.fate
 
+abbrev pub default_words : Bool → List ℕ
+default_words default = if default then codes " and its default dropped" else codes " dropped"
+
 abbrev pub slots_words : ℕ → Bool → List ℕ
-slots_words slots default =
-    counted slots (codes " slot") (codes " slots") ++ (if default then codes " and its default dropped" else codes " dropped")
+slots_words slots default = counted slots (codes " slot") (codes " slots") ++ default_words default
 
 -- ---- lines
 
 abbrev pub new_words : List ℕ
 new_words = codes ": not in the state: begins anew"
 
+abbrev pub table_line_words : TableFate → Sizes → List ℕ
+table_line_words table sizes = table_words table sizes ++ codes " taken over"
+
 abbrev pub port_line_words : ℕ → PortName → Sizes → TableFate → List ℕ
 port_line_words number port sizes table =
-    numbered_words number port ++ codes ": " ++ table_words table sizes ++ codes " taken over"
+    numbered_words number port ++ codes ": " ++ table_line_words table sizes
 
 abbrev pub lost_port_words : PortName → Sizes → Absence → List ℕ
 lost_port_words port sizes absence =

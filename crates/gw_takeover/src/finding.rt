@@ -26,7 +26,7 @@ pub struct Sizes {
 /// What a configured port takes over of its table of peers. Its foreign devices it always takes over.
 #[derive(Clone, Copy, Debug)]
 pub enum TableFate {
-    /// Nothing was written there: it has the peers that are configured now.
+    /// It has the peers that are configured now, since no others were written.
     AsConfigured,
     /// The table that was written.
     TakenOver,

@@ -1,6 +1,6 @@
 //! The line of what is found of a part.
-ghost use Rattle.std.specs.Prelude.{◌≡◌, ◌++◌, OnOk};
-ghost use Rattle.gw_takeover.specs.Words.{by_words, finding_words, held_words, line, lost_object_words, lost_port_words, new_words, port_line_words, reason_words, refusal_words, route_words, slots_words, table_words, verdict_words, way_words, written_words};
+ghost use Rattle.std.specs.Prelude.{◌≡◌, ◌++◌, codes, OnOk};
+ghost use Rattle.gw_takeover.specs.Words.{beside_words, by_words, default_words, ending_words, finding_words, held_words, line, lost_object_words, lost_port_words, new_words, other_words, port_line_words, reason_words, refusal_words, route_words, slots_words, table_line_words, table_words, verdict_words, way_words, written_words};
 
 use crate::words::{
     put_absence, put_counted, put_devices, put_numbered, put_object, put_peers, put_port,
@@ -74,6 +74,12 @@ fn put_kept_port(
 {
     put_numbered(out, number, port)?;
     out.extend_from_slice(b": ")?;
+    put_table_line(out, table, sizes)
+}
+
+fn put_table_line(out: &mut Vec<u8>, table: TableFate, sizes: Sizes) -> Result<(), AllocError>
+    ensures { OnOk result (out.new.items ≡ out.old.items ++ table_line_words table sizes) }
+{
     put_table(out, table, sizes)?;
     out.extend_from_slice(b" taken over")
 }
@@ -87,17 +93,31 @@ fn put_table(out: &mut Vec<u8>, table: TableFate, sizes: Sizes) -> Result<(), Al
             put_devices(out, sizes.devices)
         }
         TableFate::TakenOver => put_tables(out, sizes),
-        TableFate::OtherPeers => put_other_peers(out, sizes),
+        TableFate::OtherPeers => {
+            put_other(out, sizes)?;
+            put_beside(out, sizes.devices)
+        }
     }
 }
 
-fn put_other_peers(out: &mut Vec<u8>, sizes: Sizes) -> Result<(), AllocError>
-    ensures { OnOk result (out.new.items ≡ out.old.items ++ table_words TableFate.OtherPeers sizes) }
+fn put_other(out: &mut Vec<u8>, sizes: Sizes) -> Result<(), AllocError>
+    ensures { OnOk result (out.new.items ≡ out.old.items ++ other_words sizes) }
 {
-    out.extend_from_slice(b"other peers are configured: ")?;
-    put_peers(out, sizes)?;
+    put_reason_of_table(out)?;
+    put_peers(out, sizes)
+}
+
+fn put_reason_of_table(out: &mut Vec<u8>) -> Result<(), AllocError>
+    ensures { OnOk result (out.new.items ≡ out.old.items ++ codes "other peers are configured: ") }
+{
+    out.extend_from_slice(b"other peers are configured: ")
+}
+
+fn put_beside(out: &mut Vec<u8>, devices: usize) -> Result<(), AllocError>
+    ensures { OnOk result (out.new.items ≡ out.old.items ++ beside_words devices) }
+{
     out.extend_from_slice(b" dropped, ")?;
-    put_devices(out, sizes.devices)
+    put_devices(out, devices)
 }
 
 fn put_lost_port(
@@ -167,7 +187,7 @@ pub(crate) fn put_refusal(out: &mut Vec<u8>, fate: RouteFate) -> Result<(), Allo
         RouteFate::TakenOver => Ok(()),
         RouteFate::NoPort => out.extend_from_slice(b"its port is not configured"),
         RouteFate::Own => out.extend_from_slice(b"the network is one of the gateway's own"),
-        RouteFate::Configured => out.extend_from_slice(b"another route is configured"),
+        RouteFate::Configured => out.extend_from_slice(b"a route to it is configured"),
         RouteFate::Replaced => {
             out.extend_from_slice(b"a later route of the state is taken over")
         }
@@ -202,11 +222,17 @@ fn put_held(out: &mut Vec<u8>, held: Held) -> Result<(), AllocError>
 fn put_verdict(out: &mut Vec<u8>, fate: ValueFate) -> Result<(), AllocError>
     ensures { OnOk result (out.new.items ≡ out.old.items ++ verdict_words fate) }
 {
-    if matches!(fate, ValueFate::TakenOver) {
-        return out.extend_from_slice(b": taken over");
-    }
     put_reason(out, fate)?;
-    out.extend_from_slice(b": dropped")
+    put_ending(out, fate)
+}
+
+fn put_ending(out: &mut Vec<u8>, fate: ValueFate) -> Result<(), AllocError>
+    ensures { OnOk result (out.new.items ≡ out.old.items ++ ending_words fate) }
+{
+    match fate {
+        ValueFate::TakenOver => out.extend_from_slice(b": taken over"),
+        ValueFate::OutOfRange | ValueFate::OtherDefault => out.extend_from_slice(b": dropped"),
+    }
 }
 
 /// Appends why a value isn't taken over.
@@ -241,6 +267,12 @@ fn put_slots(out: &mut Vec<u8>, slots: usize, default: bool) -> Result<(), Alloc
     ensures { OnOk result (out.new.items ≡ out.old.items ++ slots_words slots default) }
 {
     put_counted(out, slots as u64, " slot", " slots")?;
+    put_default(out, default)
+}
+
+fn put_default(out: &mut Vec<u8>, default: bool) -> Result<(), AllocError>
+    ensures { OnOk result (out.new.items ≡ out.old.items ++ default_words default) }
+{
     if default {
         out.extend_from_slice(b" and its default dropped")
     } else {

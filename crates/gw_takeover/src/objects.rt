@@ -134,16 +134,25 @@ fn add_default(
     }
     let configured = PropertyValue::default_of(*found.allocator(), &object.value)?;
     let fate = default_fate(&configured, &object.value, saved);
-    add_value(found, name_of(object), Held::Default, saved.slots().default(), fate)
+    add_value(
+        found,
+        name_of(object),
+        Held::Default,
+        saved.slots().default(),
+        fate,
+    )
 }
 
 /// Whether the default of an object is taken over, or why not, if this is configured now.
 fn default_fate(configured: &PropertyValue, object: &ObjectValue, saved: &SavedObject) -> ValueFate
     ensures { result ≡ default_fate_by configured.now (details_of object.now) saved.now }
 {
-    if saved.configured().is_same(configured) {
-        value_fate(object, saved.slots().default())
-    } else {
-        ValueFate::OtherDefault
+    let default = saved.slots().default();
+    if default.is_same(configured) {
+        return ValueFate::TakenOver;
     }
+    if !saved.configured().is_same(configured) {
+        return ValueFate::OtherDefault;
+    }
+    value_fate(object, default)
 }

@@ -1,9 +1,8 @@
 //! What is found of ports.
 ghost use Rattle.std.specs.Prelude.{◌≡◌, ◌≤◌, ◌++◌, length, option_copied, OnOk};
-ghost use Rattle.std.specs.Cmp.Lexicographic.{pointwise};
 ghost use Rattle.gw_addr.specs.declared.TheConstants.{MAX_PORTS};
 ghost use Rattle.gw_saved.specs.Carried.{same_entry};
-ghost use Rattle.gw_takeover.specs.Findings.{device_count, devices_kept, port_finding, port_findings, sizes_of, table_fate};
+ghost use Rattle.gw_takeover.specs.Findings.{are_same, device_count, devices_kept, port_finding, port_findings, sizes_of, table_fate};
 
 use crate::identity::port_saved;
 use crate::{Finding, PortName, Sizes, TableFate};
@@ -56,18 +55,22 @@ pub(crate) fn sizes_of(saved: &SavedPort) -> Sizes
 fn table_fate(port: &Port, saved: &SavedPort) -> TableFate
     ensures { result ≡ table_fate port.now saved.now }
 {
-    if are_same(saved.entries.entries(), saved.peers.as_slice()) {
+    let configured = port.peers.as_slice();
+    if are_same(saved.entries.entries(), configured) {
         return TableFate::AsConfigured;
     }
-    if are_same(saved.peers.as_slice(), port.peers.as_slice()) {
+    if are_same(saved.peers.as_slice(), configured) {
         return TableFate::TakenOver;
+    }
+    if are_same(saved.entries.entries(), saved.peers.as_slice()) {
+        return TableFate::AsConfigured;
     }
     TableFate::OtherPeers
 }
 
 /// Whether these are the same entries in the same order.
 fn are_same(a: &[BdtEntry], b: &[BdtEntry]) -> bool
-    ensures { result ≡ pointwise same_entry a.now b.now }
+    ensures { result ≡ are_same a.now b.now }
 {
     if a.len() != b.len() {
         return false;

@@ -8,8 +8,7 @@ ghost use Rattle.gw_takeover.specs.Findings.{fate_beside, finding_of_route, firs
 use crate::identity::is_port;
 use crate::{Finding, RouteFate, RouteFinding};
 use gw_addr::NetNum;
-use gw_configuration::{Config, Port};
-use gw_configuration::Route as ConfiguredRoute;
+use gw_configuration::{Config, Port, Route as ConfiguredRoute};
 use gw_routes::{Route, Routes};
 use gw_saved::{Saved, SavedPort};
 use std::alloc::{AllocError, Global};
@@ -83,7 +82,7 @@ pub(crate) fn add_routes(
         map (finding_of_route config.now saved.now.ports kept.now) saved.now.routes) }
 {
     for learned in saved.routes() {
-        found.push(finding_of_route(config, saved.ports(), kept, *learned))?;
+        found.push(finding_of_route(config, saved.ports(), kept, learned))?;
     }
     Ok(())
 }
@@ -93,9 +92,9 @@ fn finding_of_route(
     config: &Config,
     ports: &[SavedPort],
     kept: &[(NetNum, Route)],
-    learned: (NetNum, Route),
+    learned: &(NetNum, Route),
 ) -> Finding
-    ensures { result ≡ finding_of_route config.now ports.now kept.now learned }
+    ensures { result ≡ finding_of_route config.now ports.now kept.now learned.now }
 {
     let now = route_from(config.ports(), ports, learned);
     Finding::Route(route_finding(config, kept, learned, now))
@@ -105,12 +104,12 @@ fn finding_of_route(
 fn route_finding(
     config: &Config,
     kept: &[(NetNum, Route)],
-    learned: (NetNum, Route),
+    learned: &(NetNum, Route),
     now: Option<(NetNum, Route)>,
 ) -> RouteFinding
-    ensures { result ≡ route_finding config.now kept.now learned now }
+    ensures { result ≡ route_finding config.now kept.now learned.now now }
 {
-    let (network, route) = learned;
+    let (network, route) = *learned;
     match now {
         Some((net, way)) => RouteFinding {
             network: network.get(),
@@ -195,12 +194,12 @@ fn is_routed(routes: &[ConfiguredRoute], network: NetNum) -> bool
 fn route_from(
     ports: &[Port],
     saved: &[SavedPort],
-    learned: (NetNum, Route),
+    learned: &(NetNum, Route),
 ) -> Option<(NetNum, Route)>
     requires { length ports.now ≤ MAX_PORTS }
-    ensures { result ≡ route_from ports.now saved.now learned }
+    ensures { result ≡ route_from ports.now saved.now learned.now }
 {
-    let (network, route) = learned;
+    let (network, route) = *learned;
     let port = number_now(ports, port_then(saved, usize::from(route.port))?)?;
     let next = route.next;
     Some((network, Route { port, next }))

@@ -47,7 +47,7 @@ use Rattle.gw_core.specs.Reply.{apdu_for, context_of}
 use Rattle.gw_core.specs.State.{State, device_network}
 use Rattle.gw_verdicts.specs.Laws.{IsSent, NamesTheRule, WhyNamesTheRule, denied_by}
 use Rattle.gw_core.specs.Explained.{by_text}
-use Rattle.gw_verdicts.specs.Why.{answer, answer_to}
+use Rattle.gw_verdicts.specs.Why.{answer, answer_to, note_text}
 use Rattle.gw_verdicts.proofs.DeviceAsks.{DeviceCases, each_device}
 use Rattle.gw_verdicts.proofs.Parts.{each_entry, each_part}
 use Rattle.gw_verdicts.proofs.RelayAsks.{CastCases, NamedCases, NetworkCases, RouteCases, each_cast, each_network, each_route}
@@ -358,9 +358,9 @@ not_zero number counted = by (number == 0) refl
     by true e = absurd (omega (arith, counted, eqb-true number 0 e))
     by false e = e
 
-rule_there : (rules : List Rule) (number : ℕ) (rule : Rule) → 1 ≤ number → slice_get rules (number - 1) ≡ Some rule
-    → (codes "deny" ++ by_text rules (Some number)) ++ 10 ∷ [] ≡ denied_by number (name_at rules number)
-rule_there rules number rule counted there =
+rule_there : (rules : List Rule) (notes : List (List ℕ)) (number : ℕ) (rule : Rule) → 1 ≤ number → slice_get rules (number - 1) ≡ Some rule
+    → (codes "deny" ++ by_text rules (Some number)) ++ note_text notes (Some number) ++ 10 ∷ [] ≡ denied_by notes number (name_at rules number)
+rule_there rules notes number rule counted there =
     let some_number : (number == 0) ≡ false = not_zero number counted in
     rw (there, some_number) refl
 
@@ -370,29 +370,29 @@ first_denies : (rules : List Rule) (ask : Ask) (number : ℕ) (rule : Rule) → 
 unfolding allows
 first_denies rules ask number rule e there = rw (e, there) refl
 
-names_so : (rules : List Rule) (ask : Ask) (found : Option ℕ) → first rules ask ≡ found → allows rules ask ≡ false
-    → let answer = (codes "deny" ++ by_text rules found) ++ 10 ∷ [] in
+names_so : (rules : List Rule) (notes : List (List ℕ)) (ask : Ask) (found : Option ℕ) → first rules ask ≡ found → allows rules ask ≡ false
+    → let answer = (codes "deny" ++ by_text rules found) ++ note_text notes found ++ 10 ∷ [] in
     ((found ≡ None) × (rule_name rules found ≡ default_name) × (answer ≡ codes "deny default" ++ 10 ∷ []))
-    ⊎ ((number : ℕ) × (found ≡ Some number) × (answer ≡ denied_by number (rule_name rules found)))
-names_so rules ask None e denied = inl (refl, refl, refl)
-names_so rules ask (Some number) e denied =
+    ⊎ ((number : ℕ) × (found ≡ Some number) × (answer ≡ denied_by notes number (rule_name rules found)))
+names_so rules notes ask None e denied = inl (refl, refl, refl)
+names_so rules notes ask (Some number) e denied =
     let is = (first_iff rules ask number).0 e in
-    inr (number, refl, rule_there rules number is.rule is.numbered.counted is.numbered.there)
+    inr (number, refl, rule_there rules notes number is.rule is.numbered.counted is.numbered.there)
 
-named_so_by : (rules : List Rule) (d : Denial) (shown : ShownAsk) → IsDeniedSo rules d → shown ≡ shown_ask d → NamesTheRule rules d shown
-named_so_by rules d shown denied is =
-    let says : answer rules d.ask ≡ (codes "deny" ++ by_text rules (first rules d.ask)) ++ 10 ∷ [] = rw denied.denied refl in
-    let same : answer_to rules shown ≡ (codes "deny" ++ by_text rules (first rules d.ask)) ++ 10 ∷ [] =
-    ap (answer_to rules) is ∙ ap (answer rules) denied.ask ∙ says in
-    elim (names_so rules d.ask (first rules d.ask) refl denied.denied) [
+named_so_by : (rules : List Rule) (notes : List (List ℕ)) (d : Denial) (shown : ShownAsk) → IsDeniedSo rules d → shown ≡ shown_ask d → NamesTheRule rules notes d shown
+named_so_by rules notes d shown denied is =
+    let text : List ℕ = (codes "deny" ++ by_text rules (first rules d.ask)) ++ note_text notes (first rules d.ask) ++ 10 ∷ [] in
+    let says : answer rules notes d.ask ≡ text = rw denied.denied refl in
+    let same : answer_to rules notes shown ≡ text = ap (answer_to rules notes) is ∙ ap (answer rules notes) denied.ask ∙ says in
+    elim (names_so rules notes d.ask (first rules d.ask) refl denied.denied) [
       | inl none ↦ inl (none.0, denied.rule ∙ none.1, same ∙ none.2)
-      | inr rule ↦ inr (rule.0, rule.1, same ∙ rule.2 ∙ ap (denied_by rule.0) (sym denied.rule))
+      | inr rule ↦ inr (rule.0, rule.1, same ∙ rule.2 ∙ ap (denied_by notes rule.0) (sym denied.rule))
     ]
 
 pub why_names_the_rule : WhyNamesTheRule
 why_names_the_rule c k h e sent =
     let w = state_after c k h in
     each_weaker (IsDeniedSo c.rules)
-    (λ d. (line : List ℕ) (shown : ShownAsk) → IsShowable d → IsLineOf line d → TellsAsk line shown → NamesTheRule c.rules d shown)
-    (λ d denied line shown is spelled tells. named_so_by c.rules d shown denied (one_ask line d shown is spelled tells))
+    (λ d. (line : List ℕ) (shown : ShownAsk) → IsShowable d → IsLineOf line d → TellsAsk line shown → NamesTheRule c.rules c.notes d shown)
+    (λ d denied line shown is spelled tells. named_so_by c.rules c.notes d shown denied (one_ask line d shown is spelled tells))
     (effects_at w e).denials (denied_so w e sent)

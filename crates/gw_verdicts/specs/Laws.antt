@@ -32,7 +32,7 @@ use Rattle.gw_shapes.specs.Pieces.{most}
 use Rattle.gw_shapes.specs.Search.{IsNeverFirst}
 use Rattle.gw_shapes.specs.Shape.{LiesInOne}
 use Rattle.gw_shapes.specs.Shapes.{shapes}
-use Rattle.gw_verdicts.specs.Why.{answer_to}
+use Rattle.gw_verdicts.specs.Why.{answer_to, note_text}
 use Rattle.gw_warnings.specs.Warnings.{register_ask}
 
 -- Its numbers have 64 bits, as those of each ask of the code have by their type.
@@ -84,19 +84,20 @@ abbrev pub IsSent : Event → Type 0
 IsSent (Datagram port from octets) = IsAddress from
 IsSent Tick = ⊤
 
--- the answer that the rule of this number and name denies
-abbrev pub denied_by : ℕ → List ℕ → List ℕ
-denied_by number name = codes "deny rule " ++ decimal number ++ codes " " ++ name ++ 10 ∷ []
+-- the answer that the rule of this number and name denies, with its note
+abbrev pub denied_by : (notes : List (List ℕ)) → ℕ → List ℕ → List ℕ
+denied_by notes number name =
+    codes "deny rule " ++ decimal number ++ codes " " ++ name ++ note_text notes (Some number) ++ 10 ∷ []
 
 -- The answer names the rule of the denial: the first one that matches its ask, which has the name
--- that the line shows. Where none matches it says so, and the line shows `default`.
-abbrev pub NamesTheRule : List Rule → Denial → ShownAsk → Type 0
-NamesTheRule rules d shown =
-    ((first rules d.ask ≡ None) × (d.rule ≡ default_name) × (answer_to rules shown ≡ codes "deny default" ++ 10 ∷ []))
-    ⊎ ((number : ℕ) × (first rules d.ask ≡ Some number) × (answer_to rules shown ≡ denied_by number d.rule))
+-- that the line shows. If none matches it says so, and the line shows `default`.
+abbrev pub NamesTheRule : List Rule → (notes : List (List ℕ)) → Denial → ShownAsk → Type 0
+NamesTheRule rules notes d shown =
+    ((first rules d.ask ≡ None) × (d.rule ≡ default_name) × (answer_to rules notes shown ≡ codes "deny default" ++ 10 ∷ []))
+    ⊎ ((number : ℕ) × (first rules d.ask ≡ Some number) × (answer_to rules notes shown ≡ denied_by notes number d.rule))
 
 -- For each line that a run under a configuration wrote, the answer under the same configuration names that line's rule.
 abbrev pub WhyNamesTheRule : Type 0
 WhyNamesTheRule = (c : Configuration) (k : Counts) (h : List Event) (e : Event) → IsSent e →
     AllByRecursion (λ d. (line : List ℕ) (shown : ShownAsk) → IsShowable d → IsLineOf line d → TellsAsk line shown
-    → NamesTheRule c.rules d shown) (effects c k h e).denials
+    → NamesTheRule c.rules c.notes d shown) (effects c k h e).denials

@@ -1,8 +1,11 @@
 -- Which rule would decide the asks that a text tells, line by line.
-use Rattle.std.specs.Prelude.{◌≡◌, ℕ, List, [], ◌∷◌, ◌++◌, Result}
+use Rattle.std.specs.Prelude.{◌≡◌, ℕ, ◌-◌, ◌==◌, List, [], ◌∷◌, ◌++◌, codes, if◌then◌else◌, length, map, Option, Some, None, Result, slice_get}
+use Rattle.std.specs.Option.{option_map_or}
 use Rattle.gw_audit.specs.Entry.{TellsAsk, ask_shown}
 use Rattle.gw_audit.specs.declared.entry.ShownAsk.{ShownAsk}
 use Rattle.gw_rules.specs.Ask.{Ask}
+use Rattle.gw_permissions.specs.Words.{shown}
+use Rattle.gw_rules.specs.RuleList.{first}
 use Rattle.gw_rules.specs.declared.rule.Rule.{Rule}
 use Rattle.gw_core.specs.Explained.{verdict_text}
 use Rattle.gw_script.specs.Lines.{LeavesLines}
@@ -10,21 +13,30 @@ use Rattle.gw_script.specs.declared.lines.LinesFault.{LinesFault}
 
 -- ---- an answer
 
--- the answer to an ask: what the policy says of it, and by which rule
-abbrev pub answer : List Rule → Ask → List ℕ
-answer rules ask = verdict_text rules ask ++ 10 ∷ []
+-- a note as it is shown, and nothing if it is empty
+abbrev pub noted : List ℕ → List ℕ
+noted note = if length note == 0 then [] else codes ": " ++ map shown note
+
+-- the note of the rule of a number, counted from 1
+abbrev pub note_text : (notes : List (List ℕ)) → Option ℕ → List ℕ
+note_text notes None = []
+note_text notes (Some number) = option_map_or noted (slice_get notes (number - 1)) []
+
+-- the answer to an ask: what the policy says of it, by which rule, and what is noted of that rule
+abbrev pub answer : List Rule → (notes : List (List ℕ)) → Ask → List ℕ
+answer rules notes ask = verdict_text rules ask ++ note_text notes (first rules ask) ++ 10 ∷ []
 
 -- and to an ask that is shown
-abbrev pub answer_to : List Rule → ShownAsk → List ℕ
-answer_to rules shown = answer rules (ask_shown shown)
+abbrev pub answer_to : List Rule → (notes : List (List ℕ)) → ShownAsk → List ℕ
+answer_to rules notes ask = answer rules notes (ask_shown ask)
 
 -- ---- the lines of a text
 
 -- a line that tells an ask, and the answer to it
-pub record IsAnswered (rules : List Rule) (line text : List ℕ) : Type 0 where
+pub record IsAnswered (rules : List Rule) (notes : List (List ℕ)) (line text : List ℕ) : Type 0 where
   pub ask : ShownAsk
   pub tells : TellsAsk line ask
-  pub answers : text ≡ answer_to rules ask
+  pub answers : text ≡ answer_to rules notes ask
 
 -- a line that tells no ask
 abbrev pub TellsNoAsk : List ℕ → Type 0
@@ -32,5 +44,5 @@ TellsNoAsk line = (ask : ShownAsk) → ¬ (TellsAsk line ask)
 
 -- what the answers by these rules leave written, by their outcome; a line that tells no ask ends them, or one of more
 -- than 4096 octets
-abbrev pub LeavesAnswers : List Rule → Result (Unit {0}) LinesFault → (text before after : List ℕ) → Type 0
-LeavesAnswers rules = LeavesLines (IsAnswered rules) TellsNoAsk
+abbrev pub LeavesAnswers : List Rule → (notes : List (List ℕ)) → Result (Unit {0}) LinesFault → (text before after : List ℕ) → Type 0
+LeavesAnswers rules notes = LeavesLines (IsAnswered rules notes) TellsNoAsk

@@ -1,20 +1,22 @@
 //! Which rule would decide the asks of a log: one answer a line.
 
-ghost use Rattle.std.specs.Prelude.{◌≡◌, ◌+◌, ◌*◌, ◌<◌, ℕ, List, length, Some, IsErrOf, OnOk};
+ghost use Rattle.std.specs.Prelude.{◌≡◌, ◌+◌, ◌*◌, ◌<◌, ◌++◌, ℕ, List, length, Some, IsErrOf, OnOk};
 ghost use Rattle.gw_addr.specs.Appending.{IsAppended};
 ghost use Rattle.gw_audit.specs.Entry.{ask_shown};
 ghost use Rattle.gw_script.specs.Known.{OnKnown};
-ghost use Rattle.gw_verdicts.specs.Why.{IsAnswered, LeavesAnswers, TellsNoAsk, answer, answer_to};
+ghost use Rattle.gw_verdicts.specs.Why.{IsAnswered, LeavesAnswers, TellsNoAsk, answer, answer_to, note_text, noted};
 
-use gw_addr::put_octet;
 use gw_audit::{ShownAsk, read_ask};
+use gw_configuration::{Config, Text};
 use gw_core::put_verdict;
+use gw_permissions::put_shown;
 use gw_rules::{Ask, RuleList};
 use gw_script::{LineTeller, LinesFault, OctetSink, OctetSource, tell_lines};
 use std::alloc::{AllocError, Global};
 
-/// Answers for each line, in order, which rule of the policy is the first to match the ask that the
-/// line tells, and what it says, before it takes up the next line. The writer isn't flushed.
+/// Answers for each line, in order, which rule of the configuration is the first to match the ask that the
+/// line has, what it says, and its note, if it has one, before it takes up the next line. The writer isn't
+/// flushed.
 ///
 /// A line is one of the log, or the eight words in the middle of one, and ends with a line feed,
 /// which the last may lack. It has at most 4096 octets without it. Another ends the answers.
@@ -25,39 +27,44 @@ use std::alloc::{AllocError, Global};
 /// 2 2:C0A80209BAC0 read dst=100 svc=12 obj=5,1 prop=85 prio=-
 /// ```
 ///
-/// An answer names the rule, or says that none matches.
+/// An answer names the rule, or says that none matches. A note has a question mark for each control character.
 ///
 /// ```text
-/// deny rule 1 hide
+/// deny rule 1 hide: the door is the caretaker's
 /// allow rule 3 all
 /// deny default
 /// ```
 pub fn why<R: OctetSource, W: OctetSink>(
     alloc: Global,
-    rules: &RuleList,
+    config: &Config,
     reader: &mut R,
     writer: &mut W,
 ) -> Result<(), LinesFault>
     // What is written then, where the octets of the reader and the writer are known.
     ensures answers { OnKnown (R.left reader.old) (W.held writer.old) (W.held writer.new)
-        (LeavesAnswers rules.now result) }
+        (LeavesAnswers config.now.rules config.now.notes result) }
     // What never fails doesn't end the answers: a reader, of a text of less than 2 GiB, and a writer.
     ensures sure_reader { R.NeverFails reader.old → (text : List ℕ) →
         R.left reader.old ≡ Some text → 2 * length text + 1 < 4294967295 →
         ¬ (IsErrOf result LinesFault.Read) }
     ensures sure_writer { W.NeverFails writer.old → ¬ (IsErrOf result LinesFault.Write) }
 {
-    tell_lines(alloc, &Answerer { rules }, reader, writer)
+    let answerer = Answerer {
+        rules: config.rules(),
+        notes: config.notes(),
+    };
+    tell_lines(alloc, &answerer, reader, writer)
 }
 
-/// Answers the asks of a log by these rules.
+/// Answers the asks of a log by these rules, with their notes.
 #[derive(Drop)]
 struct Answerer<'a> {
     rules: &'a RuleList,
+    notes: &'a [Text],
 }
 
 impl<'a> LineTeller for Answerer<'a> {
-    ghost Tells = { λ answerer line text. IsAnswered answerer.rules.now line text };
+    ghost Tells = { λ answerer line text. IsAnswered answerer.rules.now answerer.notes.now line text };
 
     ghost Refuses = { λ _ line. TellsNoAsk line };
 
@@ -65,23 +72,51 @@ impl<'a> LineTeller for Answerer<'a> {
         let Some(ask) = read_ask(line) else {
             return Ok(false);
         };
-        make_answer(self.rules, &ask, text)?;
+        self.make_answer(&ask, text)?;
         Ok(true)
     }
 }
 
-/// Makes the answer to an ask that is shown.
-fn make_answer(rules: &RuleList, shown: &ShownAsk, text: &mut Vec<u8>) -> Result<(), AllocError>
-    ensures { OnOk result (text.new.items ≡ answer_to rules.now shown.now) }
-{
-    text.clear();
-    put_answer(text, rules, &shown.ask())
+impl Answerer<'_> {
+    /// Makes the answer to an ask that is shown.
+    fn make_answer(&self, shown: &ShownAsk, text: &mut Vec<u8>) -> Result<(), AllocError>
+        ensures { OnOk result (text.new.items ≡ answer_to self.now.rules.now self.now.notes.now shown.now) }
+    {
+        text.clear();
+        self.put_answer(text, &shown.ask())
+    }
+
+    /// Appends the answer to an ask.
+    fn put_answer(&self, out: &mut Vec<u8>, ask: &Ask) -> Result<(), AllocError>
+        ensures { OnOk result (out.new.items ≡ out.old.items ++ answer self.now.rules.now self.now.notes.now ask.now) }
+    {
+        put_verdict(out, self.rules, ask)?;
+        put_note_of(out, self.notes, self.rules.first(ask))?;
+        out.push(b'\n')?;
+        Ok(())
+    }
 }
 
-/// Appends the answer to an ask.
-fn put_answer(out: &mut Vec<u8>, rules: &RuleList, ask: &Ask) -> Result<(), AllocError>
-    ensures { IsAppended (answer rules.now ask.now) out.old out.new result }
+/// Appends the note of the rule of this number, if it has one.
+fn put_note_of(out: &mut Vec<u8>, notes: &[Text], number: Option<u16>) -> Result<(), AllocError>
+    ensures { OnOk result (out.new.items ≡ out.old.items ++ note_text notes.now number) }
 {
-    put_verdict(out, rules, ask)?;
-    put_octet(out, b'\n')
+    let Some(number) = number else {
+        return Ok(());
+    };
+    match notes.get((number as usize).saturating_sub(1)) {
+        Some(note) => put_note(out, note.as_str().as_bytes()),
+        None => Ok(()),
+    }
+}
+
+/// Appends a note, if it isn't empty.
+fn put_note(out: &mut Vec<u8>, note: &[u8]) -> Result<(), AllocError>
+    ensures { OnOk result (out.new.items ≡ out.old.items ++ noted note.now) }
+{
+    if note.is_empty() {
+        return Ok(());
+    }
+    out.extend_from_slice(b": ")?;
+    put_shown(out, note)
 }

@@ -2,9 +2,9 @@ use Rattle.std.proofs.Common.{◌≡◌, Ok, Some, refl, rules, subst, ℕ, List
 use Rattle.std.specs.Global.{Vec}
 use Rattle.gw_shell.specs.Configured.{IsConfigured}
 use Rattle.gw_shell.specs.Files.{result_map}
-use Rattle.gw_shell.specs.declared.command_line.Choice.TheVariants as choice
+use Rattle.gw_command_line.specs.declared.command_line.Choice.TheVariants as choice
 use Rattle.gw_shell.proofs.ChoiceLemmas.{followed}
-use Rattle.gw_shell.proofs.ServingLemmas.{appends_nothing}
+use Rattle.gw_shell.proofs.AppendLemmas.{appends_nothing}
 use Rattle.gw_shell.proofs.program.follow.Goals as goal
 
 pub returns-in-Ok-Replay-clause-followed : goal.returns-in-Ok-Replay-clause-followed
@@ -34,7 +34,7 @@ returns-in-Ok-Migrate-clause-followed g c =
 
 pub returns-in-Ok-Why-clause-followed : goal.returns-in-Ok-Why-clause-followed
 returns-in-Ok-Why-clause-followed g c =
-    let chosen = choice.Why c.in-Ok-Why.file in
+    let chosen = choice.Why c.in-Ok-Why.file c.in-Ok-Why.counts in
     let is : c.args.choice.now ≡ Ok chosen = search rules in
     let config = c.configuration_in-config-in-Ok-Why.result in
     let configured = subst (λ (name : List ℕ). IsConfigured (g.F.ConfigFiles.Reads c.args.files.now) (Some name) config)
@@ -59,4 +59,35 @@ returns-in-Ok-Compare-clause-followed g c =
     let second = subst (λ (name : List ℕ). IsConfigured (g.F.ConfigFiles.Reads c.args.files.now) (Some name) after)
     c.deref-in-Ok-Compare-2.ensures c.configuration_in-after.ensures in
     followed _ _ c.args.choice.now (Ok chosen) c.compare.result is refl (before, first, after, second, c.compare.ensures.output)
+    (λ never. appends_nothing (g.E.OctetSink.held c.args.errors.now))
+
+pub returns-in-Ok-State-clause-followed : goal.returns-in-Ok-State-clause-followed
+returns-in-Ok-State-clause-followed g c =
+    let chosen = choice.State c.in-Ok-State.config c.in-Ok-State.state in
+    let is : c.args.choice.now ≡ Ok chosen = search rules in
+    let text = result_map (λ (octets : Vec ℕ). octets.items) c.read_state-text.result in
+    let reads = subst (λ (name : List ℕ). g.F.ConfigFiles.ReadsState c.args.files.now name text) c.deref-in-Ok-State.ensures c.read_state-text.ensures in
+    let config = c.configuration_in-config-in-Ok-State.result in
+    let configured = subst (λ (name : List ℕ). IsConfigured (g.F.ConfigFiles.Reads c.args.files.now) (Some name) config)
+    c.deref-in-Ok-State-2.ensures c.configuration_in-config-in-Ok-State.ensures in
+    followed _ _ c.args.choice.now (Ok chosen) c.print_state.result is refl (config, configured, text, reads, c.print_state.ensures.output)
+    (λ never. appends_nothing (g.E.OctetSink.held c.args.errors.now))
+
+pub returns-in-Ok-Reload-clause-followed : goal.returns-in-Ok-Reload-clause-followed
+returns-in-Ok-Reload-clause-followed g c =
+    let chosen = choice.Reload c.in-Ok-Reload.config c.in-Ok-Reload.request in
+    let is : c.args.choice.now ≡ Ok chosen = search rules in
+    let config = c.configuration_in-config-in-Ok-Reload.result in
+    let configured = subst (λ (name : List ℕ). IsConfigured (g.F.ConfigFiles.Reads c.args.files.now) (Some name) config)
+    c.deref-in-Ok-Reload.ensures c.configuration_in-config-in-Ok-Reload.ensures in
+    followed _ _ c.args.choice.now (Ok chosen) c.reload.result is refl (config, configured, c.reload.ensures.output)
+    (λ never. appends_nothing (g.E.OctetSink.held c.args.errors.now))
+
+pub returns-in-Ok-Suggest-clause-followed : goal.returns-in-Ok-Suggest-clause-followed
+returns-in-Ok-Suggest-clause-followed g c =
+    let chosen = choice.Suggest c.in-Ok-Suggest.file c.in-Ok-Suggest.fills c.in-Ok-Suggest.exact in
+    let is : c.args.choice.now ≡ Ok chosen = search rules in
+    let text = result_map (λ (octets : Vec ℕ). octets.items) c.read-text-in-Ok-Suggest.result in
+    let reads = subst (λ (name : List ℕ). g.F.ConfigFiles.Reads c.args.files.now name text) c.deref-in-Ok-Suggest.ensures c.read-text-in-Ok-Suggest.ensures in
+    followed _ _ c.args.choice.now (Ok chosen) c.suggest_rules.result is refl (text, reads, c.suggest_rules.ensures.output)
     (λ never. appends_nothing (g.E.OctetSink.held c.args.errors.now))

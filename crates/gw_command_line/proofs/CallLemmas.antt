@@ -1,0 +1,29 @@
+-- The worked command lines.
+use Rattle.std.proofs.Common.{refl, Some, None, codes}
+use Rattle.clap.proofs.OnLiterals.{clap_on_literals}
+use Rattle.gw_audit.proofs.MomentExamples.{morning, morning_is_read}
+use Rattle.gw_command_line.specs.Calls.{CallsAreTaken}
+use Rattle.gw_command_line.specs.Commands.{commands, first_commands}
+
+pub calls_are_taken : CallsAreTaken
+unfolding clap_on_literals commands first_commands
+calls_are_taken = record {
+  check = λ program. record { taken = refl; asked = refl; sound = λ void. void };
+  explain = λ program. record { taken = refl; asked = refl; sound = λ void. void };
+  lint = λ program. record { taken = refl; asked = refl; sound = λ void. void };
+  migrate = λ program. record { taken = refl; asked = refl; sound = λ void. void };
+  replay = λ program. record { taken = refl; asked = refl; sound = λ void. void };
+  replay_explained = λ program. record { taken = refl; asked = refl; sound = λ void. void };
+  replay_of_file = λ program. record { taken = refl; asked = refl; sound = λ void. void };
+  run = λ program. record { taken = refl; asked = refl; sound = λ void. void };
+  run_whole = λ program. record { taken = refl; asked = refl; sound = λ void. void };
+  why = λ program. record { taken = refl; asked = refl; sound = λ void. void };
+  why_count = λ program. record { taken = refl; asked = refl; sound = λ void. void };
+  compare = λ program. record { taken = refl; asked = refl; sound = λ void. void };
+  state = λ program. record { taken = refl; asked = refl; sound = λ void. void };
+  suggest = λ program. record { taken = refl; asked = refl; sound = λ void. void };
+  suggest_whole = λ program. record { taken = refl; asked = refl; sound = λ void. void };
+  reload = λ program. record { taken = refl; asked = refl; sound = λ void. void };
+  log = λ program. record { taken = refl; asked = refl; sound = λ void. void None refl };
+  log_since = λ program. record { taken = refl; asked = refl; sound = λ void. void (Some morning) morning_is_read };
+}

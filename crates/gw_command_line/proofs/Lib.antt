@@ -1,0 +1,3 @@
+mod CallLemmas
+mod ValueLemmas
+mod WordsLemmas

@@ -1,0 +1,117 @@
+-- Which words the program takes, and what it makes of them. `fault_of` of the crate `clap` lists the kinds of fault
+-- that a parser finds at some words, and is empty if it takes them.
+use Rattle.std.specs.Prelude.{◌≡◌, ◌≢◌, ◌⊎◌, ⊤, List, [], Option, Some, None, Result, Ok, Err, option_map, string_bytes}
+use Rattle.clap.specs.Words.{IsAmong, Text, fault_of}
+use Rattle.clap.specs.declared.error.kind.ErrorKind.{ErrorKind}
+use Rattle.clap.specs.declared.error.kind.ErrorKind.TheVariants as parse
+use Rattle.gw_audit.specs.Moment.{IsTextOf}
+use Rattle.gw_audit.specs.declared.moment.Moment.{Moment}
+use Rattle.gw_command_line.specs.Commands.{commands}
+use Rattle.gw_command_line.specs.Requests.{Checks, Compares, Explains, Migrates, Reloads, Replays, Request, Serves, Service, Shows, Suggests, TellsLog, asked_in}
+use Rattle.gw_command_line.specs.declared.command_line.Choice.{Choice}
+use Rattle.gw_command_line.specs.declared.command_line.Choice.TheVariants as choice
+use Rattle.gw_command_line.specs.declared.options.RunOptions.{RunOptions}
+use Rattle.gw_command_line.specs.declared.fault.WordsFault.{WordsFault}
+use Rattle.gw_command_line.specs.declared.fault.WordsFault.TheVariants as fault
+
+-- the moment at which a log began: what the text says, and none if there is none
+abbrev pub IsStart : Option Text → Option Moment → Type 0
+IsStart None start = start ≡ None
+IsStart (Some text) (Some m) = IsTextOf text m
+IsStart (Some text) None = ⊥
+
+-- The text says no such moment, which makes a bad command line.
+abbrev pub IsNoStart : Option Text → WordsFault → Type 0
+IsNoStart given f = (f ≡ fault.CommandLine) × ((start : Option Moment) → ¬ (IsStart given start))
+
+-- what `run` is asked for by its options
+abbrev pub service : RunOptions → Service
+service options = record {
+  config = string_bytes options.config;
+  log = option_map string_bytes options.log;
+  turns = options.turns;
+  verbose = options.verbose;
+  stats = options.stats;
+  state = option_map string_bytes options.state;
+  reload = option_map string_bytes options.reload;
+}
+
+-- a choice is what was asked for
+abbrev pub IsFor : Request → Choice → Type 0
+IsFor request (choice.Check file explains lints) = request ≡ Checks (string_bytes file) explains lints
+IsFor request (choice.Migrate file) = request ≡ Migrates (string_bytes file)
+IsFor request (choice.Replay file explains) = request ≡ Replays (option_map string_bytes file) explains
+IsFor request (choice.Run options) = request ≡ Serves (service options)
+IsFor request (choice.Why file counts) = request ≡ Explains (string_bytes file) counts
+IsFor request (choice.Compare old new most) = request ≡ Compares (string_bytes old) (string_bytes new) most
+IsFor request (choice.State config state) = request ≡ Shows (string_bytes config) (string_bytes state)
+IsFor request (choice.Suggest file fills exact) = request ≡ Suggests (string_bytes file) fills exact
+IsFor request (choice.Reload config file) = request ≡ Reloads (string_bytes config) (string_bytes file)
+IsFor request (choice.Log start) = (text : Option Text) × (request ≡ TellsLog text) × IsStart text start
+IsFor request (choice.Help text) = ⊥
+IsFor request (choice.Usage text) = ⊥
+
+-- No choice is what was asked for: the text at which the log is to have begun is no moment.
+abbrev pub IsVoid : Request → Type 0
+IsVoid (TellsLog text) = (start : Option Moment) → ¬ (IsStart text start)
+IsVoid _ = ⊥
+
+-- a choice is what a call asks for, and a bad command line is a call that asks for nothing; memory may run out at any
+abbrev pub IsChosen : Option Request → Result Choice WordsFault → Type 0
+IsChosen (Some request) (Ok choice) = IsFor request choice
+IsChosen None (Ok choice) = ⊥
+IsChosen (Some request) (Err fault.CommandLine) = IsVoid request
+IsChosen None (Err fault.CommandLine) = ⊤
+IsChosen request (Err fault.Memory) = ⊤
+
+-- help or the version was asked for, which is printed
+abbrev pub IsShown : ErrorKind → Type 0
+IsShown kind = (kind ≡ parse.DisplayHelp) ⊎ (kind ≡ parse.DisplayVersion)
+
+-- the words are wrong
+abbrev pub IsWrong : ErrorKind → Type 0
+IsWrong kind = (kind ≢ parse.DisplayHelp) × (kind ≢ parse.DisplayVersion) × (kind ≢ parse.OutOfMemory)
+
+-- what the program makes of a parse that failed: help or the version if that was asked for, and else a bad command
+-- line, with how the program is called if there is memory for it; memory may have run out in the parse, or for the
+-- help
+abbrev pub IsRefusal : ErrorKind → Result Choice WordsFault → Type 0
+IsRefusal kind (Ok (choice.Help text)) = IsShown kind
+IsRefusal kind (Ok (choice.Usage text)) = IsWrong kind
+IsRefusal kind (Ok _) = ⊥
+IsRefusal kind (Err fault.CommandLine) = IsWrong kind
+IsRefusal kind (Err fault.Memory) = (kind ≡ parse.OutOfMemory) ⊎ IsShown kind
+
+-- the parser takes the words, and this is what they call
+abbrev pub IsTaken : List Text → Result Choice WordsFault → Type 0
+IsTaken words chosen = (fault_of commands words ≡ []) × IsChosen (asked_in words) chosen
+
+-- the parser finds help or the version asked for among the words
+abbrev pub AsksToShow : List Text → Type 0
+AsksToShow words = (k : ErrorKind) × IsAmong k (fault_of commands words) × IsShown k
+
+-- the parser finds a fault in the words that is no request for help or the version
+abbrev pub IsMistake : List Text → Type 0
+IsMistake words = (k : ErrorKind) × IsAmong k (fault_of commands words) × IsWrong k
+
+-- what the program makes of words: what they call if the parser takes them, help or the version if that was
+-- asked for, a bad command line if there is another fault; memory may run out at any words, since what parses them
+-- is made first
+abbrev pub IsAnswer : List Text → Result Choice WordsFault → Type 0
+IsAnswer words (Ok (choice.Help text)) = AsksToShow words
+IsAnswer words (Ok (choice.Usage text)) = IsMistake words
+IsAnswer words (Ok choice) = IsTaken words (Ok choice)
+IsAnswer words (Err fault.CommandLine) = IsMistake words ⊎ IsTaken words (Err fault.CommandLine)
+IsAnswer words (Err fault.Memory) = ⊤
+
+-- the parser takes the words, which ask for this
+pub record AskFor (words : List Text) (request : Request) : Type 0 where
+  pub taken : fault_of commands words ≡ []
+  pub asked : asked_in words ≡ Some request
+  pub sound : ¬ (IsVoid request)
+
+-- it is chosen, or memory ran out
+abbrev pub Chooses : Request → Result Choice WordsFault → Type 0
+Chooses request (Ok choice) = IsFor request choice
+Chooses request (Err fault.CommandLine) = ⊥
+Chooses request (Err fault.Memory) = ⊤

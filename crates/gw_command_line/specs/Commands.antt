@@ -1,0 +1,92 @@
+-- The commands of the program and their options, as the crate `clap` describes them.
+use Rattle.std.specs.Prelude.{Some, true, codes}
+use Rattle.clap.specs.Words.{App, Rule, Text, new_app, new_rule, with_rule, with_subcommand}
+use Rattle.clap.specs.Simple.{on_top}
+use Rattle.clap.specs.declared.builder.action.ArgAction.TheVariants.{SetTrue}
+
+-- an option of a name that has a value, one that has to be given, and one that has no value
+abbrev pub option : Text → Rule
+option name = record (new_rule name) { long = Some name; value_names = 1 }
+
+abbrev pub needed : Text → Rule
+needed name = record (option name) { required = true }
+
+abbrev pub flag : Text → Rule
+flag name = record (new_rule name) { long = Some name; action = Some SetTrue }
+
+-- a command that needs the file of a configuration
+abbrev pub of_file : Text → App
+of_file name = with_rule (new_app name) (needed (codes "config"))
+
+-- `check --config FILE [--explain] [--lint] [--migrate]`
+abbrev pub check_of_explanation : App
+check_of_explanation = with_rule (with_rule (of_file (codes "check")) (flag (codes "explain"))) (flag (codes "lint"))
+
+abbrev pub check : App
+check = with_rule check_of_explanation (flag (codes "migrate"))
+
+-- `replay [--config FILE] [--explain]`
+abbrev pub replay : App
+replay = with_rule (with_rule (new_app (codes "replay")) (option (codes "config"))) (flag (codes "explain"))
+
+-- `run --config FILE [--log FILE] [--turns N] [--verbose] [--stats SECONDS] [--state FILE] [--reload FILE]`
+abbrev pub run_of_turns : App
+run_of_turns = with_rule (with_rule (of_file (codes "run")) (option (codes "log"))) (option (codes "turns"))
+
+abbrev pub run_of_reports : App
+run_of_reports = with_rule (with_rule run_of_turns (flag (codes "verbose"))) (option (codes "stats"))
+
+abbrev pub run : App
+run = with_rule (with_rule run_of_reports (option (codes "state"))) (option (codes "reload"))
+
+-- `why --config FILE [--count]`
+abbrev pub why : App
+why = with_rule (of_file (codes "why")) (flag (codes "count"))
+
+-- `compare --config FILE --with FILE [--most N]`
+abbrev pub compare : App
+compare = with_rule (with_rule (of_file (codes "compare")) (needed (codes "with"))) (option (codes "most"))
+
+-- `log [--start TIME]`
+abbrev pub log : App
+log = with_rule (new_app (codes "log")) (option (codes "start"))
+
+-- `state --config FILE --state FILE`
+abbrev pub state : App
+state = with_rule (of_file (codes "state")) (needed (codes "state"))
+
+-- `suggest --config FILE [--fill] [--exact]`
+abbrev pub suggest : App
+suggest = with_rule (with_rule (of_file (codes "suggest")) (flag (codes "fill"))) (flag (codes "exact"))
+
+-- `reload --config FILE --reload FILE`
+abbrev pub reload : App
+reload = with_rule (of_file (codes "reload")) (needed (codes "reload"))
+
+-- the program, whose call has to name a command
+abbrev pub program : App
+program = on_top (λ top. record top { subcommand_required = true; has_version = true }) (new_app (codes "bacgw"))
+
+-- The commands of the program: the first four, and then the others. Both stay closed in proofs, since what they
+-- compute to is long.
+unfoldable pub first_commands : App
+first_commands =
+    with_subcommand
+    (with_subcommand
+    (with_subcommand
+    (with_subcommand program check.top)
+    replay.top)
+    run.top)
+    why.top
+
+unfoldable pub commands : App
+commands =
+    with_subcommand
+    (with_subcommand
+    (with_subcommand
+    (with_subcommand
+    (with_subcommand first_commands log.top)
+    compare.top)
+    state.top)
+    suggest.top)
+    reload.top

@@ -1,0 +1,144 @@
+-- What a call of the program asks for, by the name of its command and the values of its options.
+use Rattle.std.specs.Prelude.{◌≡◌, ◌&&◌, ◌||◌, ℕ, Bool, true, false, List, ◌∷◌, nat_eq, if◌then◌else◌, Option, Some, None, codes}
+use Rattle.std.specs.Cmp.Lexicographic.{pointwise}
+use Rattle.std.specs.Option.{option_and_then, option_map}
+use Rattle.std.specs.Str.Parse.{digits_value, without_leading_plus}
+use Rattle.clap.specs.Words.{IsUnsignedIn, Row, Text, first_of, subcommand_of}
+use Rattle.clap.specs.ValueTests.{is_unsigned_in}
+use Rattle.gw_command_line.specs.Commands.{commands}
+
+-- what `run` is asked for
+pub record Service : Type 0 where
+  pub config : Text
+  pub log : Option Text
+  pub turns : ℕ
+  pub verbose : Bool
+  pub stats : Option ℕ
+  pub state : Option Text
+  pub reload : Option Text
+
+-- what a call asks for: the files that it names, and what is to be done with them
+pub data Request : Type 0 where
+  Checks : (file : Text) (explains lints : Bool) → Request
+  Migrates : (file : Text) → Request
+  Replays : (file : Option Text) (explains : Bool) → Request
+  Serves : Service → Request
+  Explains : (file : Text) (counts : Bool) → Request
+  Compares : (old new : Text) (most : ℕ) → Request
+  Shows : (config state : Text) → Request
+  Reloads : (config request : Text) → Request
+  Suggests : (file : Text) (fills exact : Bool) → Request
+  TellsLog : (start : Option Text) → Request
+
+-- the value of each option by its name, and `None` if it isn't given
+abbrev pub Values : Type 0
+Values = Text → Option Text
+
+-- an option without a value has the text `true` if it is given
+abbrev pub is_true : Option Text → Bool
+is_true None = false
+is_true (Some text) = pointwise nat_eq text (codes "true")
+
+-- the number from 1 to the most that a text says: a decimal
+abbrev pub IsNumber : ℕ → Text → Option ℕ → Type 0
+IsNumber most text (Some n) = IsUnsignedIn 1 most text × (n ≡ digits_value 10 (without_leading_plus text))
+IsNumber most text None = ¬ (IsUnsignedIn 1 most text)
+
+-- the same, as a function
+abbrev pub number_in : ℕ → Text → Option ℕ
+number_in most text =
+    if is_unsigned_in 1 most text then Some (digits_value 10 (without_leading_plus text)) else None
+
+-- the most turns, and the most lines
+abbrev pub most_count : ℕ
+most_count = 9223372036854775807
+
+-- a number of turns or of lines: the most if none is given
+abbrev pub count_in : Option Text → Option ℕ
+count_in None = Some most_count
+count_in (Some text) = number_in most_count text
+
+-- the most seconds between two reports
+abbrev pub most_seconds : ℕ
+most_seconds = 4294967295
+
+-- how many seconds lie between two reports, if a number of them is given
+abbrev pub period_in : Option Text → Option (Option ℕ)
+period_in None = Some None
+period_in (Some text) = option_map Some (number_in most_seconds text)
+
+-- `check`: the configuration is written in format 3, or it is explained and searched, but not both
+abbrev pub check_asked : Text → Values → Option Request
+check_asked file value =
+    let explains = is_true (value (codes "explain")) in
+    let lints = is_true (value (codes "lint")) in
+    if is_true (value (codes "migrate"))
+    then if explains || lints then None else Some (Migrates file)
+    else Some (Checks file explains lints)
+
+-- `run`, whose numbers have to be such
+abbrev pub service_of : Text → Values → Option ℕ → Option (Option ℕ) → Option Request
+service_of file value (Some turns) (Some stats) = Some (Serves record {
+  config = file;
+  log = value (codes "log");
+  turns = turns;
+  verbose = is_true (value (codes "verbose"));
+  stats = stats;
+  state = value (codes "state");
+  reload = value (codes "reload");
+})
+service_of file value _ _ = None
+
+abbrev pub run_asked : Text → Values → Option Request
+run_asked file value = service_of file value (count_in (value (codes "turns"))) (period_in (value (codes "stats")))
+
+-- `compare`, whose other file has to be named, and whose number has to be one
+abbrev pub comparison_of : Text → Option Text → Option ℕ → Option Request
+comparison_of old (Some new) (Some most) = Some (Compares old new most)
+comparison_of old _ _ = None
+
+abbrev pub compare_asked : Text → Values → Option Request
+compare_asked file value = comparison_of file (value (codes "with")) (count_in (value (codes "most")))
+
+-- `state`, whose other file has to be named
+abbrev pub state_asked : Text → Option Text → Option Request
+state_asked config None = None
+state_asked config (Some state) = Some (Shows config state)
+
+-- `reload`, whose request has to be named
+abbrev pub reload_asked : Text → Option Text → Option Request
+reload_asked config None = None
+reload_asked config (Some request) = Some (Reloads config request)
+
+-- a command's name is this one
+abbrev pub is_named : Text → Text → Bool
+is_named name other = pointwise nat_eq name other
+
+-- the commands that need a configuration's file
+abbrev pub asked_of_file : Text → Values → Text → Option Request
+asked_of_file name value file =
+    if is_named name (codes "check") then check_asked file value
+    else if is_named name (codes "run") then run_asked file value
+    else if is_named name (codes "why") then Some (Explains file (is_true (value (codes "count"))))
+    else if is_named name (codes "compare") then compare_asked file value
+    else if is_named name (codes "reload") then reload_asked file (value (codes "reload"))
+    else if is_named name (codes "suggest")
+    then Some (Suggests file (is_true (value (codes "fill"))) (is_true (value (codes "exact"))))
+    else if is_named name (codes "state") then state_asked file (value (codes "state"))
+    else None
+
+-- what a call of the command of this name asks for, whose options have these values; `None` if it asks for nothing
+abbrev pub asked : Text → Values → Option Request
+asked name value =
+    if is_named name (codes "log") then Some (TellsLog (value (codes "start")))
+    else if is_named name (codes "replay")
+    then Some (Replays (value (codes "config")) (is_true (value (codes "explain"))))
+    else option_and_then (asked_of_file name value) (value (codes "config"))
+
+-- what a call asks for: its command, and the rows of its options
+abbrev pub asked_by : Text × List Row → Option Request
+asked_by call = asked call.0 (λ id. first_of id call.1)
+
+-- what the words ask for
+abbrev pub asked_in : List Text → Option Request
+asked_in words = option_and_then asked_by (subcommand_of commands words)

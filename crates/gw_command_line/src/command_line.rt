@@ -1,0 +1,273 @@
+//! The command line: which command the words choose, read with `clap`.
+
+ghost use Rattle.std.specs.Prelude.{Some, codes, map, string_bytes};
+ghost use Rattle.std.specs.Option.{option_and_then};
+ghost use Rattle.clap.specs.Words.{first_value, found_of, kind_of, subcommand_rows_of};
+ghost use Rattle.gw_command_line.specs.CommandLine.{AskFor, Chooses, IsAnswer, IsChosen, IsRefusal};
+ghost use Rattle.gw_command_line.specs.Requests.{Request, TellsLog, asked, asked_by, asked_of_file, check_asked, compare_asked, reload_asked, run_asked, state_asked};
+
+use crate::commands::make_commands;
+use crate::fault::WordsFault;
+use crate::options::RunOptions;
+use crate::values::{count_of, file_of, is_given, period_of, start_of};
+use clap::error::ErrorKind;
+use clap::{ArgMatches, Error};
+use gw_audit::Moment;
+use std::alloc::Global;
+
+/// What the words ask for.
+#[derive(Drop)]
+pub enum Choice {
+    /// Judge the configuration in the file of this name; explain it or its fault, and say which of its
+    /// rules never decide, if that is asked for.
+    Check {
+        file: String,
+        explains: bool,
+        lints: bool,
+    },
+    /// Write the configuration in the file of this name in format 3.
+    Migrate(String),
+    /// Play the script on standard input, under the configuration in the file of this name or the
+    /// built-in one, and say of each ask which rule decides it if that is asked for.
+    Replay {
+        file: Option<String>,
+        explains: bool,
+    },
+    /// Serve the ports of a configuration over UDP.
+    Run(RunOptions),
+    /// Say of each ask on standard input which rule of the configuration in the file of this name
+    /// decides it, or how many each rule decides.
+    Why {
+        file: String,
+        counts: bool,
+    },
+    /// Say which asks the rules of the configurations in these files decide otherwise, in at most so many
+    /// lines.
+    Compare {
+        old: String,
+        new: String,
+        most: u64,
+    },
+    /// Say what the file of a state holds, and what of it the configuration in the other file takes over.
+    State {
+        config: String,
+        state: String,
+    },
+    /// Ask the gateway that runs under the configuration in the first file to read it again, by making the
+    /// file of the request.
+    Reload {
+        config: String,
+        request: String,
+    },
+    /// Write rules that allow the asks on standard input, to be put in front of those of the configuration in
+    /// this file: for each station what it did with all objects that it asked for, if that is asked for, and
+    /// with the services of reads and lists, if that is.
+    Suggest {
+        file: String,
+        fills: bool,
+        exact: bool,
+    },
+    /// Say the log on standard input in words, and when each denial was if this is the moment at
+    /// which the log began.
+    Log(Option<Moment>),
+    /// Print this text, which is help or the version.
+    Help(String),
+    /// Report that the words are no command line, and after it this text, which says how the program is
+    /// called.
+    Usage(String),
+}
+
+/// What is made of a parse that gave no matches.
+fn refusal_of(alloc: Global, error: Error) -> Result<Choice, WordsFault>
+    ensures { IsRefusal (kind_of error) result }
+{
+    match error.kind() {
+        ErrorKind::DisplayHelp | ErrorKind::DisplayVersion => {
+            Ok(Choice::Help(error.to_string(alloc)?))
+        }
+        ErrorKind::OutOfMemory => Err(WordsFault::Memory),
+        _ => match error.to_string(alloc) {
+            Ok(text) => Ok(Choice::Usage(text)),
+            Err(_) => Err(WordsFault::CommandLine),
+        },
+    }
+}
+
+/// What `check` asks for of the configuration in this file. `CommandLine` if it is to be written in format
+/// 3 and also explained or searched.
+fn check_choice(matches: &ArgMatches<'_>, file: String) -> Result<Choice, WordsFault>
+    ensures { IsChosen (check_asked (string_bytes file) (first_value (found_of matches.now))) result }
+{
+    let explains = is_given(matches, "explain");
+    let lints = is_given(matches, "lint");
+    if !is_given(matches, "migrate") {
+        return Ok(Choice::Check {
+            file,
+            explains,
+            lints,
+        });
+    }
+    if explains || lints {
+        return Err(WordsFault::CommandLine);
+    }
+    Ok(Choice::Migrate(file))
+}
+
+/// What `run` asks for under the configuration in this file.
+fn run_choice(alloc: Global, matches: &ArgMatches<'_>, config: String) -> Result<Choice, WordsFault>
+    ensures { IsChosen (run_asked (string_bytes config) (first_value (found_of matches.now))) result }
+{
+    let Some(turns) = count_of(matches, "turns") else {
+        return Err(WordsFault::CommandLine);
+    };
+    let Some(stats) = period_of(matches, "stats") else {
+        return Err(WordsFault::CommandLine);
+    };
+    Ok(Choice::Run(RunOptions {
+        config,
+        log: file_of(alloc, matches, "log")?,
+        turns,
+        verbose: is_given(matches, "verbose"),
+        stats,
+        state: file_of(alloc, matches, "state")?,
+        reload: file_of(alloc, matches, "reload")?,
+    }))
+}
+
+/// What `compare` asks for of the configuration in this file.
+fn compare_choice(
+    alloc: Global,
+    matches: &ArgMatches<'_>,
+    old: String,
+) -> Result<Choice, WordsFault>
+    ensures { IsChosen (compare_asked (string_bytes old) (first_value (found_of matches.now))) result }
+{
+    let Some(most) = count_of(matches, "most") else {
+        return Err(WordsFault::CommandLine);
+    };
+    match file_of(alloc, matches, "with")? {
+        Some(new) => Ok(Choice::Compare { old, new, most }),
+        None => Err(WordsFault::CommandLine),
+    }
+}
+
+/// What `state` asks for under the configuration in this file.
+fn state_choice(
+    alloc: Global,
+    matches: &ArgMatches<'_>,
+    config: String,
+) -> Result<Choice, WordsFault>
+    ensures { let state = first_value (found_of matches.now) (codes "state") in
+        IsChosen (state_asked (string_bytes config) state) result }
+{
+    match file_of(alloc, matches, "state")? {
+        Some(state) => Ok(Choice::State { config, state }),
+        None => Err(WordsFault::CommandLine),
+    }
+}
+
+/// What `reload` asks for under the configuration in this file.
+fn reload_choice(
+    alloc: Global,
+    matches: &ArgMatches<'_>,
+    config: String,
+) -> Result<Choice, WordsFault>
+    ensures { let request = first_value (found_of matches.now) (codes "reload") in
+        IsChosen (reload_asked (string_bytes config) request) result }
+{
+    match file_of(alloc, matches, "reload")? {
+        Some(request) => Ok(Choice::Reload { config, request }),
+        None => Err(WordsFault::CommandLine),
+    }
+}
+
+/// What `log` asks for. `CommandLine` if the text of its start says no moment.
+fn log_choice(matches: &ArgMatches<'_>) -> Result<Choice, WordsFault>
+    ensures { IsChosen (Some (TellsLog (first_value (found_of matches.now) (codes "start")))) result }
+{
+    match start_of(matches.get_str("start")) {
+        Ok(start) => Ok(Choice::Log(start)),
+        Err(fault) => Err(fault),
+    }
+}
+
+/// What the command of this name asks for under the configuration in this file.
+fn choice_of_file(
+    alloc: Global,
+    name: &str,
+    matches: &ArgMatches<'_>,
+    file: String,
+) -> Result<Choice, WordsFault>
+    ensures { let value = first_value (found_of matches.now) in
+        IsChosen (asked_of_file name.now value (string_bytes file)) result }
+{
+    if name == "check" {
+        return check_choice(matches, file);
+    }
+    if name == "run" {
+        return run_choice(alloc, matches, file);
+    }
+    if name == "why" {
+        let counts = is_given(matches, "count");
+        return Ok(Choice::Why { file, counts });
+    }
+    if name == "compare" {
+        return compare_choice(alloc, matches, file);
+    }
+    if name == "reload" {
+        return reload_choice(alloc, matches, file);
+    }
+    if name == "suggest" {
+        let fills = is_given(matches, "fill");
+        let exact = is_given(matches, "exact");
+        return Ok(Choice::Suggest { file, fills, exact });
+    }
+    if name == "state" {
+        return state_choice(alloc, matches, file);
+    }
+    Err(WordsFault::CommandLine)
+}
+
+/// What the command of this name asks for, by what its words match.
+fn choice_for(alloc: Global, name: &str, matches: &ArgMatches<'_>) -> Result<Choice, WordsFault>
+    ensures { IsChosen (asked name.now (first_value (found_of matches.now))) result }
+{
+    if name == "log" {
+        return log_choice(matches);
+    }
+    let config = file_of(alloc, matches, "config")?;
+    if name == "replay" {
+        let explains = is_given(matches, "explain");
+        return Ok(Choice::Replay {
+            file: config,
+            explains,
+        });
+    }
+    match config {
+        Some(file) => choice_of_file(alloc, name, matches, file),
+        None => Err(WordsFault::CommandLine),
+    }
+}
+
+/// What words that the parser takes ask for.
+fn choice_among(alloc: Global, matches: &ArgMatches<'_>) -> Result<Choice, WordsFault>
+    ensures { IsChosen (option_and_then asked_by (subcommand_rows_of matches.now)) result }
+{
+    match matches.subcommand() {
+        Some((name, matches)) => choice_for(alloc, name, matches),
+        None => Err(WordsFault::CommandLine),
+    }
+}
+
+/// What the words ask for, the program's name first. Faults: `CommandLine` if they are no command
+/// line of the program, and `Memory`.
+pub fn choice_of(alloc: Global, words: &[String]) -> Result<Choice, WordsFault>
+    ensures answers { IsAnswer (map string_bytes words.now) result }
+    ensures chooses { (request : Request) → AskFor (map string_bytes words.now) request → Chooses request result }
+{
+    let command = make_commands(alloc)?;
+    match command.try_get_matches_from(words) {
+        Ok(matches) => choice_among(alloc, &matches),
+        Err(error) => refusal_of(alloc, error),
+    }
+}

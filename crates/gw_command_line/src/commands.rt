@@ -1,0 +1,274 @@
+//! The commands of the program and their options, made for `clap`, with the texts of the help.
+
+ghost use Rattle.std.specs.Prelude.{◌≡◌, false, codes, IfOk};
+ghost use Rattle.clap.specs.Words.{app_of, rule_of};
+ghost use Rattle.clap.specs.declared.builder.command.Command.TheViews.{out-Command};
+ghost use Rattle.gw_command_line.specs.Commands.{check, check_of_explanation, commands, compare, first_commands, flag, log, needed, of_file, option, program, reload, replay, run, run_of_reports, run_of_turns, state, suggest, why};
+
+use clap::{Arg, ArgAction, Command};
+use std::alloc::{AllocError, Global};
+
+/// What `--version` prints behind the program's name: the version, and the logic that the program is
+/// proved in, as `rt version` names it.
+const VERSION: &str = "0.1.0, proved by Rattle, logic dac8208d650f15bf";
+
+/// What help calls a file, and a number.
+const FILE: &str = "FILE";
+
+const NUMBER: &str = "N";
+
+/// What is below the help on some commands.
+const RUN_EXAMPLE: &str = "Example:
+  bacgw run --config site.toml --log /var/log/bacgw.log --verbose";
+
+const WHY_EXAMPLE: &str = "Example:
+  bacgw why --config new.toml < denials.log | sort | uniq -c";
+
+const COMPARE_EXAMPLE: &str = "Example:
+  bacgw compare --config site.toml --with new.toml";
+
+const STATE_EXAMPLE: &str = "Example:
+  bacgw state --config new.toml --state /var/lib/bacgw/state";
+
+const SUGGEST_EXAMPLE: &str = "Example:
+  bacgw suggest --config site.toml < denials.log > suggested.toml";
+
+const RELOAD_EXAMPLE: &str = "Example:
+  bacgw reload --config site.toml --reload /run/bacgw/reload";
+
+const LOG_EXAMPLE: &str = "Example:
+  bacgw log < denials.log | sort | uniq -c";
+
+/// An option of this name that has a value, which help calls so.
+fn make_option<'a>(alloc: Global, name: &'a str, value_name: &'a str, help: &'a str) -> Arg<'a>
+    ensures rule { rule_of result ≡ option name.now }
+    ensures local { result.global ≡ false }
+{
+    Arg::new(alloc, name)
+        .long(name)
+        .value_name(value_name)
+        .help(help)
+}
+
+/// An option of this name that has no value.
+fn make_flag<'a>(alloc: Global, name: &'a str, help: &'a str) -> Arg<'a>
+    ensures rule { rule_of result ≡ flag name.now }
+    ensures local { result.global ≡ false }
+{
+    Arg::new(alloc, name)
+        .long(name)
+        .help(help)
+        .action(ArgAction::SetTrue)
+}
+
+/// An option of this name that names a file, which has to be given.
+fn make_needed<'a>(alloc: Global, name: &'a str, help: &'a str) -> Arg<'a>
+    ensures rule { rule_of result ≡ needed name.now }
+    ensures local { result.global ≡ false }
+{
+    make_option(alloc, name, FILE, help).required(true)
+}
+
+/// A command of this name that needs the file of a configuration, with what help says of it.
+fn make_of_file<'a>(alloc: Global, name: &'a str, about: &'a str) -> Result<Command<'a>, AllocError>
+    ensures app { IfOk result (λ command. app_of command ≡ of_file name.now) }
+    ensures local { IfOk result (λ command. (out-Command command).has_globals ≡ false) }
+{
+    Command::new(alloc, name)
+        .about(about)
+        .arg(make_needed(alloc, "config", "The configuration, in TOML"))
+}
+
+fn make_check<'a>(alloc: Global) -> Result<Command<'a>, AllocError>
+    ensures app { IfOk result (λ command. app_of command ≡ check) }
+    ensures local { IfOk result (λ command. (out-Command command).has_globals ≡ false) }
+{
+    let help = "Prints the configuration in format 3 instead; without --explain and --lint";
+    make_check_of_explanation(alloc)?.arg(make_flag(alloc, "migrate", help))
+}
+
+fn make_check_of_explanation<'a>(alloc: Global) -> Result<Command<'a>, AllocError>
+    ensures app { IfOk result (λ command. app_of command ≡ check_of_explanation) }
+    ensures local { IfOk result (λ command. (out-Command command).has_globals ≡ false) }
+{
+    let help = "Also prints where the fault is, or what the policy hides from whom";
+    let explain = make_flag(alloc, "explain", help);
+    let lint = make_flag(alloc, "lint", "Also prints which rules never decide");
+    let about = "Says what a configuration has, or its first fault";
+    make_of_file(alloc, "check", about)?.arg(explain)?.arg(lint)
+}
+
+fn make_replay<'a>(alloc: Global) -> Result<Command<'a>, AllocError>
+    ensures app { IfOk result (λ command. app_of command ≡ replay) }
+    ensures local { IfOk result (λ command. (out-Command command).has_globals ≡ false) }
+{
+    let help = "The configuration, in TOML; without it the built-in one";
+    let config = make_option(alloc, "config", FILE, help);
+    let help = "Also prints each ask, and which rule decides it";
+    let explain = make_flag(alloc, "explain", help);
+    Command::new(alloc, "replay")
+        .about("Plays the events of standard input and prints what the gateway gives for each")
+        .arg(config)?
+        .arg(explain)
+}
+
+fn make_run<'a>(alloc: Global) -> Result<Command<'a>, AllocError>
+    ensures app { IfOk result (λ command. app_of command ≡ run) }
+    ensures local { IfOk result (λ command. (out-Command command).has_globals ≡ false) }
+{
+    let help = "Keeps the state in this file, and begins with what it holds";
+    let state = make_option(alloc, "state", FILE, help);
+    let help = "Reads the configuration again if this file is there, and takes the file away";
+    let reload = make_option(alloc, "reload", FILE, help);
+    make_run_of_reports(alloc)?.arg(state)?.arg(reload)
+}
+
+fn make_run_of_reports<'a>(alloc: Global) -> Result<Command<'a>, AllocError>
+    ensures app { IfOk result (λ command. app_of command ≡ run_of_reports) }
+    ensures local { IfOk result (λ command. (out-Command command).has_globals ≡ false) }
+{
+    let help = "Tells at the start what is served, or where a fault is";
+    let verbose = make_flag(alloc, "verbose", help);
+    let help = "Tells what was done, each so many seconds, from 1 to 4294967295, and at the end";
+    let stats = make_option(alloc, "stats", "SECONDS", help);
+    make_run_of_turns(alloc)?.arg(verbose)?.arg(stats)
+}
+
+fn make_run_of_turns<'a>(alloc: Global) -> Result<Command<'a>, AllocError>
+    ensures app { IfOk result (λ command. app_of command ≡ run_of_turns) }
+    ensures local { IfOk result (λ command. (out-Command command).has_globals ≡ false) }
+{
+    let help = "What the log is appended to; without it standard output";
+    let log = make_option(alloc, "log", FILE, help);
+    let help = "How many turns are served, from 1 to 9223372036854775807, the default";
+    let turns = make_option(alloc, "turns", NUMBER, help);
+    let about = "Serves the ports of a configuration over UDP";
+    make_of_file(alloc, "run", about)?
+        .after_help(RUN_EXAMPLE)
+        .arg(log)?
+        .arg(turns)
+}
+
+fn make_why<'a>(alloc: Global) -> Result<Command<'a>, AllocError>
+    ensures app { IfOk result (λ command. app_of command ≡ why) }
+    ensures local { IfOk result (λ command. (out-Command command).has_globals ≡ false) }
+{
+    let about = "Says which rule decides each ask of standard input, in the words of the log";
+    let count = make_flag(
+        alloc,
+        "count",
+        "Prints how many asks each rule decides instead",
+    );
+    make_of_file(alloc, "why", about)?
+        .after_help(WHY_EXAMPLE)
+        .arg(count)
+}
+
+fn make_compare<'a>(alloc: Global) -> Result<Command<'a>, AllocError>
+    ensures app { IfOk result (λ command. app_of command ≡ compare) }
+    ensures local { IfOk result (λ command. (out-Command command).has_globals ≡ false) }
+{
+    let with = make_needed(alloc, "with", "The other configuration, in TOML");
+    let help = "How many lines are printed at most, from 1 to 9223372036854775807, the default";
+    let most = make_option(alloc, "most", NUMBER, help);
+    let about = "Says which asks the rules of two configurations decide otherwise";
+    make_of_file(alloc, "compare", about)?
+        .after_help(COMPARE_EXAMPLE)
+        .arg(with)?
+        .arg(most)
+}
+
+fn make_log<'a>(alloc: Global) -> Result<Command<'a>, AllocError>
+    ensures app { IfOk result (λ command. app_of command ≡ log) }
+    ensures local { IfOk result (λ command. (out-Command command).has_globals ≡ false) }
+{
+    let help = "Also tells when each denial was, if the log began then: 2026-11-25T08:00:00+01:00";
+    let start = make_option(alloc, "start", "TIME", help);
+    Command::new(alloc, "log")
+        .about("Tells each line of a log on standard input in words")
+        .after_help(LOG_EXAMPLE)
+        .arg(start)
+}
+
+fn make_state<'a>(alloc: Global) -> Result<Command<'a>, AllocError>
+    ensures app { IfOk result (λ command. app_of command ≡ state) }
+    ensures local { IfOk result (λ command. (out-Command command).has_globals ≡ false) }
+{
+    let state = make_needed(alloc, "state", "The file in which run keeps the state");
+    let about = "Says what a kept state holds, and what of it a configuration takes over";
+    make_of_file(alloc, "state", about)?
+        .after_help(STATE_EXAMPLE)
+        .arg(state)
+}
+
+fn make_suggest<'a>(alloc: Global) -> Result<Command<'a>, AllocError>
+    ensures app { IfOk result (λ command. app_of command ≡ suggest) }
+    ensures local { IfOk result (λ command. (out-Command command).has_globals ≡ false) }
+{
+    let help = "Lets each station do what it did with each object that it asked for";
+    let fill = make_flag(alloc, "fill", help);
+    let exact = make_flag(
+        alloc,
+        "exact",
+        "Keeps the services of reads and lists apart",
+    );
+    let about = "Writes rules that allow the asks of standard input, to be put in front";
+    make_of_file(alloc, "suggest", about)?
+        .after_help(SUGGEST_EXAMPLE)
+        .arg(fill)?
+        .arg(exact)
+}
+
+fn make_reload<'a>(alloc: Global) -> Result<Command<'a>, AllocError>
+    ensures app { IfOk result (λ command. app_of command ≡ reload) }
+    ensures local { IfOk result (λ command. (out-Command command).has_globals ≡ false) }
+{
+    let help = "The file that run --reload looks for";
+    let request = make_needed(alloc, "reload", help);
+    let about = "Asks a running gateway to read its configuration again, and says what it did";
+    make_of_file(alloc, "reload", about)?
+        .after_help(RELOAD_EXAMPLE)
+        .arg(request)
+}
+
+/// The program, with no command yet.
+fn make_program<'a>(alloc: Global) -> Command<'a>
+    ensures { app_of result ≡ program }
+{
+    Command::new(alloc, "bacgw")
+        .about("A gateway of BACnet/IP")
+        .version(VERSION)
+        .subcommand_required(true)
+}
+
+/// The program with its first four commands.
+fn make_first_commands<'a>(alloc: Global) -> Result<Command<'a>, AllocError>
+    ensures { IfOk result (λ command. app_of command ≡ first_commands) }
+{
+    let check = make_check(alloc)?;
+    let replay = make_replay(alloc)?;
+    let run = make_run(alloc)?;
+    let why = make_why(alloc)?;
+    make_program(alloc)
+        .subcommand(check)?
+        .subcommand(replay)?
+        .subcommand(run)?
+        .subcommand(why)
+}
+
+/// The commands of the program. An `Err` only if a growth of memory was refused.
+pub fn make_commands<'a>(alloc: Global) -> Result<Command<'a>, AllocError>
+    ensures { IfOk result (λ command. app_of command ≡ commands) }
+{
+    let log = make_log(alloc)?;
+    let compare = make_compare(alloc)?;
+    let state = make_state(alloc)?;
+    let suggest = make_suggest(alloc)?;
+    let reload = make_reload(alloc)?;
+    make_first_commands(alloc)?
+        .subcommand(log)?
+        .subcommand(compare)?
+        .subcommand(state)?
+        .subcommand(suggest)?
+        .subcommand(reload)
+}

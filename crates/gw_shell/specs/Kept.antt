@@ -1,0 +1,22 @@
+-- What `state` says of the text of a state.
+use Rattle.std.specs.Prelude.{◌≡◌, ⊤, ℕ, List, Result, Ok, Err}
+use Rattle.gw_configuration.specs.Configuration.{Configuration}
+use Rattle.gw_saved.specs.Saved.{Saved}
+use Rattle.gw_state_text.specs.Place.{IsPlaceOf}
+use Rattle.gw_state_text.specs.Text.{state_text}
+use Rattle.gw_takeover.specs.Words.{state_words}
+use Rattle.gw_shell.specs.declared.fault.Fault.{Fault}
+use Rattle.gw_shell.specs.declared.fault.Fault.TheVariants as fault
+
+-- what a state of this text holds, and what of it the configuration takes over; or the line up to which the text is
+-- that of a state; memory may run out at any text
+abbrev pub IsSaidOf : Configuration → List ℕ → Result (List ℕ) Fault → Type 0
+IsSaidOf c text (Ok words) = (saved : Saved) × (text ≡ state_text saved) × (words ≡ state_words c saved)
+IsSaidOf c text (Err (fault.State f)) = IsPlaceOf text f.line
+IsSaidOf c text (Err fault.Memory) = ⊤
+IsSaidOf c text (Err _) = ⊥
+
+-- the same of a text that was read, or why none was
+abbrev pub IsSaidOfText : Configuration → Result (List ℕ) Fault → Result (List ℕ) Fault → Type 0
+IsSaidOfText c (Ok text) words = IsSaidOf c text words
+IsSaidOfText c (Err f) words = words ≡ Err f

@@ -1,0 +1,5 @@
+pub mod GivenLaw
+pub mod GroupLaw
+pub mod LinesLaw
+pub mod SuggestLaw
+pub mod TextLaw

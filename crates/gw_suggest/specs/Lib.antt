@@ -1,0 +1,5 @@
+pub mod Given
+pub mod Laws
+pub mod Lines
+pub mod Own
+pub mod Suggestion

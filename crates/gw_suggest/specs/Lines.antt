@@ -1,0 +1,62 @@
+-- The asks that the lines of a text tell.
+use Rattle.std.specs.Prelude.{◌≡◌, ◌⊎◌, ℕ, nat_eq, Bool, true, false, if◌then◌else◌, List, [], ◌∷◌, ◌++◌, codes, drop, ⊤}
+use Rattle.std.specs.Prelude.{Option, None, Some, Result, Ok, Err}
+use Rattle.std.specs.List.{flat_map, starts_with}
+use Rattle.std.specs.Option.{option_to_list}
+use Rattle.gw_audit.specs.Entry.{TellsAsk, ask_shown}
+use Rattle.gw_audit.specs.declared.entry.ShownAsk.{ShownAsk}
+use Rattle.gw_rules.specs.Ask.{Ask}
+use Rattle.gw_rules.specs.declared.rule.Rule.{Rule}
+use Rattle.gw_script.specs.Script.{lines_of}
+use Rattle.gw_suggest.specs.Given.{AddsAll, HaveSame, denied}
+use Rattle.gw_suggest.specs.declared.fault.SuggestFault.{SuggestFault}
+
+-- ---- a line
+
+-- a line without the word that a replay writes in front of the line of a denial
+abbrev pub words_of : List ℕ → List ℕ
+words_of line = if starts_with nat_eq line (codes "deny ") then drop 5 line else line
+
+-- the ask that a line tells: as a line of the log, or by its eight words; or that it tells none
+abbrev pub IsTold : List ℕ → Option Ask → Type 0
+IsTold line (Some ask) = (shown : ShownAsk) × TellsAsk (words_of line) shown × (ask ≡ ask_shown shown)
+IsTold line None = (shown : ShownAsk) → ¬ (TellsAsk (words_of line) shown)
+
+-- a line is taken: the ask that it tells is there then, if these rules deny it
+pub record IsTaken (rules : List Rule) (line : List ℕ) (before after : List Ask) : Type 0 where
+  pub ask : Option Ask
+  pub told : IsTold line ask
+  pub added : AddsAll before after (denied rules (option_to_list ask))
+
+-- ---- the lines of a text
+
+-- what each line tells
+abbrev pub AreTold : List (List ℕ) → List (Option Ask) → Type 0
+AreTold [] [] = ⊤
+AreTold [] (ask ∷ asks) = ⊥
+AreTold (line ∷ lines) [] = ⊥
+AreTold (line ∷ lines) (ask ∷ asks) = IsTold line ask × AreTold lines asks
+
+abbrev pub asks_in : List (Option Ask) → List Ask
+asks_in told = flat_map option_to_list told
+
+-- Of the asks that the lines of a text tell, these are those that the rules deny.
+pub record AreSeen (rules : List Rule) (lines : List (List ℕ)) (asks : List Ask) : Type 0 where
+  pub told : List (Option Ask)
+  pub each : AreTold lines told
+  pub same : HaveSame asks (denied rules (asks_in told))
+
+-- ---- one line of a text
+
+-- the first line is taken, and the rest is left
+pub record IsTakenFirst (rules : List Rule) (text : List ℕ) (left : Option (List ℕ)) (before after : List Ask) : Type 0 where
+  pub line : List ℕ
+  pub rest : List ℕ
+  pub remains : left ≡ Some rest
+  pub lines : lines_of text ≡ line ∷ lines_of rest
+  pub taken : IsTaken rules line before after
+
+abbrev pub TakesNext : List Rule → List ℕ → Option (List ℕ) → List Ask → List Ask → Result Bool SuggestFault → Type 0
+TakesNext rules text left before after (Ok true) = IsTakenFirst rules text left before after
+TakesNext rules text left before after (Ok false) = (lines_of text ≡ []) × (after ≡ before)
+TakesNext rules text left before after (Err fault) = ⊤

@@ -1,0 +1,41 @@
+-- How many asks each rule of a policy decides.
+use Rattle.std.specs.Prelude.{◌≡◌, ℕ, ◌+◌, ◌<◌, ◌==◌, List, [], ◌∷◌, ◌++◌, length, count_by, slice_index, cond, codes, decimal, Option}
+use Rattle.std.specs.Option.{option_map_or}
+use Rattle.gw_rules.specs.Ask.{Ask}
+use Rattle.gw_rules.specs.RuleList.{first}
+use Rattle.gw_rules.specs.declared.rule.Rule.{Rule}
+use Rattle.gw_script.specs.Order.{in_order}
+
+-- the place of an ask: the number of the first rule that matches, from 1, or 0 if none does
+abbrev pub place : List Rule → Ask → ℕ
+place rules ask = option_map_or (λ number. number) (first rules ask) 0
+
+-- how many of the asks are of this place
+abbrev pub decided : List Rule → ℕ → List Ask → ℕ
+decided rules k asks = count_by (λ ask. place rules ask == k) asks
+
+-- these are the counts of asks, one for each place: for no rule, and then for each rule
+pub record IsTally (rules : List Rule) (asks : List Ask) (counts : List ℕ) : Type 0 where
+  pub places : length counts ≡ length rules + 1
+  pub each : (k : ℕ) → k < length counts → slice_index counts k ≡ decided rules k asks
+
+-- one ask more is of this place
+pub record AddsOne (at : ℕ) (before after : List ℕ) : Type 0 where
+  pub places : length after ≡ length before
+  pub each : (k : ℕ) → k < length before → slice_index after k ≡ slice_index before k + cond (at == k) 1 0
+
+-- the line of a rule: `rule 3 all: 1201`
+abbrev pub rule_line : ℕ → Rule → ℕ → List ℕ
+rule_line number rule count =
+    codes "rule " ++ decimal number ++ codes " " ++ rule.name ++ codes ": " ++ decimal count ++ codes "\n"
+
+-- the line of the rule of this number by these counts
+abbrev pub line_in : List ℕ → ℕ → Rule → List ℕ
+line_in counts number rule = rule_line number rule (slice_index counts number)
+
+-- and the one for no rule: `default: 17`
+abbrev pub default_line : List ℕ → List ℕ
+default_line counts = codes "default: " ++ decimal (slice_index counts 0) ++ codes "\n"
+
+abbrev pub tally_text : List Rule → List ℕ → List ℕ
+tally_text rules counts = in_order (line_in counts) 1 rules ++ default_line counts
