@@ -1,5 +1,5 @@
 -- What a run leaves that keeps its state or reads its configuration again.
-use Rattle.std.specs.Prelude.{◌≡◌, ◌⊎◌, ⊤, ℕ, Bool, List, [], ◌++◌, Option, Some, None, Result, Ok, Err, option_map}
+use Rattle.std.specs.Prelude.{◌≡◌, ◌⊎◌, ⊤, ℕ, Bool, List, [], ◌++◌, Option, Some, None, Result, Ok, Err, option_map, string_bytes}
 use Rattle.std.specs.Global.{Vec}
 use Rattle.gw_configuration.specs.Configuration.{Configuration}
 use Rattle.gw_core.specs.State.{State}
@@ -10,20 +10,24 @@ use Rattle.gw_serving.specs.Stretch.{moment}
 use Rattle.gw_serving.specs.Tally.{no_tally}
 use Rattle.gw_serving.specs.declared.serving.ServeFault.{ServeFault}
 use Rattle.gw_serving.specs.declared.store.StoreFault.{StoreFault}
+use Rattle.gw_system.specs.Opening.{IsNote}
 use Rattle.gw_system.specs.Requests.{Exchange, told_by}
+use Rattle.gw_system.specs.declared.opening.OpenFailure.{OpenFailure}
 use Rattle.gw_system.specs.declared.reading.ReadFailure.{ReadFailure}
 use Rattle.gw_system.specs.declared.reading.ReadFailure.TheVariants as reading
 use Rattle.gw_service.specs.Chain.{Link, Manner, Runs, Stage, chain_text, manner, stage}
-use Rattle.gw_service.specs.Fault.{fault_of_serving}
+use Rattle.gw_service.specs.Announcement.{IsWarning, startup_line}
+use Rattle.gw_service.specs.Fault.{fault_of_opening, fault_of_serving}
 use Rattle.gw_service.specs.Keeping.{IsKeptAtTick, IsKeptFor, IsPassed, failing_in}
 use Rattle.gw_service.specs.Notices.{notice_of}
-use Rattle.gw_service.specs.Serving.{Ends}
+use Rattle.gw_service.specs.Serving.{AreOpen, ArentOpen, Ends, LeavesServed, LogStays, Machine, ends, log_held, service}
 use Rattle.gw_service.specs.Start.{BeginsAs, IsStateRead, start_text}
 use Rattle.gw_service.specs.declared.fault.ServiceFault.{ServiceFault}
 use Rattle.gw_service.specs.declared.fault.ServiceFault.TheVariants as fault
 use Rattle.gw_service.specs.declared.keeping.Kept.{Kept}
 use Rattle.gw_service.specs.declared.keeping.Kept.TheVariants.{Nowhere, In}
 use Rattle.gw_service.specs.declared.kept.Before.{Before}
+use Rattle.gw_command_line.specs.declared.options.RunOptions.{RunOptions}
 
 -- ---- what is read before anything is opened
 
@@ -144,3 +148,95 @@ IsUnbegun before after text outcome = (after ≡ before) × (text ≡ []) × (ou
 abbrev pub LeavesKept : {S Q : Type 0} → Given S Q → Configuration → ℕ → Ends → Ends → List ℕ → Result (Unit {0}) ServiceFault → Type 0
 LeavesKept given c turns before after text outcome =
     RunsKept given c turns before after text outcome ⊎ IsUnbegun before after text outcome
+
+-- ---- the whole
+
+-- What a machine may give to a run that keeps its state or reads its configuration again: a file's octets, the last line of a
+-- log, a store, and what asks to read the configuration again; what a store holds, and what was asked and answered.
+pub record StateMachine (S Q : Type 0) : Type 1 where
+  pub FileReads : List ℕ → Result (Option (List ℕ)) ReadFailure → Type 0
+  pub LastLines : List ℕ → Result (Option (List ℕ)) ReadFailure → Type 0
+  pub StoreOpens : List ℕ → Result S StoreFault → Type 0
+  pub ReloadsOpen : List ℕ → List ℕ → Q → Type 0
+  pub held : S → Option (List ℕ)
+  pub told : Q → Option (List Exchange)
+
+abbrev pub state_machine : {S Q : Type 0} → (List ℕ → Result (Option (List ℕ)) ReadFailure → Type 0)
+    → (List ℕ → Result (Option (List ℕ)) ReadFailure → Type 0) → (List ℕ → Result S StoreFault → Type 0) → (List ℕ → List ℕ → Q → Type 0)
+    → (S → Option (List ℕ)) → (Q → Option (List Exchange)) → StateMachine S Q
+state_machine FileReads LastLines StoreOpens ReloadsOpen held told = record {
+  FileReads = FileReads;
+  LastLines = LastLines;
+  StoreOpens = StoreOpens;
+  ReloadsOpen = ReloadsOpen;
+  held = held;
+  told = told;
+}
+
+-- the names of the files of a run: its configuration, and if there are some, its log, its state and its requests
+pub record Names : Type 0 where
+  pub config : List ℕ
+  pub log : Option (List ℕ)
+  pub state : Option (List ℕ)
+  pub reload : Option (List ℕ)
+
+abbrev pub names_of : RunOptions → Names
+names_of options = record {
+  config = string_bytes options.config;
+  log = option_map string_bytes options.log;
+  state = option_map string_bytes options.state;
+  reload = option_map string_bytes options.reload;
+}
+
+-- what was read and made before anything was opened
+pub record IsPrepared {S Q : Type 0} (machine : StateMachine S Q) (names : Names) (c : Configuration) (is_verbose : Bool) (before : Before S Q)
+    : Type 0 where
+  pub saved : IsStateUnder machine.FileReads names.state (Ok before.saved)
+  pub line : IsLastLine machine.LastLines names.state names.log (Ok (option_map (λ line. line.items) before.line))
+  pub text : before.text.items ≡ text_before names.state is_verbose c before.saved
+  pub store : IsStoreUnder machine.StoreOpens names.state (Ok before.store)
+  pub requests : AreRequestsUnder machine.ReloadsOpen names.reload names.config before.requests
+
+-- What such a run leaves under a configuration: its state or its log's last line can't be had, and nothing is opened; not all can
+-- be opened, and why may be written; or all was opened, this line, a warning of the machine and what is due of the state were
+-- written, and then it ran and was closed.
+pub data LeavesWithState {Log Sockets S Q : Type 0} (machine : Machine Log Sockets) (states : StateMachine S Q) (names : Names)
+    (held holds : Option (List ℕ)) (c : Configuration) (turns : ℕ) (is_verbose : Bool) (line told : List ℕ)
+    (outcome : Result (Unit {0}) ServiceFault) : Type 0 where
+  unprepared : (f : ServiceFault) → outcome ≡ Err f → holds ≡ held → told ≡ [] →
+      LeavesWithState machine states names held holds c turns is_verbose line told outcome
+  unopened : (failure : OpenFailure) → ArentOpen machine.LogOpens (machine.SocketsOpen c.ports) names.log held holds failure →
+      outcome ≡ Err (fault_of_opening failure) → IsNote is_verbose failure told →
+      LeavesWithState machine states names held holds c turns is_verbose line told outcome
+  ran : (before : Before S Q) (log log_then : Option Log) (sockets sockets_then : Sockets) (output : Option (List ℕ))
+      (warning text : List ℕ) → IsPrepared states names c is_verbose before →
+      AreOpen machine.LogOpens (machine.SocketsOpen c.ports) names.log held output log sockets →
+      machine.Closes sockets_then log_then → LogStays log log_then output holds →
+      LeavesKept (given states.held states.told before) c turns (ends (log_held machine.held log output) (machine.calls sockets))
+      (ends (log_held machine.held log_then holds) (machine.calls sockets_then)) text outcome →
+      IsWarning machine.RoutesIp is_verbose warning → told ≡ ((line ++ warning) ++ before.text.items) ++ text →
+      LeavesWithState machine states names held holds c turns is_verbose line told outcome
+
+-- what a run leaves, by whether it keeps a state or may read its configuration again
+abbrev pub LeavesBy : (state reload : Option (List ℕ)) → (Plain Stated : Type 0) → Type 0
+LeavesBy None None Plain Stated = Plain
+LeavesBy _ _ Plain Stated = Stated
+
+-- what a machine may give to any run
+pub record WholeMachine (Log Sockets S Q : Type 0) : Type 1 where
+  pub machine : Machine Log Sockets
+  pub states : StateMachine S Q
+
+abbrev pub whole_machine : {Log Sockets S Q : Type 0} → Machine Log Sockets → StateMachine S Q → WholeMachine Log Sockets S Q
+whole_machine machine states = record { machine = machine; states = states }
+
+-- What a run leaves under a configuration, by its options: without a state and a request file it is served from the gateway's
+-- first state.
+abbrev pub LeavesService : {Log Sockets S Q : Type 0} → WholeMachine Log Sockets S Q → RunOptions → (held holds : Option (List ℕ))
+    → Configuration → List ℕ → Result (Unit {0}) ServiceFault → Type 0
+LeavesService whole options held holds c told outcome =
+    let name = option_map string_bytes options.log in
+    let line = startup_line options.verbose c name in
+    LeavesBy (option_map string_bytes options.state) (option_map string_bytes options.reload)
+    (LeavesServed whole.machine name held holds c (service options.turns options.stats) options.verbose line told outcome)
+    (LeavesWithState whole.machine whole.states (names_of options) held holds c options.turns options.verbose line told outcome)

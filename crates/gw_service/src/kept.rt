@@ -8,21 +8,26 @@ ghost use Rattle.gw_saved.specs.Saved.{origin_of};
 ghost use Rattle.gw_serving.specs.Serve.{zero_counts};
 ghost use Rattle.gw_serving.specs.Stretch.{CanCount};
 ghost use Rattle.gw_serving.specs.Tally.{no_tally};
-ghost use Rattle.gw_service.specs.Kept.{AreRequestsUnder, IsLastLine, IsStateUnder, IsStoreUnder, KeepsFirst, LeavesKept, given, line_read, text_before};
-ghost use Rattle.gw_service.specs.Serving.{IsFlushedFor, LogStays, ends, log_held};
+ghost use Rattle.gw_service.specs.Kept.{AreRequestsUnder, IsLastLine, IsStateUnder, IsStoreUnder, KeepsFirst, LeavesKept, LeavesWithState, given, line_read, names_of, state_machine, text_before};
+ghost use Rattle.gw_service.specs.Announcement.{startup_line};
+ghost use Rattle.gw_service.specs.Serving.{IsFlushedFor, LogStays, ends, log_held, machine};
 ghost use Rattle.gw_service.specs.Start.{BeginsAs};
+ghost use Rattle.gw_system.specs.Host.{OpensAtLine};
 
+use crate::announcement::warning_of;
 use crate::fault::ServiceFault;
 use crate::keeping::{Kept, StateKeeper};
-use gw_command_line::RunOptions;
 use crate::running::Running;
+use crate::serving::{Opening, open};
 use crate::start::{MAX_STATE_OCTETS, begin_after, saved_in, start_text};
+use crate::telling::tell;
+use gw_command_line::RunOptions;
 use gw_configuration::Config;
 use gw_core::Gateway;
 use gw_saved::{Origin, Saved};
 use gw_script::OctetSink;
 use gw_serving::{Keeper, ServeState, Store, Wire};
-use gw_system::{Host, ReadFailure, Requests};
+use gw_system::{Host, ReadFailure, Requests, note_of};
 use std::alloc::{AllocError, Global};
 use std::io::{BufWriter, Write};
 
@@ -234,5 +239,98 @@ fn run_on<S: Store + Drop, Q: Requests + Drop, X: Wire, L: OctetSink, E: OctetSi
     match running.serve(alloc, sockets, log, errors, turns) {
         Ok(()) => Ok(()),
         Err(fault) => Err(ServiceFault::from(fault)),
+    }
+}
+
+/// Runs on what is open. Each event's lines are written to standard output at once if the log is there.
+fn run_open<S: Store + Drop, Q: Requests + Drop, X: Wire, L: OctetSink, W: Write + Drop, E: OctetSink>(
+    alloc: Global,
+    config: Config,
+    before: Before<S, Q>,
+    sockets: &mut X,
+    log: &mut Option<L>,
+    output: &mut BufWriter<W>,
+    errors: &mut E,
+    turns: u64,
+) -> Result<(), ServiceFault>
+    requires turns { turns < 2 ^ 63 }
+    requires failures { X.failure_count sockets.old < 2 ^ 127 }
+    requires unbuffered { log.old ≡ None → writer_buffer output.old ≡ [] }
+    ensures ran { let held = writer_contents W.contents output.old in
+        let holds = writer_contents W.contents output.new in
+        (text : List ℕ) × LeavesKept (given S.held Q.told before) config turns
+        (ends (log_held L.held log.old held) (X.calls sockets.old))
+        (ends (log_held L.held log.new holds) (X.calls sockets.new)) text result
+        × (E.NeverFails errors.old → Appends (E.held errors.old) (E.held errors.new) text) }
+    ensures lasting { E.NeverFails errors.old → E.NeverFails errors.new }
+    ensures log { LogStays log.old log.new (writer_contents W.contents output.old)
+        (writer_contents W.contents output.new) }
+    ensures buffer { writer_buffer output.new ≡ writer_buffer output.old }
+{
+    match log {
+        Some(log) => run_on(alloc, config, before, sockets, log, errors, turns),
+        None => {
+            let log = output.get_mut();
+            run_on(alloc, config, before, sockets, log, errors, turns)
+        }
+    }
+}
+
+/// Serves the ports of a configuration as the options ask, with a state that is kept or with requests to read the configuration
+/// again. Faults: those of [`serve_ports`](crate::serve_ports).
+pub(crate) fn serve_kept<H: Host, W: Write + Drop, E: OctetSink>(
+    alloc: Global,
+    config: Config,
+    options: &RunOptions,
+    host: &mut H,
+    output: &mut BufWriter<W>,
+    errors: &mut E,
+) -> Result<(), ServiceFault>
+    ensures served { (told : List ℕ) × LeavesWithState
+        (machine (OpensAtLine (H.LogOpens host.old) (H.LogIsCut host.old) H.Log.held)
+        (H.SocketsOpen host.old) (H.RoutesIp host.old) (H.Closes host.new) H.Log.held H.Sockets.calls)
+        (state_machine (H.FileReads host.old) (H.LastLines host.old) (H.StoreOpens host.old) (H.ReloadsOpen host.old)
+        H.StateStore.held H.Reloads.told) (names_of options.now)
+        (writer_contents W.contents output.old) (writer_contents W.contents output.new) config options.now.turns
+        options.now.verbose (startup_line options.now.verbose config (option_map string_bytes options.now.log)) told result
+        × (E.NeverFails errors.old → Appends (E.held errors.old) (E.held errors.new) told) }
+    ensures lasting { E.NeverFails errors.old → E.NeverFails errors.new }
+    ensures flush { OnOk result (IsFlushedFor (option_map string_bytes options.now.log)
+        (writer_buffer output.old) (writer_buffer output.new)) }
+{
+    let before = match prepare(alloc, &config, options, host) {
+        Ok(before) => before,
+        Err(fault) => return Err(fault),
+    };
+    match open(alloc, &config, options, host, output) {
+        Ok(
+            Opening {
+                line,
+                mut log,
+                mut sockets,
+            },
+        ) => {
+            tell(&line, errors);
+            tell(warning_of(host, options.verbose), errors);
+            tell(&before.text, errors);
+            let turns = options.turns;
+            let outcome = run_open(
+                alloc,
+                config,
+                before,
+                &mut sockets,
+                &mut log,
+                output,
+                errors,
+                turns,
+            );
+            host.close(sockets, log);
+            outcome
+        }
+        Err(failure) => {
+            let note = note_of(alloc, options.verbose, failure);
+            tell(&note, errors);
+            Err(ServiceFault::from(failure))
+        }
     }
 }
