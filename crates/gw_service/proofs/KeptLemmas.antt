@@ -14,11 +14,12 @@ use Rattle.gw_serving.specs.declared.store.StoreFault.{StoreFault}
 use Rattle.gw_serving.specs.declared.tally.Tally.{Tally}
 use Rattle.gw_system.specs.Requests.{Exchange, told_by}
 use Rattle.gw_service.specs.Chain.{Link, Manner, Runs, Stage, chain_text, stage}
-use Rattle.gw_service.specs.Keeping.{failing_in}
+use Rattle.gw_service.specs.Keeping.{failing_in, unkept_in}
 use Rattle.gw_service.specs.Kept.{Given, KeepsFirst, LeavesKept, RunsKept, manner_of, outcome_by}
 use Rattle.gw_service.specs.Notices.{notice_of}
-use Rattle.gw_service.specs.Serving.{Ends, ends, log_held}
-use Rattle.gw_service.specs.Start.{BeginsAs}
+use Rattle.gw_service.specs.Serving.{Ends, Service, ends, log_held}
+use Rattle.gw_service.specs.Start.{BeginsAs, counts_of}
+use Rattle.gw_service.specs.Stats.{end_stats}
 use Rattle.gw_service.specs.declared.fault.ServiceFault.{ServiceFault}
 use Rattle.gw_service.specs.declared.fault.ServiceFault.TheVariants as fault
 use Rattle.gw_service.specs.declared.keeping.Kept.{Kept}
@@ -37,24 +38,28 @@ runs_from how count c now k s z t n q r f e answer links last served tally reque
     (subst (λ (x : Option StoreFault). Runs how count (stage c (moment now k s t) q x) answer links last) told runs)))
 
 -- A gateway that began so ran so.
-pub ran_kept : {S Q : Type 0} (given : Given S Q) (c : Configuration) (turns : ℕ) (w : State) (k : Kept S) (s : Served) (t : Tally)
+pub ran_kept : {S Q : Type 0} (given : Given S Q) (c : Configuration) (how : Service) (w : State) (k : Kept S) (s : Served) (t : Tally)
     (q : Option (List Exchange)) (f told : Option StoreFault) (before after : Ends) (answer : Result (Unit {0}) ServeFault)
     (outcome : Result (Unit {0}) ServiceFault) (o p : Origin) (last : Configuration → Stage (Kept S)) (Never Then : Type 0)
-    (held middle holds : Option (List ℕ)) → BeginsAs c given.saved given.line w → KeepsFirst given.held given.store c w k
+    (held middle third holds : Option (List ℕ)) → BeginsAs c given.saved given.line w → KeepsFirst given.held given.store c w k
     → s ≡ zero_counts → t ≡ no_tally → q ≡ told_by given.told given.requests → f ≡ failing_in k → told ≡ None → o ≡ origin_of c
-    → Ran (manner_of given.held) turns o
-    (λ (d : Configuration). stage d (moment (scene w before.log before.calls) k s t) q f) answer p last Then middle holds
+    → Ran (manner_of given.held how.stats (counts_of w)) how.turns o
+    (λ (d : Configuration). stage d (moment (scene w before.log before.calls) k s t) q f) answer p last Then middle third
     → outcome ≡ outcome_by answer → ((d : Configuration) → (last d).now.scene.log ≡ after.log)
     → ((d : Configuration) → (last d).now.scene.calls ≡ after.calls)
     → (Never → Appends held middle (notice_of told f)) → (Never → Then)
-    → (text : List ℕ) × LeavesKept given c turns before after text outcome × (Never → Appends held holds text)
-ran_kept {S} given c turns w k s t q f told before after answer outcome o p last Never Then held middle holds begins keeps served tally requests
-    failing untold origin ran answers log calls noticed lasts =
+    → ((d : Configuration) → Never → Appends third holds (end_stats unkept_in how.stats (counts_of w) (last d).now.guard
+    (last d).now.scene.gateway (last d).now.served (last d).now.tally))
+    → (text : List ℕ) × LeavesKept given c how before after text outcome × (Never → Appends held holds text)
+ran_kept {S} given c how w k s t q f told before after answer outcome o p last Never Then held middle third holds begins keeps served tally requests
+    failing untold origin ran answers log calls noticed lasts reported =
     let led = ran c origin in
     let notice = notice_of None (failing_in k) in
+    let now = (last led.0).now in
+    let report = end_stats unkept_in how.stats (counts_of w) now.guard now.scene.gateway now.served now.tally in
     let same : notice_of told f ≡ notice =
     ap (λ (x : Option StoreFault). notice_of x f) untold ∙ ap (notice_of None) failing in (
-      notice ++ chain_text led.1,
+      (notice ++ chain_text led.1) ++ report,
       inl (record {
         gateway = w;
         begins = begins;
@@ -63,21 +68,22 @@ ran_kept {S} given c turns w k s t q f told before after answer outcome o p last
         answer = answer;
         links = led.1;
         last = last led.0;
-        runs = runs_from (manner_of given.held) turns c (scene w before.log before.calls) k s zero_counts t no_tally q
+        runs = runs_from (manner_of given.held how.stats (counts_of w)) how.turns c (scene w before.log before.calls) k s zero_counts t no_tally q
             (told_by given.told given.requests) f (failing_in k) answer led.1 (last led.0) served tally requests failing led.3;
         log = log led.0;
         calls = calls led.0;
         answers = answers;
         told = refl;
       }),
-      λ never. appends_two held middle holds notice (chain_text led.1)
-          (subst (λ (x : List ℕ). Appends held middle x) same (noticed never)) (led.4 (lasts never)),
+      λ never. appends_two held third holds (notice ++ chain_text led.1) report
+          (appends_two held middle third notice (chain_text led.1)
+          (subst (λ (x : List ℕ). Appends held middle x) same (noticed never)) (led.4 (lasts never))) (reported led.0 never),
     )
 
 -- nothing ran where there was no memory to begin
-pub unbegun : {S Q : Type 0} (given : Given S Q) (c : Configuration) (turns : ℕ) (at : Ends) (Never : Type 0) (held : Option (List ℕ))
-    → (text : List ℕ) × LeavesKept given c turns at at text (Err fault.Memory) × (Never → Appends held held text)
-unbegun given c turns at Never held = ([], inr (refl, refl, refl), λ never. appends_nothing held)
+pub unbegun : {S Q : Type 0} (given : Given S Q) (c : Configuration) (how : Service) (at : Ends) (Never : Type 0) (held : Option (List ℕ))
+    → (text : List ℕ) × LeavesKept given c how at at text (Err fault.Memory) × (Never → Appends held held text)
+unbegun given c how at Never held = ([], inr (refl, refl, refl), λ never. appends_nothing held)
 
 append_empty : (held : Option (List ℕ)) → append_known held [] ≡ held
 append_empty None = refl

@@ -3,6 +3,7 @@ use Rattle.std.specs.Prelude.{◌≡◌, ◌⊎◌, ⊤, ℕ, Bool, List, [], �
 use Rattle.std.specs.Global.{Vec}
 use Rattle.gw_configuration.specs.Configuration.{Configuration}
 use Rattle.gw_core.specs.State.{State}
+use Rattle.gw_core.specs.declared.event.Counts.{Counts}
 use Rattle.gw_saved.specs.Saved.{Saved, origin_of}
 use Rattle.gw_serving.specs.Keeping.{IsTried, nothing_kept}
 use Rattle.gw_serving.specs.Serve.{scene, zero_counts}
@@ -18,10 +19,11 @@ use Rattle.gw_system.specs.declared.reading.ReadFailure.TheVariants as reading
 use Rattle.gw_service.specs.Chain.{Link, Manner, Runs, Stage, chain_text, manner, stage}
 use Rattle.gw_service.specs.Announcement.{IsWarning, startup_line}
 use Rattle.gw_service.specs.Fault.{fault_of_opening, fault_of_serving}
-use Rattle.gw_service.specs.Keeping.{IsKeptAtTick, IsKeptFor, IsPassed, failing_in}
+use Rattle.gw_service.specs.Keeping.{IsKeptAtTick, IsKeptFor, IsPassed, failing_in, unkept_in}
 use Rattle.gw_service.specs.Notices.{notice_of}
-use Rattle.gw_service.specs.Serving.{AreOpen, ArentOpen, Ends, LeavesServed, LogStays, Machine, ends, log_held, service}
-use Rattle.gw_service.specs.Start.{BeginsAs, IsStateRead, start_text}
+use Rattle.gw_service.specs.Serving.{AreOpen, ArentOpen, Ends, LeavesServed, LogStays, Machine, Service, ends, log_held, service}
+use Rattle.gw_service.specs.Start.{BeginsAs, IsStateRead, counts_of, start_text}
+use Rattle.gw_service.specs.Stats.{due_stats, end_stats}
 use Rattle.gw_service.specs.declared.fault.ServiceFault.{ServiceFault}
 use Rattle.gw_service.specs.declared.fault.ServiceFault.TheVariants as fault
 use Rattle.gw_service.specs.declared.keeping.Kept.{Kept}
@@ -111,8 +113,9 @@ given held told before = record {
 }
 
 -- what keeps the state of a gateway, by a store
-abbrev pub manner_of : {S : Type 0} → (S → Option (List ℕ)) → Manner (Kept S)
-manner_of held = manner (IsPassed held) (IsKeptAtTick held) (IsKeptFor held) failing_in
+abbrev pub manner_of : {S : Type 0} → (S → Option (List ℕ)) → Option ℕ → Counts → Manner (Kept S)
+manner_of held seconds start =
+    manner (IsPassed held) (IsKeptAtTick held) (IsKeptFor held) failing_in (due_stats unkept_in seconds start)
 
 -- the outcome of a run, by the answer of serving
 abbrev pub outcome_by : Result (Unit {0}) ServeFault → Result (Unit {0}) ServiceFault
@@ -124,8 +127,9 @@ abbrev pub first_stage : {S Q : Type 0} → Given S Q → Configuration → Stat
 first_stage given c w keeper ends =
     stage c (moment (scene w ends.log ends.calls) keeper zero_counts no_tally) (told_by given.told given.requests) (failing_in keeper)
 
--- A gateway of this configuration begins with what was saved, its state is kept at once, and then it runs for so many turns.
-pub record RunsKept {S Q : Type 0} (given : Given S Q) (c : Configuration) (turns : ℕ) (before after : Ends) (text : List ℕ)
+-- A gateway of this configuration begins with what was saved, its state is kept at once, and then it runs for so many turns, and
+-- reports what it did.
+pub record RunsKept {S Q : Type 0} (given : Given S Q) (c : Configuration) (how : Service) (before after : Ends) (text : List ℕ)
     (outcome : Result (Unit {0}) ServiceFault) : Type 0 where
   pub gateway : State
   pub begins : BeginsAs c given.saved given.line gateway
@@ -134,20 +138,21 @@ pub record RunsKept {S Q : Type 0} (given : Given S Q) (c : Configuration) (turn
   pub answer : Result (Unit {0}) ServeFault
   pub links : List Link
   pub last : Stage (Kept S)
-  pub runs : Runs (manner_of given.held) turns (first_stage given c gateway keeper before) answer links last
+  pub runs : Runs (manner_of given.held how.stats (counts_of gateway)) how.turns (first_stage given c gateway keeper before) answer links last
   pub log : last.now.scene.log ≡ after.log
   pub calls : last.now.scene.calls ≡ after.calls
   pub answers : outcome ≡ outcome_by answer
-  pub told : text ≡ notice_of None (failing_in keeper) ++ chain_text links
+  pub told : text ≡ (notice_of None (failing_in keeper) ++ chain_text links)
+      ++ end_stats unkept_in how.stats (counts_of gateway) last.now.guard last.now.scene.gateway last.now.served last.now.tally
 
 -- Memory ran out before that: nothing was received or told.
 abbrev pub IsUnbegun : (before after : Ends) → (text : List ℕ) → (outcome : Result (Unit {0}) ServiceFault) → Type 0
 IsUnbegun before after text outcome = (after ≡ before) × (text ≡ []) × (outcome ≡ Err fault.Memory)
 
 -- what a run leaves that keeps its state or reads its configuration again
-abbrev pub LeavesKept : {S Q : Type 0} → Given S Q → Configuration → ℕ → Ends → Ends → List ℕ → Result (Unit {0}) ServiceFault → Type 0
-LeavesKept given c turns before after text outcome =
-    RunsKept given c turns before after text outcome ⊎ IsUnbegun before after text outcome
+abbrev pub LeavesKept : {S Q : Type 0} → Given S Q → Configuration → Service → Ends → Ends → List ℕ → Result (Unit {0}) ServiceFault → Type 0
+LeavesKept given c how before after text outcome =
+    RunsKept given c how before after text outcome ⊎ IsUnbegun before after text outcome
 
 -- ---- the whole
 
@@ -201,21 +206,21 @@ pub record IsPrepared {S Q : Type 0} (machine : StateMachine S Q) (names : Names
 -- be opened, and why may be written; or all was opened, this line, a warning of the machine and what is due of the state were
 -- written, and then it ran and was closed.
 pub data LeavesWithState {Log Sockets S Q : Type 0} (machine : Machine Log Sockets) (states : StateMachine S Q) (names : Names)
-    (held holds : Option (List ℕ)) (c : Configuration) (turns : ℕ) (is_verbose : Bool) (line told : List ℕ)
+    (held holds : Option (List ℕ)) (c : Configuration) (how : Service) (is_verbose : Bool) (line told : List ℕ)
     (outcome : Result (Unit {0}) ServiceFault) : Type 0 where
   unprepared : (f : ServiceFault) → outcome ≡ Err f → holds ≡ held → told ≡ [] →
-      LeavesWithState machine states names held holds c turns is_verbose line told outcome
+      LeavesWithState machine states names held holds c how is_verbose line told outcome
   unopened : (failure : OpenFailure) → ArentOpen machine.LogOpens (machine.SocketsOpen c.ports) names.log held holds failure →
       outcome ≡ Err (fault_of_opening failure) → IsNote is_verbose failure told →
-      LeavesWithState machine states names held holds c turns is_verbose line told outcome
+      LeavesWithState machine states names held holds c how is_verbose line told outcome
   ran : (before : Before S Q) (log log_then : Option Log) (sockets sockets_then : Sockets) (output : Option (List ℕ))
       (warning text : List ℕ) → IsPrepared states names c is_verbose before →
       AreOpen machine.LogOpens (machine.SocketsOpen c.ports) names.log held output log sockets →
       machine.Closes sockets_then log_then → LogStays log log_then output holds →
-      LeavesKept (given states.held states.told before) c turns (ends (log_held machine.held log output) (machine.calls sockets))
+      LeavesKept (given states.held states.told before) c how (ends (log_held machine.held log output) (machine.calls sockets))
       (ends (log_held machine.held log_then holds) (machine.calls sockets_then)) text outcome →
       IsWarning machine.RoutesIp is_verbose warning → told ≡ ((line ++ warning) ++ before.text.items) ++ text →
-      LeavesWithState machine states names held holds c turns is_verbose line told outcome
+      LeavesWithState machine states names held holds c how is_verbose line told outcome
 
 -- what a run leaves, by whether it keeps a state or may read its configuration again
 abbrev pub LeavesBy : (state reload : Option (List ℕ)) → (Plain Stated : Type 0) → Type 0
@@ -239,4 +244,4 @@ LeavesService whole options held holds c told outcome =
     let line = startup_line options.verbose c name in
     LeavesBy (option_map string_bytes options.state) (option_map string_bytes options.reload)
     (LeavesServed whole.machine name held holds c (service options.turns options.stats) options.verbose line told outcome)
-    (LeavesWithState whole.machine whole.states (names_of options) held holds c options.turns options.verbose line told outcome)
+    (LeavesWithState whole.machine whole.states (names_of options) held holds c (service options.turns options.stats) options.verbose line told outcome)

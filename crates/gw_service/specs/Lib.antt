@@ -8,3 +8,4 @@ pub mod Serving
 pub mod Start
 pub mod Keeping
 pub mod Kept
+pub mod Stats

@@ -8,9 +8,9 @@ ghost use Rattle.gw_saved.specs.Saved.{origin_of};
 ghost use Rattle.gw_serving.specs.Serve.{zero_counts};
 ghost use Rattle.gw_serving.specs.Stretch.{CanCount};
 ghost use Rattle.gw_serving.specs.Tally.{no_tally};
-ghost use Rattle.gw_service.specs.Kept.{AreRequestsUnder, IsLastLine, IsStateUnder, IsStoreUnder, KeepsFirst, LeavesKept, LeavesWithState, given, line_read, names_of, state_machine, text_before};
+ghost use Rattle.gw_service.specs.Kept.{AreRequestsUnder, IsLastLine, IsStateUnder, IsStoreUnder, KeepsFirst, LeavesKept, LeavesWithState, given, line_read, names_of, outcome_by, state_machine, text_before};
 ghost use Rattle.gw_service.specs.Announcement.{startup_line};
-ghost use Rattle.gw_service.specs.Serving.{IsFlushedFor, LogStays, ends, log_held, machine};
+ghost use Rattle.gw_service.specs.Serving.{IsFlushedFor, LogStays, ends, log_held, machine, service};
 ghost use Rattle.gw_service.specs.Start.{BeginsAs};
 ghost use Rattle.gw_system.specs.Host.{OpensAtLine};
 
@@ -19,6 +19,7 @@ use crate::fault::ServiceFault;
 use crate::keeping::{Kept, StateKeeper};
 use crate::running::Running;
 use crate::serving::{Opening, open};
+use crate::stats::Schedule;
 use crate::start::{MAX_STATE_OCTETS, begin_after, saved_in, start_text};
 use crate::telling::tell;
 use gw_command_line::RunOptions;
@@ -26,7 +27,7 @@ use gw_configuration::Config;
 use gw_core::Gateway;
 use gw_saved::{Origin, Saved};
 use gw_script::OctetSink;
-use gw_serving::{Keeper, ServeState, Store, Wire};
+use gw_serving::{Keeper, ServeFault, ServeState, Store, Wire};
 use gw_system::{Host, ReadFailure, Requests, note_of};
 use std::alloc::{AllocError, Global};
 use std::io::{BufWriter, Write};
@@ -216,6 +217,16 @@ fn make_running<S: Store + Drop, Q: Requests + Drop>(
     })
 }
 
+/// The outcome of a run, by the answer of serving.
+fn outcome_of(answer: Result<(), ServeFault>) -> Result<(), ServiceFault>
+    ensures { result ≡ outcome_by answer }
+{
+    match answer {
+        Ok(()) => Ok(()),
+        Err(fault) => Err(ServiceFault::from(fault)),
+    }
+}
+
 /// Runs a gateway of this configuration on a log, for so many turns, and tells at the start if its state isn't kept. Faults:
 /// `Log`, `Memory` and `CountEnd`.
 fn run_on<S: Store + Drop, Q: Requests + Drop, X: Wire, L: OctetSink, E: OctetSink>(
@@ -225,21 +236,23 @@ fn run_on<S: Store + Drop, Q: Requests + Drop, X: Wire, L: OctetSink, E: OctetSi
     sockets: &mut X,
     log: &mut L,
     errors: &mut E,
-    turns: u64,
+    options: &RunOptions,
 ) -> Result<(), ServiceFault>
-    requires turns { turns < 2 ^ 63 }
     requires failures { X.failure_count sockets.old < 2 ^ 127 }
-    ensures ran { (text : List ℕ) × LeavesKept (given S.held Q.told before) config turns
+    ensures ran { (text : List ℕ) × LeavesKept (given S.held Q.told before) config (service options.now.turns options.now.stats)
         (ends (L.held log.old) (X.calls sockets.old)) (ends (L.held log.new) (X.calls sockets.new)) text result
         × (E.NeverFails errors.old → Appends (E.held errors.old) (E.held errors.new) text) }
     ensures lasting { E.NeverFails errors.old → E.NeverFails errors.new }
 {
     let mut running = make_running(alloc, config, before)?;
     running.told = running.notice(errors);
-    match running.serve(alloc, sockets, log, errors, turns) {
-        Ok(()) => Ok(()),
-        Err(fault) => Err(ServiceFault::from(fault)),
-    }
+    let schedule = Schedule {
+        start: running.gateway.counts(),
+        seconds: options.stats,
+    };
+    let answer = running.serve(alloc, sockets, log, errors, &schedule, options.turns);
+    schedule.tell_last(&running.gateway, &running.state, &running.keeper, errors);
+    outcome_of(answer)
 }
 
 /// Runs on what is open. Each event's lines are written to standard output at once if the log is there.
@@ -251,14 +264,13 @@ fn run_open<S: Store + Drop, Q: Requests + Drop, X: Wire, L: OctetSink, W: Write
     log: &mut Option<L>,
     output: &mut BufWriter<W>,
     errors: &mut E,
-    turns: u64,
+    options: &RunOptions,
 ) -> Result<(), ServiceFault>
-    requires turns { turns < 2 ^ 63 }
     requires failures { X.failure_count sockets.old < 2 ^ 127 }
     requires unbuffered { log.old ≡ None → writer_buffer output.old ≡ [] }
     ensures ran { let held = writer_contents W.contents output.old in
         let holds = writer_contents W.contents output.new in
-        (text : List ℕ) × LeavesKept (given S.held Q.told before) config turns
+        (text : List ℕ) × LeavesKept (given S.held Q.told before) config (service options.now.turns options.now.stats)
         (ends (log_held L.held log.old held) (X.calls sockets.old))
         (ends (log_held L.held log.new holds) (X.calls sockets.new)) text result
         × (E.NeverFails errors.old → Appends (E.held errors.old) (E.held errors.new) text) }
@@ -268,10 +280,10 @@ fn run_open<S: Store + Drop, Q: Requests + Drop, X: Wire, L: OctetSink, W: Write
     ensures buffer { writer_buffer output.new ≡ writer_buffer output.old }
 {
     match log {
-        Some(log) => run_on(alloc, config, before, sockets, log, errors, turns),
+        Some(log) => run_on(alloc, config, before, sockets, log, errors, options),
         None => {
             let log = output.get_mut();
-            run_on(alloc, config, before, sockets, log, errors, turns)
+            run_on(alloc, config, before, sockets, log, errors, options)
         }
     }
 }
@@ -291,8 +303,8 @@ pub(crate) fn serve_kept<H: Host, W: Write + Drop, E: OctetSink>(
         (H.SocketsOpen host.old) (H.RoutesIp host.old) (H.Closes host.new) H.Log.held H.Sockets.calls)
         (state_machine (H.FileReads host.old) (H.LastLines host.old) (H.StoreOpens host.old) (H.ReloadsOpen host.old)
         H.StateStore.held H.Reloads.told) (names_of options.now)
-        (writer_contents W.contents output.old) (writer_contents W.contents output.new) config options.now.turns
-        options.now.verbose (startup_line options.now.verbose config (option_map string_bytes options.now.log)) told result
+        (writer_contents W.contents output.old) (writer_contents W.contents output.new) config
+        (service options.now.turns options.now.stats) options.now.verbose (startup_line options.now.verbose config (option_map string_bytes options.now.log)) told result
         × (E.NeverFails errors.old → Appends (E.held errors.old) (E.held errors.new) told) }
     ensures lasting { E.NeverFails errors.old → E.NeverFails errors.new }
     ensures flush { OnOk result (IsFlushedFor (option_map string_bytes options.now.log)
@@ -313,7 +325,6 @@ pub(crate) fn serve_kept<H: Host, W: Write + Drop, E: OctetSink>(
             tell(&line, errors);
             tell(warning_of(host, options.verbose), errors);
             tell(&before.text, errors);
-            let turns = options.turns;
             let outcome = run_open(
                 alloc,
                 config,
@@ -322,7 +333,7 @@ pub(crate) fn serve_kept<H: Host, W: Write + Drop, E: OctetSink>(
                 &mut log,
                 output,
                 errors,
-                turns,
+                options,
             );
             host.close(sockets, log);
             outcome

@@ -13,6 +13,7 @@ mod reload;
 mod running;
 mod serving;
 mod start;
+mod stats;
 mod telling;
 
 pub use fault::ServiceFault;
@@ -22,4 +23,5 @@ pub use gw_command_line::RunOptions;
 pub use reload::{Adopted, ReloadFault, reloaded};
 pub use running::Running;
 pub use serving::{serve_fresh, serve_ports};
+pub use stats::Schedule;
 pub use telling::tell;

@@ -8,6 +8,7 @@ use Rattle.gw_serving.specs.declared.store.StoreFault.{StoreFault}
 use Rattle.gw_serving.specs.declared.stretch.Pause.TheVariants as pause
 use Rattle.gw_service.specs.Chain.{look_text, manner, served, standing, ticked, withheld}
 use Rattle.gw_service.specs.Notices.{notice_of}
+use Rattle.gw_service.specs.Stats.{due_stats}
 use Rattle.gw_service.proofs.ChainLemmas.{ends_as, more_at_tick, more_at_turns, more_withheld}
 use Rattle.gw_service.proofs.ServingLemmas.{appends_nothing, appends_two}
 use Rattle.gw_service.proofs.running.Running.advance.Goals as goal
@@ -54,16 +55,19 @@ returns-in-Ok-Tick-clause-advances g c = λ config is_config.
     let held = g.E.OctetSink.held in
     let old = c.args.self.now in
     let stretch = c.serve_to_tick.new in
-    let done = c.at_tick.ensures.done config is_config in
+    let done = c.at_tick.ensures.done config (due_stats g.K.StateKeeper.unkept c.args.schedule.now.seconds c.args.schedule.now.start) is_config in
     let look = look_text config (standing stretch.gateway stretch.guard (g.Q.Requests.told old.requests)) done.1 in
     let notice = notice_of old.told c.notice-self.result in
+    let after = c.at_tick.new.self in
+    let report = due_stats g.K.StateKeeper.unkept c.args.schedule.now.seconds c.args.schedule.now.start after.keeper after.gateway
+    after.state.served after.state.tally in
     let turns = end.turns ++ taken_event event.Tick end.tries ∷ [] in
     let then = moment (scene stretch.gateway (g.L.OctetSink.held stretch.log) (g.W.Wire.calls stretch.wire)) stretch.guard stretch.self.served stretch.self.tally in (
       done.0,
-      look ++ notice,
+      (look ++ notice) ++ report,
       done.2,
       (
-        ticked turns done.1 (look ++ notice),
+        ticked turns done.1 ((look ++ notice) ++ report),
         record {
           before = end.turns;
           tries = end.tries;
@@ -83,9 +87,13 @@ returns-in-Ok-Tick-clause-advances g c = λ config is_config.
         },
         refl,
       ),
-      λ never. appends_two (held c.args.errors.now) (held c.at_tick.new.errors) (held c.notice-self.new.errors) look notice (done.4 never)
+      λ never.
+          let one = c.at_tick.ensures.lasts never in
+          appends_two (held c.args.errors.now) (held c.notice-self.new.errors) (held c.tell_due.new.errors) (look ++ notice) report
+          (appends_two (held c.args.errors.now) (held c.at_tick.new.errors) (held c.notice-self.new.errors) look notice (done.4 never)
           (subst (λ (f : Option StoreFault). Appends (held c.at_tick.new.errors) (held c.notice-self.new.errors) (notice_of f c.notice-self.result))
-          c.at_tick.ensures.told (c.notice-self.ensures.text (c.at_tick.ensures.lasts never))),
+          c.at_tick.ensures.told (c.notice-self.ensures.text one)))
+          (c.tell_due.ensures.told (c.notice-self.ensures.lasts one)),
     )
 
 pub returns-in-Ok-Tick-clause-more : goal.returns-in-Ok-Tick-clause-more

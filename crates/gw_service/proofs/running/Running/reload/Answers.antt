@@ -6,8 +6,8 @@ use Rattle.gw_service.proofs.ChainLemmas.{refused_so, taken_so}
 use Rattle.gw_service.proofs.running.Running.reload.Goals as goal
 
 pub returns-in-Ok-clause-looked : goal.returns-in-Ok-clause-looked
-returns-in-Ok-clause-looked g c = λ config first is_config goes.
-    let how = manner g.K.Guard.Passes g.K.StateKeeper.Ticks g.K.StateKeeper.Adopts g.K.StateKeeper.failing in
+returns-in-Ok-clause-looked g c = λ config first report is_config goes.
+    let how = manner g.K.Guard.Passes g.K.StateKeeper.Ticks g.K.StateKeeper.Adopts g.K.StateKeeper.failing report in
     let old = c.args.self.now in
     let told = g.Q.Requests.told in
     let held = g.E.OctetSink.held in
@@ -23,8 +23,8 @@ returns-in-Ok-clause-looked g c = λ config first is_config goes.
     )
 
 pub returns-in-Err-clause-looked : goal.returns-in-Err-clause-looked
-returns-in-Err-clause-looked g c = λ config first is_config goes.
-    let how = manner g.K.Guard.Passes g.K.StateKeeper.Ticks g.K.StateKeeper.Adopts g.K.StateKeeper.failing in
+returns-in-Err-clause-looked g c = λ config first report is_config goes.
+    let how = manner g.K.Guard.Passes g.K.StateKeeper.Ticks g.K.StateKeeper.Adopts g.K.StateKeeper.failing report in
     let old = c.args.self.now in
     let told = g.Q.Requests.told in
     let held = g.E.OctetSink.held in
