@@ -19,8 +19,8 @@ use crate::fault::ServiceFault;
 use crate::keeping::{Kept, StateKeeper};
 use crate::running::Running;
 use crate::serving::{Opening, open};
-use crate::stats::Schedule;
 use crate::start::{MAX_STATE_OCTETS, begin_after, saved_in, start_text};
+use crate::stats::Schedule;
 use crate::telling::tell;
 use gw_command_line::RunOptions;
 use gw_configuration::Config;
@@ -271,7 +271,14 @@ fn run_on<S: Store + Drop, Q: Requests + Drop, X: Wire, L: OctetSink, E: OctetSi
 }
 
 /// Runs on what is open. Each event's lines are written to standard output at once if the log is there.
-fn run_open<S: Store + Drop, Q: Requests + Drop, X: Wire, L: OctetSink, W: Write + Drop, E: OctetSink>(
+fn run_open<
+    S: Store + Drop,
+    Q: Requests + Drop,
+    X: Wire,
+    L: OctetSink,
+    W: Write + Drop,
+    E: OctetSink,
+>(
     alloc: Global,
     config: Config,
     before: Before<S, Q>,

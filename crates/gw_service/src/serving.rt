@@ -16,9 +16,9 @@ ghost use Rattle.gw_service.specs.Serving.{AreOpen, ArentOpen, IsFlushedFor, Lea
 ghost use Rattle.gw_service.specs.declared.fault.ServiceFault.TheVariants as fault;
 
 use crate::announcement::{startup_line, warning_of};
-use crate::telling::tell;
 use crate::fault::ServiceFault;
 use crate::kept::serve_kept;
+use crate::telling::tell;
 use gw_command_line::RunOptions;
 use gw_configuration::Config;
 use gw_core::{Counts, Gateway};
