@@ -1,3 +1,5 @@
 mod AnnouncementLemmas
 mod ChainLemmas
+mod KeptLemmas
 pub mod ServingLemmas
+mod StatsLemmas

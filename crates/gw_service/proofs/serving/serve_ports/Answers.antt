@@ -1,30 +1,54 @@
-use Rattle.std.proofs.Common.{List, ◌++◌, ap, Err, subst, ℕ}
+use Rattle.std.proofs.Common.{◌≡◌, ◌∙◌, Bool, List, ℕ, Result, sym, subst, true, false}
 use Rattle.std.specs.Io.Buffered.{writer_contents}
-use Rattle.std.specs.Io.KnownBytes.{Appends}
-use Rattle.gw_service.specs.Serving.{served, shut}
-use Rattle.gw_service.proofs.ServingLemmas.{appends_two}
+use Rattle.std.specs.Prelude.{option_map, string_bytes}
+use Rattle.gw_system.specs.Host.{OpensAtLine}
+use Rattle.gw_service.specs.Announcement.{startup_line}
+use Rattle.gw_service.specs.Kept.{LeavesBy, LeavesWithState, names_of, state_machine}
+use Rattle.gw_service.specs.Serving.{LeavesServed, machine, service}
 use Rattle.gw_service.proofs.serving.serve_ports.Goals as goal
 
-pub returns-in-Ok-clause-served : goal.returns-in-Ok-clause-served
-returns-in-Ok-clause-served g c =
-    let line = c.in-Ok.field-0.line.items in
-    let warning = c.warning_of.result.now in
-    let done = c.serve_open-outcome.ensures.serves in
-    let held = g.E.OctetSink.held in (
-      line ++ warning ++ done.0,
-      served c.in-Ok.field-0.log c.serve_open-outcome.new.log c.in-Ok.field-0.sockets c.serve_open-outcome.new.sockets (writer_contents g.W.Write.contents c.open.new.output)
-          warning done.0 c.in-Ok.ensures.open c.close.ensures c.serve_open-outcome.ensures.log done.1 c.warning_of.ensures
-          (ap (λ (l : List ℕ). l ++ warning ++ done.0) c.in-Ok.ensures.line),
-      λ never. appends_two (held c.args.errors.now) (held c.tell-in-Ok.new.errors) (held c.serve_open-outcome.new.errors) (line ++ warning) done.0
-          (appends_two (held c.args.errors.now) (held c.tell.new.errors) (held c.tell-in-Ok.new.errors) line warning
-          (subst (λ (text : List ℕ). Appends (held c.args.errors.now) (held c.tell.new.errors) text) c.deref.ensures.value (c.tell.ensures.told never))
-          (c.tell-in-Ok.ensures.told (c.tell.ensures.lasts never))) (done.2 (c.tell-in-Ok.ensures.lasts (c.tell.ensures.lasts never))),
+pub returns-then-is_plain-clause-served : goal.returns-then-is_plain-clause-served
+returns-then-is_plain-clause-served g c =
+    let done = c.serve_plain.ensures.served in
+    let options = c.args.options.now in
+    let name = option_map string_bytes options.log in
+    let old = c.args.host.now in
+    let given = machine (OpensAtLine (g.H.Host.LogOpens old) (g.H.Host.LogIsCut old) g.H.Log.OctetSink.held) (g.H.Host.SocketsOpen old)
+    (g.H.Host.RoutesIp old) (g.H.Host.Closes c.serve_plain.new.host) g.H.Log.OctetSink.held g.H.Sockets.Wire.calls in
+    let states = state_machine (g.H.Host.FileReads old) (g.H.Host.LastLines old) (g.H.Host.StoreOpens old) (g.H.Host.ReloadsOpen old)
+    g.H.StateStore.Store.held g.H.Reloads.Requests.told in
+    let held = writer_contents g.W.Write.contents c.args.output.now in
+    let holds = writer_contents g.W.Write.contents c.serve_plain.new.output in
+    let line = startup_line options.verbose c.args.config name in
+    let how = service options.turns options.stats in
+    let is : c.is_plain.result ≡ true = c.if-is_plain.true in (
+      done.0,
+      subst (λ (b : Bool). LeavesBy b
+          (LeavesServed given name held holds c.args.config how options.verbose line done.0 c.serve_plain.result)
+          (LeavesWithState given states (names_of options) held holds c.args.config how options.verbose line done.0 c.serve_plain.result))
+          (sym is ∙ c.is_plain.ensures) done.1,
+      done.2,
     )
 
-pub returns-in-Err-clause-served : goal.returns-in-Err-clause-served
-returns-in-Err-clause-served g c = (
-  c.note_of-note.result.items,
-  shut c.in-Err.failure c.in-Err.ensures.open (ap Err c.from.ensures) c.note_of-note.ensures,
-  λ never. subst (λ (text : List ℕ). Appends (g.E.OctetSink.held c.args.errors.now) (g.E.OctetSink.held c.tell-in-Err.new.errors) text) c.deref-in-Err.ensures.value
-      (c.tell-in-Err.ensures.told never),
-)
+pub returns-else-is_plain-clause-served : goal.returns-else-is_plain-clause-served
+returns-else-is_plain-clause-served g c =
+    let done = c.serve_kept.ensures.served in
+    let options = c.args.options.now in
+    let name = option_map string_bytes options.log in
+    let old = c.args.host.now in
+    let given = machine (OpensAtLine (g.H.Host.LogOpens old) (g.H.Host.LogIsCut old) g.H.Log.OctetSink.held) (g.H.Host.SocketsOpen old)
+    (g.H.Host.RoutesIp old) (g.H.Host.Closes c.serve_kept.new.host) g.H.Log.OctetSink.held g.H.Sockets.Wire.calls in
+    let states = state_machine (g.H.Host.FileReads old) (g.H.Host.LastLines old) (g.H.Host.StoreOpens old) (g.H.Host.ReloadsOpen old)
+    g.H.StateStore.Store.held g.H.Reloads.Requests.told in
+    let held = writer_contents g.W.Write.contents c.args.output.now in
+    let holds = writer_contents g.W.Write.contents c.serve_kept.new.output in
+    let line = startup_line options.verbose c.args.config name in
+    let how = service options.turns options.stats in
+    let is : c.is_plain.result ≡ false = c.if-is_plain.false in (
+      done.0,
+      subst (λ (b : Bool). LeavesBy b
+          (LeavesServed given name held holds c.args.config how options.verbose line done.0 c.serve_kept.result)
+          (LeavesWithState given states (names_of options) held holds c.args.config how options.verbose line done.0 c.serve_kept.result))
+          (sym is ∙ c.is_plain.ensures) done.1,
+      done.2,
+    )
