@@ -19,7 +19,7 @@ use Rattle.gw_shell.specs.declared.fault.Fault.{Fault}
 use Rattle.gw_shell.specs.declared.fault.Fault.TheVariants as fault
 use Rattle.gw_shell.specs.Asking.{Answers, Counts}
 use Rattle.gw_shell.specs.Configured.{IsConfigurationOf, IsConfigured}
-use Rattle.gw_shell.specs.Ending.{FaultNote, chosen, error_text, outcome_of_answer, status_by, usage_of}
+use Rattle.gw_shell.specs.Ending.{FaultNote, IsUnanswered, chosen, error_text, outcome_of_answer, status_by, usage_of}
 use Rattle.gw_shell.specs.Checked.{IsChecked}
 use Rattle.gw_shell.specs.Kept.{IsSaidOfText}
 use Rattle.gw_shell.specs.Replay.{Plays}
@@ -136,13 +136,6 @@ abbrev pub LeavesSuggested : Manner → Option (List ℕ) → Option (List ℕ) 
 LeavesSuggested manner input held holds (Ok text) outcome =
     OnKnown input held holds (λ log before. Suggests text manner log before outcome)
 LeavesSuggested manner input held holds (Err f) outcome = (outcome ≡ Err f) × (holds ≡ held)
-
--- a request to read the configuration again that has no answer
-abbrev pub IsUnanswered : Fault → Type 0
-IsUnanswered (fault.Request f) = ⊤
-IsUnanswered fault.NoAnswer = ⊤
-IsUnanswered fault.Memory = ⊤
-IsUnanswered _ = ⊥
 
 -- What an answer leaves: its text, and it says how the request ends; or a front of it, if a write failed. If there is
 -- none, the outcome is why.
