@@ -130,12 +130,25 @@ LeavesState held holds (Ok c) text outcome =
     (words : Result (List ℕ) Fault) × IsSaidOfText c text words × LeavesPrinted words held holds outcome
 LeavesState held holds (Err f) text outcome = (outcome ≡ Err f) × (holds ≡ held)
 
+-- What it leaves of the files of these names.
+abbrev pub LeavesStateIn : (Reads ReadsState : List ℕ → Result (List ℕ) Fault → Type 0) → (config state : List ℕ)
+    → Option (List ℕ) → Option (List ℕ) → Result (Unit {0}) Fault → Type 0
+LeavesStateIn Reads ReadsState config state held holds outcome =
+    (c : Result Configuration Fault) × IsConfigured Reads (Some config) c
+    × (text : Result (List ℕ) Fault) × ReadsState state text × LeavesState held holds c text outcome
+
 -- What `suggest` leaves under the configuration of a text that was read. If there is none, the outcome is why.
 abbrev pub LeavesSuggested : Manner → Option (List ℕ) → Option (List ℕ) → Option (List ℕ) → Result (List ℕ) Fault
     → Result (Unit {0}) Fault → Type 0
 LeavesSuggested manner input held holds (Ok text) outcome =
     OnKnown input held holds (λ log before. Suggests text manner log before outcome)
 LeavesSuggested manner input held holds (Err f) outcome = (outcome ≡ Err f) × (holds ≡ held)
+
+-- What it leaves under that of the file of this name.
+abbrev pub LeavesSuggestedIn : (Reads : List ℕ → Result (List ℕ) Fault → Type 0) → List ℕ → Manner → Option (List ℕ)
+    → Option (List ℕ) → Option (List ℕ) → Result (Unit {0}) Fault → Type 0
+LeavesSuggestedIn Reads file manner input held holds outcome =
+    (text : Result (List ℕ) Fault) × Reads file text × LeavesSuggested manner input held holds text outcome
 
 -- What an answer leaves: its text, and it says how the request ends; or a front of it, if a write failed. If there is
 -- none, the outcome is why.
@@ -151,6 +164,12 @@ abbrev pub LeavesReload : Option (List ℕ) → Option (List ℕ) → Result Con
 LeavesReload held holds (Ok c) outcome =
     (answer : Result (List ℕ) Fault) × IfErr answer IsUnanswered × LeavesAnswer answer held holds outcome
 LeavesReload held holds (Err f) outcome = (outcome ≡ Err f) × (holds ≡ held)
+
+-- What it leaves if that is the file of this name.
+abbrev pub LeavesReloadIn : (Reads : List ℕ → Result (List ℕ) Fault → Type 0) → List ℕ → Option (List ℕ)
+    → Option (List ℕ) → Result (Unit {0}) Fault → Type 0
+LeavesReloadIn Reads file held holds outcome =
+    (c : Result Configuration Fault) × IsConfigured Reads (Some file) c × LeavesReload held holds c outcome
 
 -- What `why --count` leaves of a text: how many of its asks each of these rules decides, or the first line that says none.
 abbrev pub LeavesCounts : List Rule → List ℕ → Option (List ℕ) → Option (List ℕ) → Result (Unit {0}) Fault → Type 0
@@ -191,19 +210,15 @@ LeavesOutput Reads ReadsState machine input held holds told (Ok (choice.Why file
     (c : Result Configuration Fault) × IsConfigured Reads (Some (string_bytes file)) c
     × LeavesAnswered counts input held holds c outcome
 LeavesOutput Reads ReadsState machine input held holds told (Ok (choice.Reload config request)) outcome =
-    (c : Result Configuration Fault) × IsConfigured Reads (Some (string_bytes config)) c
-    × LeavesReload held holds c outcome
+    LeavesReloadIn Reads (string_bytes config) held holds outcome
 LeavesOutput Reads ReadsState machine input held holds told (Ok (choice.Compare old new most)) outcome =
     (a : Result Configuration Fault) × IsConfigured Reads (Some (string_bytes old)) a
     × (b : Result Configuration Fault) × IsConfigured Reads (Some (string_bytes new)) b
     × LeavesComparison most held holds a b outcome
 LeavesOutput Reads ReadsState machine input held holds told (Ok (choice.State config state)) outcome =
-    (c : Result Configuration Fault) × IsConfigured Reads (Some (string_bytes config)) c
-    × (text : Result (List ℕ) Fault) × ReadsState (string_bytes state) text
-    × LeavesState held holds c text outcome
+    LeavesStateIn Reads ReadsState (string_bytes config) (string_bytes state) held holds outcome
 LeavesOutput Reads ReadsState machine input held holds told (Ok (choice.Suggest file fills exact)) outcome =
-    (text : Result (List ℕ) Fault) × Reads (string_bytes file) text
-    × LeavesSuggested (record { keeps_services = exact; fills = fills }) input held holds text outcome
+    LeavesSuggestedIn Reads (string_bytes file) (record { keeps_services = exact; fills = fills }) input held holds outcome
 LeavesOutput Reads ReadsState machine input held holds told (Ok (choice.Log start)) outcome =
     OnKnown input held holds (λ log before. Tells start log before outcome)
 LeavesOutput Reads ReadsState machine input held holds told (Ok (choice.Help text)) (Ok done) =
