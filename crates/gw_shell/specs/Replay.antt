@@ -17,7 +17,6 @@ telling true = explained_text
 -- ended. Where it explains, what is told of a line is wrong with it.
 abbrev pub Plays : Bool → Configuration → List ℕ → List ℕ → Result (Unit {0}) Fault → List ℕ → Type 0
 Plays explains c script before (Ok done) after = RunsWhole (telling explains) c script before after
-Plays explains c script before (Err _) after = ⊥
 Plays explains c script before (Err (fault.Line n)) after =
     (explains ≡ false) × RunsToLine (telling explains) n c script before after
 Plays explains c script before (Err (fault.FlawedLine n f)) after =
@@ -26,3 +25,4 @@ Plays explains c script before (Err fault.Read) after = RunsPart (telling explai
 Plays explains c script before (Err fault.Write) after = RunsFront (telling explains) c script before after
 Plays explains c script before (Err fault.Memory) after = RunsToMemory (telling explains) c script before after
 Plays explains c script before (Err fault.CountEnd) after = RunsToEnd (telling explains) c script before after
+Plays explains c script before (Err _) after = ⊥

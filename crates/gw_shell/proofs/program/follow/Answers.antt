@@ -5,6 +5,8 @@ use Rattle.std.specs.Prelude.{string_bytes}
 use Rattle.gw_shell.specs.Configured.{IsConfigured}
 use Rattle.gw_shell.specs.Files.{result_map}
 use Rattle.gw_command_line.specs.declared.command_line.Choice.TheVariants as choice
+use Rattle.gw_shell.specs.Program.{LeavesReloadIn, LeavesStateIn, LeavesSuggestedIn}
+use Rattle.gw_suggest.specs.declared.suggestion.Manner.{Manner}
 use Rattle.gw_shell.proofs.ChoiceLemmas.{followed}
 use Rattle.gw_shell.proofs.AppendLemmas.{appends_nothing}
 use Rattle.gw_shell.proofs.program.follow.Goals as goal
