@@ -5,27 +5,35 @@
 #
 #     - it lies in a line exactly if the two policies decide it otherwise;
 #     - the line says what becomes of it, and names the two rules that decide it;
-#     - each line has such an ask, and the last line and the exit status are right.
+#     - each line has such an ask, and the last line and the exit status are right;
+#     - more than 40 lines are in groups by the rules that decide, and the line of each group counts them.
 #
 # And each example, written in format 3 by `check --migrate`, is compared with itself: no ask is decided otherwise.
 #
 #     bench/compare.sh           # 200 pairs
 #     bench/compare.sh 5 9       # 5 pairs, from the seed 9
+#     bench/compare.sh lists     # lists as a site has them, of 3 to 512 rules, after an edit: how many lines, and in what time
+#     bench/compare.sh lists 3   # the same, with 3 lists of each length and edit in the place of 10
 #
 # It wants python3 and the program built, as `./bacgw prove` leaves it; BACGW names another program, with its words.
 set -euo pipefail
 
 top=$(cd "$(dirname "$0")/.." && pwd)
-exec python3 - "$top" "${BACGW:-$top/crates/bacgw/out/bacgw}" "${1:-200}" "${2:-1}" <<'PYTHON'
+exec python3 - "$top" "${BACGW:-$top/crates/bacgw/out/bacgw}" "${1:-200}" "${@:2}" <<'PYTHON'
 import itertools
 import random
 import re
+import statistics
 import subprocess
 import sys
 import tempfile
+import time
+from collections import Counter
 from pathlib import Path
 
-top, program, pairs, seed = Path(sys.argv[1]), sys.argv[2].split(), int(sys.argv[3]), int(sys.argv[4])
+top, program, mode = Path(sys.argv[1]), sys.argv[2].split(), sys.argv[3]
+# How many regions are printed without groups at most.
+UNGROUPED = 40
 MOST = 2**64 - 1
 FIELDS = [
     "operation", "port", "source_network", "source", "destination", "service",
@@ -168,10 +176,10 @@ def end_text(field, number):
     return key_text(number) if field in ("source", "sender", "station") else str(number)
 
 
-def text_of(rules, form):
+def text_of(rules, form, ports=PORTS):
     head = (top / "examples" / "base.toml").read_text(encoding="utf-8").split("[[port]]")[0]
     lines = [re.sub(r"^format = \d$", f"format = {form}", re.sub(r"^network = \d+$", f"network = {DEVICE}", head, flags=re.M), flags=re.M)]
-    for network in PORTS:
+    for network in ports:
         lines.append(f'[[port]]\nnetwork = {network}\naddress = "10.{network}.1.1:47808"\nbroadcast = "10.{network}.255.255:47808"\n')
     for it in rules:
         lines.append(f'[[rule]]\nname = "{it["name"]}"\nallow = {str(it["allow"]).lower()}')
@@ -278,6 +286,24 @@ def line_of(text):
     return found[1] == "allowed", region_of(found[2]), set(found[3].split(" or ")), set(found[5].split(" or "))
 
 
+HEAD = re.compile(r"(\d+) kinds?: now (allowed|denied) by (.*) \((?:was|were) (allowed|denied) by (.*)\)")
+
+
+def without_heads(said):
+    """The lines of the regions, after those of their groups are judged."""
+    heads = list(itertools.takewhile(HEAD.fullmatch, said))
+    lines = said[len(heads):]
+    groups = [(it[1], it[3], it[4], it[5]) for it in map(LINE.fullmatch, lines)]
+    if len(lines) <= UNGROUPED:
+        assert not heads
+        return lines
+    counted = Counter(groups)
+    assert [it for it, _ in itertools.groupby(groups)] == list(counted), "the groups aren't one after the other"
+    told = [(it[2], it[3], it[4], it[5], int(it[1])) for it in map(HEAD.fullmatch, heads)]
+    assert told == [(*it, counted[it]) for it in counted], f"the counts: {heads}"
+    return lines
+
+
 def lies(region, ask):
     return all(absent if ask[field] is None else holds(ranges, ask[field]) for field, (absent, ranges) in region.items())
 
@@ -303,7 +329,7 @@ def judge(room, dice, number):
     status, said, wrong = compare(*files)
     where = f"pair {number}, format {form}"
     assert not wrong and status in (0, 1), f"{where}: {status} {wrong}"
-    lines = [line_of(it) for it in said[:-1]]
+    lines = [line_of(it) for it in without_heads(said[:-1])]
     assert said[-1] == ending(len(lines)) and status == (1 if lines else 0), f"{where}: {said[-1]}"
     assert [it[0] for it in lines] == sorted((it[0] for it in lines), reverse=True), f"{where}: the order"
     has, count = [False] * len(lines), 0
@@ -320,8 +346,7 @@ def judge(room, dice, number):
     return count, len(lines)
 
 
-with tempfile.TemporaryDirectory() as folder:
-    room = Path(folder)
+def judge_pairs(room, pairs, seed):
     dice = random.Random(seed)
     asks = lines = 0
     for number in range(pairs):
@@ -339,4 +364,125 @@ with tempfile.TemporaryDirectory() as folder:
         assert (status, said) == (0, ["note: the formats differ; only the rules are compared", ending(0)]), f"{path.name}: {said}"
         examples += 1
     print(f"{examples} examples, each with itself in format 3: no ask is decided otherwise")
+
+
+# ---- lists as a site has them
+
+NETWORKS = [1, 2, 3, 4]
+EDITS = ["one rule added", "two swapped", "a range widened", "one removed", "one turned", "ten edits", "second half new"]
+
+
+def key_of(network, host):
+    return int.from_bytes(bytes([10, network, host // 256, host % 256]), "big") * 65536 + 47808
+
+
+def site_rule(dice):
+    """A rule as people write them: points hidden or kept to a network, workstations that write, subnets that read, routes, services."""
+    network, host = dice.choice(NETWORKS), dice.randrange(2, 2000)
+    kind, first = dice.choice([0, 1, 2, 3, 4, 5, 8, 19]), dice.randrange(1, 400)
+    points = [(first, first + dice.choice([0, 0, 4, 20]))]
+    allow, ranges = dice.choice([
+        (False, {"operation": ["read"], "object_type": [(kind, kind)], "instance": points}),
+        (True, {"operation": ["read"], "source_network": [(network, network)], "object_type": [(kind, kind)], "instance": points}),
+        (False, {"operation": ["read", "write"], "object_type": [(kind, kind)], "property": [(dice.choice([28, 77, 81, 104]),) * 2]}),
+        (True, {"operation": ["write"], "source_network": [(network, network)], "source": [(key_of(network, host),) * 2],
+                "object_type": [(kind, kind)], "instance": points, "property": [(85, 85)], "priority": [(dice.choice([8, 10, 13]), 16)]}),
+        (True, {"operation": ["read"], "source_network": [(network, network)], "source": [(key_of(network, host), key_of(network, host + 255))]}),
+        (dice.random() < 0.7, {"operation": ["route"], "source_network": [(network, network)], "destination": [(dice.choice(NETWORKS),) * 2]}),
+        (dice.random() < 0.7, {"operation": ["register"], "port": [(network, network)], "source": [(key_of(network, host),) * 2]}),
+        (False, {"operation": ["cast", "route"], "service": [(dice.choice([256, 257, 258, 263, 264]),) * 2], "source_network": [(network, network)]}),
+    ])
+    return {"allow": allow, "ranges": {**ranges, "operation": [(NUMBER[it],) * 2 for it in ranges["operation"]]}}
+
+
+def operations_rule(allow, *operations):
+    return {"allow": allow, "ranges": {"operation": [(NUMBER[it],) * 2 for it in operations]} if operations else {}}
+
+
+def site_list(dice, length):
+    tail = dice.choice([
+        [operations_rule(False, "read-table", "write-table"), operations_rule(False, "write"), operations_rule(True)],
+        [operations_rule(True, "read"), operations_rule(True, "cast", "route", "list", "network")],
+    ])
+    return [site_rule(dice) for _ in range(length - len(tail))] + tail
+
+
+def widened(dice, rule):
+    named = [it for it in rule["ranges"] if it != "operation"]
+    if not named:
+        return {**rule, "allow": not rule["allow"]}
+    field = dice.choice(named)
+    (low, high), *more = rule["ranges"][field]
+    # No priority is over 16.
+    return {**rule, "ranges": {**rule["ranges"], field: [(max(1, low - 1), high if field == "priority" else high + 3), *more]}}
+
+
+def edited(dice, rules, edit):
+    rules = list(rules)
+    place = dice.randrange(len(rules))
+    if edit == "one rule added":
+        rules.insert(place, site_rule(dice))
+    elif edit == "two swapped":
+        other = dice.randrange(len(rules))
+        rules[place], rules[other] = rules[other], rules[place]
+    elif edit == "a range widened":
+        rules[place] = widened(dice, rules[place])
+    elif edit == "one removed":
+        del rules[place]
+    elif edit == "one turned":
+        rules[place] = {**rules[place], "allow": not rules[place]["allow"]}
+    elif edit == "ten edits":
+        for _ in range(10):
+            rules = edited(dice, rules, dice.choice(EDITS[:5])) or rules
+    else:
+        half = len(rules) // 2
+        rules = rules[:half] + site_list(dice, len(rules) - half)
+    # A policy has 512 rules at most.
+    return rules[-512:]
+
+
+def named(rules):
+    return [{**it, "name": f"r{number}"} for number, it in enumerate(rules)]
+
+
+def shown(numbers, form):
+    return f"{form.format(statistics.median(numbers))} / {form.format(max(numbers))}"
+
+
+def measure(room, dice, length, edit, lists):
+    """The kinds that are found and the seconds that it takes, middle and most; and how many comparisons weren't finished."""
+    kinds, seconds, unfinished = [], [], 0
+    files = [room / "old.toml", room / "new.toml"]
+    for _ in range(lists):
+        old = site_list(dice, length)
+        for path, rules in zip(files, [old, edited(dice, old, edit)]):
+            path.write_text(text_of(named(rules), 2, NETWORKS), encoding="utf-8")
+        start = time.monotonic()
+        status, said, wrong = compare(*files)
+        seconds.append(time.monotonic() - start)
+        assert status in (0, 1) and not wrong, f"{length} rules, {edit}: {status} {wrong}"
+        count = re.search(r"(\d+) kinds? of asks", said[-1])
+        kinds.append(int(count[1]) if count else 0)
+        unfinished += said[-1].startswith("not finished")
+    return kinds, seconds, unfinished
+
+
+def measure_lists(room, lists, seed):
+    print("| Rules | " + " | ".join(EDITS) + " |")
+    print("|---|" + "---|" * len(EDITS))
+    for length in [3, 20, 50, 200, 512]:
+        dice = random.Random(seed * 1000 + length)
+        found = [measure(room, dice, length, edit, lists) for edit in EDITS]
+        print(f"| {length}, kinds | " + " | ".join(shown(it[0], "{:.0f}") for it in found) + " |")
+        print(f"| {length}, seconds | " + " | ".join(shown(it[1], "{:.2f}") for it in found) + " |", flush=True)
+        left = [f"{it[2]} of {lists} ({edit})" for it, edit in zip(found, EDITS) if it[2]]
+        if left:
+            print(f"{length} rules, not finished: " + ", ".join(left), file=sys.stderr)
+
+
+with tempfile.TemporaryDirectory() as folder:
+    if mode == "lists":
+        measure_lists(Path(folder), int(sys.argv[4]) if len(sys.argv) > 4 else 10, 1)
+    else:
+        judge_pairs(Path(folder), int(mode), int(sys.argv[4]) if len(sys.argv) > 4 else 1)
 PYTHON

@@ -1,48 +1,17 @@
 -- The regions of the asks that the gateways of two configurations may raise.
-use Rattle.std.specs.Prelude.{◌≡◌, ◌⊎◌, true, if◌then◌else◌, List, [], ◌∷◌, ◌++◌, map}
+use Rattle.std.specs.Prelude.{◌≡◌, ◌⊎◌, true, List, ◌++◌, map}
 use Rattle.gw_configuration.specs.Configuration.{Configuration}
-use Rattle.gw_regions.specs.Regions.{Region, lies, lies_in_one}
-use Rattle.gw_regions.specs.declared.values.Values.{Values}
+use Rattle.gw_regions.specs.Regions.{Region, lies_in_one}
 use Rattle.gw_rules.specs.Ask.{Ask}
-use Rattle.gw_shapes.specs.Meeting.{has_number}
-use Rattle.gw_shapes.specs.Shape.{LiesIn, LiesInOne, Shape}
+use Rattle.gw_shapes.specs.Regions.{region_of}
+use Rattle.gw_shapes.specs.Shape.{LiesInOne}
 use Rattle.gw_shapes.specs.Shapes.{shapes}
-use Rattle.gw_shapes.specs.declared.side.Side.{Side}
-
--- the values of a side: one range, or none if the side has no number
-abbrev pub values_of : Side → Values
-values_of side = record {
-  absent = side.absent;
-  ranges = if has_number side then side.range ∷ [] else [];
-}
-
--- and so for each field of a shape
-abbrev pub region_of : Shape → Region
-region_of shape = record {
-  operation = values_of shape.operation;
-  port = values_of shape.port;
-  source_network = values_of shape.source_network;
-  source_key = values_of shape.source_key;
-  destination_network = values_of shape.destination_network;
-  service = values_of shape.service;
-  object_type = values_of shape.object_type;
-  instance = values_of shape.instance;
-  property = values_of shape.property;
-  priority = values_of shape.priority;
-  sender = values_of shape.sender;
-  station = values_of shape.station;
-}
 
 -- those of the shapes of both configurations
 abbrev pub asks_of : Configuration → Configuration → List Region
 asks_of old new = map region_of (shapes old) ++ map region_of (shapes new)
 
 -- ---- what they have
-
--- an ask lies in the region of a shape exactly if it lies in the shape
-pub record IsRegionOf (shape : Shape) (region : Region) : Type 0 where
-  pub inner : (ask : Ask) → lies region ask ≡ true → LiesIn shape ask
-  pub whole : (ask : Ask) → LiesIn shape ask → lies region ask ≡ true
 
 -- an ask lies in one of these regions exactly if it lies in a shape of one of the two configurations
 pub record AreAsksOf (old new : Configuration) (regions : List Region) : Type 0 where

@@ -1,14 +1,12 @@
 -- What `bacgw compare` says of two configurations.
-use Rattle.std.specs.Prelude.{◌≡◌, ℕ, ◌-◌, Bool, ◌==◌, if◌then◌else◌, List, [], ◌∷◌, ◌++◌, length, take, codes, decimal}
-use Rattle.std.specs.List.{flat_map}
+use Rattle.std.specs.Prelude.{◌≡◌, ℕ, ◌==◌, if◌then◌else◌, List, [], ◌∷◌, ◌++◌, length, codes, decimal}
 use Rattle.std.specs.List.Sorted.{IsNonDecreasingBy}
 use Rattle.gw_configuration.specs.Configuration.{Configuration}
 use Rattle.gw_regions.specs.Comparing.{IsSummary}
 use Rattle.gw_regions.specs.Regions.{Region}
 use Rattle.gw_regions.specs.declared.comparison.Found.{Found}
-use Rattle.gw_rules.specs.declared.rule.Rule.{Rule}
 use Rattle.gw_compare.specs.Asks.{asks_of}
-use Rattle.gw_compare.specs.Lines.{line_text}
+use Rattle.gw_compare.specs.Groups.{regions_text}
 use Rattle.gw_compare.specs.Notes.{AreNotes}
 use Rattle.gw_compare.specs.declared.comparison.Compared.{Compared}
 use Rattle.gw_compare.specs.declared.comparison.Compared.TheVariants as compared
@@ -38,18 +36,7 @@ ending_text compared.Unfinished count =
     (if count == 1 then codes "not finished: at least this " else codes "not finished: at least these ")
     ++ (kinds_text count ++ 10 ∷ [])
 
--- how many more there are than are shown
-abbrev pub more_text : ℕ → List ℕ
-more_text count =
-    if count == 0 then []
-    else codes "and " ++ (decimal count ++ (if count == 1 then codes " more kind" else codes " more kinds") ++ 10 ∷ [])
-
 -- ---- the whole
-
--- a line each for at most so many regions, and how many are left out
-abbrev pub found_text : List Rule → List Rule → ℕ → List Found → List ℕ
-found_text old new most found =
-    flat_map (line_text old new) (take most found) ++ more_text (length found - most)
 
 -- A text compares two configurations: it has the lines of regions in which what the old and the new rules decide
 -- otherwise is summed up, over all asks that a gateway of either may raise.
@@ -61,7 +48,7 @@ pub record IsComparisonText (old new : Configuration) (most : ℕ) (made : Compa
   pub summary : IsSummary (asks_of old new) old.rules new.rules found left
   pub in_order : IsNonDecreasingBy rank found
   pub verdict : made ≡ compared_by (length found) (length left)
-  pub told : text ≡ notes ++ (found_text old.rules new.rules most found ++ ending_text made (length found))
+  pub told : text ≡ notes ++ (regions_text old.rules new.rules most found ++ ending_text made (length found))
 
 -- such a text is after what a buffer held
 abbrev pub AppendsComparison : Configuration → Configuration → ℕ → Compared → List ℕ → List ℕ → Type 0

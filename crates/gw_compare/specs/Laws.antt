@@ -1,14 +1,16 @@
 -- What the text of a comparison says of the asks of two configurations.
-use Rattle.std.specs.Prelude.{◌≡◌, ◌≢◌, ◌⊎◌, ℕ, true, List}
+use Rattle.std.specs.Prelude.{◌≡◌, ◌≢◌, ◌⊎◌, ℕ, true, count_by, List}
 use Rattle.std.specs.List.{AllByRecursion}
 use Rattle.gw_configuration.specs.Configuration.{Configuration}
 use Rattle.gw_regions.specs.Comparing.{IsDecided, differs, is_found}
 use Rattle.gw_regions.specs.Regions.{lies}
+use Rattle.gw_regions.specs.declared.comparison.Found.{Found}
 use Rattle.gw_rules.specs.Ask.{Ask}
 use Rattle.gw_rules.specs.RuleList.{allows}
 use Rattle.gw_shapes.specs.Shape.{LiesInOne}
 use Rattle.gw_shapes.specs.Shapes.{shapes}
 use Rattle.gw_compare.specs.Comparison.{IsComparisonText}
+use Rattle.gw_compare.specs.Groups.{firsts, is_like}
 use Rattle.gw_compare.specs.declared.comparison.Compared.{Compared}
 use Rattle.gw_compare.specs.declared.comparison.Compared.TheVariants as compared
 
@@ -40,3 +42,7 @@ abbrev pub LinesHaveAsks : Type 0
 LinesHaveAsks = (old new : Configuration) (most : ℕ) (made : Compared) (text : List ℕ)
     (told : IsComparisonText old new most made text)
     → AllByRecursion (λ f. (lies f.region f.ask ≡ true) × IsAskOf old new f.ask) told.found
+
+-- Each region is in the group of exactly one of the first regions: the groups have each region once.
+abbrev pub EachHasOneGroup : Type 0
+EachHasOneGroup = (found : List Found) → AllByRecursion (λ f. count_by (λ g. is_like g f) (firsts found) ≡ 1) found

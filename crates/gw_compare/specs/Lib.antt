@@ -1,5 +1,6 @@
 pub mod Asks
 pub mod Comparison
+pub mod Groups
 pub mod Laws
 pub mod Lines
 pub mod Notes

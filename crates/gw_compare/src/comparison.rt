@@ -1,12 +1,11 @@
 //! What `bacgw compare` says of two configurations.
-ghost use Rattle.std.specs.Prelude.{◌≡◌, ◌-◌, ◌++◌, ◌∷◌, ◌==◌, [], codes, decimal, if◌then◌else◌, length, take, IfOk, OnErr, OnOk};
-ghost use Rattle.std.specs.List.{flat_map};
+ghost use Rattle.std.specs.Prelude.{◌≡◌, ◌++◌, ◌∷◌, ◌==◌, [], codes, decimal, if◌then◌else◌, length, IfOk, OnErr, OnOk};
 ghost use Rattle.std.specs.List.Sorted.{IsNonDecreasingBy, IsPermutation};
-ghost use Rattle.gw_compare.specs.Comparison.{AppendsComparison, IsComparisonText, compared_by, ending_text, found_text, kinds_text, more_text, rank};
+ghost use Rattle.gw_compare.specs.Comparison.{AppendsComparison, IsComparisonText, compared_by, ending_text, kinds_text, rank};
 ghost use Rattle.gw_regions.specs.Comparing.{IsSummary};
 
 use crate::asks::asks_of;
-use crate::lines::put_lines;
+use crate::groups::{Listing, put_regions};
 use crate::notes::notes;
 use gw_addr::{keep_whole, put_decimal, put_slice};
 use gw_configuration::Config;
@@ -84,7 +83,13 @@ fn comparison(alloc: Global, old: &Config, new: &Config, most: usize) -> Result<
     let summary = summary_of(alloc, before, after, &asks)?;
     let mut text = notes(alloc, old, new)?;
     let made = compared_by(summary.found.len(), summary.left.len());
-    put_found(alloc, &mut text, before, after, most, &summary.found)?;
+    let listing = Listing {
+        found: &summary.found,
+        old: before,
+        new: after,
+        most,
+    };
+    put_regions(alloc, &mut text, &listing)?;
     put_ending(&mut text, made, summary.found.len())?;
     Ok(Told { text, made })
 }
@@ -130,49 +135,6 @@ fn compared_by(found: usize, left: usize) -> Compared
         Compared::Different
     } else {
         Compared::Alike
-    }
-}
-
-/// Appends the lines of at most so many regions, and how many are left out.
-fn put_found(
-    alloc: Global,
-    out: &mut Vec<u8>,
-    old: &[Rule],
-    new: &[Rule],
-    most: usize,
-    found: &[Found],
-) -> Result<(), AllocError>
-    ensures { OnOk result (out.new.items ≡
-        out.old.items ++ found_text old.now new.now most found.now) }
-{
-    if most < found.len() {
-        put_lines(alloc, out, old, new, &found[..most])?;
-        return put_more(out, found.len() - most);
-    }
-    put_lines(alloc, out, old, new, found)
-}
-
-/// Appends how many more there are than are shown.
-fn put_more(out: &mut Vec<u8>, count: usize) -> Result<(), AllocError>
-    ensures { OnOk result (out.new.items ≡ out.old.items ++ more_text count) }
-{
-    if count == 0 {
-        return Ok(());
-    }
-    out.extend_from_slice(b"and ")?;
-    put_decimal(out, count)?;
-    out.extend_from_slice(more_words(count).as_bytes())?;
-    out.push(b'\n')?;
-    Ok(())
-}
-
-fn more_words(count: usize) -> &'static str
-    ensures { result.now ≡ (if count == 1 then codes " more kind" else codes " more kinds") }
-{
-    if count == 1 {
-        " more kind"
-    } else {
-        " more kinds"
     }
 }
 

@@ -1,6 +1,9 @@
-//! What the text of a comparison says of the asks of two configurations. The function does nothing: its
-//! contract is the laws.
-ghost use Rattle.gw_compare.specs.Laws.{AlikeIsAlike, FoundIsAll, LinesAreTrue, LinesHaveAsks};
+//! What the text of a comparison says of the asks of two configurations. The functions do nothing: their
+//! contracts are the laws.
+ghost use Rattle.std.specs.Prelude.{◌≡◌};
+ghost use Rattle.gw_compare.specs.Laws.{AlikeIsAlike, EachHasOneGroup, FoundIsAll, LinesAreTrue, LinesHaveAsks};
+
+use crate::MOST_UNGROUPED;
 
 /// Over all asks that a gateway of one of the two configurations may raise: if the comparison is finished, an
 /// ask is decided otherwise exactly if it lies in a region that was found; a line is true of each ask of its
@@ -10,4 +13,14 @@ pub fn comparisons()
     ensures alike { AlikeIsAlike }
     ensures lines { LinesAreTrue }
     ensures asks { LinesHaveAsks }
+{}
+
+/// If the regions that were found are grouped by the rules that decide, each is in one group.
+pub fn groups()
+    ensures { EachHasOneGroup }
+{}
+
+/// Up to 40 regions are printed without groups.
+pub fn limits()
+    ensures { MOST_UNGROUPED ≡ 40 }
 {}

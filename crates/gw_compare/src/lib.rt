@@ -3,10 +3,12 @@
 
 mod asks;
 mod comparison;
+mod groups;
 pub mod laws;
 mod lines;
 mod notes;
 mod words;
 
-pub use asks::{asks_of, region_of};
+pub use asks::asks_of;
 pub use comparison::{Compared, put_comparison};
+pub use groups::MOST_UNGROUPED;

@@ -27,7 +27,7 @@ pub(crate) fn put_lines(
 }
 
 /// Appends the line of one region.
-fn put_line(
+pub(crate) fn put_line(
     alloc: Global,
     out: &mut Vec<u8>,
     old: &[Rule],
@@ -45,7 +45,7 @@ fn put_line(
     Ok(())
 }
 
-fn verdict(allows: bool) -> &'static str
+pub(crate) fn verdict(allows: bool) -> &'static str
     ensures { result.now ≡ verdict_text allows }
 {
     if allows { "allowed" } else { "denied" }
@@ -71,7 +71,11 @@ fn put_deciders(
 }
 
 /// Appends the names of the rules of these numbers.
-fn put_names(out: &mut Vec<u8>, rules: &[Rule], numbers: &[usize]) -> Result<(), AllocError>
+pub(crate) fn put_names(
+    out: &mut Vec<u8>,
+    rules: &[Rule],
+    numbers: &[usize],
+) -> Result<(), AllocError>
     ensures { OnOk result (out.new.items ≡ out.old.items ++ names_text rules.now numbers.now) }
 {
     let Some((first, rest)) = numbers.split_first() else {

@@ -81,6 +81,22 @@ fn letter(pause: Pause) -> u8 {
     }
 }
 
+/// Has the keeper keep the state after a pause, if it is a tick. A fault if memory was refused for a text.
+fn keep_after(
+    alloc: Global,
+    pause: Pause,
+    gateway: &Gateway,
+    keeper: &mut Keeper<MemStore<'_>>,
+) -> io::Result<()> {
+    if let Pause::Tick = pause {
+        keeper.keep_at_tick(alloc, gateway);
+    }
+    match keeper.failing() {
+        Some(StoreFault::Memory) => Err(ErrorKind::OutOfMemory.into()),
+        _ => Ok(()),
+    }
+}
+
 /// Serves so many turns, stretch by stretch, and has the keeper keep the state at each tick. Appends the letter of each pause.
 fn serve_stretches(
     alloc: Global,
@@ -109,13 +125,11 @@ fn serve_stretches(
             Ok(pause) => pause,
             Err(fault) => return Ok(Err(fault)),
         };
-        out.push(letter(pause))?;
-        if let Pause::Tick = pause {
-            edges.keeper.keep_at_tick(alloc, gateway);
-        }
-        if let Some(StoreFault::Memory) = edges.keeper.failing() {
+        if state.served.memory_drops > 0 {
             return Err(ErrorKind::OutOfMemory.into());
         }
+        out.push(letter(pause))?;
+        keep_after(alloc, pause, gateway, &mut edges.keeper)?;
     }
     Ok(Ok(()))
 }

@@ -1,9 +1,9 @@
 -- What is found of a rule, and when it is true of it.
 use Rattle.std.specs.Prelude.{◌≡◌, ℕ, ◌-◌, ◌<◌, true, List, length, Option, Some, None, position, slice_get, take}
-use Rattle.gw_rules.specs.RuleList.{HasNumber, first}
+use Rattle.gw_rules.specs.RuleList.{HasNumber}
 use Rattle.gw_rules.specs.declared.rule.Rule.{Rule}
 use Rattle.gw_shapes.specs.Cover.{MatchesNothing, TakesAll, is_met, takes_all}
-use Rattle.gw_shapes.specs.Search.{IsNeverFirst}
+use Rattle.gw_shapes.specs.Search.{IsFirstFor, IsNeverFirst}
 use Rattle.gw_shapes.specs.Shape.{Shape}
 use Rattle.gw_lint.specs.declared.finding.Finding.{Finding}
 use Rattle.gw_lint.specs.declared.finding.Finding.TheVariants as finding
@@ -24,8 +24,8 @@ pub record IsTakenBy (shapes : List Shape) (rules : List Rule) (number by : ℕ)
 abbrev pub IsTakenByNone : List Shape → List Rule → ℕ → Rule → Type 0
 IsTakenByNone shapes rules number later = taker shapes (take (number - 1) rules) later ≡ None
 
--- what a finding says of a rule: of an ask that it decides, that it is the first to match that, and
--- where nothing is known, that neither of the first two is found
+-- what a finding says of a rule: of an ask that it decides, that it is one of the shapes and the rule the first to match
+-- it, and where nothing is known, that neither of the first two is found
 abbrev pub Tells : List Shape → List Rule → ℕ → Rule → Finding → Type 0
 Tells shapes rules number rule finding.MatchesNothing = MatchesNothing shapes rule
 Tells shapes rules number rule (finding.TakenBy by) =
@@ -33,7 +33,7 @@ Tells shapes rules number rule (finding.TakenBy by) =
 Tells shapes rules number rule finding.TakenTogether =
     (is_met shapes rule ≡ true) × IsTakenByNone shapes rules number rule × IsNeverFirst shapes rules number
 Tells shapes rules number rule (finding.Decides ask) =
-    (is_met shapes rule ≡ true) × IsTakenByNone shapes rules number rule × (first rules ask ≡ Some number)
+    (is_met shapes rule ≡ true) × IsTakenByNone shapes rules number rule × IsFirstFor shapes rules number ask
 Tells shapes rules number rule finding.Unknown = (is_met shapes rule ≡ true) × IsTakenByNone shapes rules number rule
 
 -- there is one finding for each rule, in their order, and each says what is true

@@ -19,7 +19,7 @@ pub enum Finding {
     TakenBy(u16),
     /// The rules before it together match all that it matches.
     TakenTogether,
-    /// It is the first rule that matches this ask.
+    /// It is the first rule that matches this ask, which is one of them.
     Decides(Ask),
     /// The search ended before it could tell.
     Unknown,

@@ -19,7 +19,7 @@ use std::alloc::{AllocError, Global};
 /// rule 3 all: decides, for one, operation=cast port=1 source_network=1 source=0.0.0.0:0 ..
 /// rule 6 hide-door: never decides: rule 5 all-reads takes all that it matches, and says the opposite
 /// rule 9 rest: never decides: the rules before it together take all that it matches
-/// rule 12 night: can't tell within the steps given
+/// rule 12 odd-ones: can't tell within the steps given
 /// note: rule 3 all: look at instance: two of its ranges overlap
 /// ```
 ///

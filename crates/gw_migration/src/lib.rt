@@ -8,7 +8,6 @@ mod migration;
 mod objects;
 mod ports;
 mod rules;
-mod same;
 mod subnets;
 
 pub use fault::MigrationFault;

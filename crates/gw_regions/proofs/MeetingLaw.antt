@@ -53,26 +53,25 @@ first_held n (r ∷ rs) o t =
 
 -- ---- values
 
+-- lists that hold a number both have the first one that they share
+numbers_law : (a b : Values) (n : ℕ) → list_any (holds n) (shared a.ranges b.ranges) ≡ true → shares a b ≡ true
+numbers_law a b n there =
+    let first = first_held n (shared a.ranges b.ranges) (shared_ordered a.ranges b.ranges) there in
+    ap (λ y. has a y && has b y) first.1 ∙ sym (shared_law first.0 a.ranges b.ranges) ∙ first.2
+
 -- values that have one in common have the one that is taken
 pub common_law : (a b : Values) (x : Option ℕ) → has a x ≡ true → has b x ≡ true → shares a b ≡ true
-common_law a b x s t = by (a.absent && b.absent) refl
+common_law a b None s t = by (shared a.ranges b.ranges) refl
   where
-    numbers : (x : Option ℕ) → has a x ≡ true → has b x ≡ true → (a.absent && b.absent) ≡ false
-        → (has a (first_number (shared a.ranges b.ranges)) && has b (first_number (shared a.ranges b.ranges))) ≡ true
-    numbers None s t e = absurd (both_ways (a.absent && b.absent) e (and_from a.absent b.absent s t))
-    numbers (Some n) s t e =
-        let there : list_any (holds n) (shared a.ranges b.ranges) ≡ true =
-        shared_law n a.ranges b.ranges ∙ and_from (list_any (holds n) a.ranges) (list_any (holds n) b.ranges) s t in
-        let first = first_held n (shared a.ranges b.ranges) (shared_ordered a.ranges b.ranges) there in
-        ap (λ y. has a y && has b y) first.1 ∙ sym (shared_law first.0 a.ranges b.ranges) ∙ first.2
-
-    by : (c : Bool) → (a.absent && b.absent) ≡ c → shares a b ≡ true
-    by true e =
-        ap (λ c. has a (if c then None else first_number (shared a.ranges b.ranges)) && has b (if c then None else first_number (shared a.ranges b.ranges))) e
-        ∙ e
-    by false e =
-        ap (λ c. has a (if c then None else first_number (shared a.ranges b.ranges)) && has b (if c then None else first_number (shared a.ranges b.ranges))) e
-        ∙ numbers x s t e
+    by : (rs : List Range) → shared a.ranges b.ranges ≡ rs → shares a b ≡ true
+    by [] e = ap (λ (rs : List Range). has a (first_number rs) && has b (first_number rs)) e ∙ and_from a.absent b.absent s t
+    by (r ∷ rs) e =
+        let parts = and_parts (is_ordered r) (list_all is_ordered rs) (sym (ap (list_all is_ordered) e) ∙ shared_ordered a.ranges b.ranges) in
+        numbers_law a b r.low
+        (ap (list_any (holds r.low)) e
+        ∙ or_left (holds r.low r) (list_any (holds r.low) rs) (hold r.low r (omega arith) (leb-true r.low r.high parts.0)))
+common_law a b (Some n) s t =
+    numbers_law a b n (shared_law n a.ranges b.ranges ∙ and_from (list_any (holds n) a.ranges) (list_any (holds n) b.ranges) s t)
 
 -- ---- regions
 
@@ -105,6 +104,11 @@ nothing_common a b ask none =
     (each_field_at (λ g. has (value_of g b) (value_of g ask)) parts.1 f)
     ))
     )
+
+-- a region has the asks that it shares with itself
+pub twice : (b : Bool) → (b && b) ≡ b
+twice true = refl
+twice false = refl
 
 -- ---- the start
 

@@ -38,9 +38,9 @@ refused values ranges =
     if length ranges == 0 then record { absent = false; ranges = [] }
     else record { absent = values.absent; ranges = without values.ranges ranges }
 
--- a value that both have, if there is one
+-- a value that both have, if there is one: a number, if both have one, else absent
 abbrev pub common : Values → Values → Option ℕ
-common a b = if a.absent && b.absent then None else first_number (shared a.ranges b.ranges)
+common a b = first_number (shared a.ranges b.ranges)
 
 -- both have a value
 abbrev pub shares : Values → Values → Bool

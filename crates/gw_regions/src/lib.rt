@@ -22,6 +22,7 @@ mod widening;
 pub use comparing::{MAX_STEPS, compare};
 pub use comparison::{Comparison, Found};
 pub use deciders::DEFAULT;
+pub use meeting::ask_in;
 pub use merging::merge;
 pub use ranges::united;
 pub use region::{Region, lies, part};

@@ -58,6 +58,16 @@ fn ask_of_both(a: &Region, b: &Region) -> Option<Ask>
     }
 }
 
+/// An ask that lies in the region, or none if there is none: each field is a number, if it may be one. It takes no
+/// memory.
+#[tactic(auto, using(crate::proofs::MeetingLaw::twice))]
+pub fn ask_in(region: &Region) -> Option<Ask>
+    ensures some { IfSome result (λ ask. lies region.now ask ≡ true) }
+    ensures none { result ≡ None → (ask : SpecAsk) → lies region.now ask ≡ false }
+{
+    ask_of_both(region, region)
+}
+
 /// An ask that lies in the region and in one of the shapes, or none if there is none. It takes no memory.
 pub(crate) fn ask_within(region: &Region, shapes: &[Region]) -> Option<Ask>
     ensures some { IfSome result (λ ask. (lies region.now ask && lies_in_one shapes.now ask) ≡ true) }

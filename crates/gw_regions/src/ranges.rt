@@ -251,11 +251,7 @@ fn with_all(
 }
 
 /// The numbers of both lists, in order, and each range as long as it can be. An `Err` if there is no memory.
-pub fn united(
-    alloc: Global,
-    xs: &[Range],
-    ys: &[Range],
-) -> Result<Sequence<Range>, AllocError>
+pub fn united(alloc: Global, xs: &[Range], ys: &[Range]) -> Result<Sequence<Range>, AllocError>
     ensures { IfOk result (λ all. AreUnited all xs.now ys.now) }
 {
     let none = Sequence::new(alloc);

@@ -93,13 +93,10 @@ impl Values {
         })
     }
 
-    /// A value that both have, if there is one: absent, if both may be absent.
+    /// A value that both have, if there is one: a number, if both have one, else absent.
     pub(crate) fn common(&self, other: &Values) -> Option<u64>
         ensures { result ≡ common self.now other.now }
     {
-        if self.absent && other.absent {
-            return None;
-        }
         common_number(self.ranges.as_slice(), other.ranges.as_slice())
     }
 

@@ -2,6 +2,6 @@ pub mod ServeLemmas
 pub mod ReportLemmas
 pub mod ServedLemmas
 pub mod StretchLemmas
-pub mod NextLemmas
+pub mod GuardLemmas
 pub mod AlikeLemmas
 pub mod KeepingLemmas

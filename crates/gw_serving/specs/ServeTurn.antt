@@ -1,5 +1,5 @@
 -- What comes of the parts of one turn. It only helps proofs.
-use Rattle.std.specs.Prelude.{◌≡◌, ℕ, ◌+◌, ◌^◌, ◌<◌, ◌≤◌, Bool, true, false, List, [], ◌∷◌, ◌++◌, map, Option, Some, None, Result, Ok, Err}
+use Rattle.std.specs.Prelude.{◌≡◌, ℕ, ◌+◌, ◌^◌, ◌<◌, ◌≤◌, Bool, true, false, List, [], ◌∷◌, ◌++◌, map, Option, Result, Ok, Err}
 use Rattle.std.specs.Option.{option_map}
 use Rattle.std.specs.Io.KnownBytes.{Appends}
 use Rattle.gw_audit.specs.declared.denial.Denial.{Denial}
@@ -11,8 +11,7 @@ use Rattle.gw_serving.specs.declared.serving.Served.{Served}
 use Rattle.gw_serving.specs.declared.serving.ServeFault.{ServeFault}
 use Rattle.gw_serving.specs.declared.serving.ServeFault.TheVariants.{Log, Memory, CountEnd}
 use Rattle.gw_core.specs.State.{State}
-use Rattle.gw_core.specs.declared.gateway.Taken.{Taken}
-use Rattle.gw_serving.specs.Stretch.{GoOn, IsFaulty, IsLoggedLast, IsTaken, IsWithheld, Moment, count_taken, wire_counts}
+use Rattle.gw_serving.specs.Stretch.{GoOn, IsFaulty, IsWithheld, Moment, wire_counts}
 use Rattle.gw_serving.specs.Tally.{tally_from}
 use Rattle.gw_serving.specs.declared.tally.Tally.{Tally}
 use Rattle.gw_serving.specs.Wire.{Call, Tells}
@@ -37,17 +36,6 @@ TurnEnd before s was after t is (Ok done) =
     (turn : Turn) × LeadTo before (turn ∷ []) after × (t ≡ count_turn s turn)
     × (is ≡ tally_from before.gateway was (turn_events turn))
 TurnEnd before s was after t is (Err fault) =
-    (event : Event) × EndsBy fault before event after × (t ≡ count_fault s fault) × (is ≡ was)
-
--- The first part of a turn: no event was taken; or one was, which was logged, and nothing of it was tried; or its event
--- ended in a fault.
-abbrev pub NextEnd : Scene → Served → Tally → Scene → Served → Tally → Result (Option Taken) ServeFault → Type 0
-NextEnd before s was after t is (Ok None) =
-    (turn : Turn) × (turn_events turn ≡ []) × LeadTo before (turn ∷ []) after × (t ≡ count_turn s turn) × (is ≡ was)
-NextEnd before s was after t is (Ok (Some taken)) =
-    (event : Event) × IsTaken before.gateway event after.gateway taken × IsLoggedLast before event after × (t ≡ count_taken s)
-    × (is ≡ tally_from before.gateway was (event ∷ []))
-NextEnd before s was after t is (Err fault) =
     (event : Event) × EndsBy fault before event after × (t ≡ count_fault s fault) × (is ≡ was)
 
 -- a turn with a guard: what was taken, if something was, was passed and tried; or it was withheld; or its event ended in a

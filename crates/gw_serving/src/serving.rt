@@ -1,20 +1,20 @@
 //! The gateway behind a wire: what comes is taken, what is denied is logged, and what is to go is
 //! sent.
 
-ghost use Rattle.std.specs.Prelude.{◌≡◌, ℕ, ◌+◌, ◌-◌, ◌<◌, ◌≤◌, ◌^◌, ◌∷◌, ◌++◌, [], length, IfOk, IfErr, IfSome, IsErrOf, OnOk};
+ghost use Rattle.std.specs.Prelude.{◌≡◌, ℕ, ◌+◌, ◌-◌, ◌<◌, ◌≤◌, ◌^◌, ◌∷◌, ◌++◌, [], length, IfOk, IfErr, IsErrOf, OnOk};
 ghost use Rattle.gw_serving.specs.Tally.{IsBelow, no_tally};
-ghost use Rattle.gw_serving.specs.ServeTurn.{AreTried, GuardedEnd, HasRoom, LogEnd, NextEnd, TurnEnd, event_answer};
+ghost use Rattle.gw_serving.specs.ServeTurn.{AreTried, GuardedEnd, HasRoom, LogEnd, TurnEnd, event_answer};
 ghost use Rattle.gw_serving.specs.Serve.{ServesAll, Stops, counts_of_answer, lines_of, scene, zero_counts};
 ghost use Rattle.gw_serving.specs.Served.{IsServing};
 ghost use Rattle.gw_serving.specs.Stretch.{CanCount, moment, wire_counts};
 ghost use Rattle.gw_serving.specs.Wire.{Tells, failures_of, receive_call};
 ghost use Rattle.gw_relay.specs.Sends.{sendings_of};
 
-use crate::guard::Guard;
+use crate::guard::{Guard, Unguarded};
 use crate::tally::Tally;
 use crate::wire::{Got, RECEIVE_ROOM, Wire, WireFault};
 use gw_audit::{Denials, line};
-use gw_core::{Gateway, StepFault, Taken, take_event};
+use gw_core::{Gateway, StepFault, take_event};
 use gw_relay::{Batch, Sends};
 use gw_script::{Event, OctetSink, write_whole};
 use std::alloc::{AllocError, Global};
@@ -163,18 +163,15 @@ impl ServeState {
         ensures sure_log { L.NeverFails log.old → ¬ (IsErrOf result ServeFault.Log) }
         ensures lasting_log { L.NeverFails log.old → L.NeverFails log.new }
     {
-        match self.take_next(alloc, gateway, wire, log) {
-            Ok(Some(taken)) => {
-                try_sends(wire, &taken.effects.sends, &mut self.served);
-                Ok(())
-            }
-            Ok(None) => Ok(()),
+        match self.take_guarded_turn(alloc, gateway, wire, log, &mut Unguarded) {
+            Ok(_) => Ok(()),
             Err(fault) => Err(fault),
         }
     }
 
-    /// One turn with a guard, which passes what was taken before it is sent. Says whether its datagrams
-    /// could go.
+    /// One turn with a guard, which passes what was taken and logged before it is sent. Says whether its
+    /// datagrams could go.
+    #[inline(always)]
     pub(crate) fn take_guarded_turn<W: Wire, L: OctetSink, G: Guard>(
         &mut self,
         alloc: Global,
@@ -203,72 +200,31 @@ impl ServeState {
         ensures sure_log { L.NeverFails log.old → ¬ (IsErrOf result ServeFault.Log) }
         ensures lasting_log { L.NeverFails log.old → L.NeverFails log.new }
     {
-        match self.take_next(alloc, gateway, wire, log) {
-            Ok(Some(taken)) => {
-                if !guard.pass(alloc, gateway, &taken) {
-                    return Ok(false);
-                }
-                try_sends(wire, &taken.effects.sends, &mut self.served);
-                Ok(true)
-            }
-            Ok(None) => Ok(true),
-            Err(fault) => Err(fault),
-        }
-    }
-
-    /// The first part of a turn: receives, has the gateway take what came and logs its denials. Gives what was
-    /// taken, if something was; nothing of it is sent yet.
-    #[inline(always)]
-    fn take_next<W: Wire, L: OctetSink>(
-        &mut self,
-        alloc: Global,
-        gateway: &mut Gateway,
-        wire: &mut W,
-        log: &mut L,
-    ) -> Result<Option<Taken>, ServeFault>
-        requires room { HasRoom self.old.served (W.failure_count wire.old) }
-        requires below { IsBelow self.old.served.taken self.old.tally }
-        ensures end { let before = scene gateway.old (L.held log.old) (W.calls wire.old) in
-            let after = scene gateway.new (L.held log.new) (W.calls wire.new) in
-            NextEnd before self.old.served self.old.tally after self.new.served self.new.tally result }
-        ensures turns { self.new.served.turns ≡ self.old.served.turns + 1 }
-        ensures each { let is = self.new.served in
-            is.taken + is.memory_drops + is.recv_failures ≤ is.turns }
-        ensures below { IsBelow self.new.served.taken self.new.tally }
-        ensures failures { let was = self.old.served in
-            let is = self.new.served in
-            W.failure_count wire.new + was.recv_failures
-            ≡ W.failure_count wire.old + is.recv_failures }
-        ensures sends { self.new.served.sends ≡ self.old.served.sends }
-        ensures send_failures { self.new.served.send_failures ≡ self.old.served.send_failures }
-        ensures few { self.new.served.recv_failures ≤ self.old.served.recv_failures + 1 }
-        ensures taken { IfOk result (λ next. IfSome next (λ taken.
-            self.new.served.recv_failures ≡ self.old.served.recv_failures)) }
-        ensures ports { W.port_count wire.new ≡ W.port_count wire.old }
-        ensures sure_log { L.NeverFails log.old → ¬ (IsErrOf result ServeFault.Log) }
-        ensures lasting_log { L.NeverFails log.old → L.NeverFails log.new }
-    {
         self.served.turns += 1;
         let event = match receive(wire, &mut self.datagram) {
             Ok(Some(event)) => event,
-            Ok(None) => return Ok(None),
+            Ok(None) => return Ok(true),
             Err(_) => {
                 self.served.recv_failures += 1;
-                return Ok(None);
+                return Ok(true);
             }
         };
         let taken = match take_event(alloc, gateway, &event) {
             Ok(taken) => taken,
             Err(StepFault::Memory) => {
                 self.served.memory_drops += 1;
-                return Ok(None);
+                return Ok(true);
             }
             Err(StepFault::CountEnd) => return Err(ServeFault::CountEnd),
         };
         self.served.taken += 1;
         log_denials(&mut self.lines, log, &taken.effects.denials)?;
         self.tally.count(taken.drop, &taken.effects.denials);
-        Ok(Some(taken))
+        if !guard.pass(alloc, gateway, &taken) {
+            return Ok(false);
+        }
+        try_sends(wire, &taken.effects.sends, &mut self.served);
+        Ok(true)
     }
 }
 

@@ -2,4 +2,4 @@ pub mod Covering
 pub mod Listing
 pub mod Lying
 pub mod Narrowing
-pub mod Parting
+pub mod RegionLaw

@@ -1,30 +1,30 @@
--- What a step of the search keeps of the asks that come to a rule.
-use Rattle.std.proofs.Common.{◌≡◌, inl, inr, ℕ, ◌-◌, ◌<◌, Bool, true, false, cond, ◌||◌, ◌==◌, List, [], ◌∷◌, ◌++◌, length, Option, Some, None, refl, sym, ap, subst, ◌∙◌, arith, find, slice_get, nat_le, Vec}
-use Rattle.std.specs.List.{Any, AllByRecursion, list_any}
+-- What a rule matches of a shape, and what a step of the search keeps of the asks that come to a rule.
+use Rattle.std.proofs.Common.{◌≡◌, ℕ, ◌+◌, ◌-◌, ◌<◌, Bool, true, false, ◌&&◌, ◌||◌, ◌==◌, List, [], ◌∷◌, ◌++◌, length, Option, Some, None, refl, sym, ap, subst, ◌∙◌, arith, slice_get, nat_le, map, Vec, add-one, get_or, take}
+use Rattle.std.specs.Prelude.{not, vec_items, vec_len}
+use Rattle.std.specs.List.{Any, list_any}
 use Rattle.std.specs.Option.{IsSomeAnd}
-use Rattle.std.proofs.lemmas.List.{nil_from_length}
-use Rattle.std.specs.Prelude.{vec_items, vec_len}
+use Rattle.std.specs.Prelude.{IfSome}
 use Rattle.std.specs.Global.{Global}
-use Rattle.std.proofs.lemmas.Bool.{and_from, eqb-true, and_parts, le-leb, leb-true, ne_eqb, or_left, or_right, both_ways}
-use Rattle.std.proofs.lemmas.List.Folds.{Any-from_list_any, list_any-from_Any}
+use Rattle.std.proofs.Math.Seq.{take-suc}
+use Rattle.std.proofs.lemmas.List.{nil_from_length}
+use Rattle.std.proofs.lemmas.Bool.{and_from, and_parts, both_ways, eqb-true, false_from_ne_true, le-leb, ne_eqb, or_left, or_right}
+use Rattle.std.proofs.lemmas.List.Folds.{list_any-append, list_any-from_Any}
+use Rattle.gw_regions.specs.Regions.{IsParted, Region, lies, lies_in_one}
 use Rattle.gw_rules.specs.Ask.{Ask}
 use Rattle.gw_rules.specs.Fields.{value_of}
-use Rattle.gw_rules.specs.Range.{holds}
-use Rattle.gw_rules.specs.Rule.{Matches, ranges_of}
+use Rattle.gw_rules.specs.Rule.{Matches, matches, ranges_of}
 use Rattle.gw_rules.specs.RuleList.{HasNumber, first}
-use Rattle.gw_rules.specs.declared.field.FieldName.TheVariants.{Operation, Port, SourceNetwork, SourceKey, DestinationNetwork, Service, ObjectType, Instance, Property, Priority, Sender, Station}
-use Rattle.gw_rules.specs.declared.field.TheConstants.FieldName.{ALL}
 use Rattle.gw_rules.specs.declared.range.Range.{Range}
 use Rattle.gw_rules.specs.declared.rule.Rule.{Rule}
 use Rattle.gw_rules.proofs.EachField.{each_field_from}
 use Rattle.gw_rules.proofs.First.{first_iff}
+use Rattle.gw_rules.proofs.Matching.{matches_iff}
 use Rattle.gw_shapes.specs.Meeting.{has_number, meets, meets_side, overlaps}
-use Rattle.gw_shapes.specs.Pieces.{held_shape, held_side, no_range, pieces, range_of}
-use Rattle.gw_shapes.specs.Search.{IsNeverFirst, Keeps}
-use Rattle.gw_shapes.specs.Shape.{IsIn, IsWithin, LiesIn, LiesInOne, Shape}
+use Rattle.gw_shapes.specs.Regions.{region_of}
+use Rattle.gw_shapes.specs.Search.{AreMatched, IsLeft, IsNeverFirst, IsPutBack, is_matched}
+use Rattle.gw_shapes.specs.Shape.{IsIn, IsWithin, LiesIn, Shape}
 use Rattle.gw_shapes.specs.declared.side.Side.{Side}
-use Rattle.gw_shapes.proofs.Lying.{in_either, in_front, in_rest, lies_by}
-use Rattle.gw_shapes.proofs.Parting.{pieced}
+use Rattle.gw_shapes.proofs.RegionLaw.{inner_one, is_inner, whole_one}
 
 -- the ranges admit the value, where there are some
 abbrev pub Admitted : List Range → Option ℕ → Type 0
@@ -32,69 +32,6 @@ Admitted ranges value = 0 < length ranges → IsSomeAnd value (λ number. Any (�
 
 pub not_empty : (range : Range) (ranges : List Range) → (length (range ∷ ranges) == 0) ≡ false
 not_empty range ranges = ne_eqb (length (range ∷ ranges)) 0 (λ e. omega arith)
-
--- ---- a side of which the ranges admit all
-
--- what holds of the range that is found holds of one of them
-found_any : (test other : Range → Bool) (ranges : List Range) (range : Range) → find test ranges ≡ Some range → other range ≡ true
-    → list_any other ranges ≡ true
-found_any test other [] range e t = absurd cc
-found_any test other (x ∷ xs) range e t = by (test x) refl e (λ later. found_any test other xs range later t)
-  where
-    by : (b : Bool) → test x ≡ b → cond b (Some x) (find test xs) ≡ Some range → (find test xs ≡ Some range → list_any other xs ≡ true)
-        → (other x || list_any other xs) ≡ true
-    by true is found later =
-        let same : x ≡ range = cc in
-        or_left (other x) (list_any other xs) (ap other same ∙ t)
-    by false is found later = or_right (other x) (list_any other xs) (later found)
-
-any_in : (number : ℕ) (ranges : List Range) → list_any (holds number) ranges ≡ true → Any (λ range. IsIn range number) ranges
-any_in number ranges t =
-    let found = Any-from_list_any (holds number) ranges t in
-    let parts = and_parts (nat_le found.1.low number) (nat_le number found.1.high) found.4 in
-    (found.0, found.1, found.2, found.3, (leb-true found.1.low number parts.0, leb-true number found.1.high parts.1))
-
-held_number : (ranges : List Range) (number : ℕ) (found : Option Range) (test : Range → Bool) → find test ranges ≡ found
-    → IsIn (range_of found) number → Any (λ range. IsIn range number) ranges
-held_number ranges number None test e is = absurd (omega (arith, is.0, is.1))
-held_number ranges number (Some range) test e is =
-    any_in number ranges (found_any test (holds number) ranges range e
-    (and_from (nat_le range.low number) (nat_le number range.high) (le-leb range.low number is.0) (le-leb number range.high is.1)))
-
-held : (ranges : List Range) (value other : Option ℕ) → IsWithin (held_side ranges value) other → Admitted ranges other
-held [] value other is named = absurd (omega arith)
-held (range ∷ ranges) value None is named = absurd (absent (rw (not_empty range ranges) at is))
-  where
-    absent : false ≡ true → ⊥
-    absent e = cc
-held (range ∷ ranges) None (Some number) is named =
-    let at : IsIn no_range number = rw (not_empty range ranges) at is in
-    absurd (omega (arith, at.0, at.1))
-held (range ∷ ranges) (Some value) (Some number) is named =
-    let all = range ∷ ranges in
-    let at : IsIn (range_of (find (holds value) all)) number = rw (not_empty range ranges) at is in
-    held_number all number (find (holds value) all) (holds value) refl at
-
--- a rule matches what lies in the shape that is held of it
-held_matches : (rule : Rule) (ask other : Ask) → LiesIn (held_shape rule ask) other → Matches rule other
-held_matches rule ask other lies field = elim field as (λ field. Admitted (ranges_of field rule) (value_of field other)) [
-  | Operation ↦ held rule.ranges.operation ask.operation other.operation (lies Operation)
-  | Port ↦ held rule.ranges.port ask.port other.port (lies Port)
-  | SourceNetwork ↦ held rule.ranges.source_network ask.source_network other.source_network (lies SourceNetwork)
-  | SourceKey ↦ held rule.ranges.source_key ask.source_key other.source_key (lies SourceKey)
-  | DestinationNetwork ↦ held rule.ranges.destination_network ask.destination_network other.destination_network (lies DestinationNetwork)
-  | Service ↦ held rule.ranges.service ask.service other.service (lies Service)
-  | ObjectType ↦ held rule.ranges.object_type ask.object_type other.object_type (lies ObjectType)
-  | Instance ↦ held rule.ranges.instance ask.instance other.instance (lies Instance)
-  | Property ↦ held rule.ranges.property ask.property other.property (lies Property)
-  | Priority ↦ held rule.ranges.priority ask.priority other.priority (lies Priority)
-  | Sender ↦ held rule.ranges.sender ask.sender other.sender (lies Sender)
-  | Station ↦ held rule.ranges.station ask.station other.station (lies Station)
-]
-
--- what is inside in each field lies in the shape
-each_inside : (cut : Shape) (ask : Ask) → AllByRecursion (λ field. IsWithin (value_of field cut) (value_of field ask)) ALL → LiesIn cut ask
-each_inside cut ask (a, (b, (c, (d, (e, (f, (g, (h, (i, (j, (k, (l, u)))))))))))) = lies_by cut ask a b c d e f g h i j k l
 
 -- ---- a shape that a rule matches something of
 
@@ -123,24 +60,7 @@ met shape rule ask lies matching =
     each_field_from (λ field. meets_side (value_of field shape) (ranges_of field rule))
     (λ field. met_side (value_of field shape) (ranges_of field rule) (value_of field ask) (lies field) (matching field))
 
--- ---- a step
-
--- a shape of a lower rule is taken out
-pub narrowed : (rules : List Rule) (number lower : ℕ) (rule : Rule) (shape : Shape) (ask : Ask) (left : List Shape) → lower < number
-    → HasNumber rules lower rule → Keeps rules number (left ++ shape ∷ []) (left ++ pieces ALL shape (held_shape rule ask))
-narrowed rules number lower rule shape ask left below there other is lies =
-    let cut = held_shape rule ask in
-    let deciding = (first_iff rules other number).0 is in
-    elim (in_either left (shape ∷ []) other lies) [
-      | inl front ↦ in_front left (pieces ALL shape cut) other front
-      | inr last ↦ elim last [
-        | inr none ↦ absurd none
-        | inl here ↦ elim (pieced ALL shape cut other here) [
-          | inl parts ↦ in_rest left (pieces ALL shape cut) other parts
-          | inr each ↦ absurd (deciding.least lower rule below there (held_matches rule ask other (each_inside cut other each)))
-        ]
-      ]
-    ]
+-- ---- the start of a search
 
 -- the rule that decides is the one of the number
 pub deciding_rule : (rules : List Rule) (number : ℕ) (rule : Rule) (ask : Ask) → slice_get rules (number - 1) ≡ Some rule → first rules ask ≡ Some number
@@ -151,28 +71,162 @@ deciding_rule rules number rule ask there is =
     let same : deciding.rule ≡ rule = cc in
     subst (λ (rule : Rule). Matches rule ask) same deciding.matching
 
--- a shape is left out of which the rule matches nothing
-pub left_out : (rules : List Rule) (number : ℕ) (rule : Rule) (shape : Shape) (left : List Shape) → slice_get rules (number - 1) ≡ Some rule
-    → meets shape rule ≡ false → Keeps rules number (left ++ shape ∷ []) left
-left_out rules number rule shape left there none other is lies =
-    elim (in_either left (shape ∷ []) other lies) [
-      | inl front ↦ front
-      | inr last ↦ elim last [
-        | inr none ↦ absurd none
-        | inl here ↦ absurd (both_ways (meets shape rule) none (met shape rule other here (deciding_rule rules number rule other there is)))
-      ]
-    ]
+-- a rule matches no ask of a shape that it doesn't meet
+pub unmet : (shape : Shape) (rule : Rule) (ask : Ask) → meets shape rule ≡ false → (lies (region_of shape) ask && matches rule ask) ≡ false
+unmet shape rule ask none =
+    false_from_ne_true (lies (region_of shape) ask && matches rule ask) (
+    λ t.
+    let parts = and_parts (lies (region_of shape) ask) (matches rule ask) t in
+    both_ways (meets shape rule) none (met shape rule ask (is_inner shape ask parts.0) ((matches_iff rule ask).0 parts.1))
+    )
+
+parted : (xs ys : List Region) (ask : Ask) → lies_in_one (xs ++ ys) ask ≡ (lies_in_one xs ask || lies_in_one ys ask)
+parted xs ys ask = list_any-append (λ region. lies region ask) xs ys
+
+plain : (b : Bool) → (b || false) ≡ b
+plain true = refl
+plain false = refl
+
+-- the regions are as they were
+pub none_pushed : (shape : Shape) (rule : Rule) (regions : List Region) → meets shape rule ≡ false → (ask : Ask)
+    → lies_in_one regions ask ≡ (lies_in_one regions ask || (lies (region_of shape) ask && matches rule ask))
+none_pushed shape rule regions none ask =
+    sym (plain (lies_in_one regions ask)) ∙ ap (λ b. lies_in_one regions ask || b) (sym (unmet shape rule ask none))
+
+-- there is one more
+pub one_pushed : (shape : Shape) (rule : Rule) (within : Region) (outer former latter : List Region) → IsParted rule (region_of shape) within outer
+    → latter ≡ former ++ within ∷ [] → (ask : Ask)
+    → lies_in_one latter ask ≡ (lies_in_one former ask || (lies (region_of shape) ask && matches rule ask))
+one_pushed shape rule within outer former latter is e ask =
+    ap (λ (rs : List Region). lies_in_one rs ask) e ∙ parted former (within ∷ []) ask
+    ∙ ap (λ b. lies_in_one former ask || b) (plain (lies within ask) ∙ is.inner ask)
+
+over : (a b m : Bool) → ((a && m) || (b && m)) ≡ ((a || b) && m)
+over true true true = refl
+over true true false = refl
+over true false true = refl
+over true false false = refl
+over false b m = refl
+
+-- the asks of one shape more that the rule matches
+pub matched_step : (done : List Shape) (shape : Shape) (rule : Rule) (former latter : List Region) → AreMatched done rule former
+    → ((ask : Ask) → lies_in_one latter ask ≡ (lies_in_one former ask || (lies (region_of shape) ask && matches rule ask)))
+    → AreMatched (done ++ shape ∷ []) rule latter
+matched_step done shape rule former latter is pushed ask =
+    pushed ask ∙ ap (λ b. b || (lies (region_of shape) ask && matches rule ask)) (is ask)
+    ∙ over (lies_in_one (map region_of done) ask) (lies (region_of shape) ask) (matches rule ask)
+    ∙ ap (λ b. b && matches rule ask) (sym (all_of done))
+  where
+    all_of : (done : List Shape) → lies_in_one (map region_of (done ++ shape ∷ [])) ask ≡ (lies_in_one (map region_of done) ask || lies (region_of shape) ask)
+    all_of [] = plain (lies (region_of shape) ask)
+    all_of (s ∷ done) =
+        ap (λ b. lies (region_of s) ask || b) (all_of done)
+        ∙ either (lies (region_of s) ask) (lies_in_one (map region_of done) ask) (lies (region_of shape) ask)
+      where
+        either : (a b c : Bool) → (a || (b || c)) ≡ ((a || b) || c)
+        either true b c = refl
+        either false b c = refl
+
+pub matched_next : (shapes : List Shape) (place : ℕ) (d : Shape) (rule : Rule) (former latter : List Region) → place < length shapes
+    → AreMatched (take place shapes) rule former
+    → ((ask : Ask) → lies_in_one latter ask ≡ (lies_in_one former ask || (lies (region_of (get_or shapes place d)) ask && matches rule ask)))
+    → AreMatched (take (place + 1) shapes) rule latter
+matched_next shapes place d rule former latter within is pushed =
+    let shape = get_or shapes place d in
+    let more : take (place + 1) shapes ≡ take place shapes ++ shape ∷ [] = ap (λ n. take n shapes) (add-one place) ∙ take-suc shapes place d within in
+    subst (λ (done : List Shape). AreMatched done rule latter) (sym more) (matched_step (take place shapes) shape rule former latter is pushed)
+
+-- so they are where a search starts
+pub started : (shapes : List Shape) (rules : List Rule) (number : ℕ) (rule : Rule) (regions : List Region) → slice_get rules (number - 1) ≡ Some rule
+    → AreMatched shapes rule regions → IsLeft shapes rules number regions
+started shapes rules number rule regions there are = record {
+  whole = λ ask is lies. are ask
+      ∙ and_from (lies_in_one (map region_of shapes) ask) (matches rule ask) (whole_one shapes ask lies)
+      ((matches_iff rule ask).1 (deciding_rule rules number rule ask there is));
+  inner = λ ask t. inner_one shapes ask (and_parts (lies_in_one (map region_of shapes) ask) (matches rule ask) (sym (are ask) ∙ t)).0;
+}
+
+-- ---- a step
+
+-- an ask that an earlier rule matches doesn't have the rule of the number as its first
+unmatched : (rules : List Rule) (number : ℕ) (rule : Option Rule) (ask : Ask)
+    → IfSome rule (λ r. (lower : ℕ) × (lower < number) × HasNumber rules lower r) → first rules ask ≡ Some number → is_matched rule ask ≡ false
+unmatched rules number None ask earlier is = refl
+unmatched rules number (Some r) ask earlier is =
+    let deciding = (first_iff rules ask number).0 is in
+    false_from_ne_true (matches r ask) (λ t. deciding.least earlier.0 r earlier.1 earlier.2 ((matches_iff r ask).0 t))
+
+-- what no earlier rule matches of the last region is put back
+pub narrowed : (shapes : List Shape) (rules : List Rule) (number : ℕ) (rule : Option Rule) (region : Region) (former latter : List Region)
+    → IfSome rule (λ r. (lower : ℕ) × (lower < number) × HasNumber rules lower r) → IsPutBack rule region former latter
+    → IsLeft shapes rules number (former ++ region ∷ []) → IsLeft shapes rules number latter
+narrowed shapes rules number rule region former latter earlier put was = record {
+  whole = λ ask is lies. put ask ∙ kept ask (unmatched rules number rule ask earlier is) (was.whole ask is lies);
+  inner = λ ask t. was.inner ask (parted former (region ∷ []) ask ∙ wider ask (sym (put ask) ∙ t));
+}
+  where
+    kept : (ask : Ask) → is_matched rule ask ≡ false → lies_in_one (former ++ region ∷ []) ask ≡ true
+        → (lies_in_one former ask || (lies region ask && not (is_matched rule ask))) ≡ true
+    kept ask none t =
+        ap (λ b. lies_in_one former ask || (lies region ask && not b)) none
+        ∙ by (lies_in_one former ask) (lies region ask) (sym (parted former (region ∷ []) ask) ∙ t)
+      where
+        by : (a b : Bool) → (a || (b || false)) ≡ true → (a || (b && true)) ≡ true
+        by true b e = refl
+        by false true e = refl
+        by false false e = e
+
+    wider : (ask : Ask) → (lies_in_one former ask || (lies region ask && not (is_matched rule ask))) ≡ true
+        → (lies_in_one former ask || (lies region ask || false)) ≡ true
+    wider ask t = by (lies_in_one former ask) (lies region ask) (is_matched rule ask) t
+      where
+        by : (a b m : Bool) → (a || (b && not m)) ≡ true → (a || (b || false)) ≡ true
+        by true b m e = refl
+        by false true m e = refl
+        by false false m e = e
+
+-- a region without an ask is left out
+pub left_out : (shapes : List Shape) (rules : List Rule) (number : ℕ) (region : Region) (former : List Region) → ((ask : Ask) → lies region ask ≡ false)
+    → IsLeft shapes rules number (former ++ region ∷ []) → IsLeft shapes rules number former
+left_out shapes rules number region former none was = record {
+  whole = λ ask is lies. sym (same ask) ∙ was.whole ask is lies;
+  inner = λ ask t. was.inner ask (same ask ∙ t);
+}
+  where
+    same : (ask : Ask) → lies_in_one (former ++ region ∷ []) ask ≡ lies_in_one former ask
+    same ask = parted former (region ∷ []) ask ∙ ap (λ b. lies_in_one former ask || (b || false)) (none ask) ∙ plain (lies_in_one former ask)
+
+-- a region that is parted
+pub put_parts : (rule : Rule) (region within : Region) (outer former latter : List Region) → IsParted rule region within outer
+    → latter ≡ former ++ outer → IsPutBack (Some rule) region former latter
+put_parts rule region within outer former latter is e ask =
+    ap (λ (rs : List Region). lies_in_one rs ask) e ∙ parted former outer ask ∙ ap (λ b. lies_in_one former ask || b) (is.outer ask)
+
+-- and one that is put back whole
+pub put_whole : (region : Region) (former latter : List Region) → latter ≡ former ++ region ∷ [] → IsPutBack None region former latter
+put_whole region former latter e ask =
+    ap (λ (rs : List Region). lies_in_one rs ask) e ∙ parted former (region ∷ []) ask ∙ ap (λ b. lies_in_one former ask || b) (by (lies region ask))
+  where
+    by : (b : Bool) → (b || false) ≡ (b && true)
+    by true = refl
+    by false = refl
+
+-- the ask that is taken of the last region lies in one
+pub in_last : (region : Region) (former all : List Region) (ask : Ask) → all ≡ former ++ region ∷ [] → lies region ask ≡ true → lies_in_one all ask ≡ true
+in_last region former all ask e t =
+    ap (λ (rs : List Region). lies_in_one rs ask) e ∙ parted former (region ∷ []) ask
+    ∙ or_right (lies_in_one former ask) (lies region ask || false) (or_left (lies region ask) false t)
 
 -- where there is no such rule, no ask comes to it
-pub no_rule : (rules : List Rule) (number : ℕ) (former latter : List Shape) → slice_get rules (number - 1) ≡ None → Keeps rules number former latter
-no_rule rules number former latter none other is lies =
-    let deciding = (first_iff rules other number).0 is in
+pub no_rule : (shapes : List Shape) (rules : List Rule) (number : ℕ) → slice_get rules (number - 1) ≡ None → IsNeverFirst shapes rules number
+no_rule shapes rules number none ask lies is =
+    let deciding = (first_iff rules ask number).0 is in
     let both : Some deciding.rule ≡ None = sym deciding.numbered.there ∙ none in
     absurd cc
 
--- where no shape is left, none of the asks had the rule as its first
-pub none_left : (rules : List Rule) (number : ℕ) (shapes : List Shape) (left : Vec Shape Global) → (vec_len left == 0) ≡ true
-    → Keeps rules number shapes (vec_items left) → IsNeverFirst shapes rules number
-none_left rules number shapes left none keeps ask lies is =
+-- where no region is left, none of the asks has the rule as its first
+pub none_left : (shapes : List Shape) (rules : List Rule) (number : ℕ) (left : Vec Region Global) → (vec_len left == 0) ≡ true
+    → IsLeft shapes rules number (vec_items left) → IsNeverFirst shapes rules number
+none_left shapes rules number left none is ask lies first =
     let empty : vec_items left ≡ [] = nil_from_length (vec_items left) (omega (arith, left.ok.0, eqb-true (vec_len left) 0 none)) in
-    subst (λ (shapes : List Shape). LiesInOne shapes ask) empty (keeps ask is lies)
+    both_ways false refl (sym (ap (λ (rs : List Region). lies_in_one rs ask) empty) ∙ is.whole ask first lies)

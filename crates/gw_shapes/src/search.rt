@@ -1,20 +1,24 @@
 //! Whether any ask of some shapes comes to a rule.
-ghost use Rattle.std.specs.Prelude.{◌≡◌, ◌-◌, ◌<◌, ◌++◌, [], ◌∷◌, ℕ, IfOk, IfSome, OnOk, Some, None, Ok, option_copied, slice_get};
-ghost use Rattle.gw_rules.specs.Ask.{Ask};
+ghost use Rattle.std.specs.Prelude.{◌≡◌, ◌-◌, ◌<◌, ◌&&◌, ◌||◌, ℕ, true, IfOk, IfSome, List, OnOk, Some, None, Ok, option_copied, slice_get};
+ghost use Rattle.gw_regions.specs.Regions.{lies, lies_in_one};
+ghost use Rattle.gw_rules.specs.Ask.{Ask as SpecAsk};
+ghost use Rattle.gw_rules.specs.Rule.{matches};
 ghost use Rattle.gw_rules.specs.RuleList.{HasNumber, first};
-ghost use Rattle.gw_shapes.specs.declared.search.Outcome.{Outcome};
-ghost use Rattle.gw_shapes.specs.Search.{IsNeverFirst, Keeps};
+ghost use Rattle.gw_shapes.specs.Regions.{region_of};
+ghost use Rattle.gw_shapes.specs.Search.{AreMatched, IsFirstFor, IsLeft, IsNeverFirst, IsPutBack};
+ghost use Rattle.gw_shapes.specs.Shape.{Shape as SpecShape};
 
 use crate::Shape;
-use crate::piece::{held_shape, push_pieces};
-use crate::side::{corner, meets};
+use crate::regions::region_of;
+use crate::side::meets;
+use gw_regions::{Region, ask_in, part};
 use gw_rules::{Ask, Rule, RuleList};
 use std::alloc::{AllocError, Global};
 
 /// What a search for an ask that a rule decides comes to.
 #[derive(Clone, Copy)]
 pub enum Outcome {
-    /// The rule is the first that matches this ask.
+    /// The rule is the first that matches this ask of the shapes.
     Decides(Ask),
     /// No ask of the shapes comes to the rule.
     Never,
@@ -29,46 +33,35 @@ pub fn rule_at(rules: &RuleList, number: u16) -> Option<&Rule>
     rules.rules().get(usize::from(number).saturating_sub(1))
 }
 
-/// Takes the last of the shapes that are left. Where the rule of this number is the first that
-/// matches an ask of it, that ask is told; else what no earlier rule is seen to match of the shape is
-/// put back, in pieces.
-fn narrow(rules: &RuleList, number: u16, left: &mut Vec<Shape>) -> Result<Option<Ask>, AllocError>
-    ensures found { IfOk result (λ found. IfSome found (λ ask. first rules.now ask ≡ Some number)) }
-    ensures keeps { result ≡ Ok None → Keeps rules.now number left.old.items left.new.items }
+/// Puts the asks of a shape that the rule matches after the regions, as one more.
+fn push_matched(
+    alloc: Global,
+    regions: &mut Vec<Region>,
+    rule: &Rule,
+    shape: &Shape,
+) -> Result<(), AllocError>
+    ensures { OnOk result ((ask : SpecAsk) → lies_in_one regions.new.items ask
+        ≡ (lies_in_one regions.old.items ask || (lies (region_of shape.now) ask && matches rule.now ask))) }
 {
-    let Some(shape) = left.pop() else {
-        return Ok(None);
-    };
-    let Some(rule) = rule_at(rules, number) else {
-        return Ok(None);
-    };
-    if !meets(&shape, rule) {
-        return Ok(None);
+    if !meets(shape, rule) {
+        return Ok(());
     }
-    narrow_to(rules, number, left, &shape, &corner(&shape, rule))
+    let mut region = region_of(alloc, shape)?;
+    let mut outer = Vec::new(alloc);
+    part(alloc, &mut outer, rule, &mut region)?;
+    regions.push(region)?;
+    Ok(())
 }
 
-/// The same of a shape with an ask in it.
-fn narrow_to(
-    rules: &RuleList,
-    number: u16,
-    left: &mut Vec<Shape>,
-    shape: &Shape,
-    ask: &Ask,
-) -> Result<Option<Ask>, AllocError>
-    ensures found { IfOk result (λ found. IfSome found (λ ask. first rules.now ask ≡ Some number)) }
-    ensures keeps { result ≡ Ok None →
-        Keeps rules.now number (left.old.items ++ shape.now ∷ []) left.new.items }
+/// The asks of the shapes that the rule matches.
+fn matched(alloc: Global, shapes: &[Shape], rule: &Rule) -> Result<Vec<Region>, AllocError>
+    ensures { IfOk result (λ regions. AreMatched shapes.now rule.now regions.items) }
 {
-    let by = rules.first(ask);
-    if by == Some(number) {
-        return Ok(Some(*ask));
+    let mut regions = Vec::new(alloc);
+    for shape in shapes {
+        push_matched(alloc, &mut regions, rule, shape)?;
     }
-    match earlier(rules, number, by) {
-        Some(rule) => push_pieces(left, shape, &held_shape(rule, ask))?,
-        None => left.push(*shape)?,
-    }
-    Ok(None)
+    Ok(regions)
 }
 
 /// The rule of a number that is lower than another one.
@@ -82,9 +75,52 @@ fn earlier(rules: &RuleList, number: u16, by: Option<u16>) -> Option<&Rule>
     }
 }
 
-/// Searches these shapes for an ask that the rule of this number, from 1, decides, in at most so
-/// many steps: `Never` where no ask of them has it as its first rule, `Decides` with one that has,
-/// `Unknown` out of steps. An `Err` only where a growth of memory was refused.
+/// Puts the asks of a region that the rule doesn't match after the regions, or all of them if there is no rule.
+fn put_back(
+    alloc: Global,
+    left: &mut Vec<Region>,
+    rule: Option<&Rule>,
+    mut region: Region,
+) -> Result<(), AllocError>
+    ensures { OnOk result (IsPutBack (option_copied rule.entry) region left.old.items left.new.items) }
+{
+    match rule {
+        Some(rule) => part(alloc, left, rule, &mut region)?,
+        None => left.push(region)?,
+    }
+    Ok(())
+}
+
+/// Takes the last of the regions that are left. If the rule of this number is the first that matches an ask of it,
+/// that ask is the answer; else what no earlier rule is seen to match of the region is put back, in pieces.
+fn narrow(
+    alloc: Global,
+    rules: &RuleList,
+    number: u16,
+    left: &mut Vec<Region>,
+) -> Result<Option<Ask>, AllocError>
+    ensures found { IfOk result (λ found. IfSome found (λ ask.
+        (lies_in_one left.old.items ask ≡ true) × (first rules.now ask ≡ Some number))) }
+    ensures left { result ≡ Ok None → (shapes : List SpecShape) →
+        IsLeft shapes rules.now number left.old.items → IsLeft shapes rules.now number left.new.items }
+{
+    let Some(region) = left.pop() else {
+        return Ok(None);
+    };
+    let Some(ask) = ask_in(&region) else {
+        return Ok(None);
+    };
+    let by = rules.first(&ask);
+    if by == Some(number) {
+        return Ok(Some(ask));
+    }
+    put_back(alloc, left, earlier(rules, number, by), region)?;
+    Ok(None)
+}
+
+/// Searches these shapes for an ask that the rule of this number, from 1, decides, in at most so many steps:
+/// `Never` if no ask of them has it as its first rule, `Decides` with one that has, `Unknown` out of steps. An
+/// `Err` if there is no memory.
 pub fn search_for(
     alloc: Global,
     rules: &RuleList,
@@ -93,15 +129,18 @@ pub fn search_for(
     steps: u32,
 ) -> Result<Outcome, AllocError>
     ensures never { result ≡ Ok Outcome.Never → IsNeverFirst shapes.now rules.now number }
-    ensures decides { (ask : Ask) → result ≡ Ok (Outcome.Decides ask) →
-        first rules.now ask ≡ Some number }
+    ensures decides { (ask : SpecAsk) → result ≡ Ok (Outcome.Decides ask) →
+        IsFirstFor shapes.now rules.now number ask }
 {
-    let mut left = Vec::from_slice(alloc, shapes)?;
+    let Some(rule) = rule_at(rules, number) else {
+        return Ok(Outcome::Never);
+    };
+    let mut left = matched(alloc, shapes, rule)?;
     for _ in 0..steps {
         if left.is_empty() {
             return Ok(Outcome::Never);
         }
-        if let Some(ask) = narrow(rules, number, &mut left)? {
+        if let Some(ask) = narrow(alloc, rules, number, &mut left)? {
             return Ok(Outcome::Decides(ask));
         }
     }

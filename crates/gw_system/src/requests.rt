@@ -4,12 +4,11 @@ ghost use Rattle.std.specs.Prelude.{◌≡◌, ◌∷◌, [], List, Option, None
 ghost use Rattle.gw_system.specs.Requests.{Exchange, GoesOn, answered, asked_by, told_by};
 
 use crate::reading::{ReadFailure, read_file};
-use crate::store::{name_with, replace_file, store_fault, write_new};
+use crate::store::{name_with, remove_if_there, replace_file, store_fault, write_new};
 use gw_serving::StoreFault;
 use mio::{Events, Poll};
 use std::alloc::{AllocError, Global};
 use std::io;
-use std::io::ErrorKind;
 use std::net::Net;
 use std::rt::Files;
 use std::time::Duration;
@@ -95,18 +94,19 @@ impl<R: Files> Requests for FileRequests<'_, R> {
 }
 
 /// Makes the file of a request, after the answer to an older one was taken away.
-pub(crate) fn make_request<R: Files>(rt: &R, alloc: Global, request: &str) -> Result<(), StoreFault> {
+pub(crate) fn make_request<R: Files>(
+    rt: &R,
+    alloc: Global,
+    request: &str,
+) -> Result<(), StoreFault> {
     let Ok(answer) = name_with(alloc, request, ".answer") else {
         return Err(StoreFault::Memory);
     };
-    match rt.remove_file(&answer) {
-        Ok(()) => {}
-        Err(error) => match error.kind() {
-            ErrorKind::NotFound => {}
-            _ => return Err(store_fault(&error)),
-        },
-    }
-    match write_new(rt, request, b"") {
+    let made = match remove_if_there(rt, &answer) {
+        Ok(()) => write_new(rt, request, b""),
+        Err(error) => Err(error),
+    };
+    match made {
         Ok(()) => Ok(()),
         Err(error) => Err(store_fault(&error)),
     }

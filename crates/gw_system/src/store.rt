@@ -49,16 +49,24 @@ pub(crate) fn name_with(alloc: Global, name: &str, ending: &str) -> Result<Strin
     Ok(longer)
 }
 
-/// Writes a text to a new file of this name that its owner alone may read, and waits until it is on the disk.
-/// A symbolic link isn't followed.
-pub(crate) fn write_new<R: Files>(rt: &R, name: &str, octets: &[u8]) -> io::Result<()> {
-    if is_link(rt, name) {
-        return Err(ErrorKind::PermissionDenied.into());
+/// Takes a file away, if there is one of this name.
+pub(crate) fn remove_if_there<R: Files>(rt: &R, name: &str) -> io::Result<()> {
+    match rt.remove_file(name) {
+        Ok(()) => Ok(()),
+        Err(error) => match error.kind() {
+            ErrorKind::NotFound => Ok(()),
+            _ => Err(error),
+        },
     }
+}
+
+/// Writes a text to a new file of this name that its owner alone may read, and waits until it is on the disk. What
+/// had the name is taken away first; a link that gets it then isn't followed.
+pub(crate) fn write_new<R: Files>(rt: &R, name: &str, octets: &[u8]) -> io::Result<()> {
+    remove_if_there(rt, name)?;
     let mut file = File::options()
         .write(true)
-        .create(true)
-        .truncate(true)
+        .create_new(true)
         .mode(MODE)
         .open(rt, name)?;
     file.write_all(octets)?;

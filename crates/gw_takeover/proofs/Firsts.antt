@@ -1,5 +1,5 @@
 -- The first of a list that passes a test.
-use Rattle.std.proofs.Common.{◌≡◌, ◌∙◌, refl, sym, ap, ap₂, Bool, true, false, not, ◌&&◌, ◌||◌, List, [], ◌∷◌, ◌++◌, Option, Some, None}
+use Rattle.std.proofs.Common.{◌≡◌, ◌∙◌, refl, ap, ap₂, Bool, true, false, not, ◌&&◌, ◌||◌, List, [], ◌∷◌, ◌++◌, Some}
 use Rattle.std.specs.Prelude.{find, is_some, if◌then◌else◌}
 use Rattle.std.specs.List.{list_any}
 use Rattle.std.proofs.lemmas.Bool.{and_parts, or_parts}
@@ -37,16 +37,14 @@ pub firsts : {A B : Type 0} (test : A → B → Bool) (alike : B → Bool) (befo
     → ((x : A) (y : B) → test x s ≡ true → test x y ≡ alike y) → (xs : List A)
     → list_any (λ x. is_first (test x) before s) xs ≡ (list_any (λ x. test x s) xs && not (list_any alike before))
 firsts test alike before s same [] = refl
-firsts test alike before s same (x ∷ xs) = by (test x s) refl
+firsts test alike before s same (x ∷ xs) =
+    by (test x s) (list_any (λ y. is_first (test y) before s) xs) (list_any (λ y. test y s) xs) refl (firsts test alike before s same xs)
   where
-    later = list_any (λ x. is_first (test x) before s) xs
-    rest = list_any (λ x. test x s) xs
-    by : (b : Bool) → test x s ≡ b
+    by : (b later rest : Bool) → test x s ≡ b → later ≡ (rest && not (list_any alike before))
         → ((b && not (list_any (test x) before)) || later) ≡ ((b || rest) && not (list_any alike before))
-    by true e =
-        ap₂ (λ (r l : Bool). not r || l) (any_same (test x) alike (λ y. same x y e) before) (firsts test alike before s same xs)
-        ∙ settled (list_any alike before) rest
-    by false e = firsts test alike before s same xs
+    by true later rest e ih =
+        ap₂ (λ (r l : Bool). not r || l) (any_same (test x) alike (λ y. same x y e) before) ih ∙ settled (list_any alike before) rest
+    by false later rest e ih = ih
 
 -- nothing is taken over exactly if it isn't configured or stands before
 pub absent : (configured repeated : Bool) → is_some (absence_of configured repeated) ≡ not (configured && not repeated)

@@ -1,3 +1,4 @@
+mod Appending
 mod Networks
 mod Firsts
 mod PortLaws

@@ -1,5 +1,6 @@
 -- What is said of objects is so.
-use Rattle.std.proofs.Common.{◌≡◌, ◌∙◌, refl, sym, ap, ap₂, ℕ, ◌+◌, Bool, true, false, not, ◌&&◌, nat_eq, List, [], ◌∷◌, ◌++◌, map, take, Option, Some, None, ⊥}
+use Rattle.std.proofs.Common.{◌≡◌, ◌∙◌, refl, sym, ap, ap₂, ℕ, ◌+◌, Bool, true, false, not, ◌&&◌, List, [], ◌∷◌, ◌++◌}
+use Rattle.std.proofs.Common.{map, take, Option, Some, None}
 use Rattle.std.specs.Prelude.{◌↔◌, ◌==◌, count_by, find, filter_map, is_some, if◌then◌else◌}
 use Rattle.std.specs.Option.{option_map_or}
 use Rattle.std.specs.List.{flat_map, list_any}
@@ -17,7 +18,7 @@ use Rattle.gw_objects.specs.Values.{fits, same_value}
 use Rattle.gw_routes.specs.Table.{Routed}
 use Rattle.gw_saved.specs.Carried.{default_from, is_object, is_port, slot_from, slots_from, states_carried}
 use Rattle.gw_saved.specs.declared.port.SavedPort.{SavedPort}
-use Rattle.gw_saved.specs.Saved.{Saved, SavedObject, id_of}
+use Rattle.gw_saved.specs.Saved.{SavedObject, id_of}
 use Rattle.gw_takeover.proofs.Firsts.{absent, firsts}
 use Rattle.gw_takeover.specs.declared.finding.Absence.{Absence}
 use Rattle.gw_takeover.specs.declared.finding.Finding.{Finding}
@@ -26,8 +27,12 @@ use Rattle.gw_takeover.specs.declared.finding.Held.TheVariants.{Default, Slot}
 use Rattle.gw_takeover.specs.declared.finding.ObjectName.{ObjectName}
 use Rattle.gw_takeover.specs.declared.finding.ValueFate.{ValueFate}
 use Rattle.gw_takeover.specs.declared.finding.ValueFate.TheVariants as values
-use Rattle.gw_takeover.specs.Findings.{default_fate, default_finding, finding_of_route, findings, is_same_object, is_written, lost_objects, lost_ports, object_absence, object_finding, object_findings, object_name, objects_found, port_absence, port_finding, port_findings, port_name, ports_found, routes_kept, sizes_of, slot_findings, value_finding}
-use Rattle.gw_takeover.specs.Laws.{DefaultsAreAsSaid, DroppedSlotsAreEmpty, LostObjectsAreLost, SlotValue, SlotsAreAsSaid, held_by, held_in, lost_in, name_of, said_dropped, said_kept}
+use Rattle.gw_takeover.specs.Findings.{default_fate, default_finding, finding_of_route, is_same_object, is_written}
+use Rattle.gw_takeover.specs.Findings.{lost_objects, lost_ports, object_absence, object_finding, object_findings}
+use Rattle.gw_takeover.specs.Findings.{object_name, objects_found, port_absence, port_finding, port_findings}
+use Rattle.gw_takeover.specs.Findings.{port_name, ports_found, routes_kept, sizes_of, slot_findings, value_finding}
+use Rattle.gw_takeover.specs.Laws.{DefaultsAreAsSaid, DroppedSlotsAreEmpty, LostObjectsAreLost, SlotValue}
+use Rattle.gw_takeover.specs.Laws.{SlotsAreAsSaid, held_by, held_in, lost_in, name_of, said_dropped, said_kept}
 
 -- ---- slots
 
@@ -35,27 +40,28 @@ kept_slots : (name : ObjectName) (d : Details) (priority : ℕ) (slots : List (O
     → filter_map said_kept (slot_findings name d priority slots) ≡ held_in name priority (map (slot_from d) slots)
 kept_slots name d priority [] = refl
 kept_slots name d priority (None ∷ slots) = kept_slots name d (priority + 1) slots
-kept_slots name d priority (Some value ∷ slots) = by (fits d value)
+kept_slots name d priority (Some value ∷ slots) =
+    by (fits d value) (slot_findings name d (priority + 1) slots) (kept_slots name d (priority + 1) slots)
   where
-    later = slot_findings name d (priority + 1) slots
-    by : (b : Bool)
+    by : (b : Bool) (later : List Finding) → filter_map said_kept later ≡ held_in name (priority + 1) (map (slot_from d) slots)
         → filter_map said_kept (value_finding name (Slot priority) value (if b then values.TakenOver else values.OutOfRange) ∷ later)
         ≡ held_in name priority ((if b then Some value else None) ∷ map (slot_from d) slots)
-    by true = ap (λ (vs : List SlotValue). (name, priority, value) ∷ vs) (kept_slots name d (priority + 1) slots)
-    by false = kept_slots name d (priority + 1) slots
+    by true later ih = ap (λ (vs : List SlotValue). (name, priority, value) ∷ vs) ih
+    by false later ih = ih
 
 dropped_slots : (name : ObjectName) (d : Details) (priority : ℕ) (slots : List (Option PropertyValue))
     → filter_map said_dropped (slot_findings name d priority slots) ≡ lost_in name priority slots (map (slot_from d) slots)
 dropped_slots name d priority [] = refl
 dropped_slots name d priority (None ∷ slots) = dropped_slots name d (priority + 1) slots
-dropped_slots name d priority (Some value ∷ slots) = by (fits d value)
+dropped_slots name d priority (Some value ∷ slots) =
+    by (fits d value) (slot_findings name d (priority + 1) slots) (dropped_slots name d (priority + 1) slots)
   where
-    later = slot_findings name d (priority + 1) slots
-    by : (b : Bool)
+    by : (b : Bool) (later : List Finding)
+        → filter_map said_dropped later ≡ lost_in name (priority + 1) slots (map (slot_from d) slots)
         → filter_map said_dropped (value_finding name (Slot priority) value (if b then values.TakenOver else values.OutOfRange) ∷ later)
         ≡ lost_in name priority (Some value ∷ slots) ((if b then Some value else None) ∷ map (slot_from d) slots)
-    by true = dropped_slots name d (priority + 1) slots
-    by false = ap (λ (vs : List SlotValue). (name, priority, value) ∷ vs) (dropped_slots name d (priority + 1) slots)
+    by true later ih = ih
+    by false later ih = ap (λ (vs : List SlotValue). (name, priority, value) ∷ vs) ih
 
 -- a default is in no slot
 no_slot_kept : (name : ObjectName) (value : PropertyValue) (fate : ValueFate)
@@ -114,36 +120,40 @@ objects_kept (object ∷ objects) saved =
 ports_none : (number : ℕ) (ports : List ConfiguredPort) (saved : List SavedPort)
     → filter_map said_kept (port_findings number ports saved) ≡ []
 ports_none number [] saved = refl
-ports_none number (p ∷ ports) saved = by (find (is_port p) saved)
+ports_none number (p ∷ ports) saved =
+    by (find (is_port p) saved) (port_findings (number + 1) ports saved) (ports_none (number + 1) ports saved)
   where
-    by : (s : Option SavedPort) → filter_map said_kept (port_finding number p s ∷ port_findings (number + 1) ports saved) ≡ []
-    by None = ports_none (number + 1) ports saved
-    by (Some s) = ports_none (number + 1) ports saved
+    by : (s : Option SavedPort) (later : List Finding) → filter_map said_kept later ≡ []
+        → filter_map said_kept (port_finding number p s ∷ later) ≡ []
+    by None later ih = ih
+    by (Some s) later ih = ih
 
 lost_ports_none : (ports : List ConfiguredPort) (all : List SavedPort) (place : ℕ) (saved : List SavedPort)
     → filter_map said_kept (lost_ports ports all place saved) ≡ []
 lost_ports_none ports all place [] = refl
-lost_ports_none ports all place (s ∷ saved) = by (port_absence ports (take place all) s)
+lost_ports_none ports all place (s ∷ saved) =
+    by (port_absence ports (take place all) s) (lost_ports ports all (place + 1) saved) (lost_ports_none ports all (place + 1) saved)
   where
-    later = lost_ports ports all (place + 1) saved
-    by : (a : Option Absence)
-        → filter_map said_kept (option_map_or (λ absence. found.LostPort (port_name s.network s.address) (sizes_of s) absence ∷ []) a [] ++ later) ≡ []
-    by None = lost_ports_none ports all (place + 1) saved
-    by (Some absence) = lost_ports_none ports all (place + 1) saved
+    by : (a : Option Absence) (later : List Finding) → filter_map said_kept later ≡ []
+        → filter_map said_kept
+        (option_map_or (λ absence. found.LostPort (port_name s.network s.address) (sizes_of s) absence ∷ []) a [] ++ later) ≡ []
+    by None later ih = ih
+    by (Some absence) later ih = ih
 
 lost_objects_none : (objects : List ConfiguredObject) (all : List SavedObject) (place : ℕ) (saved : List SavedObject)
     → filter_map said_kept (lost_objects objects all place saved) ≡ []
 lost_objects_none objects all place [] = refl
-lost_objects_none objects all place (s ∷ saved) = by (object_absence objects (take place all) s)
+lost_objects_none objects all place (s ∷ saved) =
+    by (object_absence objects (take place all) s) (lost_objects objects all (place + 1) saved)
+    (lost_objects_none objects all (place + 1) saved)
   where
-    later = lost_objects objects all (place + 1) saved
-    by : (a : Option Absence)
+    by : (a : Option Absence) (later : List Finding) → filter_map said_kept later ≡ []
         → filter_map said_kept
         (option_map_or
         (λ absence. found.LostObject (object_name s.object) (count_by is_some s.slots.slots) (is_written s) absence ∷ []) a [] ++ later)
         ≡ []
-    by None = lost_objects_none objects all (place + 1) saved
-    by (Some absence) = lost_objects_none objects all (place + 1) saved
+    by None later ih = ih
+    by (Some absence) later ih = ih
 
 routes_none : (c : Configuration) (ports : List SavedPort) (kept routes : Routed)
     → filter_map said_kept (map (finding_of_route c ports kept) routes) ≡ []
@@ -162,7 +172,8 @@ slots_are_as_said c s =
     let objects = flat_map (object_findings s.objects) c.objects in
     let lost = lost_objects c.objects s.objects 0 s.objects in
     skipped (ports_found c s) (routes ++ objects_found c s)
-    (both_none (port_findings 1 c.ports s.ports) (lost_ports c.ports s.ports 0 s.ports) (ports_none 1 c.ports s.ports) (lost_ports_none c.ports s.ports 0 s.ports))
+    (both_none (port_findings 1 c.ports s.ports) (lost_ports c.ports s.ports 0 s.ports) (ports_none 1 c.ports s.ports)
+    (lost_ports_none c.ports s.ports 0 s.ports))
     ∙ skipped routes (objects_found c s) (routes_none c s.ports (routes_kept c s) s.routes)
     ∙ filter_map-append said_kept objects lost
     ∙ ap₂ (λ (a b : List SlotValue). a ++ b) (objects_kept c.objects s.objects) (lost_objects_none c.objects s.objects 0 s.objects)
@@ -184,7 +195,8 @@ differ value configured e f =
 
 -- the default of an object: by whether it is the configured one, whether that is the one of then, and whether it fits
 said : (value configured : PropertyValue) (same unchanged inside : Bool) → same_value value configured ≡ same
-    → (if same then values.TakenOver else if unchanged then (if inside then values.TakenOver else values.OutOfRange) else values.OtherDefault)
+    → (if same then values.TakenOver
+    else if unchanged then (if inside then values.TakenOver else values.OutOfRange) else values.OtherDefault)
     ≡ values.TakenOver ↔ ((if unchanged && inside then value else configured) ≡ value)
 said value configured true true true e = (λ f. refl, λ f. refl)
 said value configured true true false e = (λ f. sym (equal value configured e), λ f. refl)
@@ -194,22 +206,22 @@ said value configured false true false e = (λ f. absurd cc, λ f. absurd (diffe
 said value configured false false inside e = (λ f. absurd cc, λ f. absurd (differ value configured e f))
 
 unwritten : (object : ConfiguredObject) (s : SavedObject) → is_written s ≡ false → default_from object s ≡ default_of object.value
-unwritten object s e = by (same_value s.configured configured) (fits (details_of object.value) s.slots.default) refl
+unwritten object s e = by (same_value s.configured (default_of object.value)) (fits (details_of object.value) s.slots.default) refl
   where
-    configured = default_of object.value
-    by : (same inside : Bool) → same_value s.configured configured ≡ same
-        → (if same && inside then s.slots.default else configured) ≡ configured
+    by : (same inside : Bool) → same_value s.configured (default_of object.value) ≡ same
+        → (if same && inside then s.slots.default else default_of object.value) ≡ default_of object.value
     by true true f =
-        equal s.slots.default s.configured (not_false (same_value s.slots.default s.configured) e) ∙ equal s.configured configured f
+        equal s.slots.default s.configured (not_false (same_value s.slots.default s.configured) e)
+        ∙ equal s.configured (default_of object.value) f
     by true false f = refl
     by false inside f = refl
 
 pub defaults_are_as_said : DefaultsAreAsSaid
 defaults_are_as_said object s = (
-      said s.slots.default (default_of object.value) (same_value s.slots.default (default_of object.value))
-          (same_value s.configured (default_of object.value)) (fits (details_of object.value) s.slots.default) refl,
-      unwritten object s,
-    )
+  said s.slots.default (default_of object.value) (same_value s.slots.default (default_of object.value))
+      (same_value s.configured (default_of object.value)) (fits (details_of object.value) s.slots.default) refl,
+  unwritten object s,
+)
 
 -- ---- which objects are lost
 

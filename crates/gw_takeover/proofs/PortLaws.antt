@@ -1,8 +1,8 @@
 -- What is said of ports is so.
-use Rattle.std.proofs.Common.{◌≡◌, ◌∙◌, refl, sym, ap, ap₂, ℕ, ◌+◌, Bool, true, false, not, ◌&&◌, nat_eq, List, [], ◌∷◌, length, map, Option, Some, None}
+use Rattle.std.proofs.Common.{◌≡◌, ◌∙◌, refl, sym, ap, ap₂, ℕ, ◌+◌, Bool, true, false, not, ◌&&◌, nat_eq, List, []}
+use Rattle.std.proofs.Common.{◌∷◌, length, Option, Some, None}
 use Rattle.std.specs.Prelude.{find, if◌then◌else◌}
-use Rattle.std.specs.Cmp.{nat_eq_equiv}
-use Rattle.std.specs.List.{list_any, sum_by}
+use Rattle.std.specs.List.{list_any}
 use Rattle.std.proofs.lemmas.Bool.{and_from, and_parts, eqb-true}
 use Rattle.std.proofs.lemmas.Cmp.{nat_list_eq_equiv}
 use Rattle.std.proofs.lemmas.List.{length-map}
@@ -18,7 +18,7 @@ use Rattle.gw_saved.specs.Carried.{entries_from, is_port, same_entry, tables_car
 use Rattle.gw_saved.specs.declared.port.SavedPort.{SavedPort}
 use Rattle.gw_takeover.proofs.Firsts.{absent, firsts}
 use Rattle.gw_takeover.specs.declared.finding.TableFate.TheVariants as tables
-use Rattle.gw_takeover.specs.Findings.{are_same, device_count, devices_kept, is_same_port, table_fate}
+use Rattle.gw_takeover.specs.Findings.{are_same, device_count, is_same_port, table_fate}
 use Rattle.gw_takeover.specs.Laws.{DevicesAreCounted, IsTableAsSaid, LostPortsAreLost, PortsAreAsSaid}
 
 same_entries : (entries : List BdtEntry) → are_same entries entries ≡ true

@@ -38,7 +38,6 @@ use Rattle.gw_takeover.specs.declared.finding.TableFate.{TableFate}
 use Rattle.gw_takeover.specs.declared.finding.TableFate.TheVariants as tables
 use Rattle.gw_takeover.specs.declared.finding.ValueFate.{ValueFate}
 use Rattle.gw_takeover.specs.declared.finding.ValueFate.TheVariants as values
-use Rattle.gw_takeover.specs.declared.finding.ValueFinding.{ValueFinding}
 
 -- nothing is taken over of what isn't configured, nor of what stands in the state for the second time
 abbrev pub absence_of : Bool → Bool → Option Absence

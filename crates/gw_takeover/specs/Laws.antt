@@ -1,6 +1,6 @@
 -- What the lines say is what a gateway takes over.
 use Rattle.std.specs.Prelude.{◌≡◌, ◌↔◌, ℕ, ◌+◌, ◌<◌, ◌≤◌, Bool, true, false, not, nat_eq, nat_le, ◌&&◌, List, [], ◌∷◌, ◌++◌, length}
-use Rattle.std.specs.Prelude.{map, find, filter_map, is_some, ⊥, Option, Some, None}
+use Rattle.std.specs.Prelude.{map, find, filter_map, is_some, Option, Some, None}
 use Rattle.std.specs.List.{AllByRecursion, list_all, list_any, sum_by}
 use Rattle.gw_addr.specs.declared.entry.BdtEntry.{BdtEntry}
 use Rattle.gw_bdt_fdt.specs.Kept.{row_of}
@@ -12,7 +12,8 @@ use Rattle.gw_objects.specs.declared.value.PropertyValue.{PropertyValue}
 use Rattle.gw_objects.specs.Objects.{Slots, default_of}
 use Rattle.gw_routes.specs.declared.route.Route.{Route}
 use Rattle.gw_routes.specs.Table.{learned_by, routes_held}
-use Rattle.gw_saved.specs.Carried.{default_from, is_object, is_port, routes_carried, slots_from, states_carried, tables_carried, tables_from}
+use Rattle.gw_saved.specs.Carried.{default_from, is_object, is_port, routes_carried, slots_from, states_carried}
+use Rattle.gw_saved.specs.Carried.{tables_carried, tables_from}
 use Rattle.gw_saved.specs.declared.port.SavedPort.{SavedPort}
 use Rattle.gw_saved.specs.Saved.{Saved, SavedObject, id_of}
 use Rattle.gw_takeover.specs.declared.finding.Finding.{Finding}
@@ -25,7 +26,9 @@ use Rattle.gw_takeover.specs.declared.finding.TableFate.{TableFate}
 use Rattle.gw_takeover.specs.declared.finding.TableFate.TheVariants as tables
 use Rattle.gw_takeover.specs.declared.finding.ValueFate.{ValueFate}
 use Rattle.gw_takeover.specs.declared.finding.ValueFate.TheVariants as values
-use Rattle.gw_takeover.specs.Findings.{are_same, default_fate, devices_kept, findings, first_table, is_written, object_absence, object_finding, object_name, port_absence, port_finding, route_fate, routes_kept, sizes_of}
+use Rattle.gw_takeover.specs.Findings.{are_same, default_fate, devices_kept, findings, first_table, is_written}
+use Rattle.gw_takeover.specs.Findings.{object_absence, object_finding, object_name, port_absence, port_finding}
+use Rattle.gw_takeover.specs.Findings.{route_fate, routes_kept, sizes_of}
 use Rattle.gw_takeover.specs.Words.{quoted}
 
 -- ---- ports

@@ -1,8 +1,8 @@
 -- What a gateway of a configuration takes over of a saved state, in words.
-use Rattle.std.specs.Prelude.{ℕ, ◌/◌, ◌%◌, ◌==◌, Bool, true, false, not, nat_le, ◌&&◌, if◌then◌else◌, List, [], ◌∷◌, ◌++◌}
+use Rattle.std.specs.Prelude.{ℕ, ◌==◌, Bool, true, false, not, nat_le, ◌&&◌, if◌then◌else◌, List, [], ◌∷◌, ◌++◌}
 use Rattle.std.specs.Prelude.{codes, find, count_by, is_some, Option, Some, None}
 use Rattle.std.specs.Fmt.{decimal, signed_decimal}
-use Rattle.std.specs.List.{flat_map, list_any}
+use Rattle.std.specs.List.{flat_map}
 use Rattle.std.specs.Option.{option_map_or}
 use Rattle.gw_addr.specs.Address.{text_of}
 use Rattle.gw_addr.specs.Station.{two_digits}
@@ -111,7 +111,7 @@ abbrev pub refusal_words : RouteFate → List ℕ
 refusal_words routes.TakenOver = []
 refusal_words routes.NoPort = codes "its port is not configured"
 refusal_words routes.Own = codes "the network is one of the gateway's own"
-refusal_words routes.Configured = codes "another route is configured"
+refusal_words routes.Configured = codes "a route to it is configured"
 refusal_words routes.Replaced = codes "a later route of the state is taken over"
 refusal_words routes.Full = codes "512 other networks have a route"
 

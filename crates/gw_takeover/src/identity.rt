@@ -93,7 +93,10 @@ pub(crate) fn port_absence(
 ) -> Option<Absence>
     ensures { result ≡ port_absence ports.now before.now saved.now }
 {
-    absence_of(is_port_configured(ports, saved), is_port_repeated(before, saved))
+    absence_of(
+        is_port_configured(ports, saved),
+        is_port_repeated(before, saved),
+    )
 }
 
 // ---- objects
@@ -128,10 +131,7 @@ fn is_object(object: &Object, saved: &SavedObject) -> bool
 }
 
 /// The object as it was saved.
-pub(crate) fn object_saved<'a>(
-    saved: &'a [SavedObject],
-    object: &Object,
-) -> Option<&'a SavedObject>
+pub(crate) fn object_saved<'a>(saved: &'a [SavedObject], object: &Object) -> Option<&'a SavedObject>
     ensures { option_copied result ≡ find (is_object object.now) saved.now }
 {
     saved.iter().find(|saved| is_object(object, saved))
@@ -163,5 +163,8 @@ pub(crate) fn object_absence(
 ) -> Option<Absence>
     ensures { result ≡ object_absence objects.now before.now saved.now }
 {
-    absence_of(is_object_configured(objects, saved), is_object_repeated(before, saved))
+    absence_of(
+        is_object_configured(objects, saved),
+        is_object_repeated(before, saved),
+    )
 }

@@ -1,5 +1,5 @@
 //! The line of what is found of a part.
-ghost use Rattle.std.specs.Prelude.{◌≡◌, ◌++◌, OnOk};
+ghost use Rattle.std.specs.Prelude.{◌≡◌, ◌++◌, codes, OnOk};
 ghost use Rattle.gw_takeover.specs.Words.{beside_words, by_words, default_words, ending_words, finding_words, held_words, line, lost_object_words, lost_port_words, new_words, other_words, port_line_words, reason_words, refusal_words, route_words, slots_words, table_line_words, table_words, verdict_words, way_words, written_words};
 
 use crate::words::{
@@ -103,8 +103,14 @@ fn put_table(out: &mut Vec<u8>, table: TableFate, sizes: Sizes) -> Result<(), Al
 fn put_other(out: &mut Vec<u8>, sizes: Sizes) -> Result<(), AllocError>
     ensures { OnOk result (out.new.items ≡ out.old.items ++ other_words sizes) }
 {
-    out.extend_from_slice(b"other peers are configured: ")?;
+    put_reason_of_table(out)?;
     put_peers(out, sizes)
+}
+
+fn put_reason_of_table(out: &mut Vec<u8>) -> Result<(), AllocError>
+    ensures { OnOk result (out.new.items ≡ out.old.items ++ codes "other peers are configured: ") }
+{
+    out.extend_from_slice(b"other peers are configured: ")
 }
 
 fn put_beside(out: &mut Vec<u8>, devices: usize) -> Result<(), AllocError>
@@ -181,7 +187,7 @@ pub(crate) fn put_refusal(out: &mut Vec<u8>, fate: RouteFate) -> Result<(), Allo
         RouteFate::TakenOver => Ok(()),
         RouteFate::NoPort => out.extend_from_slice(b"its port is not configured"),
         RouteFate::Own => out.extend_from_slice(b"the network is one of the gateway's own"),
-        RouteFate::Configured => out.extend_from_slice(b"another route is configured"),
+        RouteFate::Configured => out.extend_from_slice(b"a route to it is configured"),
         RouteFate::Replaced => {
             out.extend_from_slice(b"a later route of the state is taken over")
         }

@@ -134,7 +134,13 @@ fn add_default(
     }
     let configured = PropertyValue::default_of(*found.allocator(), &object.value)?;
     let fate = default_fate(&configured, &object.value, saved);
-    add_value(found, name_of(object), Held::Default, saved.slots().default(), fate)
+    add_value(
+        found,
+        name_of(object),
+        Held::Default,
+        saved.slots().default(),
+        fate,
+    )
 }
 
 /// Whether the default of an object is taken over, or why not, if this is configured now.

@@ -8,8 +8,7 @@ ghost use Rattle.gw_takeover.specs.Findings.{fate_beside, finding_of_route, firs
 use crate::identity::is_port;
 use crate::{Finding, RouteFate, RouteFinding};
 use gw_addr::NetNum;
-use gw_configuration::{Config, Port};
-use gw_configuration::Route as ConfiguredRoute;
+use gw_configuration::{Config, Port, Route as ConfiguredRoute};
 use gw_routes::{Route, Routes};
 use gw_saved::{Saved, SavedPort};
 use std::alloc::{AllocError, Global};

@@ -21,7 +21,7 @@ use std::alloc::{AllocError, Global};
 /// port 3, network 4, 192.168.4.1:47808: not in the state: begins anew
 /// port of network 2, 192.168.2.1:47808: not configured: table of 3 peers and 2 foreign devices dropped
 /// route to 400 by port 2, next router 192.168.3.21:47808: taken over
-/// route to 500 by port 1, next router 192.168.1.9:47808: another route is configured: dropped
+/// route to 500 by port 1, next router 192.168.1.9:47808: a route to it is configured: dropped
 /// object 19,1 multi-state-value, priority 8: 3: taken over
 /// object 19,1 multi-state-value, priority 9: 5 is out of range: dropped
 /// object 19,1 multi-state-value, default: 2: another default is configured: dropped
@@ -33,11 +33,7 @@ use std::alloc::{AllocError, Global};
 /// A slot that is empty and a default that wasn't written have no line. In a text each octet but those of
 /// printable ASCII, and each quote and backslash, is `\x` and its two hexadecimal digits. An `Err` only if a
 /// growth of memory was refused: the buffer then holds what it held.
-pub fn put_state_words(
-    config: &Config,
-    saved: &Saved,
-    out: &mut Vec<u8>,
-) -> Result<(), AllocError>
+pub fn put_state_words(config: &Config, saved: &Saved, out: &mut Vec<u8>) -> Result<(), AllocError>
     ensures ok { OnOk result (out.new.items ≡ out.old.items ++ state_words config.now saved.now) }
     ensures err { OnErr result (out.new.items ≡ out.old.items) }
 {

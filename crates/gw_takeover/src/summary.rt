@@ -74,7 +74,12 @@ fn put_loss(out: &mut Vec<u8>, findings: &[Finding], loss: Loss) -> Result<(), A
         return Ok(());
     };
     out.extend_from_slice(b"; ")?;
-    put_counted(out, count_of(findings, loss) as u64, one_word(loss), many_word(loss))?;
+    put_counted(
+        out,
+        count_of(findings, loss) as u64,
+        one_word(loss),
+        many_word(loss),
+    )?;
     out.extend_from_slice(b" dropped: ")?;
     put_short(out, first)
 }
@@ -146,7 +151,9 @@ fn put_short(out: &mut Vec<u8>, finding: &Finding) -> Result<(), AllocError>
         Finding::Route(route) => put_short_route(out, *route),
         Finding::Value(value) => put_short_value(out, value),
         Finding::LostObject {
-            object, absence, ..
+            object,
+            absence,
+            ..
         } => {
             put_identifier(out, *object)?;
             out.extend_from_slice(b": ")?;

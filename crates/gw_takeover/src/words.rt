@@ -72,7 +72,11 @@ fn digit_of(number: u8) -> u8
     requires { number < 16 }
     ensures { result ≡ digit_of number }
 {
-    if number < 10 { 48 + number } else { 55 + number }
+    if number < 10 {
+        48 + number
+    } else {
+        55 + number
+    }
 }
 
 /// Appends a value.

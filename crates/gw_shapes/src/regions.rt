@@ -1,0 +1,65 @@
+//! The regions of shapes.
+ghost use Rattle.std.specs.Prelude.{◌≡◌, IfOk};
+ghost use Rattle.gw_shapes.specs.Regions.{IsRegionOf, region_of, values_of};
+
+use crate::side::has_number;
+use crate::{Shape, Side};
+use gw_addr::Sequence;
+use gw_regions::{Region, Values};
+use gw_rules::Fields;
+use std::alloc::{AllocError, Global};
+
+/// The values of a side.
+fn values_of(alloc: Global, side: &Side) -> Result<Values, AllocError>
+    ensures { IfOk result (λ values. values ≡ values_of side.now) }
+{
+    let mut ranges = Sequence::new(alloc);
+    if has_number(side) {
+        ranges.push(side.range)?;
+    }
+    Ok(Values {
+        absent: side.absent,
+        ranges,
+    })
+}
+
+/// The region of a shape: an ask lies in it exactly if it lies in the shape. An `Err` if there is no memory.
+#[tactic(auto, using(crate::proofs::RegionLaw::is_region_of))]
+pub fn region_of(alloc: Global, shape: &Shape) -> Result<Region, AllocError>
+    ensures region { IfOk result (λ region. region ≡ region_of shape.now) }
+    ensures asks { IfOk result (λ region. IsRegionOf shape.now region) }
+{
+    let region = region_by_field(alloc, shape)?;
+    Ok(region)
+}
+
+fn region_by_field(alloc: Global, shape: &Shape) -> Result<Region, AllocError>
+    ensures { IfOk result (λ region. region ≡ region_of shape.now) }
+{
+    let operation = values_of(alloc, &shape.operation)?;
+    let port = values_of(alloc, &shape.port)?;
+    let source_network = values_of(alloc, &shape.source_network)?;
+    let source_key = values_of(alloc, &shape.source_key)?;
+    let destination_network = values_of(alloc, &shape.destination_network)?;
+    let service = values_of(alloc, &shape.service)?;
+    let object_type = values_of(alloc, &shape.object_type)?;
+    let instance = values_of(alloc, &shape.instance)?;
+    let property = values_of(alloc, &shape.property)?;
+    let priority = values_of(alloc, &shape.priority)?;
+    let sender = values_of(alloc, &shape.sender)?;
+    let station = values_of(alloc, &shape.station)?;
+    Ok(Fields {
+        operation,
+        port,
+        source_network,
+        source_key,
+        destination_network,
+        service,
+        object_type,
+        instance,
+        property,
+        priority,
+        sender,
+        station,
+    })
+}
