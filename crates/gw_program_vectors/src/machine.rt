@@ -10,7 +10,8 @@ use crate::words::{call, put, status_text};
 use gw_addr::BipAddr;
 use gw_cases::{MemReader, MemWriter, number_behind};
 use gw_configuration::Port;
-use gw_serving::{Got, RECEIVE_ROOM, Wire, WireFault};
+use gw_serving::{Got, RECEIVE_ROOM, Store, StoreFault, Wire, WireFault};
+use gw_system::{ReadFailure, Requests};
 use gw_shell::{
     ConfigFiles, FailedStep, Fault, Host, LogFailure, Reason, SocketFailure, Step, run,
 };
@@ -109,6 +110,41 @@ impl Wire for MemSockets {
     }
 }
 
+/// A store that keeps nothing, or fails.
+#[derive(Drop)]
+pub struct MemStore {
+    fault: Option<StoreFault>,
+}
+
+impl Store for MemStore {
+    ghost held = { λ _. None };
+
+    ghost NeverFails = { λ _. ⊥ };
+
+    fn replace(&mut self, _octets: &[u8]) -> Result<(), StoreFault> {
+        match self.fault {
+            None => Ok(()),
+            Some(fault) => Err(fault),
+        }
+    }
+}
+
+/// Requests in memory: one at the first look, for this text.
+#[derive(Drop)]
+pub struct MemRequests {
+    text: Option<Result<Vec<u8>, ReadFailure>>,
+}
+
+impl Requests for MemRequests {
+    ghost told = { λ _. None };
+
+    fn take(&mut self, _alloc: Global, _most: usize) -> Option<Result<Vec<u8>, ReadFailure>> {
+        self.text.take()
+    }
+
+    fn answer(&mut self, _text: &[u8]) {}
+}
+
 /// The wire and the log that a machine closed.
 type Closed = (MemSockets, Option<MemWriter>);
 
@@ -121,6 +157,9 @@ struct MemHost {
     is_cut: bool,
     failing: Option<usize>,
     routes: bool,
+    state: Option<Vec<u8>>,
+    unkept: Option<StoreFault>,
+    reload: Option<Vec<u8>>,
     closed: Option<Closed>,
 }
 
@@ -128,6 +167,18 @@ impl Host for MemHost {
     type Log = MemWriter;
 
     type Sockets = MemSockets;
+
+    type StateStore = MemStore;
+
+    type Reloads = MemRequests;
+
+    ghost FileReads = { λ _ _ _. ⊤ };
+
+    ghost LastLines = { λ _ _ _. ⊤ };
+
+    ghost StoreOpens = { λ _ _ _. ⊤ };
+
+    ghost ReloadsOpen = { λ _ _ _ _. ⊤ };
 
     ghost LogOpens = { λ _ _ _. ⊤ };
 
@@ -174,6 +225,59 @@ impl Host for MemHost {
         }
     }
 
+    fn read_file(
+        &self,
+        alloc: Global,
+        name: &str,
+        _most: usize,
+    ) -> Result<Option<Vec<u8>>, ReadFailure> {
+        if name == UNREADABLE {
+            return Err(ReadFailure::Unreadable);
+        }
+        match &self.state {
+            Some(state) => Ok(Some(Vec::from_slice(alloc, state)?)),
+            None => Ok(None),
+        }
+    }
+
+    fn last_line(&self, _alloc: Global, _name: &str) -> Result<Option<Vec<u8>>, ReadFailure> {
+        Ok(None)
+    }
+
+    fn open_store(&self, _alloc: Global, _name: &str) -> Result<MemStore, StoreFault> {
+        Ok(MemStore { fault: self.unkept })
+    }
+
+    fn open_reloads(
+        &self,
+        alloc: Global,
+        _request: &str,
+        _config: &str,
+    ) -> Result<MemRequests, AllocError> {
+        match &self.reload {
+            Some(text) if text.is_empty() => Ok(MemRequests {
+                text: Some(Err(ReadFailure::Unreadable)),
+            }),
+            Some(text) => Ok(MemRequests {
+                text: Some(Ok(Vec::from_slice(alloc, text)?)),
+            }),
+            None => Ok(MemRequests { text: None }),
+        }
+    }
+
+    fn request_reload(&self, _alloc: Global, _request: &str) -> Result<(), StoreFault> {
+        Err(StoreFault::System)
+    }
+
+    fn await_answer(
+        &self,
+        _alloc: Global,
+        _request: &str,
+        _seconds: u8,
+    ) -> Result<Option<Vec<u8>>, ReadFailure> {
+        Ok(None)
+    }
+
     fn close(&mut self, sockets: MemSockets, log: Option<MemWriter>)
         ensures { self.new.closed ≡ Some (sockets, log) }
     {
@@ -207,6 +311,26 @@ fn words_of(
     Ok(Ok(call(alloc, line)?))
 }
 
+/// A text, if there is one.
+fn text_if(alloc: Global, is_there: bool, text: &str) -> Result<Option<Vec<u8>>, AllocError> {
+    if is_there {
+        Ok(Some(Vec::from_slice(alloc, text.as_bytes())?))
+    } else {
+        Ok(None)
+    }
+}
+
+/// The text that a section's request has: that of the configuration, one that is none, or nothing if it can't be read.
+fn reload_of(alloc: Global, lines: &str, config: &str) -> Result<Option<Vec<u8>>, AllocError> {
+    if has_line(lines, "reload same") {
+        return text_if(alloc, true, config);
+    }
+    if has_line(lines, "reload faulty") {
+        return text_if(alloc, true, "x");
+    }
+    text_if(alloc, has_line(lines, "reload unreadable"), "")
+}
+
 /// The output of a section, which has room for so many octets behind its buffer.
 fn output_of(alloc: Global, lines: &str, room: usize) -> Result<BufWriter<MemWriter>, AllocError> {
     let narrow = MemWriter::with_room(alloc, room, !has_line(lines, "flushes fail"))?;
@@ -228,6 +352,9 @@ fn run_with(alloc: Global, config: &str, section: &str, room: usize) -> Result<L
         is_cut: has_line(lines, "cut log"),
         failing: number_behind(lines, '\n', "failing port "),
         routes: has_line(lines, "routes ip"),
+        state: text_if(alloc, has_line(lines, "state cut"), "bacgw state 1\n")?,
+        unkept: if has_line(lines, "store full") { Some(StoreFault::NoSpace) } else { None },
+        reload: reload_of(alloc, lines, config)?,
         closed: None,
     };
     let fails = has_line(lines, "input fails");

@@ -1,13 +1,27 @@
 -- Links one after the other, and what they told.
-use Rattle.std.proofs.Common.{◌≡◌, ◌∙◌, ℕ, ◌+◌, ◌<◌, ◌≤◌, List, [], ◌∷◌, ◌++◌, Option, Some, None, refl, sym, ap, subst, append_assoc, length, arith, absurd, rules}
+use Rattle.std.proofs.Common.{◌≡◌, ◌∙◌, ℕ, ◌+◌, ◌<◌, ◌≤◌, List, [], ◌∷◌, ◌++◌, Option, Some, None, refl, sym, ap, subst, append_assoc, length, arith, rules}
 use Rattle.std.specs.Io.KnownBytes.{Appends}
-use Rattle.std.proofs.lemmas.List.{flat_map_more}
-use Rattle.gw_core.specs.History.{state_from}
+use Rattle.std.proofs.lemmas.List.{append-nil, flat_map_more, length-append}
+use Rattle.std.specs.Prelude.{Result, Ok, Err, Bool}
+use Rattle.gw_configuration.specs.Configuration.{Configuration}
+use Rattle.gw_core.specs.Resumed.{carried, saved, saved_of}
+use Rattle.gw_saved.specs.Saved.{Origin, origin_of}
+use Rattle.gw_script.specs.Event.{Event}
+use Rattle.gw_script.specs.Event as event
+use Rattle.gw_serving.specs.Stretch.{EndsAtTick, EndsAtTurns, EndsStretch, EndsWithheld, GoOn, Moment}
+use Rattle.gw_serving.specs.declared.stretch.Pause.{Pause}
+use Rattle.gw_serving.specs.declared.serving.ServeFault.{ServeFault}
 use Rattle.gw_core.specs.State.{State}
 use Rattle.gw_serving.specs.Serve.{Turn, count_turn, counts_after, empty_turn, failed_turn, lost_event, taken_event}
 use Rattle.gw_serving.specs.declared.serving.Served.{Served}
-use Rattle.gw_system.specs.Requests.{Exchange, GoesOn}
-use Rattle.gw_service.specs.Chain.{AreLinks, IsLink, Link, Manner, Stage, chain_text, link_text}
+use Rattle.gw_system.specs.Requests.{Exchange, GoesOn, answered, asked}
+use Rattle.gw_system.specs.declared.reading.ReadFailure.{ReadFailure}
+use Rattle.gw_service.specs.Chain.{Advances, AreLinks, IsLink, IsLooked, Link, Look, Manner, Runs, Stage, chain_text, link_text, look_text}
+use Rattle.gw_service.specs.Chain.{refused, standing, taken_over}
+use Rattle.gw_service.specs.Reload.{IsRefused, IsReloaded, refusal_line, reload_line}
+use Rattle.gw_service.specs.declared.reload.Adopted.{Adopted}
+use Rattle.gw_service.specs.declared.reload.ReloadFault.{ReloadFault}
+use Rattle.gw_service.proofs.ServingLemmas.{appends_nothing, appends_two}
 
 -- one link more
 pub links_more : {K : Type 0} (manner : Manner K) (s : Stage K) (links : List Link) (t u : Stage K) (link : Link)
@@ -44,3 +58,147 @@ turns_counted s (failed_turn ∷ turns) = let more = turns_counted (count_turn s
 turns_counted s (lost_event e ∷ turns) = let more = turns_counted (count_turn s (lost_event e)) turns in omega (arith, more)
 turns_counted s (taken_event e tries ∷ turns) =
     let more = turns_counted (count_turn s (taken_event e tries)) turns in omega (arith, more)
+
+-- ---- a request
+
+-- a configuration that is taken over, and what is answered and told of it
+pub taken_so : {K : Type 0} (manner : Manner K) (c : Configuration) (o : Origin) (w : State) (k l : K) (read : Result (List ℕ) ReadFailure)
+    (made : Adopted) (first middle last : Option (List Exchange)) (line : List ℕ) → o ≡ origin_of c → IsReloaded w o read made
+    → manner.Adopts k made.kept made.gateway l → GoesOn first middle (asked read ∷ []) → GoesOn middle last (answered line ∷ [])
+    → line ≡ made.line.items
+    → (d : Configuration) × (look : Look) × (made.origin ≡ origin_of d)
+    × IsLooked manner c (standing w k first) look d (standing made.gateway l last) × (look_text c (standing w k first) look ≡ line)
+taken_so {K} manner c o w k l (Ok text) made first middle last line is_origin is adopts asks answers is_line =
+    let new = is.config in
+    let same : saved_of o w ≡ saved c w = ap (λ (x : Origin). saved_of x w) is_origin in
+    let is_text : line ≡ reload_line w new (saved c w) = is_line ∙ is.adopted.line ∙ ap (reload_line w new) same in (
+      new,
+      taken_over text new,
+      is.adopted.origin,
+      record {
+        config = refl;
+        reads = is.reads;
+        ports = is.ports;
+        gateway = is.adopted.gateway ∙ ap (carried new) same;
+        keeper = subst (λ (x : Origin). manner.Adopts k x made.gateway l) is.adopted.kept adopts;
+        requests = subst (λ (t : List ℕ). GoesOn first last (asked (Ok text) ∷ answered t ∷ [])) is_text
+            (goes_two first middle last (asked (Ok text)) (answered line) asks answers);
+      },
+      sym is_text,
+    )
+taken_so manner c o w k l (Err failure) made first middle last line is_origin is adopts asks answers is_line = absurd is
+
+-- one that isn't
+pub refused_so : {K : Type 0} (manner : Manner K) (c : Configuration) (w : State) (k : K) (read : Result (List ℕ) ReadFailure)
+    (fault : ReloadFault) (first middle last : Option (List Exchange)) (line : List ℕ) → IsRefused w read fault
+    → GoesOn first middle (asked read ∷ []) → GoesOn middle last (answered line ∷ []) → line ≡ refusal_line fault
+    → IsLooked manner c (standing w k first) (refused read fault) c (standing w k last)
+refused_so manner c w k read fault first middle last line is asks answers is_line = record {
+  why = is;
+  stays = record { config = refl; gateway = refl; keeper = refl };
+  requests = subst (λ (t : List ℕ). GoesOn first last (asked read ∷ answered t ∷ [])) is_line
+      (goes_two first middle last (asked read) (answered line) asks answers);
+}
+
+-- ---- how a stretch ended
+
+-- by its answer
+pub ends_as : {K : Type 0} (Passes : K → State → Event → K → Bool → Type 0) (count : ℕ) (a b : Moment K) (answer : Result Pause ServeFault)
+    (field pause : Pause) → answer ≡ Ok field → field ≡ pause → EndsStretch Passes count a answer b → EndsStretch Passes count a (Ok pause) b
+ends_as {K} Passes count a b answer field pause is is_pause ends =
+    subst (λ (r : Result Pause ServeFault). EndsStretch Passes count a r b) (is ∙ ap Ok is_pause) ends
+
+-- ---- a stretch is one turn at least
+
+-- as many turns more are counted as were done
+pub went_turns : {K : Type 0} (Passes : K → State → Event → K → Bool → Type 0) (a b : Moment K) (turns : List Turn)
+    → GoOn Passes a turns b → b.served.turns ≡ a.served.turns + length turns
+went_turns Passes a b turns went = ap (λ (s : Served). s.turns) went.counts ∙ turns_counted a.served turns
+
+pub more_at_turns : {K : Type 0} (Passes : K → State → Event → K → Bool → Type 0) (count : ℕ) (a b : Moment K)
+    → EndsAtTurns Passes count a b → 0 < count → a.served.turns < b.served.turns
+more_at_turns Passes count a b ends some = omega (arith, some, ends.all, went_turns Passes a b ends.turns ends.went)
+
+pub more_at_tick : {K : Type 0} (Passes : K → State → Event → K → Bool → Type 0) (count : ℕ) (a b : Moment K)
+    → EndsAtTick Passes count a b → a.served.turns < b.served.turns
+more_at_tick Passes count a b ends =
+    let last = taken_event event.Tick ends.tries ∷ [] in
+    omega (arith, went_turns Passes a b (ends.turns ++ last) ends.went, length-append ends.turns last)
+
+pub more_withheld : {K : Type 0} (Passes : K → State → Event → K → Bool → Type 0) (count : ℕ) (a b : Moment K)
+    → EndsWithheld Passes count a b → a.served.turns < b.served.turns
+more_withheld Passes count a b ends =
+    let went = went_turns Passes a ends.then ends.turns ends.went in
+    let last : b.served.turns ≡ ends.then.served.turns + 1 = ap (λ (s : Served). s.turns) ends.last.counts in
+    omega (arith, went, last)
+
+-- ---- a chain
+
+-- From this stage of each configuration of this origin a chain leads to this one, and what it told was written.
+abbrev pub Chained : {K : Type 0} → Manner K → Origin → (Configuration → Stage K) → Origin → (Configuration → Stage K) → (Never : Type 0)
+    → (held holds : Option (List ℕ)) → Type 0
+Chained manner o first p now Never held holds =
+    (c : Configuration) → o ≡ origin_of c → (d : Configuration) × (links : List Link) × (p ≡ origin_of d)
+    × AreLinks manner (first c) links (now d) × (Never → Appends held holds (chain_text links))
+
+pub chained_none : {K : Type 0} (manner : Manner K) (o : Origin) (first : Configuration → Stage K) (Never : Type 0) (held : Option (List ℕ))
+    → Chained manner o first o first Never held held
+chained_none manner o first Never held =
+    λ c is. (c, [], is, links_none manner (first c), λ never. appends_nothing held)
+
+-- what comes of a stretch, from each configuration of this origin
+abbrev pub Advanced : {K : Type 0} → Manner K → ℕ → Origin → (Configuration → Stage K) → Result (Unit {0}) ServeFault → Origin
+    → (Configuration → Stage K) → (Never : Type 0) → (held holds : Option (List ℕ)) → Type 0
+Advanced manner count p now result q next Never held holds =
+    (c : Configuration) → p ≡ origin_of c → (d : Configuration) × (text : List ℕ) × (q ≡ origin_of d)
+    × Advances manner count (now c) result text (next d) × (Never → Appends held holds text)
+
+pub chained_more : {K : Type 0} (manner : Manner K) (count : ℕ) (o p q : Origin) (first now next : Configuration → Stage K) (done : Unit {0})
+    (Never Then : Type 0) (held middle holds : Option (List ℕ)) → Chained manner o first p now Never held middle
+    → Advanced manner count p now (Ok done) q next Then middle holds → (Never → Then)
+    → Chained manner o first q next Never held holds
+chained_more manner count o p q first now next done Never Then held middle holds chain advance lasts = λ c is.
+    let before = chain c is in
+    let after = advance before.0 before.2 in
+    let link = after.3.0 in (
+      after.0,
+      before.1 ++ link ∷ [],
+      after.2,
+      links_more manner (first c) before.1 (now before.0) (next after.0) link before.3 after.3.1,
+      λ never. subst (λ (t : List ℕ). Appends held holds t)
+          (ap (λ (t : List ℕ). chain_text before.1 ++ t) after.3.2 ∙ text_more before.1 link)
+          (appends_two held middle holds (chain_text before.1) after.1 (before.4 never) (after.4 (lasts never))),
+    )
+
+-- what a run leads to, from each configuration of this origin
+abbrev pub Ran : {K : Type 0} → Manner K → ℕ → Origin → (Configuration → Stage K) → Result (Unit {0}) ServeFault → Origin
+    → (Configuration → Stage K) → (Never : Type 0) → (held holds : Option (List ℕ)) → Type 0
+Ran manner count o first result p last Never held holds =
+    (c : Configuration) → o ≡ origin_of c → (d : Configuration) × (links : List Link) × (p ≡ origin_of d)
+    × Runs manner count (first c) result links (last d) × (Never → Appends held holds (chain_text links))
+
+pub ran_whole : {K : Type 0} (manner : Manner K) (count : ℕ) (o p : Origin) (first last : Configuration → Stage K) (done : Unit {0}) (Never : Type 0)
+    (held holds : Option (List ℕ)) → Chained manner o first p last Never held holds
+    → ((c d : Configuration) → (last d).now.served.turns ≡ (first c).now.served.turns + count)
+    → Ran manner count o first (Ok done) p last Never held holds
+ran_whole manner count o p first last done Never held holds chain all = λ c is.
+    let led = chain c is in
+    (led.0, led.1, led.2, record { chain = led.3; turns = all c led.0 }, led.4)
+
+pub ran_until : {K : Type 0} (manner : Manner K) (count left : ℕ) (o p q : Origin) (first now last : Configuration → Stage K) (fault : ServeFault)
+    (Never Then : Type 0) (held middle holds : Option (List ℕ)) → Chained manner o first p now Never held middle
+    → Advanced manner left p now (Err fault) q last Then middle holds → (Never → Then)
+    → ((c d : Configuration) → (now d).now.served.turns + left ≡ (first c).now.served.turns + count)
+    → Ran manner count o first (Err fault) q last Never held holds
+ran_until manner count left o p q first now last fault Never Then held middle holds chain advance lasts most = λ c is.
+    let before = chain c is in
+    let after = advance before.0 before.2 in
+    let text : after.1 ≡ [] = after.3.1 in (
+      after.0,
+      before.1,
+      after.2,
+      record { then = now before.0; chain = before.3; left = left; most = most c before.0; ends = after.3.0 },
+      λ never. subst (λ (t : List ℕ). Appends held holds t) (append-nil (chain_text before.1))
+          (subst (λ (t : List ℕ). Appends held holds (chain_text before.1 ++ t)) text
+          (appends_two held middle holds (chain_text before.1) after.1 (before.4 never) (after.4 (lasts never)))),
+    )

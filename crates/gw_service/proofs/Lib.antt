@@ -1,3 +1,4 @@
 mod AnnouncementLemmas
 mod ChainLemmas
+mod KeptLemmas
 pub mod ServingLemmas

@@ -12,7 +12,9 @@ use Rattle.gw_script.specs.Event as event
 use Rattle.gw_serving.specs.Serve.{Try, Turn, taken_event}
 use Rattle.gw_serving.specs.Stretch.{EndsFaulty, GoOn, IsWithheld, Moment}
 use Rattle.gw_serving.specs.declared.serving.ServeFault.{ServeFault}
+use Rattle.gw_serving.specs.declared.serving.Served.{Served}
 use Rattle.gw_serving.specs.declared.store.StoreFault.{StoreFault}
+use Rattle.gw_serving.specs.declared.tally.Tally.{Tally}
 use Rattle.gw_system.specs.Requests.{Exchange, GoesOn, answered, asked, unasked}
 use Rattle.gw_system.specs.declared.reading.ReadFailure.{ReadFailure}
 use Rattle.gw_service.specs.Reload.{IsRefused, have_same_ports, refusal_line, reload_line}
@@ -22,16 +24,23 @@ use Rattle.gw_service.specs.declared.reload.ReloadFault.{ReloadFault}
 -- ---- what keeps the state
 
 -- What a keeper of states does at an event, at a tick, and if the gateway goes on as one of another configuration; and why
--- the last try failed, if it did.
+-- the last try failed, if it did; and what is reported after a tick.
 pub record Manner (K : Type 0) : Type 1 where
   pub Passes : K → State → Event → K → Bool → Type 0
   pub Ticks : K → State → K → Type 0
   pub Adopts : K → Origin → State → K → Type 0
   pub failing : K → Option StoreFault
+  pub report : K → State → Served → Tally → List ℕ
 
 abbrev pub manner : {K : Type 0} → (K → State → Event → K → Bool → Type 0) → (K → State → K → Type 0)
-    → (K → Origin → State → K → Type 0) → (K → Option StoreFault) → Manner K
-manner Passes Ticks Adopts failing = record { Passes = Passes; Ticks = Ticks; Adopts = Adopts; failing = failing }
+    → (K → Origin → State → K → Type 0) → (K → Option StoreFault) → (K → State → Served → Tally → List ℕ) → Manner K
+manner Passes Ticks Adopts failing report = record {
+  Passes = Passes;
+  Ticks = Ticks;
+  Adopts = Adopts;
+  failing = failing;
+  report = report;
+}
 
 -- ---- a request
 
@@ -67,7 +76,7 @@ pub record IsRefusedSo {K : Type 0} (c : Configuration) (s : Standing K) (text :
 pub record IsTakenOver {K : Type 0} (manner : Manner K) (c : Configuration) (s : Standing K) (text : List ℕ) (new : Configuration)
     (d : Configuration) (t : Standing K) : Type 0 where
   pub config : d ≡ new
-  pub text : configuration text ≡ Ok new
+  pub reads : configuration text ≡ Ok new
   pub ports : have_same_ports s.gateway.relay.links new.ports ≡ true
   pub gateway : t.gateway ≡ carried new (saved c s.gateway)
   pub keeper : manner.Adopts s.keeper (origin_of new) t.gateway t.keeper
@@ -140,7 +149,8 @@ pub record IsTicked {K : Type 0} (manner : Manner K) (s : Stage K) (turns : List
   pub done : AtTick manner s.config (standing_at then s.requests) look t.config (standing_at t.now t.requests)
   pub rest : IsIdle then t.now
   pub told : t.told ≡ manner.failing t.now.guard
-  pub text : text ≡ look_text s.config (standing_at then s.requests) look ++ notice_of s.told t.told
+  pub lines : text ≡ (look_text s.config (standing_at then s.requests) look ++ notice_of s.told t.told)
+      ++ manner.report t.now.guard t.now.scene.gateway t.now.served t.now.tally
 
 -- The keeper didn't let the datagrams of the last event go, and that was told.
 pub record IsHeldBack {K : Type 0} (manner : Manner K) (s : Stage K) (turns : List Turn) (event : Event) (text : List ℕ) (t : Stage K)
@@ -151,7 +161,7 @@ pub record IsHeldBack {K : Type 0} (manner : Manner K) (s : Stage K) (turns : Li
   pub config : t.config ≡ s.config
   pub requests : t.requests ≡ s.requests
   pub told : t.told ≡ manner.failing t.now.guard
-  pub text : text ≡ notice_of s.told t.told
+  pub lines : text ≡ notice_of s.told t.told
 
 abbrev pub IsLink : {K : Type 0} → Manner K → Stage K → Link → Stage K → Type 0
 IsLink manner s (served turns) t = IsServed manner s turns t

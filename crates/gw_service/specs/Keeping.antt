@@ -1,5 +1,5 @@
 -- What keeps the state of a gateway from stretch to stretch, if something does.
-use Rattle.std.specs.Prelude.{◌≡◌, ⊥, ℕ, Bool, true, List, Option, None}
+use Rattle.std.specs.Prelude.{◌≡◌, ⊤, ℕ, Bool, true, List, Option, None}
 use Rattle.gw_core.specs.State.{State}
 use Rattle.gw_saved.specs.Saved.{Origin}
 use Rattle.gw_script.specs.Event.{Event}
@@ -17,13 +17,13 @@ IsPassed held _ w e _ passes = ⊥
 
 -- at a tick
 abbrev pub IsKeptAtTick : {S : Type 0} → (S → Option (List ℕ)) → Kept S → State → Kept S → Type 0
-IsKeptAtTick held Nowhere w Nowhere = Nowhere ≡ Nowhere
+IsKeptAtTick held Nowhere w Nowhere = ⊤
 IsKeptAtTick held (In k) w (In l) = KeepsAtTick held k w l
 IsKeptAtTick held _ w _ = ⊥
 
 -- if the gateway goes on as one of which this is configured: its state is kept at once
 abbrev pub IsKeptFor : {S : Type 0} → (S → Option (List ℕ)) → Kept S → Origin → State → Kept S → Type 0
-IsKeptFor held Nowhere o w Nowhere = Nowhere ≡ Nowhere
+IsKeptFor held Nowhere o w Nowhere = ⊤
 IsKeptFor held (In k) o w (In l) = IsTried held (record k { origin = o }) w l
 IsKeptFor held _ o w _ = ⊥
 

@@ -7,3 +7,5 @@ pub mod Reload
 pub mod Serving
 pub mod Start
 pub mod Keeping
+pub mod Kept
+pub mod Stats

@@ -1,5 +1,5 @@
 -- Whether the configuration that is read again is taken over, and what is reported of it.
-use Rattle.std.specs.Prelude.{◌≡◌, ◌≢◌, ⊤, ⊥, ℕ, ◌&&◌, Bool, true, false, nat_eq, List, [], ◌++◌, ◌∷◌, length, Result, Ok, Err, codes, decimal}
+use Rattle.std.specs.Prelude.{◌≡◌, ◌≢◌, ⊤, ℕ, ◌&&◌, Bool, true, false, nat_eq, List, [], ◌++◌, ◌∷◌, length, Result, Ok, Err, codes, decimal}
 use Rattle.std.specs.Cmp.Lexicographic.{pointwise}
 use Rattle.gw_bdt_fdt.specs.Registrations.{same as same_address}
 use Rattle.gw_configuration.specs.Configuration.{Configuration}
@@ -101,7 +101,7 @@ pub record IsAdopted (w : State) (o : Origin) (c : Configuration) (made : Adopte
 -- the configuration is that of this text, and has the ports that are served
 pub record IsReloadedBy (w : State) (o : Origin) (text : List ℕ) (made : Adopted) : Type 0 where
   pub config : Configuration
-  pub text : configuration text ≡ Ok config
+  pub reads : configuration text ≡ Ok config
   pub ports : have_same_ports w.relay.links config.ports ≡ true
   pub adopted : IsAdopted w o config made
 

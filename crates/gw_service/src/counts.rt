@@ -1,22 +1,21 @@
 //! The counts from which a gateway goes on.
 
 ghost use Rattle.std.specs.Prelude.{◌≡◌, ◌≤◌, ◌^◌, option_map};
-ghost use Rattle.gw_service.specs.Counts.{GoesOnAfter, GoesOnFrom, counts_after, greater, less};
-ghost use Rattle.gw_audit.specs.Entry.{denial_of};
+ghost use Rattle.gw_service.specs.Counts.{GoesOnAfter, GoesOnFrom, counts_with};
 
-use gw_audit::{Shown, read_line};
+use gw_audit::read_line;
 use gw_core::Counts;
 
 /// Where each count of a gateway ends.
 const LAST_COUNT: u64 = 1 << 63;
 
-/// The counts after what a line of a log shows.
-fn after_denial(counts: Counts, shown: Shown<'_>) -> Counts
-    ensures { result ≡ counts_after counts (denial_of shown) }
+/// The counts after a denial of this tick and number.
+fn counts_with(counts: Counts, tick: u64, number: u64) -> Counts
+    ensures { result ≡ counts_with counts tick number }
 {
     Counts {
-        ticks: counts.ticks.max(shown.tick.min(LAST_COUNT)),
-        denials: counts.denials.max(shown.number.min(LAST_COUNT)),
+        ticks: counts.ticks.max(tick.min(LAST_COUNT)),
+        denials: counts.denials.max(number.min(LAST_COUNT)),
     }
 }
 
@@ -25,7 +24,7 @@ fn after_line(counts: Counts, line: &[u8]) -> Counts
     ensures { GoesOnAfter counts line.now result }
 {
     match read_line(line) {
-        Some(shown) => after_denial(counts, shown),
+        Some(shown) => counts_with(counts, shown.tick, shown.number),
         None => counts,
     }
 }

@@ -1,25 +1,40 @@
 //! A run that keeps its state, or reads its configuration again.
 
-ghost use Rattle.std.specs.Prelude.{◌≡◌, ◌+◌, ◌<◌, ◌^◌, ℕ, List, None, Option, [], length, option_map, string_bytes, IfErr, IfOk, OnOk};
+ghost use Rattle.std.specs.Prelude.{◌≡◌, ◌<◌, ◌^◌, ℕ, List, None, Ok, [], option_map, string_bytes, IfOk, OnOk};
 ghost use Rattle.std.specs.Io.Buffered.{writer_buffer, writer_contents};
 ghost use Rattle.std.specs.Io.KnownBytes.{Appends};
+ghost use Rattle.gw_configuration.specs.Configuration.{Configuration};
+ghost use Rattle.gw_saved.specs.Saved.{origin_of};
+ghost use Rattle.gw_serving.specs.Serve.{zero_counts};
+ghost use Rattle.gw_serving.specs.Stretch.{CanCount};
+ghost use Rattle.gw_serving.specs.Tally.{no_tally};
+ghost use Rattle.gw_service.specs.Kept.{AreRequestsUnder, IsLastLine, IsStateUnder, IsStoreUnder, KeepsFirst, LeavesKept, LeavesWithState, given, line_read, names_of, outcome_by, state_machine, text_before};
+ghost use Rattle.gw_service.specs.Announcement.{startup_line};
+ghost use Rattle.gw_service.specs.Serving.{IsFlushedFor, LogStays, ends, log_held, machine, service};
+ghost use Rattle.gw_service.specs.Start.{BeginsAs};
+ghost use Rattle.gw_system.specs.Host.{OpensAtLine};
 
+use crate::announcement::warning_of;
 use crate::fault::ServiceFault;
 use crate::keeping::{Kept, StateKeeper};
-use gw_command_line::RunOptions;
 use crate::running::Running;
+use crate::serving::{Opening, open};
+use crate::stats::Schedule;
 use crate::start::{MAX_STATE_OCTETS, begin_after, saved_in, start_text};
+use crate::telling::tell;
+use gw_command_line::RunOptions;
 use gw_configuration::Config;
 use gw_core::Gateway;
 use gw_saved::{Origin, Saved};
 use gw_script::OctetSink;
-use gw_serving::{Keeper, ServeState, Store, Wire};
-use gw_system::{Host, ReadFailure, Requests};
+use gw_serving::{Keeper, ServeFault, ServeState, Store, Wire};
+use gw_system::{Host, ReadFailure, Requests, note_of};
 use std::alloc::{AllocError, Global};
 use std::io::{BufWriter, Write};
 
 /// What is read and made before anything is opened: what was saved, the last line of the log, what is told of the state, its
 /// store, and what asks to read the configuration again.
+#[derive(Drop)]
 pub(crate) struct Before<S, Q> {
     /// What was saved, if something was.
     pub saved: Option<Saved>,
@@ -31,19 +46,6 @@ pub(crate) struct Before<S, Q> {
     pub store: Option<S>,
     /// What asks to read the configuration again, if something does.
     pub requests: Option<Q>,
-}
-
-// By hand: a derived one is proved part by part wherever one is dropped (docs/GATE.md).
-impl<S: Drop, Q: Drop> Drop for Before<S, Q> {
-    fn drop(self) {
-        let Before {
-            saved: _,
-            line: _,
-            text: _,
-            store: _,
-            requests: _,
-        } = self;
-    }
 }
 
 /// What was saved in the file of this name. Nothing is read if none is named.
@@ -70,7 +72,7 @@ fn last_line<H: Host>(
     host: &H,
 ) -> Result<Option<Vec<u8>>, ServiceFault>
     ensures { IsLastLine (H.LastLines host.now) (option_map string_bytes options.now.state)
-        (option_map string_bytes options.now.log) result }
+        (option_map string_bytes options.now.log) (line_read result) }
 {
     match (&options.state, &options.log) {
         (Some(_), Some(log)) => match host.last_line(alloc, log) {
@@ -88,6 +90,7 @@ fn store_under<H: Host>(
     name: &Option<String>,
     host: &H,
 ) -> Result<Option<H::StateStore>, ServiceFault>
+    ensures { IsStoreUnder (H.StoreOpens host.now) (option_map string_bytes name.now) result }
 {
     match name {
         Some(name) => match host.open_store(alloc, name) {
@@ -104,6 +107,8 @@ fn requests_under<H: Host>(
     options: &RunOptions,
     host: &H,
 ) -> Result<Option<H::Reloads>, AllocError>
+    ensures { IfOk result (AreRequestsUnder (H.ReloadsOpen host.now) (option_map string_bytes options.now.reload)
+        (string_bytes options.now.config)) }
 {
     match &options.reload {
         Some(name) => Ok(Some(host.open_reloads(alloc, name, &options.config)?)),
@@ -118,6 +123,8 @@ fn text_of(
     config: &Config,
     saved: &Option<Saved>,
 ) -> Result<Vec<u8>, AllocError>
+    ensures { IfOk result (λ text. text.items
+        ≡ text_before (option_map string_bytes options.now.state) options.now.verbose config.now saved.now) }
 {
     match &options.state {
         Some(name) => start_text(alloc, options.verbose, name, config, saved),
@@ -132,6 +139,16 @@ pub(crate) fn prepare<H: Host>(
     options: &RunOptions,
     host: &H,
 ) -> Result<Before<H::StateStore, H::Reloads>, ServiceFault>
+    ensures saved { IfOk result (λ before.
+        IsStateUnder (H.FileReads host.now) (option_map string_bytes options.now.state) (Ok before.saved)) }
+    ensures line { IfOk result (λ before. IsLastLine (H.LastLines host.now) (option_map string_bytes options.now.state)
+        (option_map string_bytes options.now.log) (Ok (option_map (λ line. line.items) before.line))) }
+    ensures text { IfOk result (λ before. before.text.items
+        ≡ text_before (option_map string_bytes options.now.state) options.now.verbose config.now before.saved) }
+    ensures store { IfOk result (λ before.
+        IsStoreUnder (H.StoreOpens host.now) (option_map string_bytes options.now.state) (Ok before.store)) }
+    ensures requests { IfOk result (λ before. AreRequestsUnder (H.ReloadsOpen host.now)
+        (option_map string_bytes options.now.reload) (string_bytes options.now.config) before.requests) }
 {
     let saved = saved_under(alloc, &options.state, host)?;
     let line = last_line(alloc, options, host)?;
@@ -154,6 +171,7 @@ fn kept_in<S: Store + Drop>(
     origin: Origin,
     gateway: &Gateway,
 ) -> Kept<S>
+    ensures { (c : Configuration) → origin ≡ origin_of c → KeepsFirst S.held store c gateway.now result }
 {
     match store {
         Some(store) => Kept::In(Keeper::begin(alloc, store, origin, gateway)),
@@ -162,22 +180,168 @@ fn kept_in<S: Store + Drop>(
 }
 
 /// A gateway of this configuration that is about to run.
-fn running<S: Store + Drop, Q: Requests>(
+fn make_running<S: Store + Drop, Q: Requests + Drop>(
     alloc: Global,
     config: Config,
     before: Before<S, Q>,
 ) -> Result<Running<Kept<S>, Option<Q>>, AllocError>
+    ensures origin { IfOk result (λ r. r.origin ≡ origin_of config) }
+    ensures begins { IfOk result
+        (λ r. BeginsAs config before.saved (option_map (λ line. line.items) before.line) r.gateway) }
+    ensures keeps { IfOk result (λ r. KeepsFirst S.held before.store config r.gateway r.keeper) }
+    ensures requests { IfOk result (λ r. r.requests ≡ before.requests) }
+    ensures served { IfOk result (λ r. r.state.served ≡ zero_counts) }
+    ensures tally { IfOk result (λ r. r.state.tally ≡ no_tally) }
+    ensures told { IfOk result (λ r. r.told ≡ None) }
+    ensures ready { IfOk result (λ r. (failures turns : ℕ) → failures < 2 ^ 127 → turns < 2 ^ 63 →
+        CanCount r.state.served r.state.tally failures turns) }
 {
+    let Before {
+        saved,
+        line,
+        text: _,
+        store,
+        requests,
+    } = before;
     let origin = Origin::of(alloc, &config)?;
     let kept = Origin::of(alloc, &config)?;
-    let gateway = begin_after(alloc, config, &before.saved, &before.line)?;
-    let keeper = kept_in(alloc, before.store, kept, &gateway);
+    let gateway = begin_after(alloc, config, &saved, &line)?;
+    let keeper = kept_in(alloc, store, kept, &gateway);
     Ok(Running {
         gateway,
         origin,
         keeper,
-        requests: before.requests,
+        requests,
         state: ServeState::new(alloc),
         told: None,
     })
+}
+
+/// The outcome of a run, by the answer of serving.
+fn outcome_of(answer: Result<(), ServeFault>) -> Result<(), ServiceFault>
+    ensures { result ≡ outcome_by answer }
+{
+    match answer {
+        Ok(()) => Ok(()),
+        Err(fault) => Err(ServiceFault::from(fault)),
+    }
+}
+
+/// Runs a gateway of this configuration on a log, for so many turns, and tells at the start if its state isn't kept. Faults:
+/// `Log`, `Memory` and `CountEnd`.
+fn run_on<S: Store + Drop, Q: Requests + Drop, X: Wire, L: OctetSink, E: OctetSink>(
+    alloc: Global,
+    config: Config,
+    before: Before<S, Q>,
+    sockets: &mut X,
+    log: &mut L,
+    errors: &mut E,
+    options: &RunOptions,
+) -> Result<(), ServiceFault>
+    requires failures { X.failure_count sockets.old < 2 ^ 127 }
+    ensures ran { (text : List ℕ) × LeavesKept (given S.held Q.told before) config (service options.now.turns options.now.stats)
+        (ends (L.held log.old) (X.calls sockets.old)) (ends (L.held log.new) (X.calls sockets.new)) text result
+        × (E.NeverFails errors.old → Appends (E.held errors.old) (E.held errors.new) text) }
+    ensures lasting { E.NeverFails errors.old → E.NeverFails errors.new }
+{
+    let mut running = make_running(alloc, config, before)?;
+    running.told = running.notice(errors);
+    let schedule = Schedule {
+        start: running.gateway.counts(),
+        seconds: options.stats,
+    };
+    let answer = running.serve(alloc, sockets, log, errors, &schedule, options.turns);
+    schedule.tell_last(&running.gateway, &running.state, &running.keeper, errors);
+    outcome_of(answer)
+}
+
+/// Runs on what is open. Each event's lines are written to standard output at once if the log is there.
+fn run_open<S: Store + Drop, Q: Requests + Drop, X: Wire, L: OctetSink, W: Write + Drop, E: OctetSink>(
+    alloc: Global,
+    config: Config,
+    before: Before<S, Q>,
+    sockets: &mut X,
+    log: &mut Option<L>,
+    output: &mut BufWriter<W>,
+    errors: &mut E,
+    options: &RunOptions,
+) -> Result<(), ServiceFault>
+    requires failures { X.failure_count sockets.old < 2 ^ 127 }
+    requires unbuffered { log.old ≡ None → writer_buffer output.old ≡ [] }
+    ensures ran { let held = writer_contents W.contents output.old in
+        let holds = writer_contents W.contents output.new in
+        (text : List ℕ) × LeavesKept (given S.held Q.told before) config (service options.now.turns options.now.stats)
+        (ends (log_held L.held log.old held) (X.calls sockets.old))
+        (ends (log_held L.held log.new holds) (X.calls sockets.new)) text result
+        × (E.NeverFails errors.old → Appends (E.held errors.old) (E.held errors.new) text) }
+    ensures lasting { E.NeverFails errors.old → E.NeverFails errors.new }
+    ensures log { LogStays log.old log.new (writer_contents W.contents output.old)
+        (writer_contents W.contents output.new) }
+    ensures buffer { writer_buffer output.new ≡ writer_buffer output.old }
+{
+    match log {
+        Some(log) => run_on(alloc, config, before, sockets, log, errors, options),
+        None => {
+            let log = output.get_mut();
+            run_on(alloc, config, before, sockets, log, errors, options)
+        }
+    }
+}
+
+/// Serves the ports of a configuration as the options ask, with a state that is kept or with requests to read the configuration
+/// again. Faults: those of [`serve_ports`](crate::serve_ports).
+pub(crate) fn serve_kept<H: Host, W: Write + Drop, E: OctetSink>(
+    alloc: Global,
+    config: Config,
+    options: &RunOptions,
+    host: &mut H,
+    output: &mut BufWriter<W>,
+    errors: &mut E,
+) -> Result<(), ServiceFault>
+    ensures served { (told : List ℕ) × LeavesWithState
+        (machine (OpensAtLine (H.LogOpens host.old) (H.LogIsCut host.old) H.Log.held)
+        (H.SocketsOpen host.old) (H.RoutesIp host.old) (H.Closes host.new) H.Log.held H.Sockets.calls)
+        (state_machine (H.FileReads host.old) (H.LastLines host.old) (H.StoreOpens host.old) (H.ReloadsOpen host.old)
+        H.StateStore.held H.Reloads.told) (names_of options.now)
+        (writer_contents W.contents output.old) (writer_contents W.contents output.new) config
+        (service options.now.turns options.now.stats) options.now.verbose (startup_line options.now.verbose config (option_map string_bytes options.now.log)) told result
+        × (E.NeverFails errors.old → Appends (E.held errors.old) (E.held errors.new) told) }
+    ensures lasting { E.NeverFails errors.old → E.NeverFails errors.new }
+    ensures flush { OnOk result (IsFlushedFor (option_map string_bytes options.now.log)
+        (writer_buffer output.old) (writer_buffer output.new)) }
+{
+    let before = match prepare(alloc, &config, options, host) {
+        Ok(before) => before,
+        Err(fault) => return Err(fault),
+    };
+    match open(alloc, &config, options, host, output) {
+        Ok(
+            Opening {
+                line,
+                mut log,
+                mut sockets,
+            },
+        ) => {
+            tell(&line, errors);
+            tell(warning_of(host, options.verbose), errors);
+            tell(&before.text, errors);
+            let outcome = run_open(
+                alloc,
+                config,
+                before,
+                &mut sockets,
+                &mut log,
+                output,
+                errors,
+                options,
+            );
+            host.close(sockets, log);
+            outcome
+        }
+        Err(failure) => {
+            let note = note_of(alloc, options.verbose, failure);
+            tell(&note, errors);
+            Err(ServiceFault::from(failure))
+        }
+    }
 }

@@ -94,6 +94,7 @@ fn have_same_ports(links: &[PortState], ports: &[Port]) -> bool
 
 /// By what a gateway goes on: the gateway, what is configured of it, once for whoever saves it and once for the
 /// keeper of its state, and the line that is reported.
+#[derive(Drop)]
 pub struct Adopted {
     /// The gateway.
     pub gateway: Gateway,
@@ -105,19 +106,8 @@ pub struct Adopted {
     pub line: Vec<u8>,
 }
 
-// By hand: a derived one is proved part by part wherever one is dropped (docs/GATE.md).
-impl Drop for Adopted {
-    fn drop(self) {
-        let Adopted {
-            gateway: _,
-            origin: _,
-            kept: _,
-            line: _,
-        } = self;
-    }
-}
-
 /// What is made of a configuration before the gateway that goes on by it.
+#[derive(Drop)]
 struct Prepared {
     saved: Saved,
     origin: Origin,
@@ -125,19 +115,8 @@ struct Prepared {
     line: Vec<u8>,
 }
 
-impl Drop for Prepared {
-    fn drop(self) {
-        let Prepared {
-            saved: _,
-            origin: _,
-            kept: _,
-            line: _,
-        } = self;
-    }
-}
-
 /// Saves a gateway, and makes what is needed to go on by another configuration.
-fn prepared(
+fn prepare(
     alloc: Global,
     gateway: &Gateway,
     origin: &Origin,
@@ -175,7 +154,7 @@ fn adopt(
         origin,
         kept,
         line,
-    } = prepared(alloc, gateway, origin, &config)?;
+    } = prepare(alloc, gateway, origin, &config)?;
     let gateway = Gateway::resume(alloc, config, &saved)?;
     Ok(Adopted {
         gateway,

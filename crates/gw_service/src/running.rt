@@ -9,12 +9,17 @@ ghost use Rattle.gw_serving.specs.Serve.{scene};
 ghost use Rattle.gw_serving.specs.Stretch.{CanCount, moment};
 ghost use Rattle.gw_system.specs.Requests.{Exchange, GoesOn, asked, text_read};
 ghost use Rattle.gw_service.specs.Chain.{Advances, AtTick, IsLooked, Link, Look, Runs, chain_text, look_text, manner, stage, standing};
+ghost use Rattle.gw_core.specs.State.{State};
+ghost use Rattle.gw_serving.specs.declared.serving.Served.{Served};
+ghost use Rattle.gw_serving.specs.declared.tally.Tally.{Tally};
 ghost use Rattle.gw_service.specs.Notices.{notice_of};
+ghost use Rattle.gw_service.specs.Stats.{due_stats};
 
 use crate::keeping::StateKeeper;
 use crate::line::refusal_line;
 use crate::notices::notice_of;
 use crate::reload::{Adopted, reloaded};
+use crate::stats::Schedule;
 use crate::telling::tell;
 use gw_core::Gateway;
 use gw_policy_text::MAX_OCTETS;
@@ -63,12 +68,12 @@ impl<K: StateKeeper, Q: Requests> Running<K, Q> {
         text: &Result<Vec<u8>, ReadFailure>,
         errors: &mut E,
     )
-        ensures looked { (c : Configuration) (first : Option (List Exchange)) → self.old.origin ≡ origin_of c →
+        ensures looked { (c : Configuration) (first : Option (List Exchange)) (report : K → State → Served → Tally → List ℕ) → self.old.origin ≡ origin_of c →
             GoesOn first (Q.told self.old.requests) (asked (text_read text.now) ∷ []) →
             let before = standing self.old.gateway self.old.keeper first in
             let after = standing self.new.gateway self.new.keeper (Q.told self.new.requests) in
             (d : Configuration) × (look : Look) × (self.new.origin ≡ origin_of d)
-            × IsLooked (manner K.Passes K.Ticks K.Adopts K.failing) c before look d after
+            × IsLooked (manner K.Passes K.Ticks K.Adopts K.failing report) c before look d after
             × (E.NeverFails errors.old → Appends (E.held errors.old) (E.held errors.new) (look_text c before look)) }
         ensures state { self.new.state ≡ self.old.state }
         ensures told { self.new.told ≡ self.old.told }
@@ -99,11 +104,11 @@ impl<K: StateKeeper, Q: Requests> Running<K, Q> {
 
     /// Looks for a request, and if there is one reads the configuration again.
     fn look<E: OctetSink>(&mut self, alloc: Global, errors: &mut E)
-        ensures looked { (c : Configuration) → self.old.origin ≡ origin_of c →
+        ensures looked { (c : Configuration) (report : K → State → Served → Tally → List ℕ) → self.old.origin ≡ origin_of c →
             let before = standing self.old.gateway self.old.keeper (Q.told self.old.requests) in
             let after = standing self.new.gateway self.new.keeper (Q.told self.new.requests) in
             (d : Configuration) × (look : Look) × (self.new.origin ≡ origin_of d)
-            × IsLooked (manner K.Passes K.Ticks K.Adopts K.failing) c before look d after
+            × IsLooked (manner K.Passes K.Ticks K.Adopts K.failing report) c before look d after
             × (E.NeverFails errors.old → Appends (E.held errors.old) (E.held errors.new) (look_text c before look)) }
         ensures state { self.new.state ≡ self.old.state }
         ensures told { self.new.told ≡ self.old.told }
@@ -114,25 +119,25 @@ impl<K: StateKeeper, Q: Requests> Running<K, Q> {
         }
     }
 
-    /// Tells whether the state is kept, if that changed since it was told last.
-    fn notice<E: OctetSink>(&mut self, errors: &mut E)
-        ensures told { self.new ≡ record self.old { told = K.failing self.old.keeper } }
+    /// Tells whether the state is kept, if that changed since it was told last; and answers why it isn't.
+    pub(crate) fn notice<E: OctetSink>(&self, errors: &mut E) -> Option<StoreFault>
+        ensures failing { result ≡ K.failing self.now.keeper }
         ensures text { E.NeverFails errors.old →
-            Appends (E.held errors.old) (E.held errors.new) (notice_of self.old.told self.new.told) }
+            Appends (E.held errors.old) (E.held errors.new) (notice_of self.now.told result) }
         ensures lasts { E.NeverFails errors.old → E.NeverFails errors.new }
     {
         let failing = self.keeper.failing();
         tell(notice_of(self.told, failing).as_bytes(), errors);
-        self.told = failing;
+        failing
     }
 
     /// Does what is due at a tick: keeps the state, and looks for a request.
     fn at_tick<E: OctetSink>(&mut self, alloc: Global, errors: &mut E)
-        ensures done { (c : Configuration) → self.old.origin ≡ origin_of c →
+        ensures done { (c : Configuration) (report : K → State → Served → Tally → List ℕ) → self.old.origin ≡ origin_of c →
             let before = standing self.old.gateway self.old.keeper (Q.told self.old.requests) in
             let after = standing self.new.gateway self.new.keeper (Q.told self.new.requests) in
             (d : Configuration) × (look : Look) × (self.new.origin ≡ origin_of d)
-            × AtTick (manner K.Passes K.Ticks K.Adopts K.failing) c before look d after
+            × AtTick (manner K.Passes K.Ticks K.Adopts K.failing report) c before look d after
             × (E.NeverFails errors.old → Appends (E.held errors.old) (E.held errors.new) (look_text c before look)) }
         ensures state { self.new.state ≡ self.old.state }
         ensures told { self.new.told ≡ self.old.told }
@@ -149,6 +154,7 @@ impl<K: StateKeeper, Q: Requests> Running<K, Q> {
         wire: &mut W,
         log: &mut L,
         errors: &mut E,
+        schedule: &Schedule,
         turns: u64,
     ) -> Result<(), ServeFault>
         requires count { CanCount self.old.state.served self.old.state.tally (W.failure_count wire.old) turns }
@@ -156,7 +162,7 @@ impl<K: StateKeeper, Q: Requests> Running<K, Q> {
             let before = stage c (moment (scene self.old.gateway (L.held log.old) (W.calls wire.old)) self.old.keeper
             self.old.state.served self.old.state.tally) (Q.told self.old.requests) self.old.told in
             (d : Configuration) × (text : List ℕ) × (self.new.origin ≡ origin_of d)
-            × Advances (manner K.Passes K.Ticks K.Adopts K.failing) turns before result text
+            × Advances (manner K.Passes K.Ticks K.Adopts K.failing (due_stats K.unkept schedule.now.seconds schedule.now.start)) turns before result text
             (stage d (moment (scene self.new.gateway (L.held log.new) (W.calls wire.new)) self.new.keeper
             self.new.state.served self.new.state.tally) (Q.told self.new.requests) self.new.told)
             × (E.NeverFails errors.old → Appends (E.held errors.old) (E.held errors.new) text) }
@@ -171,16 +177,18 @@ impl<K: StateKeeper, Q: Requests> Running<K, Q> {
             Ok(Pause::Turns) => {}
             Ok(Pause::Tick) => {
                 self.at_tick(alloc, errors);
-                self.notice(errors);
+                self.told = self.notice(errors);
+                schedule.tell_due(&self.gateway, &self.state, &self.keeper, errors);
             }
-            Ok(Pause::Withheld) => self.notice(errors),
+            Ok(Pause::Withheld) => self.told = self.notice(errors),
             Err(fault) => return Err(fault),
         }
         Ok(())
     }
 
     /// Serves a wire for so many turns, by stretches. After each tick the keeper does what is due, and a request is looked
-    /// for; if there is one the configuration is read again, and the gateway goes on by it, or as it is.
+    /// for; if there is one the configuration is read again, and the gateway goes on by it, or as it is. It reports as the
+    /// schedule asks.
     ///
     /// # Errors
     ///
@@ -191,6 +199,7 @@ impl<K: StateKeeper, Q: Requests> Running<K, Q> {
         wire: &mut W,
         log: &mut L,
         errors: &mut E,
+        schedule: &Schedule,
         turns: u64,
     ) -> Result<(), ServeFault>
         requires count { CanCount self.old.state.served self.old.state.tally (W.failure_count wire.old) turns }
@@ -198,7 +207,7 @@ impl<K: StateKeeper, Q: Requests> Running<K, Q> {
             let before = stage c (moment (scene self.old.gateway (L.held log.old) (W.calls wire.old)) self.old.keeper
             self.old.state.served self.old.state.tally) (Q.told self.old.requests) self.old.told in
             (d : Configuration) × (links : List Link) × (self.new.origin ≡ origin_of d)
-            × Runs (manner K.Passes K.Ticks K.Adopts K.failing) turns before result links
+            × Runs (manner K.Passes K.Ticks K.Adopts K.failing (due_stats K.unkept schedule.now.seconds schedule.now.start)) turns before result links
             (stage d (moment (scene self.new.gateway (L.held log.new) (W.calls wire.new)) self.new.keeper
             self.new.state.served self.new.state.tally) (Q.told self.new.requests) self.new.told)
             × (E.NeverFails errors.old → Appends (E.held errors.old) (E.held errors.new) (chain_text links)) }
@@ -210,7 +219,7 @@ impl<K: StateKeeper, Q: Requests> Running<K, Q> {
                 return Ok(());
             }
             let before = self.state.served.turns;
-            self.advance(alloc, wire, log, errors, left)?;
+            self.advance(alloc, wire, log, errors, schedule, left)?;
             left -= self.state.served.turns - before;
         }
         Ok(())

@@ -11,12 +11,14 @@ ghost use Rattle.gw_core.specs.Replay.{no_counts};
 ghost use Rattle.gw_serving.specs.Serve.{scene};
 ghost use Rattle.gw_service.specs.Announcement.{startup_line};
 ghost use Rattle.gw_system.specs.Host.{OpensAtLine};
+ghost use Rattle.gw_service.specs.Kept.{LeavesService, state_machine, whole_machine};
 ghost use Rattle.gw_service.specs.Serving.{AreOpen, ArentOpen, IsFlushedFor, LeavesServed, LogIsOpen, LogIsShut, LogStays, Serves, ServesFrom, ends, log_held, machine, outcome_of, service};
 ghost use Rattle.gw_service.specs.declared.fault.ServiceFault.TheVariants as fault;
 
 use crate::announcement::{startup_line, warning_of};
 use crate::telling::tell;
 use crate::fault::ServiceFault;
+use crate::kept::serve_kept;
 use gw_command_line::RunOptions;
 use gw_configuration::Config;
 use gw_core::{Counts, Gateway};
@@ -131,10 +133,13 @@ fn open_log<H: Host, W: Write + Drop>(
 
 /// What is told at the start, and what is open then: the log where it is a file, and the sockets.
 #[derive(Drop)]
-struct Opening<L, S> {
-    line: Vec<u8>,
-    log: Option<L>,
-    sockets: S,
+pub(crate) struct Opening<L, S> {
+    /// What is told at the start.
+    pub line: Vec<u8>,
+    /// The log, if it is in a file.
+    pub log: Option<L>,
+    /// The sockets.
+    pub sockets: S,
 }
 
 /// Opens the sockets of a configuration.
@@ -150,7 +155,7 @@ fn open_sockets<H: Host>(
 }
 
 /// Makes the line that is told at the start, opens the log and then the sockets.
-fn open<H: Host, W: Write + Drop>(
+pub(crate) fn open<H: Host, W: Write + Drop>(
     alloc: Global,
     config: &Config,
     options: &RunOptions,
@@ -218,10 +223,8 @@ fn serve_open<L: OctetSink, S: Wire, W: Write + Drop, E: OctetSink>(
     }
 }
 
-/// Serves the ports of a configuration as the options ask. If they ask for more it writes at the start what is
-/// served and whether the machine routes IP past the gateway, or why sockets can't be opened. Faults: `Log`, `Socket`, `Memory` and
-/// `CountEnd`.
-pub fn serve_ports<H: Host, W: Write + Drop, E: OctetSink>(
+/// Serves the ports of a configuration, by a gateway that nothing came to yet. Faults: `Log`, `Socket`, `Memory` and `CountEnd`.
+fn serve_plain<H: Host, W: Write + Drop, E: OctetSink>(
     alloc: Global,
     config: Config,
     options: &RunOptions,
@@ -267,5 +270,38 @@ pub fn serve_ports<H: Host, W: Write + Drop, E: OctetSink>(
             tell(&note, errors);
             Err(ServiceFault::from(failure))
         }
+    }
+}
+
+/// Serves the ports of a configuration as the options ask. If they ask for more it writes at the start what is
+/// served and whether the machine routes IP past the gateway, or why sockets can't be opened. If they name a state it begins with
+/// that, and keeps it; if they name a request it reads the configuration again when it is asked to.
+///
+/// # Errors
+///
+/// `Log`, `Socket`, `Memory` and `CountEnd`; and, if a state is named, `StateUnreadable`, `State` and `Store`, and then nothing
+/// was opened.
+pub fn serve_ports<H: Host, W: Write + Drop, E: OctetSink>(
+    alloc: Global,
+    config: Config,
+    options: &RunOptions,
+    host: &mut H,
+    output: &mut BufWriter<W>,
+    errors: &mut E,
+) -> Result<(), ServiceFault>
+    ensures served { (told : List ℕ)
+        × LeavesService (whole_machine (machine (OpensAtLine (H.LogOpens host.old) (H.LogIsCut host.old) H.Log.held)
+        (H.SocketsOpen host.old) (H.RoutesIp host.old) (H.Closes host.new) H.Log.held H.Sockets.calls)
+        (state_machine (H.FileReads host.old) (H.LastLines host.old) (H.StoreOpens host.old)
+        (H.ReloadsOpen host.old) H.StateStore.held H.Reloads.told)) options.now
+        (writer_contents W.contents output.old) (writer_contents W.contents output.new) config told result
+        × (E.NeverFails errors.old → Appends (E.held errors.old) (E.held errors.new) told) }
+    ensures lasting { E.NeverFails errors.old → E.NeverFails errors.new }
+    ensures flush { OnOk result (IsFlushedFor (option_map string_bytes options.now.log)
+        (writer_buffer output.old) (writer_buffer output.new)) }
+{
+    match (&options.state, &options.reload) {
+        (None, None) => serve_plain(alloc, config, options, host, output, errors),
+        _ => serve_kept(alloc, config, options, host, output, errors),
     }
 }

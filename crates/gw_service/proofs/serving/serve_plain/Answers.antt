@@ -3,7 +3,7 @@ use Rattle.std.specs.Io.Buffered.{writer_contents}
 use Rattle.std.specs.Io.KnownBytes.{Appends}
 use Rattle.gw_service.specs.Serving.{served, shut}
 use Rattle.gw_service.proofs.ServingLemmas.{appends_two}
-use Rattle.gw_service.proofs.serving.serve_ports.Goals as goal
+use Rattle.gw_service.proofs.serving.serve_plain.Goals as goal
 
 pub returns-in-Ok-clause-served : goal.returns-in-Ok-clause-served
 returns-in-Ok-clause-served g c =

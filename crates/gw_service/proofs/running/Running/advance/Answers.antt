@@ -1,0 +1,158 @@
+use Rattle.std.proofs.Common.{ℕ, ◌<◌, List, Option, ◌++◌, ◌∷◌, [], ap, refl, subst, sym}
+use Rattle.std.specs.Io.KnownBytes.{Appends}
+use Rattle.gw_script.specs.Event as event
+use Rattle.gw_serving.specs.Serve.{scene, taken_event}
+use Rattle.gw_serving.specs.Stretch.{moment}
+use Rattle.gw_serving.specs.declared.serving.ServeState.{ServeState}
+use Rattle.gw_serving.specs.declared.store.StoreFault.{StoreFault}
+use Rattle.gw_serving.specs.declared.stretch.Pause.TheVariants as pause
+use Rattle.gw_service.specs.Chain.{look_text, manner, served, standing, ticked, withheld}
+use Rattle.gw_service.specs.Notices.{notice_of}
+use Rattle.gw_service.specs.Stats.{due_stats}
+use Rattle.gw_service.proofs.ChainLemmas.{ends_as, more_at_tick, more_at_turns, more_withheld}
+use Rattle.gw_service.proofs.ServingLemmas.{appends_nothing, appends_two}
+use Rattle.gw_service.proofs.running.Running.advance.Goals as goal
+
+pub returns-in-Ok-Turns-clause-advances : goal.returns-in-Ok-Turns-clause-advances
+returns-in-Ok-Turns-clause-advances g c = λ config is_config.
+    let end = ends_as g.K.Guard.Passes c.args.turns
+    (moment (scene c.args.self.now.gateway (g.L.OctetSink.held c.args.log.now) (g.W.Wire.calls c.args.wire.now)) c.args.self.now.keeper
+    c.args.self.now.state.served c.args.self.now.state.tally)
+    (moment (scene c.serve_to_tick.new.gateway (g.L.OctetSink.held c.serve_to_tick.new.log) (g.W.Wire.calls c.serve_to_tick.new.wire))
+    c.serve_to_tick.new.guard c.serve_to_tick.new.self.served c.serve_to_tick.new.self.tally) c.serve_to_tick.result c.in-Ok-Turns.field-0
+    pause.Turns c.in-Ok-Turns.is c.in-Ok-Turns.field-0-is c.serve_to_tick.ensures.end in (
+      config,
+      [],
+      is_config,
+      (served end.turns, record { went = end.went; config = refl; requests = refl; told = refl }, refl),
+      λ never. appends_nothing (g.E.OctetSink.held c.args.errors.now),
+    )
+
+pub returns-in-Ok-Turns-clause-more : goal.returns-in-Ok-Turns-clause-more
+returns-in-Ok-Turns-clause-more g c = λ some.
+    let old = c.args.self.now in
+    let new = c.serve_to_tick.new in
+    let held = g.L.OctetSink.held in
+    let calls = g.W.Wire.calls in
+    more_at_turns g.K.Guard.Passes c.args.turns
+    (moment (scene old.gateway (held c.args.log.now) (calls c.args.wire.now)) old.keeper old.state.served old.state.tally)
+    (moment (scene new.gateway (held new.log) (calls new.wire)) new.guard new.self.served new.self.tally)
+    (ends_as g.K.Guard.Passes c.args.turns
+    (moment (scene c.args.self.now.gateway (g.L.OctetSink.held c.args.log.now) (g.W.Wire.calls c.args.wire.now)) c.args.self.now.keeper
+    c.args.self.now.state.served c.args.self.now.state.tally)
+    (moment (scene c.serve_to_tick.new.gateway (g.L.OctetSink.held c.serve_to_tick.new.log) (g.W.Wire.calls c.serve_to_tick.new.wire))
+    c.serve_to_tick.new.guard c.serve_to_tick.new.self.served c.serve_to_tick.new.self.tally) c.serve_to_tick.result c.in-Ok-Turns.field-0
+    pause.Turns c.in-Ok-Turns.is c.in-Ok-Turns.field-0-is c.serve_to_tick.ensures.end) some
+
+pub returns-in-Ok-Tick-clause-advances : goal.returns-in-Ok-Tick-clause-advances
+returns-in-Ok-Tick-clause-advances g c = λ config is_config.
+    let end = ends_as g.K.Guard.Passes c.args.turns
+    (moment (scene c.args.self.now.gateway (g.L.OctetSink.held c.args.log.now) (g.W.Wire.calls c.args.wire.now)) c.args.self.now.keeper
+    c.args.self.now.state.served c.args.self.now.state.tally)
+    (moment (scene c.serve_to_tick.new.gateway (g.L.OctetSink.held c.serve_to_tick.new.log) (g.W.Wire.calls c.serve_to_tick.new.wire))
+    c.serve_to_tick.new.guard c.serve_to_tick.new.self.served c.serve_to_tick.new.self.tally) c.serve_to_tick.result c.in-Ok-Tick.field-0
+    pause.Tick c.in-Ok-Tick.is c.in-Ok-Tick.field-0-is c.serve_to_tick.ensures.end in
+    let held = g.E.OctetSink.held in
+    let old = c.args.self.now in
+    let stretch = c.serve_to_tick.new in
+    let done = c.at_tick.ensures.done config (due_stats g.K.StateKeeper.unkept c.args.schedule.now.seconds c.args.schedule.now.start) is_config in
+    let look = look_text config (standing stretch.gateway stretch.guard (g.Q.Requests.told old.requests)) done.1 in
+    let notice = notice_of old.told c.notice-self.result in
+    let after = c.at_tick.new.self in
+    let report = due_stats g.K.StateKeeper.unkept c.args.schedule.now.seconds c.args.schedule.now.start after.keeper after.gateway
+    after.state.served after.state.tally in
+    let turns = end.turns ++ taken_event event.Tick end.tries ∷ [] in
+    let then = moment (scene stretch.gateway (g.L.OctetSink.held stretch.log) (g.W.Wire.calls stretch.wire)) stretch.guard stretch.self.served stretch.self.tally in (
+      done.0,
+      (look ++ notice) ++ report,
+      done.2,
+      (
+        ticked turns done.1 ((look ++ notice) ++ report),
+        record {
+          before = end.turns;
+          tries = end.tries;
+          tick = refl;
+          then = then;
+          went = end.went;
+          ticks = end.ticks;
+          done = done.3;
+          rest = record {
+            log = refl;
+            calls = refl;
+            served = ap (λ (s : ServeState). s.served) c.at_tick.ensures.state;
+            tally = ap (λ (s : ServeState). s.tally) c.at_tick.ensures.state;
+          };
+          told = c.notice-self.ensures.failing;
+          lines = refl;
+        },
+        refl,
+      ),
+      λ never.
+          let one = c.at_tick.ensures.lasts never in
+          appends_two (held c.args.errors.now) (held c.notice-self.new.errors) (held c.tell_due.new.errors) (look ++ notice) report
+          (appends_two (held c.args.errors.now) (held c.at_tick.new.errors) (held c.notice-self.new.errors) look notice (done.4 never)
+          (subst (λ (f : Option StoreFault). Appends (held c.at_tick.new.errors) (held c.notice-self.new.errors) (notice_of f c.notice-self.result))
+          c.at_tick.ensures.told (c.notice-self.ensures.text one)))
+          (c.tell_due.ensures.told (c.notice-self.ensures.lasts one)),
+    )
+
+pub returns-in-Ok-Tick-clause-more : goal.returns-in-Ok-Tick-clause-more
+returns-in-Ok-Tick-clause-more g c = λ some.
+    let old = c.args.self.now in
+    let new = c.serve_to_tick.new in
+    let held = g.L.OctetSink.held in
+    let calls = g.W.Wire.calls in
+    subst (λ (s : ServeState). old.state.served.turns < s.served.turns) (sym c.at_tick.ensures.state)
+    (more_at_tick g.K.Guard.Passes c.args.turns
+    (moment (scene old.gateway (held c.args.log.now) (calls c.args.wire.now)) old.keeper old.state.served old.state.tally)
+    (moment (scene new.gateway (held new.log) (calls new.wire)) new.guard new.self.served new.self.tally)
+    (ends_as g.K.Guard.Passes c.args.turns
+    (moment (scene c.args.self.now.gateway (g.L.OctetSink.held c.args.log.now) (g.W.Wire.calls c.args.wire.now)) c.args.self.now.keeper
+    c.args.self.now.state.served c.args.self.now.state.tally)
+    (moment (scene c.serve_to_tick.new.gateway (g.L.OctetSink.held c.serve_to_tick.new.log) (g.W.Wire.calls c.serve_to_tick.new.wire))
+    c.serve_to_tick.new.guard c.serve_to_tick.new.self.served c.serve_to_tick.new.self.tally) c.serve_to_tick.result c.in-Ok-Tick.field-0
+    pause.Tick c.in-Ok-Tick.is c.in-Ok-Tick.field-0-is c.serve_to_tick.ensures.end))
+
+pub returns-in-Ok-Withheld-clause-advances : goal.returns-in-Ok-Withheld-clause-advances
+returns-in-Ok-Withheld-clause-advances g c = λ config is_config.
+    let end = ends_as g.K.Guard.Passes c.args.turns
+    (moment (scene c.args.self.now.gateway (g.L.OctetSink.held c.args.log.now) (g.W.Wire.calls c.args.wire.now)) c.args.self.now.keeper
+    c.args.self.now.state.served c.args.self.now.state.tally)
+    (moment (scene c.serve_to_tick.new.gateway (g.L.OctetSink.held c.serve_to_tick.new.log) (g.W.Wire.calls c.serve_to_tick.new.wire))
+    c.serve_to_tick.new.guard c.serve_to_tick.new.self.served c.serve_to_tick.new.self.tally) c.serve_to_tick.result c.in-Ok-Withheld.field-0
+    pause.Withheld c.in-Ok-Withheld.is c.in-Ok-Withheld.field-0-is c.serve_to_tick.ensures.end in
+    let notice = notice_of c.args.self.now.told c.notice-self-in-Ok-Withheld.result in (
+      config,
+      notice,
+      is_config,
+      (
+        withheld end.turns end.event notice,
+        record {
+          then = end.then;
+          went = end.went;
+          last = end.last;
+          config = refl;
+          requests = refl;
+          told = c.notice-self-in-Ok-Withheld.ensures.failing;
+          lines = refl;
+        },
+        refl,
+      ),
+      λ never. c.notice-self-in-Ok-Withheld.ensures.text never,
+    )
+
+pub returns-in-Ok-Withheld-clause-more : goal.returns-in-Ok-Withheld-clause-more
+returns-in-Ok-Withheld-clause-more g c = λ some.
+    let old = c.args.self.now in
+    let new = c.serve_to_tick.new in
+    let held = g.L.OctetSink.held in
+    let calls = g.W.Wire.calls in
+    more_withheld g.K.Guard.Passes c.args.turns
+    (moment (scene old.gateway (held c.args.log.now) (calls c.args.wire.now)) old.keeper old.state.served old.state.tally)
+    (moment (scene new.gateway (held new.log) (calls new.wire)) new.guard new.self.served new.self.tally)
+    (ends_as g.K.Guard.Passes c.args.turns
+    (moment (scene c.args.self.now.gateway (g.L.OctetSink.held c.args.log.now) (g.W.Wire.calls c.args.wire.now)) c.args.self.now.keeper
+    c.args.self.now.state.served c.args.self.now.state.tally)
+    (moment (scene c.serve_to_tick.new.gateway (g.L.OctetSink.held c.serve_to_tick.new.log) (g.W.Wire.calls c.serve_to_tick.new.wire))
+    c.serve_to_tick.new.guard c.serve_to_tick.new.self.served c.serve_to_tick.new.self.tally) c.serve_to_tick.result c.in-Ok-Withheld.field-0
+    pause.Withheld c.in-Ok-Withheld.is c.in-Ok-Withheld.field-0-is c.serve_to_tick.ensures.end)

@@ -1,0 +1,118 @@
+//! Reports of a run, each so many seconds and at its end.
+
+ghost use Rattle.std.proofs.Props.{props};
+ghost use Rattle.std.specs.Prelude.{◌≡◌, ◌++◌, ◌-◌, ◌%◌, ◌==◌, ◌<◌, ◌≤◌, IfSome, IsOk, IsTrue, OnOk, decimal, if◌then◌else◌, [], List, ℕ};
+ghost use Rattle.std.specs.Io.KnownBytes.{Appends};
+ghost use Rattle.gw_serving.specs.ReportTurn.{HasGoneOn};
+ghost use Rattle.gw_service.specs.Stats.{due_stats, end_stats, has_gone_on, stats_text, unkept_text};
+
+use crate::keeping::StateKeeper;
+use gw_core::{Counts, Gateway};
+use gw_script::{OctetSink, WriteFailed, write_whole};
+use gw_serving::{ServeState, Served, report_of, tell_report};
+use itoa::Buffer;
+
+/// When a report is due: the counts of the gateway at first, and the seconds from one to the next, if reports are asked for.
+#[derive(Clone, Copy)]
+pub struct Schedule {
+    /// The counts of the gateway at first.
+    pub start: Counts,
+    /// How many seconds lie between two reports.
+    pub seconds: Option<u64>,
+    pub ghost some: { IfSome seconds (λ n. 0 < n) } by { Prim.hlevel props },
+}
+
+/// Writes how often the state couldn't be kept.
+fn write_unkept<E: OctetSink>(unkept: u64, errors: &mut E) -> Result<(), WriteFailed>
+    ensures ok { OnOk result (Appends (E.held errors.old) (E.held errors.new) (unkept_text unkept)) }
+    ensures sure { E.NeverFails errors.old → IsOk result }
+    ensures lasts { E.NeverFails errors.old → E.NeverFails errors.new }
+{
+    write_whole(errors, b"stats unkept=")?;
+    write_whole(errors, Buffer::new().format(unkept).as_bytes())?;
+    write_whole(errors, b"\n")
+}
+
+/// Tells how often the state couldn't be kept.
+fn tell_unkept<E: OctetSink>(unkept: u64, errors: &mut E)
+    ensures told { E.NeverFails errors.old → Appends (E.held errors.old) (E.held errors.new) (unkept_text unkept) }
+    ensures lasts { E.NeverFails errors.old → E.NeverFails errors.new }
+{
+    let _ = write_unkept(unkept, errors);
+}
+
+/// Whether a gateway's counts didn't fall since it began with these, and each tick is an event that was taken. It is always so.
+fn has_gone_on(start: Counts, gateway: &Gateway, served: &Served) -> bool
+    ensures is { result ≡ has_gone_on start gateway.now served.now }
+    ensures means { IsTrue result → HasGoneOn start gateway.now served.now }
+{
+    let now = gateway.counts();
+    start.ticks <= now.ticks
+        && start.denials <= now.denials
+        && now.ticks - start.ticks <= served.taken
+}
+
+/// Tells what was done since a gateway began with these counts.
+fn tell_stats<E: OctetSink>(
+    start: Counts,
+    gateway: &Gateway,
+    state: &ServeState,
+    unkept: u64,
+    errors: &mut E,
+)
+    ensures told { E.NeverFails errors.old → Appends (E.held errors.old) (E.held errors.new)
+        (stats_text start gateway.now state.now.served state.now.tally unkept) }
+    ensures lasts { E.NeverFails errors.old → E.NeverFails errors.new }
+{
+    if has_gone_on(start, gateway, &state.served) {
+        let report = report_of(start, gateway, &state.served, state.tally);
+        tell_report(&report, errors);
+        tell_unkept(unkept, errors);
+    }
+}
+
+/// Whether so many seconds have passed, or a multiple of that.
+fn is_due(start: Counts, gateway: &Gateway, seconds: u64) -> bool
+    requires { 0 < seconds }
+    ensures { result ≡ ((gateway.now.ticks - start.ticks) % seconds == 0) }
+{
+    gateway.counts().ticks.saturating_sub(start.ticks) % seconds == 0
+}
+
+impl Schedule {
+    /// Tells a report at a tick, if one is due.
+    pub(crate) fn tell_due<K: StateKeeper, E: OctetSink>(
+        &self,
+        gateway: &Gateway,
+        state: &ServeState,
+        keeper: &K,
+        errors: &mut E,
+    )
+        ensures told { E.NeverFails errors.old → Appends (E.held errors.old) (E.held errors.new)
+            (due_stats K.unkept self.now.seconds self.now.start keeper.now gateway.now state.now.served state.now.tally) }
+        ensures lasts { E.NeverFails errors.old → E.NeverFails errors.new }
+    {
+        if let Some(seconds) = self.seconds {
+            if is_due(self.start, gateway, seconds) {
+                tell_stats(self.start, gateway, state, keeper.unkept(), errors);
+            }
+        }
+    }
+
+    /// Tells a report at the end, if reports are asked for.
+    pub(crate) fn tell_last<K: StateKeeper, E: OctetSink>(
+        &self,
+        gateway: &Gateway,
+        state: &ServeState,
+        keeper: &K,
+        errors: &mut E,
+    )
+        ensures told { E.NeverFails errors.old → Appends (E.held errors.old) (E.held errors.new)
+            (end_stats K.unkept self.now.seconds self.now.start keeper.now gateway.now state.now.served state.now.tally) }
+        ensures lasts { E.NeverFails errors.old → E.NeverFails errors.new }
+    {
+        if self.seconds.is_some() {
+            tell_stats(self.start, gateway, state, keeper.unkept(), errors);
+        }
+    }
+}
