@@ -17,7 +17,7 @@ use Rattle.gw_serving.specs.declared.serving.Served.{Served}
 use Rattle.gw_system.specs.Requests.{Exchange, GoesOn, answered, asked}
 use Rattle.gw_system.specs.declared.reading.ReadFailure.{ReadFailure}
 use Rattle.gw_service.specs.Chain.{Advances, AreLinks, IsLink, IsLooked, Link, Look, Manner, Runs, Stage, chain_text, link_text, look_text}
-use Rattle.gw_service.specs.Chain.{refused, standing, taken_over}
+use Rattle.gw_service.specs.Chain.{refused, standing, taken_over, unrequested}
 use Rattle.gw_service.specs.Reload.{IsRefused, IsReloaded, refusal_line, reload_line}
 use Rattle.gw_service.specs.declared.reload.Adopted.{Adopted}
 use Rattle.gw_service.specs.declared.reload.ReloadFault.{ReloadFault}
@@ -99,6 +99,13 @@ refused_so manner c w k read fault first middle last line is asks answers is_lin
   requests = subst (λ (t : List ℕ). GoesOn first last (asked read ∷ answered t ∷ [])) is_line
       (goes_two first middle last (asked read) (answered line) asks answers);
 }
+
+-- what is told of a request is the same with any keeper
+pub same_text : {K : Type 0} (c : Configuration) (w : State) (k l : K) (q : Option (List Exchange)) (look : Look)
+    → look_text c (standing w k q) look ≡ look_text c (standing w l q) look
+same_text c w k l q unrequested = refl
+same_text c w k l q (refused text f) = refl
+same_text c w k l q (taken_over text new) = refl
 
 -- ---- how a stretch ended
 

@@ -3,6 +3,7 @@ use Rattle.std.proofs.Common.{◌≡◌, ◌∙◌, ℕ, List, [], ◌++◌, Opt
 use Rattle.std.specs.Io.KnownBytes.{Appends, append_known}
 use Rattle.gw_configuration.specs.Configuration.{Configuration}
 use Rattle.gw_core.specs.State.{State}
+use Rattle.gw_core.specs.declared.event.Counts.{Counts}
 use Rattle.gw_saved.specs.Saved.{Origin, origin_of}
 use Rattle.gw_serving.specs.Serve.{Scene, scene, zero_counts}
 use Rattle.gw_serving.specs.Stretch.{Moment, moment}
@@ -37,21 +38,26 @@ runs_from how count c now k s z t n q r f e answer links last served tally reque
     (subst (λ (x : Option (List Exchange)). Runs how count (stage c (moment now k s t) x e) answer links last) requests
     (subst (λ (x : Option StoreFault). Runs how count (stage c (moment now k s t) q x) answer links last) told runs)))
 
+-- the counts of a gateway, one by one
+pub same_counts : (k : Counts) (w : State) → k.ticks ≡ w.ticks → k.denials ≡ w.denials → k ≡ counts_of w
+same_counts k w ticks denials =
+    ap (λ (n : ℕ). record k { ticks = n }) ticks ∙ ap (λ (n : ℕ). record k { ticks = w.ticks; denials = n }) denials
+
 -- A gateway that began so ran so.
-pub ran_kept : {S Q : Type 0} (given : Given S Q) (c : Configuration) (how : Service) (w : State) (k : Kept S) (s : Served) (t : Tally)
+pub ran_kept : {S Q : Type 0} (given : Given S Q) (c : Configuration) (how : Service) (start : Counts) (w : State) (k : Kept S) (s : Served) (t : Tally)
     (q : Option (List Exchange)) (f told : Option StoreFault) (before after : Ends) (answer : Result (Unit {0}) ServeFault)
     (outcome : Result (Unit {0}) ServiceFault) (o p : Origin) (last : Configuration → Stage (Kept S)) (Never Then : Type 0)
-    (held middle third holds : Option (List ℕ)) → BeginsAs c given.saved given.line w → KeepsFirst given.held given.store c w k
+    (held middle third holds : Option (List ℕ)) → start ≡ counts_of w → BeginsAs c given.saved given.line w → KeepsFirst given.held given.store c w k
     → s ≡ zero_counts → t ≡ no_tally → q ≡ told_by given.told given.requests → f ≡ failing_in k → told ≡ None → o ≡ origin_of c
-    → Ran (manner_of given.held how.stats (counts_of w)) how.turns o
+    → Ran (manner_of given.held how.stats start) how.turns o
     (λ (d : Configuration). stage d (moment (scene w before.log before.calls) k s t) q f) answer p last Then middle third
     → outcome ≡ outcome_by answer → ((d : Configuration) → (last d).now.scene.log ≡ after.log)
     → ((d : Configuration) → (last d).now.scene.calls ≡ after.calls)
     → (Never → Appends held middle (notice_of told f)) → (Never → Then)
-    → ((d : Configuration) → Never → Appends third holds (end_stats unkept_in how.stats (counts_of w) (last d).now.guard
+    → ((d : Configuration) → Never → Appends third holds (end_stats unkept_in how.stats start (last d).now.guard
     (last d).now.scene.gateway (last d).now.served (last d).now.tally))
     → (text : List ℕ) × LeavesKept given c how before after text outcome × (Never → Appends held holds text)
-ran_kept {S} given c how w k s t q f told before after answer outcome o p last Never Then held middle third holds begins keeps served tally requests
+ran_kept {S} given c how start w k s t q f told before after answer outcome o p last Never Then held middle third holds is_start begins keeps served tally requests
     failing untold origin ran answers log calls noticed lasts reported =
     let led = ran c origin in
     let notice = notice_of None (failing_in k) in
@@ -69,7 +75,9 @@ ran_kept {S} given c how w k s t q f told before after answer outcome o p last N
         links = led.1;
         last = last led.0;
         runs = runs_from (manner_of given.held how.stats (counts_of w)) how.turns c (scene w before.log before.calls) k s zero_counts t no_tally q
-            (told_by given.told given.requests) f (failing_in k) answer led.1 (last led.0) served tally requests failing led.3;
+            (told_by given.told given.requests) f (failing_in k) answer led.1 (last led.0) served tally requests failing
+            (subst (λ (x : Counts). Runs (manner_of given.held how.stats x) how.turns
+            (stage c (moment (scene w before.log before.calls) k s t) q f) answer led.1 (last led.0)) is_start led.3);
         log = log led.0;
         calls = calls led.0;
         answers = answers;
@@ -77,7 +85,9 @@ ran_kept {S} given c how w k s t q f told before after answer outcome o p last N
       }),
       λ never. appends_two held third holds (notice ++ chain_text led.1) report
           (appends_two held middle third notice (chain_text led.1)
-          (subst (λ (x : List ℕ). Appends held middle x) same (noticed never)) (led.4 (lasts never))) (reported led.0 never),
+          (subst (λ (x : List ℕ). Appends held middle x) same (noticed never)) (led.4 (lasts never)))
+          (subst (λ (x : Counts). Appends third holds (end_stats unkept_in how.stats x now.guard now.scene.gateway now.served now.tally)) is_start
+          (reported led.0 never)),
     )
 
 -- nothing ran where there was no memory to begin

@@ -2,3 +2,4 @@ mod AnnouncementLemmas
 mod ChainLemmas
 mod KeptLemmas
 pub mod ServingLemmas
+mod StatsLemmas

@@ -1,5 +1,5 @@
 -- What a run leaves that keeps its state or reads its configuration again.
-use Rattle.std.specs.Prelude.{◌≡◌, ◌⊎◌, ⊤, ℕ, Bool, List, [], ◌++◌, Option, Some, None, Result, Ok, Err, option_map, string_bytes}
+use Rattle.std.specs.Prelude.{◌≡◌, ◌⊎◌, ⊤, ℕ, ◌&&◌, Bool, true, false, is_some, not, List, [], ◌++◌, Option, Some, None, Result, Ok, Err, option_map, string_bytes}
 use Rattle.std.specs.Global.{Vec}
 use Rattle.gw_configuration.specs.Configuration.{Configuration}
 use Rattle.gw_core.specs.State.{State}
@@ -202,13 +202,20 @@ pub record IsPrepared {S Q : Type 0} (machine : StateMachine S Q) (names : Names
   pub store : IsStoreUnder machine.StoreOpens names.state (Ok before.store)
   pub requests : AreRequestsUnder machine.ReloadsOpen names.reload names.config before.requests
 
+-- Why it couldn't be: the state can't be read, or isn't one; the last line of the log can't be read; the store can't be opened; or
+-- memory ran out.
+abbrev pub IsUnprepared : {S Q : Type 0} → StateMachine S Q → Names → ServiceFault → Type 0
+IsUnprepared machine names f =
+    IsStateUnder machine.FileReads names.state (Err f) ⊎ (IsLastLine machine.LastLines names.state names.log (Err f)
+    ⊎ (IsStoreUnder machine.StoreOpens names.state (Err f) ⊎ (f ≡ fault.Memory)))
+
 -- What such a run leaves under a configuration: its state or its log's last line can't be had, and nothing is opened; not all can
 -- be opened, and why may be written; or all was opened, this line, a warning of the machine and what is due of the state were
 -- written, and then it ran and was closed.
 pub data LeavesWithState {Log Sockets S Q : Type 0} (machine : Machine Log Sockets) (states : StateMachine S Q) (names : Names)
     (held holds : Option (List ℕ)) (c : Configuration) (how : Service) (is_verbose : Bool) (line told : List ℕ)
     (outcome : Result (Unit {0}) ServiceFault) : Type 0 where
-  unprepared : (f : ServiceFault) → outcome ≡ Err f → holds ≡ held → told ≡ [] →
+  unprepared : (f : ServiceFault) → IsUnprepared states names f → outcome ≡ Err f → holds ≡ held → told ≡ [] →
       LeavesWithState machine states names held holds c how is_verbose line told outcome
   unopened : (failure : OpenFailure) → ArentOpen machine.LogOpens (machine.SocketsOpen c.ports) names.log held holds failure →
       outcome ≡ Err (fault_of_opening failure) → IsNote is_verbose failure told →
@@ -222,10 +229,14 @@ pub data LeavesWithState {Log Sockets S Q : Type 0} (machine : Machine Log Socke
       IsWarning machine.RoutesIp is_verbose warning → told ≡ ((line ++ warning) ++ before.text.items) ++ text →
       LeavesWithState machine states names held holds c how is_verbose line told outcome
 
--- what a run leaves, by whether it keeps a state or may read its configuration again
-abbrev pub LeavesBy : (state reload : Option (List ℕ)) → (Plain Stated : Type 0) → Type 0
-LeavesBy None None Plain Stated = Plain
-LeavesBy _ _ Plain Stated = Stated
+-- neither a state nor a request file is named
+abbrev pub is_plain : RunOptions → Bool
+is_plain options = not (is_some options.state) && not (is_some options.reload)
+
+-- what a run leaves, by whether that is so
+abbrev pub LeavesBy : Bool → (Plain Stated : Type 0) → Type 0
+LeavesBy true Plain Stated = Plain
+LeavesBy false Plain Stated = Stated
 
 -- what a machine may give to any run
 pub record WholeMachine (Log Sockets S Q : Type 0) : Type 1 where
@@ -242,6 +253,6 @@ abbrev pub LeavesService : {Log Sockets S Q : Type 0} → WholeMachine Log Socke
 LeavesService whole options held holds c told outcome =
     let name = option_map string_bytes options.log in
     let line = startup_line options.verbose c name in
-    LeavesBy (option_map string_bytes options.state) (option_map string_bytes options.reload)
+    LeavesBy (is_plain options)
     (LeavesServed whole.machine name held holds c (service options.turns options.stats) options.verbose line told outcome)
     (LeavesWithState whole.machine whole.states (names_of options) held holds c (service options.turns options.stats) options.verbose line told outcome)

@@ -13,7 +13,7 @@ has_gone_on start w s =
 
 -- how often the state couldn't be kept
 abbrev pub unkept_text : ℕ → List ℕ
-unkept_text unkept = codes "stats unkept=" ++ (decimal unkept ++ codes "\n")
+unkept_text unkept = codes "stats unkept=" ++ (decimal unkept ++ 10 ∷ [])
 
 -- a report of what was done since the gateway began with these counts
 abbrev pub stats_text : Counts → State → Served → Tally → ℕ → List ℕ

@@ -1,6 +1,6 @@
 //! A run that keeps its state, or reads its configuration again.
 
-ghost use Rattle.std.specs.Prelude.{◌≡◌, ◌<◌, ◌^◌, ℕ, List, None, Ok, [], option_map, string_bytes, IfOk, OnOk};
+ghost use Rattle.std.specs.Prelude.{◌≡◌, ◌<◌, ◌^◌, ℕ, List, None, Ok, [], option_map, string_bytes, IfErr, IfOk, OnOk};
 ghost use Rattle.std.specs.Io.Buffered.{writer_buffer, writer_contents};
 ghost use Rattle.std.specs.Io.KnownBytes.{Appends};
 ghost use Rattle.gw_configuration.specs.Configuration.{Configuration};
@@ -8,7 +8,7 @@ ghost use Rattle.gw_saved.specs.Saved.{origin_of};
 ghost use Rattle.gw_serving.specs.Serve.{zero_counts};
 ghost use Rattle.gw_serving.specs.Stretch.{CanCount};
 ghost use Rattle.gw_serving.specs.Tally.{no_tally};
-ghost use Rattle.gw_service.specs.Kept.{AreRequestsUnder, IsLastLine, IsStateUnder, IsStoreUnder, KeepsFirst, LeavesKept, LeavesWithState, given, line_read, names_of, outcome_by, state_machine, text_before};
+ghost use Rattle.gw_service.specs.Kept.{AreRequestsUnder, IsLastLine, IsStateUnder, IsStoreUnder, IsUnprepared, KeepsFirst, LeavesKept, LeavesWithState, given, line_read, names_of, outcome_by, state_machine, text_before};
 ghost use Rattle.gw_service.specs.Announcement.{startup_line};
 ghost use Rattle.gw_service.specs.Serving.{IsFlushedFor, LogStays, ends, log_held, machine, service};
 ghost use Rattle.gw_service.specs.Start.{BeginsAs};
@@ -19,8 +19,8 @@ use crate::fault::ServiceFault;
 use crate::keeping::{Kept, StateKeeper};
 use crate::running::Running;
 use crate::serving::{Opening, open};
-use crate::stats::Schedule;
 use crate::start::{MAX_STATE_OCTETS, begin_after, saved_in, start_text};
+use crate::stats::Schedule;
 use crate::telling::tell;
 use gw_command_line::RunOptions;
 use gw_configuration::Config;
@@ -149,12 +149,27 @@ pub(crate) fn prepare<H: Host>(
         IsStoreUnder (H.StoreOpens host.now) (option_map string_bytes options.now.state) (Ok before.store)) }
     ensures requests { IfOk result (λ before. AreRequestsUnder (H.ReloadsOpen host.now)
         (option_map string_bytes options.now.reload) (string_bytes options.now.config) before.requests) }
+    ensures fault { IfErr result (IsUnprepared (state_machine (H.FileReads host.now) (H.LastLines host.now)
+        (H.StoreOpens host.now) (H.ReloadsOpen host.now) H.StateStore.held H.Reloads.told) (names_of options.now)) }
 {
-    let saved = saved_under(alloc, &options.state, host)?;
-    let line = last_line(alloc, options, host)?;
-    let text = text_of(alloc, options, config, &saved)?;
-    let store = store_under(alloc, &options.state, host)?;
-    let requests = requests_under(alloc, options, host)?;
+    let saved = match saved_under(alloc, &options.state, host) {
+        Ok(saved) => saved,
+        Err(fault) => return Err(fault),
+    };
+    let line = match last_line(alloc, options, host) {
+        Ok(line) => line,
+        Err(fault) => return Err(fault),
+    };
+    let store = match store_under(alloc, &options.state, host) {
+        Ok(store) => store,
+        Err(fault) => return Err(fault),
+    };
+    let Ok(text) = text_of(alloc, options, config, &saved) else {
+        return Err(ServiceFault::Memory);
+    };
+    let Ok(requests) = requests_under(alloc, options, host) else {
+        return Err(ServiceFault::Memory);
+    };
     Ok(Before {
         saved,
         line,
@@ -256,7 +271,14 @@ fn run_on<S: Store + Drop, Q: Requests + Drop, X: Wire, L: OctetSink, E: OctetSi
 }
 
 /// Runs on what is open. Each event's lines are written to standard output at once if the log is there.
-fn run_open<S: Store + Drop, Q: Requests + Drop, X: Wire, L: OctetSink, W: Write + Drop, E: OctetSink>(
+fn run_open<
+    S: Store + Drop,
+    Q: Requests + Drop,
+    X: Wire,
+    L: OctetSink,
+    W: Write + Drop,
+    E: OctetSink,
+>(
     alloc: Global,
     config: Config,
     before: Before<S, Q>,

@@ -17,9 +17,9 @@ mod stats;
 mod telling;
 
 pub use fault::ServiceFault;
+pub use gw_command_line::RunOptions;
 pub use keeping::StateKeeper;
 pub use line::name_of;
-pub use gw_command_line::RunOptions;
 pub use reload::{Adopted, ReloadFault, reloaded};
 pub use running::Running;
 pub use serving::{serve_fresh, serve_ports};

@@ -173,7 +173,10 @@ impl<K: StateKeeper, Q: Requests> Running<K, Q> {
         ensures lasts { E.NeverFails errors.old → E.NeverFails errors.new }
     {
         let keeper = &mut self.keeper;
-        match self.state.serve_to_tick(alloc, &mut self.gateway, wire, log, keeper, turns) {
+        match self
+            .state
+            .serve_to_tick(alloc, &mut self.gateway, wire, log, keeper, turns)
+        {
             Ok(Pause::Turns) => {}
             Ok(Pause::Tick) => {
                 self.at_tick(alloc, errors);

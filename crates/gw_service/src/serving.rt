@@ -11,14 +11,14 @@ ghost use Rattle.gw_core.specs.Replay.{no_counts};
 ghost use Rattle.gw_serving.specs.Serve.{scene};
 ghost use Rattle.gw_service.specs.Announcement.{startup_line};
 ghost use Rattle.gw_system.specs.Host.{OpensAtLine};
-ghost use Rattle.gw_service.specs.Kept.{LeavesService, state_machine, whole_machine};
+ghost use Rattle.gw_service.specs.Kept.{LeavesService, is_plain, state_machine, whole_machine};
 ghost use Rattle.gw_service.specs.Serving.{AreOpen, ArentOpen, IsFlushedFor, LeavesServed, LogIsOpen, LogIsShut, LogStays, Serves, ServesFrom, ends, log_held, machine, outcome_of, service};
 ghost use Rattle.gw_service.specs.declared.fault.ServiceFault.TheVariants as fault;
 
 use crate::announcement::{startup_line, warning_of};
-use crate::telling::tell;
 use crate::fault::ServiceFault;
 use crate::kept::serve_kept;
+use crate::telling::tell;
 use gw_command_line::RunOptions;
 use gw_configuration::Config;
 use gw_core::{Counts, Gateway};
@@ -273,6 +273,13 @@ fn serve_plain<H: Host, W: Write + Drop, E: OctetSink>(
     }
 }
 
+/// Whether the options name neither a state nor a request file.
+fn is_plain(options: &RunOptions) -> bool
+    ensures { result ≡ is_plain options.now }
+{
+    !options.state.is_some() && !options.reload.is_some()
+}
+
 /// Serves the ports of a configuration as the options ask. If they ask for more it writes at the start what is
 /// served and whether the machine routes IP past the gateway, or why sockets can't be opened. If they name a state it begins with
 /// that, and keeps it; if they name a request it reads the configuration again when it is asked to.
@@ -300,8 +307,9 @@ pub fn serve_ports<H: Host, W: Write + Drop, E: OctetSink>(
     ensures flush { OnOk result (IsFlushedFor (option_map string_bytes options.now.log)
         (writer_buffer output.old) (writer_buffer output.new)) }
 {
-    match (&options.state, &options.reload) {
-        (None, None) => serve_plain(alloc, config, options, host, output, errors),
-        _ => serve_kept(alloc, config, options, host, output, errors),
+    if is_plain(options) {
+        serve_plain(alloc, config, options, host, output, errors)
+    } else {
+        serve_kept(alloc, config, options, host, output, errors)
     }
 }

@@ -10,7 +10,7 @@ use Rattle.gw_service.specs.Kept.{LeavesKept, given}
 use Rattle.gw_service.specs.Serving.{ends, service}
 use Rattle.gw_service.specs.declared.fault.ServiceFault.{ServiceFault}
 use Rattle.gw_service.specs.declared.fault.ServiceFault.TheVariants as fault
-use Rattle.gw_service.proofs.KeptLemmas.{ran_kept, unbegun}
+use Rattle.gw_service.proofs.KeptLemmas.{ran_kept, same_counts, unbegun}
 use Rattle.gw_service.proofs.kept.run_on.Goals as goal
 
 pub returns-in_err-running-clause-ran : goal.returns-in_err-running-clause-ran
@@ -33,7 +33,7 @@ returns-clause-ran g c =
     let never = g.E.OctetSink.NeverFails in
     let told = told_by g.Q.Requests.told in
     ran_kept (given g.S.Store.held g.Q.Requests.told c.args.before) c.args.config (service c.args.options.now.turns c.args.options.now.stats)
-    run.gateway run.keeper run.state.served run.state.tally (told run.requests) c.notice-running.result run.told
+    c.counts.result run.gateway run.keeper run.state.served run.state.tally (told run.requests) c.notice-running.result run.told
     (ends (g.L.OctetSink.held c.args.log.now) (g.X.Wire.calls c.args.sockets.now))
     (ends (g.L.OctetSink.held c.serve-answer.new.log) (g.X.Wire.calls c.serve-answer.new.wire)) c.serve-answer.result c.outcome_of.result
     run.origin new.origin
@@ -41,7 +41,8 @@ returns-clause-ran g c =
     (moment (scene new.gateway (g.L.OctetSink.held c.serve-answer.new.log) (g.X.Wire.calls c.serve-answer.new.wire))
     new.keeper new.state.served new.state.tally) (told new.requests) new.told)
     (never c.args.errors.now) (never c.notice-running.new.errors) (held c.args.errors.now) (held c.notice-running.new.errors)
-    (held c.serve-answer.new.errors) (held c.tell_last.new.errors) is.begins is.keeps is.served is.tally (ap told is.requests)
+    (held c.serve-answer.new.errors) (held c.tell_last.new.errors)
+    (same_counts c.counts.result run.gateway c.counts.ensures.ticks c.counts.ensures.denials) is.begins is.keeps is.served is.tally (ap told is.requests)
     c.notice-running.ensures.failing is.told is.origin c.serve-answer.ensures.runs c.outcome_of.ensures (λ d. refl) (λ d. refl)
     c.notice-running.ensures.text c.notice-running.ensures.lasts
     (λ d is_never. c.tell_last.ensures.told (c.serve-answer.ensures.lasts (c.notice-running.ensures.lasts is_never)))

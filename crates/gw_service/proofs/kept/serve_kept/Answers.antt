@@ -1,36 +1,51 @@
-use Rattle.std.proofs.Common.{List, ◌++◌, ◌∙◌, ap, Err, refl, subst, ℕ}
+use Rattle.std.proofs.Common.{List, [], ◌++◌, ap, Err, refl, subst, ℕ}
 use Rattle.std.specs.Io.Buffered.{writer_contents}
 use Rattle.std.specs.Io.KnownBytes.{Appends}
 use Rattle.gw_service.specs.Kept.{ran, unopened, unprepared}
 use Rattle.gw_service.proofs.ServingLemmas.{appends_nothing, appends_two}
 use Rattle.gw_service.proofs.kept.serve_kept.Goals as goal
 
-pub returns-in-Ok-clause-served : goal.returns-in-Ok-clause-served
-returns-in-Ok-clause-served g c =
-    let before = c.in-Ok-before.before in
-    let is = c.in-Ok-before.ensures in
-    let line = c.in-Ok.field-0.line.items in
+pub returns-in-Ok-open-clause-served : goal.returns-in-Ok-open-clause-served
+returns-in-Ok-open-clause-served g c =
+    let before = c.in-Ok.before in
+    let is = c.in-Ok.ensures in
+    let line = c.in-Ok-open.field-0.line.items in
     let warning = c.warning_of.result.now in
     let text = before.text.items in
     let done = c.run_open-outcome.ensures.ran in
     let held = g.E.OctetSink.held in
     let first = held c.args.errors.now in
     let second = held c.tell.new.errors in
-    let third = held c.tell-in-Ok.new.errors in
-    let fourth = held c.tell-in-Ok-2.new.errors in (
+    let third = held c.tell-in-Ok-open.new.errors in
+    let fourth = held c.tell-in-Ok-open-2.new.errors in (
       ((line ++ warning) ++ text) ++ done.0,
-      ran before c.in-Ok.field-0.log c.run_open-outcome.new.log c.in-Ok.field-0.sockets c.run_open-outcome.new.sockets
+      ran before c.in-Ok-open.field-0.log c.run_open-outcome.new.log c.in-Ok-open.field-0.sockets c.run_open-outcome.new.sockets
           (writer_contents g.W.Write.contents c.open.new.output) warning done.0
           (record { saved = is.saved; line = is.line; text = is.text; store = is.store; requests = is.requests })
-          c.in-Ok.ensures.open c.close.ensures c.run_open-outcome.ensures.log done.1 c.warning_of.ensures
-          (ap (λ (l : List ℕ). ((l ++ warning) ++ text) ++ done.0) c.in-Ok.ensures.line),
+          c.in-Ok-open.ensures.open c.close.ensures c.run_open-outcome.ensures.log done.1 c.warning_of.ensures
+          (ap (λ (l : List ℕ). ((l ++ warning) ++ text) ++ done.0) c.in-Ok-open.ensures.line),
       λ never.
           let one = c.tell.ensures.lasts never in
-          let two = c.tell-in-Ok.ensures.lasts one in
+          let two = c.tell-in-Ok-open.ensures.lasts one in
           appends_two first fourth (held c.run_open-outcome.new.errors) ((line ++ warning) ++ text) done.0
           (appends_two first third fourth (line ++ warning) text
           (appends_two first second third line warning
-          (subst (λ (t : List ℕ). Appends first second t) c.deref.ensures.value (c.tell.ensures.told never)) (c.tell-in-Ok.ensures.told one))
-          (subst (λ (t : List ℕ). Appends third fourth t) c.deref-in-Ok.ensures.value (c.tell-in-Ok-2.ensures.told two)))
-          (done.2 (c.tell-in-Ok-2.ensures.lasts two)),
+          (subst (λ (t : List ℕ). Appends first second t) c.deref.ensures.value (c.tell.ensures.told never)) (c.tell-in-Ok-open.ensures.told one))
+          (subst (λ (t : List ℕ). Appends third fourth t) c.deref-in-Ok-open.ensures.value (c.tell-in-Ok-open-2.ensures.told two)))
+          (done.2 (c.tell-in-Ok-open-2.ensures.lasts two)),
     )
+
+pub returns-in-Err-clause-served : goal.returns-in-Err-clause-served
+returns-in-Err-clause-served g c = (
+  [],
+  unprepared c.in-Err.fault c.in-Err.ensures.fault refl refl refl,
+  λ never. appends_nothing (g.E.OctetSink.held c.args.errors.now),
+)
+
+pub returns-in-Err-open-clause-served : goal.returns-in-Err-open-clause-served
+returns-in-Err-open-clause-served g c = (
+  c.note_of-note.result.items,
+  unopened c.in-Err-open.failure c.in-Err-open.ensures.open (ap Err c.from.ensures) c.note_of-note.ensures,
+  λ never. subst (λ (text : List ℕ). Appends (g.E.OctetSink.held c.args.errors.now) (g.E.OctetSink.held c.tell-in-Err-open.new.errors) text)
+      c.deref-in-Err-open.ensures.value (c.tell-in-Err-open.ensures.told never),
+)
