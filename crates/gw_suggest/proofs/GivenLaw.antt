@@ -18,6 +18,7 @@ adds_known asks ask has test = by (test ask) refl
     absorbed : (b : Bool) → b ≡ true → b ≡ (b || true)
     absorbed true e = refl
     absorbed false e = e
+
     by : (b : Bool) → test ask ≡ b → list_any test asks ≡ (list_any test asks || test ask)
     by true e = absorbed (list_any test asks) (has test e) ∙ sym (ap (λ b. list_any test asks || b) e)
     by false e = sym (ap (λ b. list_any test asks || b) e ∙ or_none (list_any test asks))

@@ -2,7 +2,9 @@
 use Rattle.std.proofs.Common.{◌≡◌, ◌∙◌, sym, ap, refl, subst, ℕ, zero, suc, ◌+◌, ◌<◌, ◌≤◌, Bool, true, false, ◌&&◌, ◌||◌, List, [], ◌∷◌, ◌++◌, append_assoc, arith, drop, get_or, length, take, set, Option, Some, None, ◌==◌}
 use Rattle.std.specs.List.{list_all, list_any}
 use Rattle.std.proofs.lemmas.Bool.{eqb-true, false_from_ne_true}
-use Rattle.std.proofs.lemmas.List.{length-append, length-drop, length-take}
+use Rattle.std.proofs.lemmas.List.{length-append, length-drop, length-take, take-append-drop}
+use Rattle.std.specs.Option.{IfSome}
+use Rattle.std.proofs.lemmas.List.Folds.{list_any_more}
 use Rattle.std.proofs.lemmas.List.Folds.{list_any-append}
 use Rattle.gw_rules.specs.Ask.{Ask}
 use Rattle.gw_rules.specs.Fields.{value_of, with_value}
@@ -180,3 +182,35 @@ pub cut_ends : (r : Group) (done new : List Group) (ask : Ask) (b : Bool) → ne
     → (covered done ask || covers r ask) ≡ b → covered new ask ≡ b
 cut_ends r done new ask b grown so_far =
     ap (λ (gs : List Group). covered gs ask) grown ∙ any_pushed (λ g. covers g ask) done r ∙ so_far
+
+-- ---- steps
+
+pub alike_trans : (one two three : List Group) → CoverAlike one two → CoverAlike two three → CoverAlike one three
+alike_trans one two three a b ask = b ask ∙ a ask
+
+-- what is said of an option's item
+pub some_weaker : {A : Type 0} (P Q : A → Type 0) (o : Option A) → ((x : A) → P x → Q x) → IfSome o P → IfSome o Q
+some_weaker P Q None to is = tt
+some_weaker P Q (Some x) to is = to x is
+
+pub some_of : {A : Type 0} (P : A → Type 0) (o : Option A) (x : A) → o ≡ Some x → IfSome o P → P x
+some_of P o x e is = subst (λ (q : Option _). IfSome q P) e is
+
+-- one taken up more
+pub covered_step : (groups : List Group) (place : ℕ) (item : Group) (done new : List Group) (ask : Ask) → place < length groups
+    → covered new ask ≡ (covered done ask || covers item ask) → get_or groups place item ≡ item
+    → covered done ask ≡ covered (take place groups) ask → covered new ask ≡ covered (take (place + 1) groups) ask
+covered_step groups place item done new ask within grown is so_far =
+    grown ∙ ap (λ b. b || covers item ask) so_far
+    ∙ ap (λ (g : Group). covered (take place groups) ask || covers g ask) (sym is)
+    ∙ sym (list_any_more (λ g. covers g ask) groups place item within)
+
+-- one is put, since it isn't made one with another
+pub put_last : (old now new : List Group) (made group : Group) (ask : Ask) (is_joined : Bool) → is_joined ≡ false
+    → covered now ask ≡ (covered old ask || (is_joined && covers group ask)) → new ≡ now ++ made ∷ [] → made ≡ group
+    → covered new ask ≡ (covered old ask || covers group ask)
+put_last old now new made group ask is_joined e kept grown is =
+    ap (λ (gs : List Group). covered gs ask) grown
+    ∙ any_pushed (λ g. covers g ask) now made
+    ∙ ap (λ b. b || covers made ask) (kept ∙ ap (λ b. covered old ask || (b && covers group ask)) e ∙ or_none (covered old ask))
+    ∙ ap (λ (g : Group). covered old ask || covers g ask) is

@@ -7,12 +7,14 @@ use Rattle.std.proofs.lemmas.Grind.{flat_map-append}
 use Rattle.std.proofs.lemmas.List.{append-nil}
 use Rattle.std.proofs.lemmas.List.Elements.{filter-append}
 use Rattle.std.proofs.lemmas.List.Folds.{list_any-append}
+use Rattle.gw_audit.specs.Entry.{TellsAsk}
+use Rattle.gw_audit.specs.declared.entry.ShownAsk.{ShownAsk}
 use Rattle.gw_rules.specs.Ask.{Ask}
 use Rattle.gw_rules.specs.RuleList.{allows}
 use Rattle.gw_rules.specs.declared.rule.Rule.{Rule}
 use Rattle.gw_script.specs.Script.{lines_of}
 use Rattle.gw_suggest.specs.Given.{AddsAll, denied}
-use Rattle.gw_suggest.specs.Lines.{AreSeen, AreTold, IsTaken, IsTold, TakesNext, asks_in}
+use Rattle.gw_suggest.specs.Lines.{AreSeen, AreTold, IsTaken, IsTold, TakesNext, asks_in, words_of}
 
 told_more : (lines : List (List ℕ)) (told : List (Option Ask)) (line : List ℕ) (ask : Option Ask) → AreTold lines told → IsTold line ask
     → AreTold (lines ++ line ∷ []) (told ++ ask ∷ [])
@@ -78,3 +80,10 @@ ends rules log left new before after so_far step =
     subst (λ (asks : List Ask). AreSeen rules (lines_of log) asks) (sym last.1)
     (subst (λ (ls : List (List ℕ)). AreSeen rules ls before)
     (sym (so_far.lines ∙ ap (λ (ls : List (List ℕ)). so_far.done ++ ls) last.0 ∙ append-nil so_far.done)) so_far.seen)
+
+-- what no ask is read of tells none
+pub tells_none : (line words : List ℕ) → words ≡ words_of line → ((ask : ShownAsk) → TellsAsk words ask → None ≡ Some ask) → IsTold line None
+tells_none line words is only shown tells = never (only shown (subst (λ (text : List ℕ). TellsAsk text shown) (sym is) tells))
+  where
+    never : ◌≡◌ {A = Option ShownAsk} None (Some shown) → ⊥
+    never e = absurd (cc)

@@ -1,10 +1,10 @@
 -- What is allowed with suggested rules in front.
-use Rattle.std.proofs.Common.{◌≡◌, ◌≢◌, ◌∙◌, sym, ap, refl, subst, ℕ, ◌≤◌, Bool, true, false, ◌&&◌, ◌||◌, List, [], ◌∷◌, ◌++◌, Option, Some, None, nat_le, length, arith}
+use Rattle.std.proofs.Common.{◌≡◌, ◌≢◌, ◌∙◌, sym, ap, refl, subst, ℕ, ◌≤◌, Bool, true, false, ◌&&◌, ◌||◌, List, [], ◌∷◌, ◌++◌, Option, Some, None, nat_le, length, arith, ◌+◌, ◌<◌, get_or, take}
 use Rattle.std.specs.Prelude.{Any, not, if◌then◌else◌, nat_eq, ◌==◌}
 use Rattle.std.specs.List.{Contains, flat_map, list_all, list_any}
 use Rattle.std.specs.Option.{option_eq}
 use Rattle.std.proofs.lemmas.Bool.{and_parts, and_from, both_ways, eq-eqb, leb-true, le-leb}
-use Rattle.std.proofs.lemmas.List.Folds.{Any-from_list_any, list_any-append, list_any_at}
+use Rattle.std.proofs.lemmas.List.Folds.{Any-from_list_any, list_any-append, list_any_at, list_any_more}
 use Rattle.gw_rules.specs.Ask.{Ask}
 use Rattle.gw_rules.specs.Fields.{value_of}
 use Rattle.gw_rules.specs.Range.{admits}
@@ -16,9 +16,10 @@ use Rattle.gw_rules.specs.declared.rule.Rule.{Rule}
 use Rattle.gw_rules.proofs.EachField.{each_field_at, each_field_from}
 use Rattle.gw_regions.specs.Deciding.{decided}
 use Rattle.gw_regions.proofs.AllowsLaw.{decided_allows}
-use Rattle.gw_suggest.specs.Given.{akin, filled, filled_from, of_both}
+use Rattle.gw_suggest.specs.Given.{HaveSame, akin, filled, filled_from, of_both}
 use Rattle.gw_suggest.specs.Laws.{AllowsEach, AllowsNoOther, AllowsWhatMatches, FillsNoOther, HasValuesOf}
-use Rattle.gw_suggest.specs.Own.{Group, covers, is_reading, own_ranges, own_rule, own_service, own_values}
+use Rattle.gw_suggest.specs.Own.{Group, covered, covers, is_reading, own_ranges, own_rule, own_service, own_values}
+use Rattle.gw_suggest.proofs.GroupLaw.{any_pushed}
 use Rattle.gw_suggest.specs.Suggestion.{IsSuggestion, matched, matched_own, wanted}
 use Rattle.gw_suggest.specs.declared.suggestion.Manner.{Manner}
 
@@ -54,9 +55,6 @@ own_admits (Some n) = by (nat_le n n) (le-leb n n (omega arith))
     by : (b : Bool) → b ≡ true → ((b && b) || false) ≡ true
     by true e = refl
     by false e = e
-
-none_admits : (value : Option ℕ) → admits [] value ≡ true
-none_admits value = refl
 
 service_admits : (keeps : Bool) (ask : Ask) → admits (own_service keeps ask) ask.service ≡ true
 service_admits keeps ask = by (keeps || not (is_reading ask))
@@ -223,3 +221,62 @@ allows_each manner asks suggested old ask is there =
     allows_what_matches keeps (wanted manner asks) suggested old ask is
     ∙ ap (λ b. b || allows old ask)
     (is.exact ask ∙ wanted_passes manner manner.fills (λ given. matches (own_rule keeps given) ask) asks ask refl there (own_matches keeps ask))
+
+-- ---- what is wanted
+
+pub wants_more : (manner : Manner) (asks more : List Ask) (rules : List Rule) → manner.fills ≡ true → HaveSame more (filled asks)
+    → IsSuggestion manner.keeps_services more rules → IsSuggestion manner.keeps_services (wanted manner asks) rules
+wants_more manner asks more rules e same is =
+    subst (λ (b : Bool). IsSuggestion manner.keeps_services (if b then filled asks else asks) rules) (sym e) (
+    record {
+      exact = λ ask. is.exact ask ∙ same (λ given. matches (own_rule manner.keeps_services given) ask);
+      allow = is.allow;
+    }
+    )
+
+pub wants_these : (manner : Manner) (asks : List Ask) (rules : List Rule) → manner.fills ≡ false
+    → IsSuggestion manner.keeps_services asks rules → IsSuggestion manner.keeps_services (wanted manner asks) rules
+wants_these manner asks rules e is =
+    subst (λ (b : Bool). IsSuggestion manner.keeps_services (if b then filled asks else asks) rules) (sym e) is
+
+-- ---- one rule more
+
+pub pushed_rule : (rules new : List Rule) (rule : Rule) (group : Group) (ask : Ask) → new ≡ rules ++ rule ∷ [] → rule.ranges ≡ group
+    → matched new ask ≡ (matched rules ask || covers group ask)
+pushed_rule rules new rule group ask grown ranges =
+    ap (λ (rs : List Rule). matched rs ask) grown
+    ∙ any_pushed (λ r. matches r ask) rules rule
+    ∙ ap (λ b. matched rules ask || b) (matches_covers rule ask ∙ ap (λ (g : Group). covers g ask) ranges)
+
+pub pushed_allow : (rules new : List Rule) (rule : Rule) → new ≡ rules ++ rule ∷ [] → rule.allow ≡ true
+    → list_all (λ r. r.allow) rules ≡ true → list_all (λ r. r.allow) new ≡ true
+pushed_allow rules new rule grown allow all =
+    ap (list_all (λ (r : Rule). r.allow)) grown ∙ pushed rules all
+  where
+    pushed : (rs : List Rule) → list_all (λ r. r.allow) rs ≡ true → list_all (λ r. r.allow) (rs ++ rule ∷ []) ≡ true
+    pushed [] e = and_from rule.allow true allow refl
+    pushed (r ∷ rs) e =
+        let parts = and_parts r.allow (list_all (λ q. q.allow) rs) e in
+        and_from r.allow (list_all (λ q. q.allow) (rs ++ rule ∷ [])) parts.0 (pushed rs parts.1)
+
+-- the ranges of one ask more
+pub own_step : (keeps : Bool) (asks : List Ask) (place : ℕ) (d : Ask) (groups new : List Group) (made : Group) (ask : Ask) → place < length asks
+    → new ≡ groups ++ made ∷ [] → made ≡ own_ranges keeps (get_or asks place d)
+    → covered groups ask ≡ matched_own keeps (take place asks) ask
+    → covered new ask ≡ matched_own keeps (take (place + 1) asks) ask
+own_step keeps asks place d groups new made ask within grown is so_far =
+    let one = get_or asks place d in
+    ap (λ (gs : List Group). covered gs ask) grown
+    ∙ any_pushed (λ g. covers g ask) groups made
+    ∙ ap (λ b. b || covers made ask) so_far
+    ∙ ap (λ b. matched_own keeps (take place asks) ask || b)
+    (ap (λ (g : Group). covers g ask) is ∙ sym (matches_covers (own_rule keeps one) ask))
+    ∙ sym (list_any_more (λ given. matches (own_rule keeps given) ask) asks place d within)
+
+pub rules_step : (groups : List Group) (place : ℕ) (item : Group) (rules new : List Rule) (ask : Ask) → place < length groups
+    → matched new ask ≡ (matched rules ask || covers item ask) → get_or groups place item ≡ item
+    → matched rules ask ≡ covered (take place groups) ask → matched new ask ≡ covered (take (place + 1) groups) ask
+rules_step groups place item rules new ask within grown is so_far =
+    grown ∙ ap (λ b. b || covers item ask) so_far
+    ∙ ap (λ (g : Group). covered (take place groups) ask || covers g ask) (sym is)
+    ∙ sym (list_any_more (λ g. covers g ask) groups place item within)

@@ -55,12 +55,13 @@ pub record IsSuggested (text : List ℕ) (manner : Manner) (log added : List ℕ
   pub configured : configuration text ≡ Ok old
   pub asks : List Ask
   pub seen : AreSeen old.rules (lines_of log) asks
-  pub added : IsAdded old text manner asks added
+  pub made : IsAdded old text manner asks added
 
 -- the whole of a text is written, or after a failed write a front of it
 abbrev pub LeavesText : List ℕ → Result (Unit {0}) SuggestFault → (before after : List ℕ) → Type 0
 LeavesText text (Ok done) before after = after ≡ before ++ text
-LeavesText text (Err fault) before after = (front : List ℕ) × (rest : List ℕ) × (fault ≡ Write) × (text ≡ front ++ rest) × (after ≡ before ++ front)
+LeavesText text (Err fault) before after =
+    (front : List ℕ) × (rest : List ℕ) × (fault ≡ Write) × (text ≡ front ++ rest) × (after ≡ before ++ front)
 
 -- such a text is written, whole or a front of it
 pub record LeavesMade (text : List ℕ) (manner : Manner) (result : Result (Unit {0}) SuggestFault) (log before after : List ℕ) : Type 0 where

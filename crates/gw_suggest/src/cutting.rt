@@ -24,7 +24,7 @@ fn push_with(
 }
 
 /// Puts one after the others, cut into those that have at most four ranges for the field.
-#[tactic(auto, using(crate::proofs::GroupLaw::cut_begins, crate::proofs::GroupLaw::cut_step, crate::proofs::GroupLaw::cut_ends))]
+#[tactic(auto, using(crate::proofs::GroupLaw::cut_begins))]
 fn put_cut(
     alloc: Global,
     field: FieldName,
@@ -40,7 +40,8 @@ fn put_cut(
         push_with(alloc, field, done, group, front)?;
         rest = back;
     }
-    push_with(alloc, field, done, group, rest)
+    push_with(alloc, field, done, group, rest)?;
+    Ok(())
 }
 
 /// Those that have at most four ranges for the field.
@@ -55,6 +56,7 @@ fn cut_by(alloc: Global, field: FieldName, groups: &[Group]) -> Result<Vec<Group
 }
 
 /// Those that have at most four ranges for each field. What they cover stays the same.
+#[tactic(auto, using(crate::proofs::GroupLaw::alike_trans))]
 pub(crate) fn cut_all(alloc: Global, groups: Vec<Group>) -> Result<Vec<Group>, AllocError>
     ensures { IfOk result (λ made. CoverAlike groups.items made.items) }
 {

@@ -1,5 +1,5 @@
 //! Ranges that differ in one field alone, made one.
-ghost use Rattle.std.specs.Prelude.{◌≡◌, ◌||◌, ◌&&◌, ◌<◌, ◌≤◌, IfOk, IfSome, OnOk, length};
+ghost use Rattle.std.specs.Prelude.{◌≡◌, ◌||◌, ◌&&◌, ◌<◌, ◌≤◌, IfOk, IfSome, OnOk, get_or, length};
 ghost use Rattle.gw_rules.specs.Ask.{Ask as SpecAsk};
 ghost use Rattle.gw_suggest.specs.Own.{CoverAlike, covered, covers};
 
@@ -65,8 +65,23 @@ fn partner_of(
     None
 }
 
+/// One in the place of this and the one at a place, if they differ in this field alone.
+fn joined_at(
+    alloc: Global,
+    field: FieldName,
+    done: &[Group],
+    place: usize,
+    group: &Group,
+) -> Result<Option<Group>, AllocError>
+    requires { place < length done.now }
+    ensures { IfOk result (λ made. IfSome made (λ both. (ask : SpecAsk) →
+        covers both ask ≡ (covers (get_or done.now place both) ask || covers group.now ask))) }
+{
+    let made = joined(alloc, field, &done[place], group)?;
+    Ok(made)
+}
+
 /// Makes one of this and the one at a place, and answers whether they are made one.
-#[tactic(auto, using(crate::proofs::GroupLaw::any_set))]
 fn join_at(
     alloc: Global,
     field: FieldName,
@@ -78,15 +93,35 @@ fn join_at(
     ensures { IfOk result (λ is_joined. (ask : SpecAsk) →
         covered done.new.items ask ≡ (covered done.old.items ask || (is_joined && covers group.now ask))) }
 {
-    let Some(both) = joined(alloc, field, &done[place], group)? else {
+    let Some(both) = joined_at(alloc, field, done.as_slice(), place, group)? else {
         return Ok(false);
     };
     done[place] = both;
     Ok(true)
 }
 
+/// Makes one of this and the one at a place, if there is one.
+fn try_join(
+    alloc: Global,
+    field: FieldName,
+    done: &mut Vec<Group>,
+    place: Option<usize>,
+    group: &Group,
+) -> Result<bool, AllocError>
+    requires { IfSome place (λ place. place < length done.old.items) }
+    ensures { IfOk result (λ is_joined. (ask : SpecAsk) →
+        covered done.new.items ask ≡ (covered done.old.items ask || (is_joined && covers group.now ask))) }
+{
+    match place {
+        Some(place) => {
+            let is_joined = join_at(alloc, field, done, place, group)?;
+            Ok(is_joined)
+        }
+        None => Ok(false),
+    }
+}
+
 /// Puts one after the others, or makes one of it and one that differs from it in this field alone.
-#[tactic(auto, using(crate::proofs::GroupLaw::any_pushed))]
 fn put_joined(
     alloc: Global,
     field: FieldName,
@@ -98,13 +133,14 @@ fn put_joined(
         covered done.new.items ask ≡ (covered done.old.items ask || covers group.now ask)) }
 {
     let number = number_but(field, group);
-    if let Some(place) = partner_of(field, done.as_slice(), places, number, group) {
-        if join_at(alloc, field, done, place, group)? {
-            return Ok(());
-        }
+    let place = partner_of(field, done.as_slice(), places, number, group);
+    let is_joined = try_join(alloc, field, done, place, group)?;
+    if is_joined {
+        return Ok(());
     }
     places.note(number, done.len());
-    done.push(copy(alloc, group)?)?;
+    let copied = copy(alloc, group)?;
+    done.push(copied)?;
     Ok(())
 }
 
@@ -140,6 +176,7 @@ fn fewest(alloc: Global, groups: &[Group]) -> Result<Option<Vec<Group>>, AllocEr
 
 /// Makes one of those that differ in one field alone, in the field first in which that leaves the fewest,
 /// until there are no such. What they cover stays the same.
+#[tactic(auto, using(crate::proofs::GroupLaw::alike_trans))]
 pub(crate) fn join_all(alloc: Global, groups: Vec<Group>) -> Result<Vec<Group>, AllocError>
     ensures { IfOk result (λ made. CoverAlike groups.items made.items) }
 {

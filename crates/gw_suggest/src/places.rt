@@ -19,7 +19,10 @@ impl Places {
 
     /// The slot so many slots after the one of a number.
     fn slot(&self, number: usize, step: usize) -> usize {
-        number.wrapping_add(step).checked_rem(self.slots.len()).unwrap_or(0)
+        number
+            .wrapping_add(step)
+            .checked_rem(self.slots.len())
+            .unwrap_or(0)
     }
 
     /// The place that was noted for a number, or for another one that came in its way, at this step; `None`
@@ -52,5 +55,7 @@ impl Places {
 
 /// A number mixed into another one.
 pub(crate) fn mixed(number: usize, next: usize) -> usize {
-    (number ^ next).wrapping_mul(0x9E37_79B9_7F4A_7C15).rotate_left(29)
+    (number ^ next)
+        .wrapping_mul(0x9E37_79B9_7F4A_7C15)
+        .rotate_left(29)
 }

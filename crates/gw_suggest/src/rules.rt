@@ -47,7 +47,6 @@ fn last_number(rules: &[Rule]) -> usize {
 }
 
 /// The rule of a number that allows what these ranges cover.
-#[tactic(auto, unfolding(gw_rules::specs::Rule::matches))]
 fn rule_of(alloc: Global, number: usize, group: &Group) -> Result<Rule, SuggestFault>
     ensures ranges { IfOk result (λ rule. rule.ranges ≡ group.now) }
     ensures allow { IfOk result (λ rule. rule.allow ≡ true) }
@@ -90,8 +89,9 @@ pub(crate) fn rules_of(
 {
     let last = last_number(old);
     let mut rules = Vec::new(alloc);
-    for (place, group) in groups.iter().enumerate() {
-        push_rule(alloc, &mut rules, last.saturating_add(place).saturating_add(1), group)?;
+    for place in 0..groups.len() {
+        let number = last.saturating_add(place).saturating_add(1);
+        push_rule(alloc, &mut rules, number, &groups[place])?;
     }
     Ok(rules)
 }

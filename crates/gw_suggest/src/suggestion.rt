@@ -37,7 +37,8 @@ fn own_groups(alloc: Global, keeps: bool, asks: &[Ask]) -> Result<Vec<Group>, Al
 {
     let mut groups = Vec::new(alloc);
     for ask in asks {
-        groups.push(own_ranges(alloc, keeps, ask)?)?;
+        let made = own_ranges(alloc, keeps, ask)?;
+        groups.push(made)?;
     }
     Ok(groups)
 }
@@ -70,6 +71,7 @@ pub(crate) fn rules_for(
 }
 
 /// The rules for the asks that are wanted.
+#[tactic(auto, using(crate::proofs::SuggestLaw::wants_more, crate::proofs::SuggestLaw::wants_these))]
 fn rules_in(
     alloc: Global,
     manner: Manner,
@@ -98,7 +100,13 @@ fn added_for(
 {
     let rules = rules_in(alloc, manner, seen.given.as_slice(), config.rules().rules())?;
     let mut added = Vec::new(alloc);
-    put_text(&mut added, config.format(), rules.as_slice(), &seen.given, seen.unread)?;
+    put_text(
+        &mut added,
+        config.format(),
+        rules.as_slice(),
+        &seen.given,
+        seen.unread,
+    )?;
     read_in_front(alloc, config, text, rules.as_slice(), added.as_slice())?;
     Ok(added)
 }
@@ -156,6 +164,7 @@ fn made<R: OctetSource>(
 /// ```
 ///
 /// All lines are read before anything is written; with each fault but `Write` nothing is. The writer isn't flushed.
+#[tactic(auto, using(crate::proofs::TextLaw::made_left, crate::proofs::TextLaw::nothing_left))]
 pub fn suggest<R: OctetSource, W: OctetSink>(
     alloc: Global,
     text: &[u8],
@@ -174,6 +183,7 @@ pub fn suggest<R: OctetSource, W: OctetSink>(
 }
 
 /// Writes a text whole. `Write` after a failed write; then a front of it is written.
+#[tactic(auto, using(crate::proofs::TextLaw::whole_left, crate::proofs::TextLaw::front_left))]
 fn write<W: OctetSink>(writer: &mut W, text: &[u8]) -> Result<(), SuggestFault>
     ensures { (before : List ℕ) → W.held writer.old ≡ Some before →
         IsSomeAnd (W.held writer.new) (LeavesText text.now result before) }
