@@ -11,10 +11,10 @@ use gw_addr::BipAddr;
 use gw_cases::{MemReader, MemWriter, number_behind};
 use gw_configuration::Port;
 use gw_serving::{Got, RECEIVE_ROOM, Store, StoreFault, Wire, WireFault};
-use gw_system::{ReadFailure, Requests};
 use gw_shell::{
     ConfigFiles, FailedStep, Fault, Host, LogFailure, Reason, SocketFailure, Step, run,
 };
+use gw_system::{ReadFailure, Requests};
 use itoa::Buffer;
 use std::alloc::{AllocError, Global};
 use std::io;
@@ -353,7 +353,11 @@ fn run_with(alloc: Global, config: &str, section: &str, room: usize) -> Result<L
         failing: number_behind(lines, '\n', "failing port "),
         routes: has_line(lines, "routes ip"),
         state: text_if(alloc, has_line(lines, "state cut"), "bacgw state 1\n")?,
-        unkept: if has_line(lines, "store full") { Some(StoreFault::NoSpace) } else { None },
+        unkept: if has_line(lines, "store full") {
+            Some(StoreFault::NoSpace)
+        } else {
+            None
+        },
         reload: reload_of(alloc, lines, config)?,
         closed: None,
     };

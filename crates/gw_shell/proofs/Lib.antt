@@ -1,5 +1,6 @@
 mod AppendLemmas
 mod ChoiceLemmas
+mod CountLemmas
 mod KeptLemmas
 mod LinesLemmas
 mod ReplayLemmas

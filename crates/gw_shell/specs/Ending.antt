@@ -1,5 +1,5 @@
 -- What the program tells of a fault: the line on standard error, and the exit status.
-use Rattle.std.specs.Prelude.{◌≡◌, ◌⊎◌, IsTrue, ℕ, Bool, true, false, List, [], ◌∷◌, ◌++◌, codes, decimal, nat_eq, if◌then◌else◌, Option, Some}
+use Rattle.std.specs.Prelude.{◌≡◌, ◌⊎◌, ⊤, IsTrue, ℕ, Bool, true, false, List, [], ◌∷◌, ◌++◌, codes, decimal, nat_eq, if◌then◌else◌, Option, Some}
 use Rattle.std.specs.Prelude.{Result, Ok, Err, string_bytes}
 use Rattle.std.specs.List.{list_all, starts_with}
 use Rattle.gw_explanation.specs.Explanation.{ExplainsText, is_printed}
@@ -170,6 +170,13 @@ fault_of_store f = fault.Store f
 abbrev pub fault_of_request : StoreFault → Fault
 fault_of_request store.Memory = fault.Memory
 fault_of_request f = fault.Request f
+
+-- a request to read the configuration again that has no answer
+abbrev pub IsUnanswered : Fault → Type 0
+IsUnanswered (fault.Request f) = ⊤
+IsUnanswered fault.NoAnswer = ⊤
+IsUnanswered fault.Memory = ⊤
+IsUnanswered _ = ⊥
 
 -- the fault of a run, as the program tells it
 abbrev pub fault_of : RunFault → Fault

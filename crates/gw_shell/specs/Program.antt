@@ -19,12 +19,13 @@ use Rattle.gw_shell.specs.declared.fault.Fault.{Fault}
 use Rattle.gw_shell.specs.declared.fault.Fault.TheVariants as fault
 use Rattle.gw_shell.specs.Asking.{Answers, Counts}
 use Rattle.gw_shell.specs.Configured.{IsConfigurationOf, IsConfigured}
-use Rattle.gw_shell.specs.Ending.{FaultNote, chosen, error_text, outcome_of_answer, status_by, usage_of}
+use Rattle.gw_shell.specs.Ending.{FaultNote, IsUnanswered, chosen, error_text, outcome_of_answer, status_by, usage_of}
 use Rattle.gw_shell.specs.Checked.{IsChecked}
 use Rattle.gw_shell.specs.Kept.{IsSaidOfText}
 use Rattle.gw_shell.specs.Replay.{Plays}
 use Rattle.gw_rules.specs.declared.rule.Rule.{Rule}
-use Rattle.gw_service.specs.Serving.{IsFlushedFor, Machine}
+use Rattle.gw_service.specs.Kept.{WholeMachine}
+use Rattle.gw_service.specs.Serving.{IsFlushedFor}
 use Rattle.gw_shell.specs.Serving.{LeavesRun}
 use Rattle.gw_shell.specs.Suggesting.{Suggests}
 use Rattle.gw_suggest.specs.declared.suggestion.Manner.{Manner}
@@ -130,6 +131,13 @@ LeavesState held holds (Ok c) text outcome =
     (words : Result (List ℕ) Fault) × IsSaidOfText c text words × LeavesPrinted words held holds outcome
 LeavesState held holds (Err f) text outcome = (outcome ≡ Err f) × (holds ≡ held)
 
+-- What it leaves of the files of these names.
+abbrev pub LeavesStateIn : (Reads ReadsState : List ℕ → Result (List ℕ) Fault → Type 0) → (config state : List ℕ)
+    → Option (List ℕ) → Option (List ℕ) → Result (Unit {0}) Fault → Type 0
+LeavesStateIn Reads ReadsState config state held holds outcome =
+    (c : Result Configuration Fault) × IsConfigured Reads (Some config) c
+    × (text : Result (List ℕ) Fault) × ReadsState state text × LeavesState held holds c text outcome
+
 -- What `suggest` leaves under the configuration of a text that was read. If there is none, the outcome is why.
 abbrev pub LeavesSuggested : Manner → Option (List ℕ) → Option (List ℕ) → Option (List ℕ) → Result (List ℕ) Fault
     → Result (Unit {0}) Fault → Type 0
@@ -137,12 +145,11 @@ LeavesSuggested manner input held holds (Ok text) outcome =
     OnKnown input held holds (λ log before. Suggests text manner log before outcome)
 LeavesSuggested manner input held holds (Err f) outcome = (outcome ≡ Err f) × (holds ≡ held)
 
--- a request to read the configuration again that has no answer
-abbrev pub IsUnanswered : Fault → Type 0
-IsUnanswered (fault.Request f) = ⊤
-IsUnanswered fault.NoAnswer = ⊤
-IsUnanswered fault.Memory = ⊤
-IsUnanswered _ = ⊥
+-- What it leaves under that of the file of this name.
+abbrev pub LeavesSuggestedIn : (Reads : List ℕ → Result (List ℕ) Fault → Type 0) → List ℕ → Manner → Option (List ℕ)
+    → Option (List ℕ) → Option (List ℕ) → Result (Unit {0}) Fault → Type 0
+LeavesSuggestedIn Reads file manner input held holds outcome =
+    (text : Result (List ℕ) Fault) × Reads file text × LeavesSuggested manner input held holds text outcome
 
 -- What an answer leaves: its text, and it says how the request ends; or a front of it, if a write failed. If there is
 -- none, the outcome is why.
@@ -158,6 +165,12 @@ abbrev pub LeavesReload : Option (List ℕ) → Option (List ℕ) → Result Con
 LeavesReload held holds (Ok c) outcome =
     (answer : Result (List ℕ) Fault) × IfErr answer IsUnanswered × LeavesAnswer answer held holds outcome
 LeavesReload held holds (Err f) outcome = (outcome ≡ Err f) × (holds ≡ held)
+
+-- What it leaves if that is the file of this name.
+abbrev pub LeavesReloadIn : (Reads : List ℕ → Result (List ℕ) Fault → Type 0) → List ℕ → Option (List ℕ)
+    → Option (List ℕ) → Result (Unit {0}) Fault → Type 0
+LeavesReloadIn Reads file held holds outcome =
+    (c : Result Configuration Fault) × IsConfigured Reads (Some file) c × LeavesReload held holds c outcome
 
 -- What `why --count` leaves of a text: how many of its asks each of these rules decides, or the first line that says none.
 abbrev pub LeavesCounts : List Rule → List ℕ → Option (List ℕ) → Option (List ℕ) → Result (Unit {0}) Fault → Type 0
@@ -178,8 +191,8 @@ LeavesAnswered counts input held holds (Err f) outcome = (outcome ≡ Err f) × 
 -- opens what the machine says: at `check`, `replay` and `why` what they leave of some configuration that is the one they name,
 -- at `compare` of the two, at `state` of the one and the state, at `run` also what was told at the start, at `log` what that leaves of the log, and at help its text, of which a
 -- failed write may leave a front. Words that choose nothing leave it as it was, and their fault is the outcome.
-abbrev pub LeavesOutput : {Log Sockets : Type 0} → (Reads ReadsState : List ℕ → Result (List ℕ) Fault → Type 0)
-    → Machine Log Sockets → Option (List ℕ) → Option (List ℕ) → Option (List ℕ) → List ℕ
+abbrev pub LeavesOutput : {Log Sockets S Q : Type 0} → (Reads ReadsState : List ℕ → Result (List ℕ) Fault → Type 0)
+    → WholeMachine Log Sockets S Q → Option (List ℕ) → Option (List ℕ) → Option (List ℕ) → List ℕ
     → Result Choice Fault → Result (Unit {0}) Fault → Type 0
 LeavesOutput Reads ReadsState machine input held holds told (Ok (choice.Check file explains lints)) outcome =
     (text : Result (List ℕ) Fault) × Reads (string_bytes file) text
@@ -198,19 +211,15 @@ LeavesOutput Reads ReadsState machine input held holds told (Ok (choice.Why file
     (c : Result Configuration Fault) × IsConfigured Reads (Some (string_bytes file)) c
     × LeavesAnswered counts input held holds c outcome
 LeavesOutput Reads ReadsState machine input held holds told (Ok (choice.Reload config request)) outcome =
-    (c : Result Configuration Fault) × IsConfigured Reads (Some (string_bytes config)) c
-    × LeavesReload held holds c outcome
+    LeavesReloadIn Reads (string_bytes config) held holds outcome
 LeavesOutput Reads ReadsState machine input held holds told (Ok (choice.Compare old new most)) outcome =
     (a : Result Configuration Fault) × IsConfigured Reads (Some (string_bytes old)) a
     × (b : Result Configuration Fault) × IsConfigured Reads (Some (string_bytes new)) b
     × LeavesComparison most held holds a b outcome
 LeavesOutput Reads ReadsState machine input held holds told (Ok (choice.State config state)) outcome =
-    (c : Result Configuration Fault) × IsConfigured Reads (Some (string_bytes config)) c
-    × (text : Result (List ℕ) Fault) × ReadsState (string_bytes state) text
-    × LeavesState held holds c text outcome
+    LeavesStateIn Reads ReadsState (string_bytes config) (string_bytes state) held holds outcome
 LeavesOutput Reads ReadsState machine input held holds told (Ok (choice.Suggest file fills exact)) outcome =
-    (text : Result (List ℕ) Fault) × Reads (string_bytes file) text
-    × LeavesSuggested (record { keeps_services = exact; fills = fills }) input held holds text outcome
+    LeavesSuggestedIn Reads (string_bytes file) (record { keeps_services = exact; fills = fills }) input held holds outcome
 LeavesOutput Reads ReadsState machine input held holds told (Ok (choice.Log start)) outcome =
     OnKnown input held holds (λ log before. Tells start log before outcome)
 LeavesOutput Reads ReadsState machine input held holds told (Ok (choice.Help text)) (Ok done) =

@@ -17,18 +17,12 @@ telling true = explained_text
 -- ended. Where it explains, what is told of a line is wrong with it.
 abbrev pub Plays : Bool → Configuration → List ℕ → List ℕ → Result (Unit {0}) Fault → List ℕ → Type 0
 Plays explains c script before (Ok done) after = RunsWhole (telling explains) c script before after
-Plays explains c script before (Err fault.CommandLine) after = ⊥
-Plays explains c script before (Err fault.Unreadable) after = ⊥
-Plays explains c script before (Err (fault.Configuration f)) after = ⊥
-Plays explains c script before (Err (fault.Migration f)) after = ⊥
 Plays explains c script before (Err (fault.Line n)) after =
     (explains ≡ false) × RunsToLine (telling explains) n c script before after
 Plays explains c script before (Err (fault.FlawedLine n f)) after =
     (explains ≡ true) × RunsToLine (telling explains) n c script before after × HasFlaw (length c.ports) n script f
 Plays explains c script before (Err fault.Read) after = RunsPart (telling explains) c script before after
 Plays explains c script before (Err fault.Write) after = RunsFront (telling explains) c script before after
-Plays explains c script before (Err fault.Log) after = ⊥
-Plays explains c script before (Err (fault.Socket port)) after = ⊥
-Plays explains c script before (Err fault.Different) after = ⊥
 Plays explains c script before (Err fault.Memory) after = RunsToMemory (telling explains) c script before after
 Plays explains c script before (Err fault.CountEnd) after = RunsToEnd (telling explains) c script before after
+Plays explains c script before (Err _) after = ⊥

@@ -1,7 +1,7 @@
 //! Why the program ends without success, and its exit status.
 
 ghost use Rattle.std.specs.Prelude.{◌≡◌, ◌≢◌};
-ghost use Rattle.gw_shell.specs.Ending.{cause_of, fault_of, fault_of_configuration, fault_of_migration, fault_of_request, fault_of_service, fault_of_state, fault_of_store, fault_of_suggestion, fault_of_words, name_of, reason_of, status_of, status_of_comparison, store_words, words_of};
+ghost use Rattle.gw_shell.specs.Ending.{IsUnanswered, cause_of, fault_of, fault_of_configuration, fault_of_migration, fault_of_request, fault_of_service, fault_of_state, fault_of_store, fault_of_suggestion, fault_of_words, name_of, reason_of, status_of, status_of_comparison, store_words, words_of};
 ghost use Rattle.gw_shell.specs.Lines.{fault_of_lines};
 ghost use Rattle.gw_shell.specs.declared.fault.Fault.TheVariants.{CommandLine, Memory};
 
@@ -88,7 +88,8 @@ impl Fault {
 
     /// The fault if a request can't be made.
     pub fn of_request(fault: StoreFault) -> Fault
-        ensures { result ≡ fault_of_request fault }
+        ensures fault { result ≡ fault_of_request fault }
+        ensures unanswered { IsUnanswered result }
     {
         match fault {
             StoreFault::Memory => Fault::Memory,

@@ -12,7 +12,8 @@ ghost use Rattle.gw_shell.specs.Ending.{outcome_of_comparison, served};
 ghost use Rattle.gw_shell.specs.Ending.{FaultNote, IsExplainedBy};
 ghost use Rattle.gw_shell.specs.Files.{result_map};
 ghost use Rattle.gw_system.specs.Host.{OpensAtLine};
-ghost use Rattle.gw_shell.specs.Program.{AppendsFront, IsChoiceOf, IsFlushed, IsFollowed, IsRun, LeavesAnswer, LeavesAnswered, LeavesCompared, LeavesComparison, LeavesConfigured, LeavesCounts, LeavesInFormatThree, LeavesMigrated, LeavesOfText, LeavesOutput, LeavesPlayed, LeavesPrinted, LeavesReload, LeavesState, LeavesSuggested};
+ghost use Rattle.gw_shell.specs.Program.{AppendsFront, IsChoiceOf, IsFlushed, IsFollowed, IsRun, LeavesAnswer, LeavesAnswered, LeavesCompared, LeavesComparison, LeavesConfigured, LeavesCounts, LeavesInFormatThree, LeavesMigrated, LeavesOfText, LeavesOutput, LeavesPlayed, LeavesPrinted, LeavesReload, LeavesReloadIn, LeavesState, LeavesStateIn, LeavesSuggested, LeavesSuggestedIn};
+ghost use Rattle.gw_service.specs.Kept.{state_machine, whole_machine};
 ghost use Rattle.gw_service.specs.Serving.{IsFlushedFor, machine};
 ghost use Rattle.gw_shell.specs.Serving.{LeavesRun};
 ghost use Rattle.gw_shell.specs.declared.fault.Fault.{Fault};
@@ -374,6 +375,57 @@ fn suggest_rules<R: OctetSource, W: Write + Drop>(
     }
 }
 
+/// Says what the state of a file holds under the configuration of another.
+fn print_state_in<F: ConfigFiles, W: Write + Drop>(
+    alloc: Global,
+    files: &F,
+    config: &str,
+    state: &str,
+    output: &mut BufWriter<W>,
+) -> Result<(), Fault>
+    ensures output { LeavesStateIn (F.Reads files.now) (F.ReadsState files.now) config.now state.now
+        (writer_contents W.contents output.old) (writer_contents W.contents output.new) result }
+    ensures flush { OnOk result (writer_buffer output.new ≡ []) }
+{
+    let config = configuration_in(alloc, files, config);
+    let text = files.read_state(alloc, state);
+    print_state(alloc, config, &text, output)
+}
+
+/// Suggests rules for the asks of standard input under the configuration of a file.
+fn suggest_in<F: ConfigFiles, R: OctetSource, W: Write + Drop>(
+    alloc: Global,
+    files: &F,
+    file: &str,
+    manner: Manner,
+    input: &mut R,
+    output: &mut BufWriter<W>,
+) -> Result<(), Fault>
+    ensures output { LeavesSuggestedIn (F.Reads files.now) file.now manner (R.left input.old)
+        (writer_contents W.contents output.old) (writer_contents W.contents output.new) result }
+    ensures flush { OnOk result (writer_buffer output.new ≡ []) }
+{
+    let text = files.read(alloc, file);
+    suggest_rules(alloc, &text, manner, input, output)
+}
+
+/// Asks the gateway that runs under the configuration of a file to read it again.
+fn reload_in<F: ConfigFiles, H: Host, W: Write + Drop>(
+    alloc: Global,
+    files: &F,
+    config: &str,
+    request: &str,
+    host: &H,
+    output: &mut BufWriter<W>,
+) -> Result<(), Fault>
+    ensures output { LeavesReloadIn (F.Reads files.now) config.now
+        (writer_contents W.contents output.old) (writer_contents W.contents output.new) result }
+    ensures flush { OnOk result (writer_buffer output.new ≡ []) }
+{
+    let config = configuration_in(alloc, files, config);
+    reload(alloc, config, request, host, output)
+}
+
 /// How serving ended.
 fn served(done: Result<(), ServiceFault>) -> Result<(), Fault>
     ensures { result ≡ served done }
@@ -396,8 +448,10 @@ fn serve<H: Host, W: Write + Drop, E: OctetSink>(
 ) -> Result<(), Fault>
     ensures served { (told : List ℕ) × (config : Result Configuration Fault)
         × IsConfigurationOf (result_map (λ octets. octets.items) text.now) config
-        × LeavesRun (machine (OpensAtLine (H.LogOpens host.old) (H.LogIsCut host.old) H.Log.held)
+        × LeavesRun (whole_machine (machine (OpensAtLine (H.LogOpens host.old) (H.LogIsCut host.old) H.Log.held)
         (H.SocketsOpen host.old) (H.RoutesIp host.old) (H.Closes host.new) H.Log.held H.Sockets.calls)
+        (state_machine (H.FileReads host.old) (H.LastLines host.old) (H.StoreOpens host.old)
+        (H.ReloadsOpen host.old) H.StateStore.held H.Reloads.told))
         (result_map (λ octets. octets.items) text.now)
         (writer_contents W.contents output.old) (writer_contents W.contents output.new) options.now
         config told result
@@ -427,8 +481,10 @@ fn follow<F: ConfigFiles, H: Host, R: OctetSource, W: Write + Drop, E: OctetSink
 ) -> Result<(), Fault>
     ensures followed { IsFollowed
         (LeavesOutput (F.Reads files.now) (F.ReadsState files.now)
-        (machine (OpensAtLine (H.LogOpens host.old) (H.LogIsCut host.old) H.Log.held)
-        (H.SocketsOpen host.old) (H.RoutesIp host.old) (H.Closes host.new) H.Log.held H.Sockets.calls) (R.left input.old)
+        (whole_machine (machine (OpensAtLine (H.LogOpens host.old) (H.LogIsCut host.old) H.Log.held)
+        (H.SocketsOpen host.old) (H.RoutesIp host.old) (H.Closes host.new) H.Log.held H.Sockets.calls)
+        (state_machine (H.FileReads host.old) (H.LastLines host.old) (H.StoreOpens host.old)
+        (H.ReloadsOpen host.old) H.StateStore.held H.Reloads.told)) (R.left input.old)
         (writer_contents W.contents output.old) (writer_contents W.contents output.new))
         (λ told. E.NeverFails errors.old → Appends (E.held errors.old) (E.held errors.new) told)
         choice.now result }
@@ -464,26 +520,20 @@ fn follow<F: ConfigFiles, H: Host, R: OctetSource, W: Write + Drop, E: OctetSink
             answer(alloc, *counts, config, input, output)
         }
         Ok(Choice::Reload { config, request }) => {
-            let config = configuration_in(alloc, files, config);
-            reload(alloc, config, request, host, output)
+            reload_in(alloc, files, config, request, host, output)
         }
         Ok(Choice::Compare { old, new, most }) => {
             let before = configuration_in(alloc, files, old);
             let after = configuration_in(alloc, files, new);
             compare(alloc, *most, before, after, output)
         }
-        Ok(Choice::State { config, state }) => {
-            let text = files.read_state(alloc, state);
-            let config = configuration_in(alloc, files, config);
-            print_state(alloc, config, &text, output)
-        }
+        Ok(Choice::State { config, state }) => print_state_in(alloc, files, config, state, output),
         Ok(Choice::Suggest { file, fills, exact }) => {
-            let text = files.read(alloc, file);
             let manner = Manner {
                 keeps_services: *exact,
                 fills: *fills,
             };
-            suggest_rules(alloc, &text, manner, input, output)
+            suggest_in(alloc, files, file, manner, input, output)
         }
         Ok(Choice::Log(start)) => telling::tell(alloc, *start, input, output),
         Ok(Choice::Help(text)) => print(text.as_bytes(), output),
@@ -513,8 +563,10 @@ pub fn run<F: ConfigFiles, H: Host, R: OctetSource, W: Write + Drop, E: OctetSin
         (λ w. IsChoiceOf (map string_bytes w.items) choice)
         (λ f. choice ≡ Err f))
         (LeavesOutput (F.Reads files.now) (F.ReadsState files.now)
-        (machine (OpensAtLine (H.LogOpens host.old) (H.LogIsCut host.old) H.Log.held)
-        (H.SocketsOpen host.old) (H.RoutesIp host.old) (H.Closes host.new) H.Log.held H.Sockets.calls) (R.left input.old)
+        (whole_machine (machine (OpensAtLine (H.LogOpens host.old) (H.LogIsCut host.old) H.Log.held)
+        (H.SocketsOpen host.old) (H.RoutesIp host.old) (H.Closes host.new) H.Log.held H.Sockets.calls)
+        (state_machine (H.FileReads host.old) (H.LastLines host.old) (H.StoreOpens host.old)
+        (H.ReloadsOpen host.old) H.StateStore.held H.Reloads.told)) (R.left input.old)
         (writer_contents W.contents output.old) (writer_contents W.contents output.new))
         (writer_buffer output.old) (writer_buffer output.new)
         (λ line. E.NeverFails errors.old → Appends (E.held errors.old) (E.held errors.new) line)

@@ -1,8 +1,7 @@
 //! A running gateway is asked to read its configuration again.
 
 ghost use Rattle.std.specs.Prelude.{◌≡◌, IfErr};
-ghost use Rattle.gw_shell.specs.Ending.{outcome_of_answer};
-ghost use Rattle.gw_shell.specs.Program.{IsUnanswered};
+ghost use Rattle.gw_shell.specs.Ending.{IsUnanswered, outcome_of_answer};
 
 use crate::fault::Fault;
 use gw_system::{Host, ReadFailure};

@@ -1,8 +1,12 @@
 use Rattle.std.proofs.Common.{◌≡◌, Ok, Some, refl, rules, subst, ℕ, List}
 use Rattle.std.specs.Global.{Vec}
+use Rattle.std.specs.Io.Buffered.{writer_contents}
+use Rattle.std.specs.Prelude.{string_bytes}
 use Rattle.gw_shell.specs.Configured.{IsConfigured}
 use Rattle.gw_shell.specs.Files.{result_map}
 use Rattle.gw_command_line.specs.declared.command_line.Choice.TheVariants as choice
+use Rattle.gw_shell.specs.Program.{LeavesReloadIn, LeavesStateIn, LeavesSuggestedIn}
+use Rattle.gw_suggest.specs.declared.suggestion.Manner.{Manner}
 use Rattle.gw_shell.proofs.ChoiceLemmas.{followed}
 use Rattle.gw_shell.proofs.AppendLemmas.{appends_nothing}
 use Rattle.gw_shell.proofs.program.follow.Goals as goal
@@ -65,29 +69,31 @@ pub returns-in-Ok-State-clause-followed : goal.returns-in-Ok-State-clause-follow
 returns-in-Ok-State-clause-followed g c =
     let chosen = choice.State c.in-Ok-State.config c.in-Ok-State.state in
     let is : c.args.choice.now ≡ Ok chosen = search rules in
-    let text = result_map (λ (octets : Vec ℕ). octets.items) c.read_state-text.result in
-    let reads = subst (λ (name : List ℕ). g.F.ConfigFiles.ReadsState c.args.files.now name text) c.deref-in-Ok-State.ensures c.read_state-text.ensures in
-    let config = c.configuration_in-config-in-Ok-State.result in
-    let configured = subst (λ (name : List ℕ). IsConfigured (g.F.ConfigFiles.Reads c.args.files.now) (Some name) config)
-    c.deref-in-Ok-State-2.ensures c.configuration_in-config-in-Ok-State.ensures in
-    followed _ _ c.args.choice.now (Ok chosen) c.print_state.result is refl (config, configured, text, reads, c.print_state.ensures.output)
-    (λ never. appends_nothing (g.E.OctetSink.held c.args.errors.now))
+    let held = writer_contents g.W.Write.contents c.args.output.now in
+    let holds = writer_contents g.W.Write.contents c.print_state_in.new.output in
+    let named = subst (λ (name : List ℕ). LeavesStateIn (g.F.ConfigFiles.Reads c.args.files.now) (g.F.ConfigFiles.ReadsState c.args.files.now)
+    name c.deref-in-Ok-State-2.result.now held holds c.print_state_in.result) c.deref-in-Ok-State.ensures c.print_state_in.ensures.output in
+    let both = subst (λ (name : List ℕ). LeavesStateIn (g.F.ConfigFiles.Reads c.args.files.now) (g.F.ConfigFiles.ReadsState c.args.files.now)
+    (string_bytes c.in-Ok-State.config) name held holds c.print_state_in.result) c.deref-in-Ok-State-2.ensures named in
+    followed _ _ c.args.choice.now (Ok chosen) c.print_state_in.result is refl both (λ never. appends_nothing (g.E.OctetSink.held c.args.errors.now))
 
 pub returns-in-Ok-Reload-clause-followed : goal.returns-in-Ok-Reload-clause-followed
 returns-in-Ok-Reload-clause-followed g c =
     let chosen = choice.Reload c.in-Ok-Reload.config c.in-Ok-Reload.request in
     let is : c.args.choice.now ≡ Ok chosen = search rules in
-    let config = c.configuration_in-config-in-Ok-Reload.result in
-    let configured = subst (λ (name : List ℕ). IsConfigured (g.F.ConfigFiles.Reads c.args.files.now) (Some name) config)
-    c.deref-in-Ok-Reload.ensures c.configuration_in-config-in-Ok-Reload.ensures in
-    followed _ _ c.args.choice.now (Ok chosen) c.reload.result is refl (config, configured, c.reload.ensures.output)
-    (λ never. appends_nothing (g.E.OctetSink.held c.args.errors.now))
+    let held = writer_contents g.W.Write.contents c.args.output.now in
+    let holds = writer_contents g.W.Write.contents c.reload_in.new.output in
+    let named = subst (λ (name : List ℕ). LeavesReloadIn (g.F.ConfigFiles.Reads c.args.files.now) name held holds c.reload_in.result)
+    c.deref-in-Ok-Reload.ensures c.reload_in.ensures.output in
+    followed _ _ c.args.choice.now (Ok chosen) c.reload_in.result is refl named (λ never. appends_nothing (g.E.OctetSink.held c.args.errors.now))
 
 pub returns-in-Ok-Suggest-clause-followed : goal.returns-in-Ok-Suggest-clause-followed
 returns-in-Ok-Suggest-clause-followed g c =
     let chosen = choice.Suggest c.in-Ok-Suggest.file c.in-Ok-Suggest.fills c.in-Ok-Suggest.exact in
+    let manner : Manner = record { keeps_services = c.in-Ok-Suggest.exact; fills = c.in-Ok-Suggest.fills } in
     let is : c.args.choice.now ≡ Ok chosen = search rules in
-    let text = result_map (λ (octets : Vec ℕ). octets.items) c.read-text-in-Ok-Suggest.result in
-    let reads = subst (λ (name : List ℕ). g.F.ConfigFiles.Reads c.args.files.now name text) c.deref-in-Ok-Suggest.ensures c.read-text-in-Ok-Suggest.ensures in
-    followed _ _ c.args.choice.now (Ok chosen) c.suggest_rules.result is refl (text, reads, c.suggest_rules.ensures.output)
-    (λ never. appends_nothing (g.E.OctetSink.held c.args.errors.now))
+    let held = writer_contents g.W.Write.contents c.args.output.now in
+    let holds = writer_contents g.W.Write.contents c.suggest_in.new.output in
+    let named = subst (λ (name : List ℕ). LeavesSuggestedIn (g.F.ConfigFiles.Reads c.args.files.now) name manner
+    (g.R.OctetSource.left c.args.input.now) held holds c.suggest_in.result) c.deref-in-Ok-Suggest.ensures c.suggest_in.ensures.output in
+    followed _ _ c.args.choice.now (Ok chosen) c.suggest_in.result is refl named (λ never. appends_nothing (g.E.OctetSink.held c.args.errors.now))

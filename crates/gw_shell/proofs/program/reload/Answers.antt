@@ -1,7 +1,7 @@
 use Rattle.std.proofs.Common.{ℕ, List, Result, Ok, Err, IfErr}
 use Rattle.std.specs.Global.{Vec}
 use Rattle.gw_shell.specs.Files.{result_map}
-use Rattle.gw_shell.specs.Program.{IsUnanswered}
+use Rattle.gw_shell.specs.Ending.{IsUnanswered}
 use Rattle.gw_shell.specs.declared.fault.Fault.{Fault}
 use Rattle.gw_shell.proofs.program.reload.Goals as goal
 

@@ -1,0 +1,10 @@
+use Rattle.std.proofs.Common.{List, ℕ, Err, subst, sym}
+use Rattle.gw_shell.specs.Asking.{Counts}
+use Rattle.gw_shell.specs.declared.fault.Fault.{Fault}
+use Rattle.gw_shell.proofs.CountLemmas.{uncounted}
+use Rattle.gw_shell.proofs.asking.count.Goals as goal
+
+pub returns-in-Err : goal.returns-in-Err
+returns-in-Err g c = λ text known.
+    subst (λ (f : Fault). Counts c.args.rules.now text (Err f)) (sym c.from.ensures)
+    (uncounted c.args.rules.now text c.in-Err.fault (c.in-Err.ensures.counted text known))
