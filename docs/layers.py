@@ -28,7 +28,6 @@ NOTES = {
     "gw_continuity": "that nothing is lost",
     "gw_takeover": "what of a state is kept",
     "gw_suggest": "rules from what was seen",
-    "gw_report": "a page to look at",
     "gw_command_line": "what the words ask for",
     "gw_cases": "how tests are written",
     "gw_frame_vectors": "the tests of frames and rules",
