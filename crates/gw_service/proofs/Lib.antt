@@ -1,5 +1,6 @@
 mod AnnouncementLemmas
 mod ChainLemmas
 mod KeptLemmas
+mod LawLemmas
 pub mod ServingLemmas
 mod StatsLemmas

@@ -9,3 +9,4 @@ pub mod Start
 pub mod Keeping
 pub mod Kept
 pub mod Stats
+pub mod Laws

@@ -7,6 +7,7 @@ mod counts;
 mod fault;
 mod keeping;
 mod kept;
+pub mod laws;
 mod line;
 mod notices;
 mod reload;

@@ -1,0 +1,109 @@
+-- The rules in force, and the numbers of denials.
+use Rattle.std.proofs.Common.{◌≡◌, ◌∙◌, ℕ, ◌+◌, ◌<◌, ◌≤◌, List, [], ◌∷◌, Bool, Option, Some, None, refl, sym, ap, subst, arith}
+use Rattle.std.specs.List.{AllByRecursion}
+use Rattle.std.specs.Prelude.{◌^◌, true, false, nat_le, if◌then◌else◌}
+use Rattle.std.proofs.Common.{leb-false, leb-true}
+use Rattle.std.proofs.lemmas.List.Elements.{All-from_recursion}
+use Rattle.gw_rules.specs.Authorizer.{denied_of}
+use Rattle.gw_rules.specs.declared.refusal.Refusal.{Refusal}
+use Rattle.gw_core.specs.Asks.{asks_for}
+use Rattle.gw_core.specs.Receive.{Origin, origin, receive}
+use Rattle.gw_core.specs.declared.event.Counts.{Counts}
+use Rattle.gw_service.specs.Counts.{counts_after, greater, less}
+use Rattle.gw_audit.specs.declared.denial.Denial.{Denial}
+use Rattle.gw_configuration.specs.Configuration.{Configuration}
+use Rattle.gw_core.specs.Denials.{denials_from, denials_of}
+use Rattle.gw_core.specs.Effects.{effects_at}
+use Rattle.gw_core.specs.History.{next, state_from}
+use Rattle.gw_core.specs.State.{State}
+use Rattle.gw_rules.specs.declared.rule.Rule.{Rule}
+use Rattle.gw_script.specs.Event.{Event}
+use Rattle.gw_serving.specs.Serve.{Turn, events_of}
+use Rattle.gw_serving.specs.Stretch.{GoOn, Moment}
+use Rattle.gw_service.specs.Chain.{AreLinks, IsLink, IsLooked, Link, Look, Manner, Stage, Standing}
+use Rattle.gw_service.specs.Chain.{refused, served, taken_over, ticked, unrequested, withheld}
+use Rattle.gw_service.specs.Laws.{HasItsRules, NumbersGoOn, RulesAreInForce, RulesStay}
+
+-- ---- the rules in force
+
+pub rules_stay : RulesStay
+unfolding state_from next
+rules_stay w [] = refl
+rules_stay w (e ∷ events) = rules_stay (next w e) events
+
+next_rules : (w : State) (e : Event) → (next w e).rules ≡ w.rules
+unfolding next
+next_rules w e = refl
+
+-- over turns they stay
+went_rules : {K : Type 0} (Passes : K → State → Event → K → Bool → Type 0) (a b : Moment K) (turns : List Turn) → GoOn Passes a turns b
+    → b.scene.gateway.rules ≡ a.scene.gateway.rules
+went_rules Passes a b turns went =
+    ap (λ (w : State). w.rules) went.went.gateway ∙ rules_stay a.scene.gateway (events_of turns)
+
+-- what comes of a request leaves the rules of the configuration in force
+looked_rules : {K : Type 0} (manner : Manner K) (c d : Configuration) (s t : Standing K) (look : Look) → IsLooked manner c s look d t
+    → s.gateway.rules ≡ c.rules → t.gateway.rules ≡ d.rules
+looked_rules manner c d s t unrequested is has =
+    ap (λ (w : State). w.rules) is.0.gateway ∙ has ∙ sym (ap (λ (x : Configuration). x.rules) is.0.config)
+looked_rules manner c d s t (refused text f) is has =
+    ap (λ (w : State). w.rules) is.stays.gateway ∙ has ∙ sym (ap (λ (x : Configuration). x.rules) is.stays.config)
+looked_rules manner c d s t (taken_over text new) is has =
+    ap (λ (w : State). w.rules) is.gateway ∙ sym (ap (λ (x : Configuration). x.rules) is.config)
+
+link_rules : {K : Type 0} (manner : Manner K) (s t : Stage K) (link : Link) → IsLink manner s link t → HasItsRules s → HasItsRules t
+link_rules manner s t (served turns) is has =
+    went_rules manner.Passes s.now t.now turns is.went ∙ has ∙ sym (ap (λ (x : Configuration). x.rules) is.config)
+link_rules manner s t (ticked turns look text) is has =
+    looked_rules manner s.config t.config _ _ look is.done.looked (went_rules manner.Passes s.now is.then turns is.went ∙ has)
+link_rules manner s t (withheld turns event text) is has =
+    ap (λ (w : State). w.rules) is.last.logged.taken.gateway ∙ next_rules is.then.scene.gateway event
+    ∙ went_rules manner.Passes s.now is.then turns is.went ∙ has ∙ sym (ap (λ (x : Configuration). x.rules) is.config)
+
+pub rules_in_force : {K : Type 0} (manner : Manner K) → RulesAreInForce manner
+unfolding AreLinks
+rules_in_force manner s t [] chain has = subst (λ (x : Stage _). HasItsRules x) (sym chain) has
+rules_in_force manner s t (link ∷ links) chain has =
+    rules_in_force manner chain.0 t links chain.2 (link_rules manner s chain.0 link chain.1 has)
+
+-- ---- the numbers of denials
+
+-- the greater of two numbers is at least each of them, and the less of two is the first if that isn't above the second
+greater_by : (a b : ℕ) (test : Bool) → nat_le a b ≡ test → (a ≤ (if test then b else a)) × (b ≤ (if test then b else a))
+greater_by a b true is = (leb-true a b is, omega arith)
+greater_by a b false is = (omega arith, omega (arith, leb-false a b is))
+
+is_greater : (a b : ℕ) → (a ≤ greater a b) × (b ≤ greater a b)
+is_greater a b = greater_by a b (nat_le a b) refl
+
+less_by : (a b : ℕ) (test : Bool) → a ≤ b → nat_le a b ≡ test → (if test then a else b) ≡ a
+less_by a b true most is = refl
+less_by a b false most is =
+    let no : ⊥ = omega (arith, most, leb-false a b is) in absurd no
+
+is_less : (a b : ℕ) → a ≤ b → less a b ≡ a
+is_less a b most = less_by a b (nat_le a b) most refl
+
+-- denials are numbered up from the first number
+numbered_from : (m n : ℕ) (rules : List Rule) (number tick : ℕ) (from : Origin) (refusals : List Refusal) → m < number → n < number
+    → AllByRecursion (λ (d : Denial). (m < d.number) × (n < d.number)) (denials_from rules number tick from refusals)
+numbered_from m n rules number tick from [] is_m is_n = tt
+numbered_from m n rules number tick from (refusal ∷ refusals) is_m is_n =
+    ((is_m, is_n), numbered_from m n rules (number + 1) tick from refusals (omega (arith, is_m)) (omega (arith, is_n)))
+
+numbered : (m n : ℕ) (rules : List Rule) (number tick : ℕ) (from : Option Origin) (refusals : List Refusal) → m < number → n < number
+    → AllByRecursion (λ (d : Denial). (m < d.number) × (n < d.number)) (denials_of rules number tick from refusals)
+numbered m n rules number tick None refusals is_m is_n = tt
+numbered m n rules number tick (Some from) refusals is_m is_n = numbered_from m n rules number tick from refusals is_m is_n
+
+pub numbers_above : NumbersGoOn
+unfolding effects_at
+numbers_above counts later line shown w e from showable spelled most is =
+    let after : later ≡ counts_after counts shown = from.denial shown showable spelled in
+    let number : later.denials ≡ greater counts.denials (less shown.number (2 ^ 63)) = ap (λ (k : Counts). k.denials) after in
+    let least = is_greater counts.denials (less shown.number (2 ^ 63)) in
+    let same = is_less shown.number (2 ^ 63) most in
+    let received = receive w e in
+    All-from_recursion (λ (d : Denial). (counts.denials < d.number) × (shown.number < d.number)) (effects_at w e).denials
+    (numbered counts.denials shown.number w.rules (w.denials + 1) w.ticks (origin received)
+    (denied_of w.rules (asks_for w.rules w.relay w.device received)) (omega (arith, least.0, number, is)) (omega (arith, least.1, same, number, is)))

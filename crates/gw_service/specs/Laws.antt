@@ -1,0 +1,32 @@
+-- Laws of a run that keeps its state or reads its configuration again.
+use Rattle.std.specs.Prelude.{◌≡◌, ℕ, ◌<◌, ◌≤◌, ◌^◌, List, Some, All}
+use Rattle.gw_audit.specs.Entry.{IsLineOf, IsShowable}
+use Rattle.gw_audit.specs.declared.denial.Denial.{Denial}
+use Rattle.gw_core.specs.Effects.{effects_at}
+use Rattle.gw_core.specs.History.{state_from}
+use Rattle.gw_core.specs.State.{State}
+use Rattle.gw_core.specs.declared.event.Counts.{Counts}
+use Rattle.gw_script.specs.Event.{Event}
+use Rattle.gw_service.specs.Chain.{AreLinks, Link, Manner, Stage}
+use Rattle.gw_service.specs.Counts.{GoesOnFrom}
+
+-- a gateway judges by the rules of the configuration in force
+abbrev pub HasItsRules : {K : Type 0} → Stage K → Type 0
+HasItsRules s = s.now.scene.gateway.rules ≡ s.config.rules
+
+-- It does so wherever a chain leads, if it did at first.
+abbrev pub RulesAreInForce : {K : Type 0} → Manner K → Type 0
+RulesAreInForce {K} manner =
+    (s t : Stage K) (links : List Link) → AreLinks manner s links t → HasItsRules s → HasItsRules t
+
+-- In a stretch its rules stay.
+abbrev pub RulesStay : Type 0
+RulesStay = (w : State) (events : List Event) → (state_from w events).rules ≡ w.rules
+
+-- A gateway that goes on from these counts and the last line of its log gives each denial a greater number than that of the
+-- last denial that was counted, and than that of the denial in the line.
+abbrev pub NumbersGoOn : Type 0
+NumbersGoOn =
+    (counts later : Counts) (line : List ℕ) (shown : Denial) (w : State) (e : Event) → GoesOnFrom counts (Some line) later
+    → IsShowable shown → IsLineOf line shown → shown.number ≤ 2 ^ 63 → w.denials ≡ later.denials
+    → All (λ (d : Denial). (counts.denials < d.number) × (shown.number < d.number)) (effects_at w e).denials

@@ -1,0 +1,24 @@
+//! Laws of a run that keeps its state or reads its configuration again. The functions do nothing: their contracts are the laws.
+
+ghost use Rattle.std.specs.Prelude.{List, ℕ};
+ghost use Rattle.gw_core.specs.State.{State};
+ghost use Rattle.gw_serving.specs.declared.serving.Served.{Served};
+ghost use Rattle.gw_serving.specs.declared.tally.Tally.{Tally};
+ghost use Rattle.gw_service.specs.Chain.{manner};
+ghost use Rattle.gw_service.specs.Laws.{NumbersGoOn, RulesAreInForce, RulesStay};
+
+use crate::keeping::StateKeeper;
+
+/// Each event is judged by the rules of the configuration in force: wherever a run leads, the gateway has them, and in a stretch
+/// they stay.
+pub fn rules_are_in_force<K: StateKeeper>()
+    ensures chain { (report : K → State → Served → Tally → List ℕ) →
+        RulesAreInForce (manner K.Passes K.Ticks K.Adopts K.failing report) }
+    ensures stretch { RulesStay }
+{}
+
+/// No number of a denial is used twice: a gateway that begins with a state goes on after the number of the last denial that was
+/// counted there, and after that of the last line of its log.
+pub fn numbers_go_on()
+    ensures { NumbersGoOn }
+{}
