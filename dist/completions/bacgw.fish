@@ -28,6 +28,6 @@ complete -c bacgw -n '__fish_seen_subcommand_from why' -l count -d 'Prints how m
 complete -c bacgw -n '__fish_seen_subcommand_from suggest' -l fill -d 'Lets each station do what it did with each object'
 complete -c bacgw -n '__fish_seen_subcommand_from suggest' -l exact -d 'Keeps the services of reads and lists apart'
 complete -c bacgw -n '__fish_seen_subcommand_from compare' -l with -r -F -d 'The other configuration, in TOML'
-complete -c bacgw -n '__fish_seen_subcommand_from compare' -l most -x -d 'How many lines are printed at most'
+complete -c bacgw -n '__fish_seen_subcommand_from compare' -l most -x -d 'How many lines are printed at most, or of each group'
 complete -c bacgw -n '__fish_seen_subcommand_from log' -l start -x -d 'Also tells when each denial was, if the log began then'
 complete -c bacgw -n '__fish_seen_subcommand_from help' -a 'check replay run why compare log state reload suggest'

@@ -169,7 +169,8 @@ fn make_compare<'a>(alloc: Global) -> Result<Command<'a>, AllocError>
     ensures local { IfOk result (λ command. (out-Command command).has_globals ≡ false) }
 {
     let with = make_needed(alloc, "with", "The other configuration, in TOML");
-    let help = "How many lines are printed at most, from 1 to 9223372036854775807, the default";
+    let help =
+        "How many lines are printed at most, or of each group, from 1 to 9223372036854775807, the default";
     let most = make_option(alloc, "most", NUMBER, help);
     let about = "Says which asks the rules of two configurations decide otherwise";
     make_of_file(alloc, "compare", about)?
