@@ -123,12 +123,17 @@ LeavesPrinted (Ok text) held holds (Ok done) = Appends held holds text
 LeavesPrinted (Ok text) held holds (Err f) = (f ≡ fault.Write) × AppendsFront held holds text
 LeavesPrinted (Err f) held holds outcome = (outcome ≡ Err f) × (holds ≡ held)
 
+-- What `state` leaves of a configuration and of the text of a state: what it says of them.
+abbrev pub LeavesSaid : Option (List ℕ) → Option (List ℕ) → Configuration → Result (List ℕ) Fault
+    → Result (Unit {0}) Fault → Type 0
+LeavesSaid held holds c text outcome =
+    (words : Result (List ℕ) Fault) × IsSaidOfText c text words × LeavesPrinted words held holds outcome
+
 -- What `state` leaves of the configuration and of the text of a state that were read: what it says of them. If there is
 -- no configuration, the outcome is why.
 abbrev pub LeavesState : Option (List ℕ) → Option (List ℕ) → Result Configuration Fault → Result (List ℕ) Fault
     → Result (Unit {0}) Fault → Type 0
-LeavesState held holds (Ok c) text outcome =
-    (words : Result (List ℕ) Fault) × IsSaidOfText c text words × LeavesPrinted words held holds outcome
+LeavesState held holds (Ok c) text outcome = LeavesSaid held holds c text outcome
 LeavesState held holds (Err f) text outcome = (outcome ≡ Err f) × (holds ≡ held)
 
 -- What it leaves of the files of these names.
@@ -151,19 +156,26 @@ abbrev pub LeavesSuggestedIn : (Reads : List ℕ → Result (List ℕ) Fault →
 LeavesSuggestedIn Reads file manner input held holds outcome =
     (text : Result (List ℕ) Fault) × Reads file text × LeavesSuggested manner input held holds text outcome
 
--- What an answer leaves: its text, and it says how the request ends; or a front of it, if a write failed. If there is
--- none, the outcome is why.
-abbrev pub LeavesAnswer : Result (List ℕ) Fault → Option (List ℕ) → Option (List ℕ) → Result (Unit {0}) Fault → Type 0
-LeavesAnswer (Ok answer) held holds outcome =
+-- What an answer leaves: its text, and it says how the request ends; or a front of it, if a write failed.
+abbrev pub LeavesText : List ℕ → Option (List ℕ) → Option (List ℕ) → Result (Unit {0}) Fault → Type 0
+LeavesText answer held holds outcome =
     ((outcome ≡ outcome_of_answer answer) × Appends held holds answer)
     ⊎ ((outcome ≡ Err fault.Write) × AppendsFront held holds answer)
+
+-- If there is no answer, the outcome is why.
+abbrev pub LeavesAnswer : Result (List ℕ) Fault → Option (List ℕ) → Option (List ℕ) → Result (Unit {0}) Fault → Type 0
+LeavesAnswer (Ok answer) held holds outcome = LeavesText answer held holds outcome
 LeavesAnswer (Err f) held holds outcome = (outcome ≡ Err f) × (holds ≡ held)
 
--- What `reload` leaves if the configuration is one: an answer, or nothing if there is none.
+-- What a request leaves: an answer, or nothing if there is none.
+abbrev pub LeavesAsked : Option (List ℕ) → Option (List ℕ) → Result (Unit {0}) Fault → Type 0
+LeavesAsked held holds outcome =
+    (answer : Result (List ℕ) Fault) × IfErr answer IsUnanswered × LeavesAnswer answer held holds outcome
+
+-- What `reload` leaves if the configuration is one.
 abbrev pub LeavesReload : Option (List ℕ) → Option (List ℕ) → Result Configuration Fault → Result (Unit {0}) Fault
     → Type 0
-LeavesReload held holds (Ok c) outcome =
-    (answer : Result (List ℕ) Fault) × IfErr answer IsUnanswered × LeavesAnswer answer held holds outcome
+LeavesReload held holds (Ok c) outcome = LeavesAsked held holds outcome
 LeavesReload held holds (Err f) outcome = (outcome ≡ Err f) × (holds ≡ held)
 
 -- What it leaves if that is the file of this name.

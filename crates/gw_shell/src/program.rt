@@ -12,7 +12,7 @@ ghost use Rattle.gw_shell.specs.Ending.{outcome_of_comparison, served};
 ghost use Rattle.gw_shell.specs.Ending.{FaultNote, IsExplainedBy};
 ghost use Rattle.gw_shell.specs.Files.{result_map};
 ghost use Rattle.gw_system.specs.Host.{OpensAtLine};
-ghost use Rattle.gw_shell.specs.Program.{AppendsFront, IsChoiceOf, IsFlushed, IsFollowed, IsRun, LeavesAnswer, LeavesAnswered, LeavesCompared, LeavesComparison, LeavesConfigured, LeavesCounts, LeavesInFormatThree, LeavesMigrated, LeavesOfText, LeavesOutput, LeavesPlayed, LeavesPrinted, LeavesReload, LeavesReloadIn, LeavesState, LeavesStateIn, LeavesSuggested, LeavesSuggestedIn};
+ghost use Rattle.gw_shell.specs.Program.{AppendsFront, IsChoiceOf, IsFlushed, IsFollowed, IsRun, LeavesAnswer, LeavesAnswered, LeavesAsked, LeavesCompared, LeavesComparison, LeavesConfigured, LeavesCounts, LeavesInFormatThree, LeavesMigrated, LeavesOfText, LeavesOutput, LeavesPlayed, LeavesPrinted, LeavesReload, LeavesReloadIn, LeavesSaid, LeavesState, LeavesStateIn, LeavesSuggested, LeavesSuggestedIn, LeavesText};
 ghost use Rattle.gw_service.specs.Kept.{state_machine, whole_machine};
 ghost use Rattle.gw_service.specs.Serving.{IsFlushedFor, machine};
 ghost use Rattle.gw_shell.specs.Serving.{LeavesRun};
@@ -288,7 +288,21 @@ fn print_state<W: Write + Drop>(
     ensures flush { OnOk result (writer_buffer output.new ≡ []) }
 {
     let config = config?;
-    print_made(words_of_text(alloc, &config, text), output)
+    print_said(alloc, &config, text, output)
+}
+
+/// Says what the text of a state holds under a configuration.
+fn print_said<W: Write + Drop>(
+    alloc: Global,
+    config: &Config,
+    text: &Result<Vec<u8>, Fault>,
+    output: &mut BufWriter<W>,
+) -> Result<(), Fault>
+    ensures output { LeavesSaid (writer_contents W.contents output.old) (writer_contents W.contents output.new)
+        config.now (result_map (λ octets. octets.items) text.now) result }
+    ensures flush { OnOk result (writer_buffer output.new ≡ []) }
+{
+    print_made(words_of_text(alloc, config, text), output)
 }
 
 /// Prints the answer to a request, which says how it ends.
@@ -300,9 +314,19 @@ fn print_answer<W: Write + Drop>(
         (writer_contents W.contents output.old) (writer_contents W.contents output.new) result }
     ensures flush { OnOk result (writer_buffer output.new ≡ []) }
 {
-    let answer = answer?;
-    match print(&answer, output) {
-        Ok(()) => reloading::outcome_of(&answer),
+    match answer {
+        Ok(answer) => print_answer_text(&answer, output),
+        Err(fault) => Err(fault),
+    }
+}
+
+fn print_answer_text<W: Write + Drop>(answer: &[u8], output: &mut BufWriter<W>) -> Result<(), Fault>
+    ensures output { LeavesText answer.now (writer_contents W.contents output.old)
+        (writer_contents W.contents output.new) result }
+    ensures flush { OnOk result (writer_buffer output.new ≡ []) }
+{
+    match print(answer, output) {
+        Ok(()) => reloading::outcome_of(answer),
         Err(fault) => Err(fault),
     }
 }
@@ -320,6 +344,19 @@ fn reload<H: Host, W: Write + Drop>(
     ensures flush { OnOk result (writer_buffer output.new ≡ []) }
 {
     let _config = config?;
+    print_asked(alloc, request, host, output)
+}
+
+/// Asks by the file of this name to read the configuration again, and prints the answer.
+fn print_asked<H: Host, W: Write + Drop>(
+    alloc: Global,
+    request: &str,
+    host: &H,
+    output: &mut BufWriter<W>,
+) -> Result<(), Fault>
+    ensures output { LeavesAsked (writer_contents W.contents output.old) (writer_contents W.contents output.new) result }
+    ensures flush { OnOk result (writer_buffer output.new ≡ []) }
+{
     print_answer(ask(alloc, request, host), output)
 }
 

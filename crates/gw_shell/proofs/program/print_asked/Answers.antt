@@ -3,7 +3,7 @@ use Rattle.std.specs.Global.{Vec}
 use Rattle.gw_shell.specs.Files.{result_map}
 use Rattle.gw_shell.specs.Ending.{IsUnanswered}
 use Rattle.gw_shell.specs.declared.fault.Fault.{Fault}
-use Rattle.gw_shell.proofs.program.reload.Goals as goal
+use Rattle.gw_shell.proofs.program.print_asked.Goals as goal
 
 mapped : (r : Result (Vec ℕ) Fault) → IfErr r IsUnanswered → IfErr (result_map (λ (octets : Vec ℕ). octets.items) r) IsUnanswered
 mapped (Ok octets) is = is
