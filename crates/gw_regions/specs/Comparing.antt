@@ -62,7 +62,8 @@ pub record IsDecided (old new : List Rule) (f : Found) (ask : Ask) : Type 0 wher
 
 -- What is found of the asks of some shapes that two policies decide otherwise. What is said of a region holds for
 -- each of its asks that passes a test.
-pub record IsFoundFor (test : Ask → Bool) (shapes : List Region) (old new : List Rule) (found : List Found) (left : List Region) : Type 0 where
+pub record IsFoundFor
+    (test : Ask → Bool) (shapes : List Region) (old new : List Rule) (found : List Found) (left : List Region) : Type 0 where
   -- an ask of the shapes is decided otherwise where it is found, and perhaps in what is left
   pub exact : (ask : Ask) → lies_in_one shapes ask ≡ true
       → differs old new ask ≡ (is_found found ask || (lies_in_one left ask && differs old new ask))
