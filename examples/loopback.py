@@ -9,6 +9,10 @@
     loopback.py broadcast PROGRAM FILE       runs it for eight turns, has it send two broadcasts and prints what its counts say of them
     loopback.py burst PROGRAM FILE           gives it 16 reads at once, and prints whether all were answered within a second
     loopback.py first PROGRAM FILE OCTETS    gives a run of eight turns these octets, and prints its answer
+    loopback.py kept PROGRAM FILE LOG STATE  writes a point, and kills the gateway by SIGKILL once that is acknowledged, twice; and
+                                             reads it after each start
+    loopback.py reload PROGRAM FILE NEW REQUEST
+                                             has a gateway take over another configuration, and then a faulty one, which it refuses
 
 It prints the answers in hexadecimal and the exit status; what the gateway tells goes to standard error.
 """
@@ -73,6 +77,61 @@ def serve(program, file, log):
     finally:
         gateway.send_signal(signal.SIGTERM)
         print("status", gateway.wait(timeout=10))
+
+
+def start(program, *words):
+    """A gateway that serves."""
+    gateway = subprocess.Popen([program, "run", "--verbose", *words], stdin=subprocess.DEVNULL, stderr=subprocess.PIPE)
+    gateway.stderr.readline()
+    return gateway
+
+
+def write(line, number, instance, value, to):
+    """Writes Present_Value of a Binary Value at priority 8, and prints the answer (clause 15.9)."""
+    npdu = bytes.fromhex("0124006401" "01FF")
+    point = (5 << 22 | instance).to_bytes(4, "big")
+    apdu = bytes([0x00, 0x05, number, 0x0F, 0x0C]) + point + b"\x19\x55\x3e\x91" + bytes([value]) + b"\x3f\x49\x08"
+    line.sendto(b"\x81\x0a" + (len(npdu + apdu) + 4).to_bytes(2, "big") + npdu + apdu, (to, UDP))
+    print(line.recvfrom(1508)[0].hex().upper())
+
+
+def kept(program, file, log, state):
+    """Kills a gateway once a write is acknowledged, and reads what the next one makes of it."""
+    line = open_line(CLIENT)
+    for run, value in enumerate((0, 1, 0)):
+        gateway = start(program, "--config", file, "--log", log, "--state", state)
+        try:
+            read(line, 20 + 3 * run, 1, PORT_1)
+            read(line, 21 + 3 * run, 2, PORT_1)
+            write(line, 22 + 3 * run, 1, value, PORT_1)
+        finally:
+            gateway.kill()
+            gateway.wait(timeout=10)
+
+
+def reload(program, file, new, request):
+    """Reads the door of a gateway before and after it takes over a configuration under which it may be read, and after a faulty one."""
+    line = open_line(CLIENT)
+    gateway = start(program, "--config", file, "--reload", request)
+    again = [program, "reload", "--config", file, "--reload", request]
+    try:
+        read(line, 30, 2, PORT_1)
+        shutil.copyfile(new, file)
+        print("status", subprocess.run(again, timeout=20).returncode, flush=True)
+        read(line, 31, 2, PORT_1)
+        with open(file, "w", encoding="utf-8") as text:
+            text.write("no configuration")
+        print("status", subprocess.run(again, timeout=20).returncode, flush=True)
+        open(request, "w", encoding="utf-8").close()
+        until = time.monotonic() + 5
+        while not os.path.exists(request + ".answer") and time.monotonic() < until:
+            time.sleep(0.05)
+        with open(request + ".answer", encoding="utf-8") as answer:
+            print(answer.read(), end="", flush=True)
+        read(line, 32, 2, PORT_1)
+    finally:
+        gateway.kill()
+        gateway.wait(timeout=10)
 
 
 def taken(program, file, address):
@@ -206,4 +265,6 @@ def ports(program, file, count):
     "broadcast": broadcast,
     "burst": burst,
     "first": first,
+    "kept": kept,
+    "reload": reload,
 }[sys.argv[1]](*sys.argv[2:])
