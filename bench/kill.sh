@@ -114,9 +114,16 @@ def entries(number):
     return b"".join(bytes([10, 9, number >> 8, number & 255]) + UDP.to_bytes(2, "big") + b"\xff" * 4 for number in (number, number + 1))
 
 
+def managed(octets):
+    """Whether a frame that manages a table gets the Result 0000. A Result doesn't say of which frame it is, so none may be left unread."""
+    if ask(octets, lambda message: message == bytes.fromhex("810000060000")) is not None:
+        return True
+    read(1)
+    return False
+
+
 def write_table(table):
-    octets = b"\x81\x01" + (len(table) + 4).to_bytes(2, "big") + table
-    return ask(octets, lambda message: message == bytes.fromhex("810000060000")) is not None
+    return managed(b"\x81\x01" + (len(table) + 4).to_bytes(2, "big") + table)
 
 
 def read_table():
@@ -185,7 +192,7 @@ def disturb(moment):
             table = entries(chance.randrange(60000))
             sent("table", table, lambda: write_table(table))
         elif kind == 1:
-            line.sendto(bytes.fromhex("81050006") + chance.randrange(1, 600).to_bytes(2, "big"), (GATEWAY, UDP))
+            managed(bytes.fromhex("81050006") + chance.randrange(1, 600).to_bytes(2, "big"))
         elif kind == 2:
             line.sendto(bytes.fromhex("810B0009018001") + chance.randrange(200, 900).to_bytes(2, "big"), (GATEWAY, UDP))
         else:

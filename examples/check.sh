@@ -179,7 +179,7 @@ refused_alone $'\xff'
 
 "$program" --version < /dev/null > "$work/out" 2> "$work/err"
 status=$?
-sed -n 's/^const VERSION: &str = "\(.*\)";/bacgw \1/p' "$here/../crates/gw_shell/src/command_line.rt" > "$work/line"
+sed -n 's/^const VERSION: &str = "\(.*\)";/bacgw \1/p' "$here/../crates/gw_command_line/src/commands.rt" > "$work/line"
 agrees 'the version' 0 "$work/line" /dev/null
 
 helped() {
@@ -336,6 +336,59 @@ same 'the first worked read by a real socket' "$(cat "$work/out")" 810A001801080
 python3 "$here/loopback.py" burst "$program" "$work/served.toml" > "$work/out" 2>&1
 same 'reads that come at once' "$(cat "$work/out")" '16 answers within a second
 16 answers within a second'
+
+# A gateway that is killed once a write is acknowledged has it after the next start, and numbers its denials on.
+rm -f "$work/log" "$work/state"
+python3 "$here/loopback.py" kept "$program" "$work/served.toml" "$work/log" "$work/state" > "$work/out" 2>&1
+same 'acknowledged writes outlive a kill' "$(cat "$work/out")" \
+    '127.3.0.10 810A001801080064010130140C0C0140000119553E91013F
+127.3.0.10 810A001101080064010150150C9102911B
+810A000D01080064010120160F
+127.3.0.10 810A001801080064010130170C0C0140000119553E91003F
+127.3.0.10 810A001101080064010150180C9102911B
+810A000D01080064010120190F
+127.3.0.10 810A0018010800640101301A0C0C0140000119553E91013F
+127.3.0.10 810A0011010800640101501B0C9102911B
+810A000D010800640101201C0F'
+same 'the denials are numbered on' "$(cut -d' ' -f1 "$work/log" | xargs)" '1 2 3'
+same 'the mode of a state' "$(stat -c %a "$work/state")" 600
+"$program" state --config "$work/served.toml" --state "$work/state" > "$work/out" 2> "$work/err"
+status=$?
+same 'a state in words' "$status $(sed -E 's/after [0-9]+ ticks?/after some ticks/' "$work/out")" \
+    '0 state: after some ticks and 3 denials
+port 1, network 1, 127.3.0.10:47808: peers as configured, 0 foreign devices taken over
+port 2, network 2, 127.4.0.10:47808: peers as configured, 0 foreign devices taken over
+object 5,1 binary-value, priority 8: inactive: taken over'
+sed 's/^instance = 1$/instance = 9/' "$work/served.toml" > "$work/other.toml"
+same 'a state under another configuration' \
+    "$("$program" run --config "$work/other.toml" --state "$work/state" --turns 1 2>&1 > /dev/null)" \
+    'state: object 5,1 binary-value: not configured: 1 slot dropped'
+
+# A state that can't be read, is none or can't be written ends the start, and the file stays.
+printf 'bacgw state 1\ncounts 0 0 0\nport 1 nowhere\nend\n' > "$work/bad"
+ran 2 'bacgw: state: line 3: no line that may be here' --config "$work/served.toml" --state "$work/bad" --turns 1
+same 'a faulty state stays' "$(sed -n 3p "$work/bad")" 'port 1 nowhere'
+mkdir "$work/folder"
+ran 1 'bacgw: cannot read state' --config "$work/served.toml" --state "$work/folder" --turns 1
+ran 1 "bacgw: state isn't kept: refused by the system" --config "$work/served.toml" --state "$work/nowhere/state" --turns 1
+ln -s "$work/state" "$work/link"
+ran 1 "bacgw: state isn't kept: not permitted" --config "$work/served.toml" --state "$work/link" --turns 1
+
+# A gateway takes over the configuration that it is asked to read, and refuses a faulty one.
+cp "$work/served.toml" "$work/changed.toml"
+sed '/^name = "hide"$/,$d' "$work/served.toml" | sed '$d' > "$work/new.toml"
+printf '[[rule]]\nname = "all"\nallow = true\n' >> "$work/new.toml"
+python3 "$here/loopback.py" reload "$program" "$work/changed.toml" "$work/new.toml" "$work/request" > "$work/out" 2>&1
+same 'a rule is changed while a gateway runs' "$(cat "$work/out")" \
+    '1 0 1 1:7F030005BAC0 read dst=100 svc=12 obj=5,2 prop=85 prio=- rule=hide
+127.3.0.10 810A0011010800640101501E0C9102911B
+reload: 1 rules (0 new, 1 gone, 0 moved), 2 objects; 0 foreign devices, 0 routes kept
+status 0
+127.3.0.10 810A0018010800640101301F0C0C0140000219553E91003F
+bacgw: configuration: NotToml
+status 2
+reload refused: configuration: NotToml
+127.3.0.10 810A001801080064010130200C0C0140000219553E91003F'
 
 # taken ADDRESS PORT SOCKET: while another socket stands at this address, `run` says which port and which socket can't be opened
 taken() {
