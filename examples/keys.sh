@@ -109,6 +109,8 @@ def words(shape, counted):
 def default(key, shape):
     if "ranges(" in shape:
         return "any"
+    if "Boolean" in shape:
+        return "false"
     return (DEFAULTS[key] or "empty") if "Text" in shape else "none"
 
 

@@ -26,6 +26,7 @@ pub record KnowsNoOther (format : Format) : Type 0 where
   pub sender : IsFalse (is_key (rule_fields format) (codes "sender"))
   pub station : IsFalse (is_key (rule_fields format) (codes "station"))
   pub note : IsFalse (is_key (rule_fields format) (codes "note"))
+  pub audit : IsFalse (is_key (rule_fields format) (codes "audit"))
 
 -- a text is one of the first eleven operations, or none
 abbrev pub HasEleven : Format → Type 0

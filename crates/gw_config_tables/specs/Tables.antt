@@ -190,12 +190,13 @@ common_rule_fields format =
     ∷ ranges format (codes "priority") fields.Priority
     ∷ []
 
--- format 3 alone: the station that sent, the station that a message names, and a note
+-- format 3 alone: the station that sent, the station that a message names, a note, and whether what it allows is written
 abbrev pub rule_fields : Format → List Field
 rule_fields formats.Three =
     common_rule_fields formats.Three
     ++ ranges formats.Three (codes "sender") fields.Sender
     ∷ ranges formats.Three (codes "station") fields.Station
     ∷ may (codes "note") text
+    ∷ may (codes "audit") (One Boolean)
     ∷ []
 rule_fields format = common_rule_fields format

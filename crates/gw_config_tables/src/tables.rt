@@ -379,7 +379,7 @@ pub fn rule_located<'a>(
 }
 
 /// The fields of a rule in format 3.
-fn rule_fields_with_stations() -> [Field; 15]
+fn rule_fields_with_stations() -> [Field; 16]
     ensures { result ≡ spec.rule_fields Format.Three }
 {
     let format = Format::Three;
@@ -399,6 +399,7 @@ fn rule_fields_with_stations() -> [Field; 15]
         ranges(format, "sender", FieldName::Sender),
         ranges(format, "station", FieldName::Station),
         Field::may("note", TEXT),
+        Field::may("audit", Shape::One(Scalar::Boolean)),
     ]
 }
 

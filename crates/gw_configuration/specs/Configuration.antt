@@ -15,7 +15,8 @@ use Rattle.gw_configuration.specs.declared.port.Port.{Port}
 use Rattle.gw_configuration.specs.declared.route.Route.{Route}
 use Rattle.gw_configuration.specs.declared.set.Set.{Set}
 
--- what contracts see of a configuration: of the rules' notes there is one for each rule in order, empty if it has none
+-- what contracts see of a configuration: for each rule in order there is one note, empty if it has none, and one audit:
+-- whether what it allows is written too
 pub record Configuration : Type 0 where
   pub format : Format
   pub device : Device
@@ -24,6 +25,7 @@ pub record Configuration : Type 0 where
   pub objects : List Object
   pub rules : List Rule
   pub notes : List (List ℕ)
+  pub audits : List Bool
   pub sets : List Set
 
 -- the format of a number
@@ -53,21 +55,23 @@ keeps_counts c =
     nat_le 1 (length c.ports) && (nat_le (length c.ports) MAX_PORTS && (nat_le (length c.routes) 512
     && (nat_le (length c.objects) 256 && list_all (is_by (length c.ports)) c.routes)))
 
--- a note for each rule, and rules that a configuration can have
-abbrev pub keeps_rules : Format → List Rule → List (List ℕ) → Bool
-keeps_rules format rules notes = (length notes == length rules) && list_all (is_configurable format) rules
+-- a note and an audit for each rule, and rules that a configuration can have
+abbrev pub keeps_rules : Format → List Rule → List (List ℕ) → List Bool → Bool
+keeps_rules format rules notes audits =
+    (length notes == length rules) && ((length audits == length rules) && list_all (is_configurable format) rules)
 
--- what a configuration of format 1 or 2 doesn't have: stations of a port, sets, notes, and more than four ranges for a
--- field of a rule
-abbrev pub is_plain : List Port → List Rule → List (List ℕ) → List Set → Bool
-is_plain ports rules notes sets =
+-- what a configuration of format 1 or 2 doesn't have: stations of a port, sets, notes, audits, and more than four ranges
+-- for a field of a rule
+abbrev pub is_plain : List Port → List Rule → List (List ℕ) → List Bool → List Set → Bool
+is_plain ports rules notes audits sets =
     list_all (λ port. length port.stations == 0) ports
-    && (has_short_fields rules && (list_all (λ note. length note == 0) notes && (length sets == 0)))
+    && (has_short_fields rules
+    && (list_all (λ note. length note == 0) notes && (list_all not audits && (length sets == 0))))
 
 -- these, names that aren't empty, and in formats 1 and 2 nothing that they don't have
 abbrev pub keeps_limits : Configuration → Bool
 keeps_limits c =
     keeps_counts c
     && (are_named c.device c.objects
-    && (keeps_rules c.format c.rules c.notes
-    && (names_stations c.format || is_plain c.ports c.rules c.notes c.sets)))
+    && (keeps_rules c.format c.rules c.notes c.audits
+    && (names_stations c.format || is_plain c.ports c.rules c.notes c.audits c.sets)))

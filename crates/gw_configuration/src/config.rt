@@ -54,10 +54,10 @@ impl Config {
     /// The format of the policy.
     pub fn format(&self) -> Format
         ensures format { result ≡ self.now.format }
-        // In formats 1 and 2 no port has stations, there is no set and no note, and no rule has more than
-        // four ranges for a field.
+        // In formats 1 and 2 no port has stations, there is no set, no note and no audit, and no rule has
+        // more than four ranges for a field.
         ensures plain { IsTrue (names_stations self.now.format
-            || is_plain self.now.ports self.now.rules self.now.notes self.now.sets) }
+            || is_plain self.now.ports self.now.rules self.now.notes self.now.audits self.now.sets) }
     {
         self.parts.format()
     }
@@ -115,6 +115,14 @@ impl Config {
         ensures each { length self.now.notes ≡ length self.now.rules }
     {
         self.parts.notes()
+    }
+
+    /// For each rule in their order, whether what it allows is written too.
+    pub fn audits(&self) -> &[bool]
+        ensures audits { result.now ≡ self.now.audits }
+        ensures each { length self.now.audits ≡ length self.now.rules }
+    {
+        self.parts.audits()
     }
 
     /// The sets in order. In formats 1 and 2 there is none.

@@ -1,5 +1,5 @@
 //! The parts of a configuration, before it is judged what stands twice.
-ghost use Rattle.std.specs.Prelude.{◌≡◌, ◌≤◌, ◌==◌, ◌&&◌, ◌||◌, Some, None, length, if◌then◌else◌, IsTrue};
+ghost use Rattle.std.specs.Prelude.{◌≡◌, ◌≤◌, ◌==◌, ◌&&◌, ◌||◌, not, Some, None, length, if◌then◌else◌, IsTrue};
 ghost use Rattle.std.specs.List.{list_all};
 ghost use Rattle.gw_addr.specs.declared.TheConstants.{MAX_PORTS};
 ghost use Rattle.gw_rules.specs.Format.{names_stations};
@@ -58,22 +58,23 @@ impl Model for Parts {
       objects = c.objects;
       rules = c.policy.rules;
       notes = c.policy.notes;
+      audits = c.policy.audits;
       sets = c.policy.sets;
     } };
 
     ghost invariant = { λ c. (1 ≤ length c.ports) × ((length c.ports ≤ MAX_PORTS) × ((length c.routes ≤ 512)
         × ((length c.objects ≤ 256) × (IsTrue (list_all (is_by (length c.ports)) c.routes)
-        × (IsTrue (are_named c.device c.objects) × (IsTrue (keeps_rules c.format c.policy.rules c.policy.notes)
+        × (IsTrue (are_named c.device c.objects) × (IsTrue (keeps_rules c.format c.policy.rules c.policy.notes c.policy.audits)
         × IsTrue (names_stations c.format
-        || is_plain c.ports c.policy.rules c.policy.notes c.policy.sets))))))) };
+        || is_plain c.ports c.policy.rules c.policy.notes c.policy.audits c.policy.sets))))))) };
 }
 
 impl Parts {
     /// These parts, or `None` if a limit isn't kept: there is no port or more than 8, there are more
     /// than 512 routes or 256 objects, a route is by a port that isn't there, the device or an object has
-    /// an empty name, there isn't a note for each rule, or a rule is named `default` or names what its
-    /// field can't have; or if the format is 1 or 2, and a port has stations, there is a set or a note that
-    /// isn't empty, or a rule has more than four ranges for a field.
+    /// an empty name, there isn't a note or an audit for each rule, or a rule is named `default` or names
+    /// what its field can't have; or if the format is 1 or 2, and a port has stations, there is a set, a note
+    /// that isn't empty or a rule that is audited, or a rule has more than four ranges for a field.
     pub fn new(
         format: Format,
         device: Device,
@@ -90,6 +91,7 @@ impl Parts {
           objects = objects;
           rules = policy.rules;
           notes = policy.notes;
+          audits = policy.audits;
           sets = policy.sets;
         } in result ≡ (if keeps_limits parts then Some parts else None) }
     {
@@ -119,10 +121,10 @@ impl Parts {
     /// The format of the policy.
     pub fn format(&self) -> Format
         ensures format { result ≡ self.now.format }
-        // In formats 1 and 2 no port has stations, there is no set and no note, and no rule has more than
-        // four ranges for a field.
+        // In formats 1 and 2 no port has stations, there is no set, no note and no audit, and no rule has
+        // more than four ranges for a field.
         ensures plain { IsTrue (names_stations self.now.format
-            || is_plain self.now.ports self.now.rules self.now.notes self.now.sets) }
+            || is_plain self.now.ports self.now.rules self.now.notes self.now.audits self.now.sets) }
     {
         self.format
     }
@@ -178,6 +180,14 @@ impl Parts {
         self.policy.notes.as_slice()
     }
 
+    /// For each rule in their order, whether what it allows is written too.
+    pub fn audits(&self) -> &[bool]
+        ensures audits { result.now ≡ self.now.audits }
+        ensures each { length self.now.audits ≡ length self.now.rules }
+    {
+        self.policy.audits.as_slice()
+    }
+
     /// The sets in order.
     pub fn sets(&self) -> &[Set]
         ensures { result.now ≡ self.now.sets }
@@ -223,12 +233,15 @@ fn have_names(objects: &[Object]) -> bool
         .all(|object| !object.name.as_str().is_empty())
 }
 
-/// Whether there is a note for each rule, and a configuration of the format can have each of them.
+/// Whether there are a note and an audit for each rule, and a configuration of the format can have each of
+/// them.
 fn keeps_rules(format: Format, policy: &Policing) -> bool
-    ensures { result ≡ keeps_rules format policy.now.rules policy.now.notes }
+    ensures { result ≡ keeps_rules format policy.now.rules policy.now.notes policy.now.audits }
 {
     let rules = policy.rules.rules();
-    policy.notes.len() == rules.len() && are_configurable(format, rules)
+    policy.notes.len() == rules.len()
+        && policy.audits.len() == rules.len()
+        && are_configurable(format, rules)
 }
 
 /// Whether a configuration of the format can have each of these rules.
@@ -240,11 +253,12 @@ fn are_configurable(format: Format, rules: &[Rule]) -> bool
 
 /// Whether these parts have nothing that a configuration of format 1 or 2 doesn't have.
 fn is_plain(ports: &[Port], policy: &Policing) -> bool
-    ensures { result ≡ is_plain ports.now policy.now.rules policy.now.notes policy.now.sets }
+    ensures { result ≡ is_plain ports.now policy.now.rules policy.now.notes policy.now.audits policy.now.sets }
 {
     name_no_stations(ports)
         && have_short_fields(&policy.rules)
         && are_empty(policy.notes.as_slice())
+        && audit_nothing(policy.audits.as_slice())
         && policy.sets.is_empty()
 }
 
@@ -258,6 +272,12 @@ fn are_empty(notes: &[Text]) -> bool
     ensures { result ≡ list_all (λ note. length note == 0) notes.now }
 {
     notes.iter().all(|note| note.as_str().is_empty())
+}
+
+fn audit_nothing(audits: &[bool]) -> bool
+    ensures { result ≡ list_all not audits.now }
+{
+    audits.iter().all(|audit| !*audit)
 }
 
 /// Whether each rule of the list has at most four ranges for each field.

@@ -11,6 +11,8 @@ pub struct Policing {
     pub rules: RuleList,
     /// The note of each rule in their order, empty if it has none.
     pub notes: Sequence<Text>,
+    /// For each rule in their order, whether what it allows is written too.
+    pub audits: Sequence<bool>,
     /// The sets in order.
     pub sets: Sequence<Set>,
 }
@@ -21,6 +23,7 @@ impl Drop for Policing {
         let Policing {
             rules: _,
             notes: _,
+            audits: _,
             sets: _,
         } = self;
     }
@@ -34,6 +37,7 @@ impl Policing {
         let Policing {
             rules,
             notes: _,
+            audits: _,
             sets: _,
         } = self;
         rules

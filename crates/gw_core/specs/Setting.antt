@@ -96,5 +96,6 @@ setting = record {
   objects = objects;
   rules = hide ∷ no_description ∷ all_else ∷ [];
   notes = [] ∷ [] ∷ [] ∷ [];
+  audits = false ∷ false ∷ false ∷ [];
   sets = [];
 }

@@ -62,4 +62,5 @@ fn is_migrated(config: &Config, back: &Config) -> bool
         && config.sets().is_empty()
         && back.sets().is_empty()
         && are_same(config.notes(), back.notes())
+        && are_same(config.audits(), back.audits())
 }

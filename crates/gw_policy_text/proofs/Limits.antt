@@ -1,5 +1,5 @@
 -- Parts that keep the limits.
-use Rattle.std.proofs.Common.{◌≡◌, ◌≤◌, ◌&&◌, ◌||◌, ◌==◌, ◌∷◌, ◌++◌, [], ℕ, Bool, List, true, false, length, refl, ap, sym, ◌∙◌, Option, Some, None, if◌then◌else◌}
+use Rattle.std.proofs.Common.{◌≡◌, ◌≤◌, ◌&&◌, ◌||◌, ◌==◌, ◌∷◌, ◌++◌, [], ℕ, Bool, List, true, false, not, length, refl, ap, sym, ◌∙◌, Option, Some, None, if◌then◌else◌}
 use Rattle.std.proofs.lemmas.Bool.{and_from, eq-eqb, le-leb}
 use Rattle.std.proofs.lemmas.List.Folds.{list_all-append}
 use Rattle.std.specs.List.{list_all}
@@ -12,7 +12,7 @@ use Rattle.gw_configuration.specs.declared.port.Port.{Port}
 use Rattle.gw_configuration.specs.declared.set.Set.{Set}
 use Rattle.gw_configuration.specs.Configuration.{Configuration, are_named, is_by, is_configurable, is_plain, keeps_counts, keeps_limits, keeps_rules}
 use Rattle.gw_policy_text.specs.Parts.{has_no_stations}
-use Rattle.gw_policy_text.specs.Policy.{has_no_note}
+use Rattle.gw_policy_text.specs.Policy.{has_no_audit, has_no_note}
 
 -- one more that passes a test, as a loop adds it
 pub all_more : {X : Type 0} (test : X → Bool) (xs : List X) (x : X) → list_all test xs ≡ true → test x ≡ true → list_all test (xs ++ x ∷ []) ≡ true
@@ -23,10 +23,12 @@ pub counts_kept : (c : Configuration) → 1 ≤ length c.ports → length c.port
 counts_kept c some most routes objects by =
     rw (le-leb _ _ some, le-leb _ _ most, le-leb _ _ routes, le-leb _ _ objects, by) refl
 
--- a note for each rule
-pub rules_kept : (format : Format) (rules : List Rule) (notes : List (List ℕ)) → length notes ≡ length rules → list_all (is_configurable format) rules ≡ true → keeps_rules format rules notes ≡ true
-rules_kept format rules notes count configurable =
-    and_from (length notes == length rules) (list_all (is_configurable format) rules) (eq-eqb (length notes) (length rules) count) configurable
+-- a note and an audit for each rule
+pub rules_kept : (format : Format) (rules : List Rule) (notes : List (List ℕ)) (audits : List Bool) → length notes ≡ length rules → length audits ≡ length rules
+    → list_all (is_configurable format) rules ≡ true → keeps_rules format rules notes audits ≡ true
+rules_kept format rules notes audits count counted configurable =
+    and_from (length notes == length rules) ((length audits == length rules) && list_all (is_configurable format) rules) (eq-eqb (length notes) (length rules) count)
+    (and_from (length audits == length rules) (list_all (is_configurable format) rules) (eq-eqb (length audits) (length rules) counted) configurable)
 
 -- what each passes or all are spared, all pass or are spared
 each_or : {X : Type 0} (spared : Bool) (test : X → Bool) (xs : List X) → list_all (λ x. spared || test x) xs ≡ true → (spared || list_all test xs) ≡ true
@@ -37,28 +39,30 @@ both_or : (spared a b : Bool) → (spared || a) ≡ true → (spared || b) ≡ t
 both_or true a b first second = refl
 both_or false a b first second = and_from a b first second
 
--- what formats 1 and 2 don't have, in the rules, the notes and the sets
-pub plain_policy : (format : Format) (rules : List Rule) (notes : List (List ℕ)) (sets : List Set) → (names_stations format || has_short_fields rules) ≡ true
-    → list_all (has_no_note format) notes ≡ true → (names_stations format || (length sets == 0)) ≡ true
-    → (names_stations format || is_plain [] rules notes sets) ≡ true
-plain_policy format rules notes sets short none no_sets =
-    both_or (names_stations format) (has_short_fields rules) (list_all (λ note. length note == 0) notes && (length sets == 0)) short
-    (both_or (names_stations format) (list_all (λ note. length note == 0) notes) (length sets == 0)
-    (each_or (names_stations format) (λ note. length note == 0) notes none) no_sets)
+-- what formats 1 and 2 don't have, in the rules, the notes, the audits and the sets
+pub plain_policy : (format : Format) (rules : List Rule) (notes : List (List ℕ)) (audits : List Bool) (sets : List Set)
+    → (names_stations format || has_short_fields rules) ≡ true → list_all (has_no_note format) notes ≡ true → list_all (has_no_audit format) audits ≡ true
+    → (names_stations format || (length sets == 0)) ≡ true → (names_stations format || is_plain [] rules notes audits sets) ≡ true
+plain_policy format rules notes audits sets short none unaudited no_sets =
+    both_or (names_stations format) (has_short_fields rules) (list_all (λ note. length note == 0) notes && (list_all not audits && (length sets == 0))) short
+    (both_or (names_stations format) (list_all (λ note. length note == 0) notes) (list_all not audits && (length sets == 0))
+    (each_or (names_stations format) (λ note. length note == 0) notes none)
+    (both_or (names_stations format) (list_all not audits) (length sets == 0) (each_or (names_stations format) not audits unaudited) no_sets))
 
 -- and in the ports
-pub plain_parts : (format : Format) (ports : List Port) (rules : List Rule) (notes : List (List ℕ)) (sets : List Set) → list_all (has_no_stations format) ports ≡ true
-    → (names_stations format || is_plain [] rules notes sets) ≡ true → (names_stations format || is_plain ports rules notes sets) ≡ true
-plain_parts format ports rules notes sets none policy =
-    both_or (names_stations format) (list_all (λ port. length port.stations == 0) ports) (is_plain [] rules notes sets)
+pub plain_parts : (format : Format) (ports : List Port) (rules : List Rule) (notes : List (List ℕ)) (audits : List Bool) (sets : List Set)
+    → list_all (has_no_stations format) ports ≡ true
+    → (names_stations format || is_plain [] rules notes audits sets) ≡ true → (names_stations format || is_plain ports rules notes audits sets) ≡ true
+plain_parts format ports rules notes audits sets none policy =
+    both_or (names_stations format) (list_all (λ port. length port.stations == 0) ports) (is_plain [] rules notes audits sets)
     (each_or (names_stations format) (λ port. length port.stations == 0) ports none) policy
 
-limits_kept : (c : Configuration) → keeps_counts c ≡ true → are_named c.device c.objects ≡ true → keeps_rules c.format c.rules c.notes ≡ true
-    → (names_stations c.format || is_plain c.ports c.rules c.notes c.sets) ≡ true → keeps_limits c ≡ true
+limits_kept : (c : Configuration) → keeps_counts c ≡ true → are_named c.device c.objects ≡ true → keeps_rules c.format c.rules c.notes c.audits ≡ true
+    → (names_stations c.format || is_plain c.ports c.rules c.notes c.audits c.sets) ≡ true → keeps_limits c ≡ true
 limits_kept c counts named rules plain = rw (counts, named, rules, plain) refl
 
 -- so they are made
 pub within_limits : (c : Configuration) (made : Option Configuration) → made ≡ (if keeps_limits c then Some c else None) → keeps_counts c ≡ true
-    → are_named c.device c.objects ≡ true → keeps_rules c.format c.rules c.notes ≡ true
-    → (names_stations c.format || is_plain c.ports c.rules c.notes c.sets) ≡ true → made ≡ Some c
+    → are_named c.device c.objects ≡ true → keeps_rules c.format c.rules c.notes c.audits ≡ true
+    → (names_stations c.format || is_plain c.ports c.rules c.notes c.audits c.sets) ≡ true → made ≡ Some c
 within_limits c made is counts named rules plain = is ∙ ap (λ b. if b then Some c else None) (limits_kept c counts named rules plain)

@@ -28,7 +28,7 @@ use Rattle.gw_config_tables.specs.Tables.{common_top_fields, format_in, format_r
 use Rattle.gw_config_tables.specs.Value.{list_in, natural_within, number_in, reading}
 use Rattle.gw_policy_text.specs.Document.{configuration_of, document, located_configuration, parts_of, parts_of_format}
 use Rattle.gw_policy_text.specs.Parts.{each_at, list_at, number_at, port_in, ports_at}
-use Rattle.gw_policy_text.specs.Policy.{Policy, crowd, note_in, policy_at, policy_of, rule_in, rule_of, rules_behind}
+use Rattle.gw_policy_text.specs.Policy.{Policy, audit_in, crowd, note_in, policy_at, policy_of, rule_in, rule_of, rules_behind}
 use Rattle.gw_policy_text.specs.TwoFormats as two
 use Rattle.gw_policy_text.proofs.EachAt.{regroup, with_front}
 
@@ -82,7 +82,18 @@ same_notes : (format : Format) → names_stations format ≡ false → (vs : Lis
 same_notes format other [] = refl
 same_notes format other (v ∷ vs) = rw (other, same_notes format other vs) refl
 
+same_audits : (format : Format) → names_stations format ≡ false → (vs : List Data) → each (audit_in format) vs ≡ Ok (two.no_audits vs)
+same_audits format other [] = refl
+same_audits format other (v ∷ vs) = rw (other, same_audits format other vs) refl
+
 -- the policy
+
+-- the rules, with their notes and audits as they are read
+abbrev with_rest : List Rule → Read (List (List ℕ)) → Read (List Bool) → Find Policy
+with_rest rules read_notes read_audits =
+    whole read_notes >>= λ notes.
+    whole read_audits >>= λ audits.
+    Ok (record { rules = rules; notes = notes; audits = audits; sets = [] })
 
 -- of format 1 or 2 there are no sets
 abbrev policy_without_sets : Format → Members → Find Policy
@@ -90,8 +101,7 @@ policy_without_sets format top =
     whole (list_at 0 512 (codes "rule") top) >>= λ tables.
     rules_behind format [] [] 0 tables >>= λ read.
     whole (policy_of format read) >>= λ rules.
-    whole (each (note_in format) tables) >>= λ notes.
-    Ok (record { rules = rules; notes = notes; sets = [] })
+    with_rest rules (each (note_in format) tables) (each (audit_in format) tables)
 
 without_sets : (format : Format) → names_stations format ≡ false → (top : Members) → policy_at format top ≡ policy_without_sets format top
 without_sets formats.One other top = refl
@@ -107,13 +117,13 @@ same_policy : (format : Format) → names_stations format ≡ false → (top : M
 same_policy format other top =
     without_sets format other top
     ∙ bind_same (whole (list_at 0 512 (codes "rule") top)) _ _ (λ tables.
-    ap (λ (r : Find (List Rule)). r >>= λ read. whole (policy_of format read) >>= λ rules. whole (each (note_in format) tables) >>= λ notes. Ok (record { rules = rules; notes = notes; sets = [] }))
+    ap (λ (r : Find (List Rule)). r >>= λ read. whole (policy_of format read) >>= λ rules. with_rest rules (each (note_in format) tables) (each (audit_in format) tables))
     (same_rules format other [] 0 tables ∙ no_front (each_at (two.rule_in format) 0 tables))
     ∙ bind_same (each_at (two.rule_in format) 0 tables) _ _ (λ read.
-    ap (λ (r : Read (List Rule)). whole r >>= λ rules. whole (each (note_in format) tables) >>= λ notes. Ok (record { rules = rules; notes = notes; sets = [] }))
+    ap (λ (r : Read (List Rule)). whole r >>= λ rules. with_rest rules (each (note_in format) tables) (each (audit_in format) tables))
     (same_policy_of format other read)
-    ∙ ap (λ (n : Read (List (List ℕ))). whole (two.policy_of read) >>= λ rules. whole n >>= λ notes. Ok (record { rules = rules; notes = notes; sets = [] }))
-    (same_notes format other tables)))
+    ∙ ap (λ (n : Read (List (List ℕ))). whole (two.policy_of read) >>= λ rules. with_rest rules n (each (audit_in format) tables)) (same_notes format other tables)
+    ∙ ap (λ (a : Read (List Bool)). whole (two.policy_of read) >>= λ rules. with_rest rules (Ok (two.no_notes tables)) a) (same_audits format other tables)))
 
 same_ports : (format : Format) → names_stations format ≡ false → (top : Members) → ports_at format (codes "port") top ≡ two.ports_at top
 same_ports format other top =

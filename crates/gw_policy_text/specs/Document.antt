@@ -32,6 +32,7 @@ parts_of_format format top = do
     objects = objects;
     rules = policy.rules;
     notes = policy.notes;
+    audits = policy.audits;
     sets = policy.sets;
   })
 

@@ -166,6 +166,20 @@ note_in format value =
 abbrev pub has_no_note : Format → List ℕ → Bool
 has_no_note format note = names_stations format || (length note == 0)
 
+-- whether what a rule allows is written too: false if the key isn't there, and in format 1 or 2
+abbrev pub boolean_or : Option Data → Read Bool
+boolean_or None = Ok false
+boolean_or (Some value) = boolean_in value
+
+abbrev pub optional_boolean : List ℕ → Members → Read Bool
+optional_boolean key table = boolean_or (get_member key table)
+
+abbrev pub audit_in : Format → Data → Read Bool
+audit_in format value = if names_stations format then (table_in value >>= optional_boolean (codes "audit")) else Ok false
+
+abbrev pub has_no_audit : Format → Bool → Bool
+has_no_audit format audit = names_stations format || not audit
+
 -- the whole policy
 
 -- the tables of the sets, in format 3
@@ -180,10 +194,11 @@ abbrev pub policy_of : Format → List Rule → Read (List Rule)
 policy_of format rules =
     if not (keeps_counts_of format rules) then Err TooMany else if not (keeps_order rules) then Err Range else Ok rules
 
--- the rules, their notes, and the sets
+-- the rules, their notes and audits, and the sets
 pub record Policy : Type 0 where
   pub rules : List Rule
   pub notes : List (List ℕ)
+  pub audits : List Bool
   pub sets : List Set
 
 abbrev pub policy_at : Format → Members → Find Policy
@@ -194,4 +209,5 @@ policy_at format top = do
   read ← rules_behind format items [] 0 tables
   rules ← whole (policy_of format read)
   notes ← whole (each (note_in format) tables)
-  Ok (record { rules = rules; notes = notes; sets = sets })
+  audits ← whole (each (audit_in format) tables)
+  Ok (record { rules = rules; notes = notes; audits = audits; sets = sets })

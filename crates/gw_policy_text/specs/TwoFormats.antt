@@ -1,4 +1,5 @@
--- Texts as they are read where there are formats 1 and 2 alone: no port has stations, and there are no sets and no notes.
+-- Texts as they are read where there are formats 1 and 2 alone: no port has stations, and there are no sets, no notes and
+-- no audits.
 use Rattle.std.specs.Prelude.{◌≡◌, ℕ, Bool, false, not, nat_lt, if◌then◌else◌, List, [], ◌∷◌, length, map, codes, None, Ok, Err}
 use Rattle.toml.specs.Data.{Data, Members}
 use Rattle.gw_addr.specs.Reading.{◌>>=◌}
@@ -107,12 +108,16 @@ policy_of rules =
 abbrev pub no_notes : List Data → List (List ℕ)
 no_notes tables = map (λ table. []) tables
 
+-- and no audit
+abbrev pub no_audits : List Data → List Bool
+no_audits tables = map (λ table. false) tables
+
 abbrev pub policy_at : Format → Members → Find Policy
 policy_at format top = do
   tables ← whole (list_at 0 512 (codes "rule") top)
   read ← each_at (rule_in format) 0 tables
   rules ← whole (policy_of read)
-  Ok (record { rules = rules; notes = no_notes tables; sets = [] })
+  Ok (record { rules = rules; notes = no_notes tables; audits = no_audits tables; sets = [] })
 
 abbrev pub ports_at : Members → Find (List Port)
 ports_at top = whole (list_at 1 MAX_PORTS (codes "port") top) >>= each_at port_in 0
@@ -132,6 +137,7 @@ parts_of_format format top = do
     objects = objects;
     rules = policy.rules;
     notes = policy.notes;
+    audits = policy.audits;
     sets = policy.sets;
   })
 

@@ -1,4 +1,4 @@
-//! What the policy of a configuration is read to: its rules, their notes and its sets.
+//! What the policy of a configuration is read to: its rules, their notes and audits, and its sets.
 ghost use Rattle.std.specs.Prelude.{◌≡◌, ◌||◌, ◌==◌, [], length, map, IfOk, IsTrue};
 ghost use Rattle.std.specs.List.{list_all};
 ghost use Rattle.gw_addr.specs.Reading as plain;
@@ -9,13 +9,13 @@ ghost use Rattle.gw_configuration.specs.Configuration.{is_plain, keeps_rules};
 ghost use Rattle.gw_rules.specs.declared.format.Format.TheVariants as formats;
 ghost use Rattle.gw_configuration.specs.Reading.{Finds, Gives};
 ghost use Rattle.gw_config_tables.specs.Items.{each};
-ghost use Rattle.gw_policy_text.specs.Policy.{has_no_note, note_in, policy_at, policy_of, set_tables};
+ghost use Rattle.gw_policy_text.specs.Policy.{audit_in, has_no_audit, has_no_note, note_in, optional_boolean, policy_at, policy_of, set_tables};
 
 use crate::reading::{any_list, list_at, optional_text};
 use crate::rules::rules;
 use crate::sets::sets;
 use gw_addr::Sequence;
-use gw_config_tables::value::table;
+use gw_config_tables::value::{boolean, member, table};
 use gw_configuration::{ConfigFault, Format, Located, Policing, Text};
 use gw_rules::{MAX_RULES, Rule, RuleList};
 use std::alloc::Global;
@@ -27,10 +27,11 @@ pub(crate) fn policy_at<'a>(
     format: Format,
     top: &'a Table,
 ) -> Result<Policing, Located<'a>>
-    ensures policy { Finds (λ p. record { rules = p.rules; notes = p.notes; sets = p.sets })
+    ensures policy { Finds (λ p. record { rules = p.rules; notes = p.notes; audits = p.audits; sets = p.sets })
         result (policy_at format (table_view top.now)) }
-    ensures kept { IfOk result (λ p. IsTrue (keeps_rules format p.rules p.notes)) }
-    ensures plain { IfOk result (λ p. IsTrue (names_stations format || is_plain [] p.rules p.notes p.sets)) }
+    ensures kept { IfOk result (λ p. IsTrue (keeps_rules format p.rules p.notes p.audits)) }
+    ensures plain { IfOk result (λ p. IsTrue (names_stations format
+        || is_plain [] p.rules p.notes p.audits p.sets)) }
 {
     let tables = list_at(0, MAX_RULES, "rule", top)?;
     let items = set_tables(format, "set", top)?;
@@ -38,7 +39,13 @@ pub(crate) fn policy_at<'a>(
     let read = rules(alloc, format, items, tables)?;
     let rules = policy_of(format, read)?;
     let notes = notes(alloc, format, tables)?;
-    Ok(Policing { rules, notes, sets })
+    let audits = audits(alloc, format, tables)?;
+    Ok(Policing {
+        rules,
+        notes,
+        audits,
+        sets,
+    })
 }
 
 /// The tables of the sets, in format 3.
@@ -105,5 +112,40 @@ fn note(alloc: Global, format: Format, value: &Value) -> Result<Text, ConfigFaul
         optional_text(alloc, "", "note", table(value)?)
     } else {
         Text::new(alloc, 0, "")
+    }
+}
+
+/// For each rule in order, whether what it allows is written too.
+fn audits(alloc: Global, format: Format, values: &[Value]) -> Result<Sequence<bool>, ConfigFault>
+    ensures audits { Gives (λ bs. bs) result (each (audit_in format) (map view values.now)) }
+    ensures count { IfOk result (λ bs. length bs ≡ length values.now) }
+    ensures plain { IfOk result (λ bs. IsTrue (list_all (has_no_audit format) bs)) }
+{
+    let mut all = Sequence::new(alloc);
+    for value in values {
+        all.push(audit(format, value)?)?;
+    }
+    Ok(all)
+}
+
+/// Whether what a rule allows is written too.
+fn audit(format: Format, value: &Value) -> Result<bool, ConfigFault>
+    ensures audit { plain.Gives (λ b. b) result (audit_in format (view value.now)) }
+    ensures plain { IfOk result (λ b. IsTrue (has_no_audit format b)) }
+{
+    if format.names_stations() {
+        optional_boolean("audit", table(value)?)
+    } else {
+        Ok(false)
+    }
+}
+
+/// The boolean at a key, false if it isn't there. `Kind`.
+fn optional_boolean(key: &str, table: &Table) -> Result<bool, ConfigFault>
+    ensures { plain.Gives (λ b. b) result (optional_boolean key.now (table_view table.now)) }
+{
+    match member(table, key) {
+        Some(value) => boolean(value),
+        None => Ok(false),
     }
 }

@@ -33,6 +33,12 @@ impl Same for Text {
     }
 }
 
+impl Same for bool {
+    fn is_same(&self, other: &Self) -> bool {
+        self == other
+    }
+}
+
 impl Same for Range {
     fn is_same(&self, other: &Self) -> bool {
         self.low == other.low && self.high == other.high

@@ -225,6 +225,19 @@ none_line = codes "warning: there is no rule, so every ask is denied" ++ 10 ∷ 
 abbrev pub none_lines : List Rule → List ℕ
 none_lines rules = if length rules == 0 then none_line else []
 
+-- of a rule that denies and is audited
+abbrev pub audit_line : ℕ → List ℕ → List ℕ
+audit_line index name =
+    numbered (codes "warning: rule ") index ++ name_words name
+    ++ codes "audit: what a rule denies is in the log, never in an audit" ++ 10 ∷ []
+
+-- whether the rule at a position is audited
+abbrev pub is_audited : List Bool → ℕ → Bool
+is_audited audits index = option_map_or (λ audit. audit) (slice_get audits index) false
+
+abbrev pub audit_lines : List Bool → ℕ → Rule → List ℕ
+audit_lines audits index rule = if is_audited audits index && not rule.allow then audit_line index rule.name else []
+
 -- ---- peers that may register
 
 -- the ask of a peer that registers as a foreign device at the port of this position (Annex J.5.2)
@@ -267,6 +280,7 @@ abbrev pub policy_lines : Configuration → List ℕ
 policy_lines c =
     none_lines c.rules
     ++ in_order (rule_lines c.format (length c.ports)) 0 c.rules
+    ++ in_order (audit_lines c.audits) 0 c.rules
     ++ in_order (peers_lines c.format c.rules) 0 c.ports
 
 -- the ports with their peers, the routes and the sets, each in its order, and then the policy

@@ -1,6 +1,7 @@
 //! What of a configuration is accepted and can't be meant.
 #![tactic(auto)]
 
+mod audit_warnings;
 mod oddity;
 mod peer_warnings;
 mod port_warnings;

@@ -2,6 +2,7 @@
 ghost use Rattle.gw_addr.specs.Appending.{IsAppended, IsAppendedWhole};
 ghost use Rattle.gw_warnings.specs.Warnings.{policy_lines, warnings_text};
 
+use crate::audit_warnings::put_audits;
 use crate::peer_warnings::put_registering;
 use crate::port_warnings::put_ports;
 use crate::route_warnings::put_routes;
@@ -48,5 +49,6 @@ fn put_policy(out: &mut Vec<u8>, config: &Config) -> Result<(), AllocError>
     let format = config.format();
     put_none(out, rules.rules())?;
     put_rules(out, format, ports.len() as u64, rules.rules())?;
+    put_audits(out, config.audits(), rules.rules())?;
     put_registering(out, format, rules, ports)
 }

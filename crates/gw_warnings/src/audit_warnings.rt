@@ -1,0 +1,57 @@
+//! Warnings of audits.
+ghost use Rattle.gw_addr.specs.Appending.{IsAppended};
+ghost use Rattle.gw_script.specs.Order.{in_order};
+ghost use Rattle.gw_warnings.specs.Warnings.{audit_line, audit_lines, is_audited};
+
+use crate::spot::{put_name, put_numbered};
+use gw_addr::{put_octet, put_slice};
+use gw_rules::{Rule, RuleName};
+use std::alloc::AllocError;
+
+/// Appends a line for each rule that denies and is audited.
+pub(crate) fn put_audits(
+    out: &mut Vec<u8>,
+    audits: &[bool],
+    rules: &[Rule],
+) -> Result<(), AllocError>
+    ensures { IsAppended (in_order (audit_lines audits.now) 0 rules.now) out.old out.new result }
+{
+    for (index, rule) in rules.iter().enumerate() {
+        put_audit(out, audits, index, rule)?;
+    }
+    Ok(())
+}
+
+fn put_audit(
+    out: &mut Vec<u8>,
+    audits: &[bool],
+    index: usize,
+    rule: &Rule,
+) -> Result<(), AllocError>
+    ensures { IsAppended (audit_lines audits.now index rule.now) out.old out.new result }
+{
+    if is_audited(audits, index) && !rule.allow {
+        put_useless(out, index, &rule.name)
+    } else {
+        Ok(())
+    }
+}
+
+/// Whether the rule at a position is audited.
+fn is_audited(audits: &[bool], index: usize) -> bool
+    ensures { result ≡ is_audited audits.now index }
+{
+    match audits.get(index) {
+        Some(audit) => *audit,
+        None => false,
+    }
+}
+
+fn put_useless(out: &mut Vec<u8>, index: usize, name: &RuleName) -> Result<(), AllocError>
+    ensures { IsAppended (audit_line index name.now) out.old out.new result }
+{
+    put_numbered(out, b"warning: rule ", index)?;
+    put_name(out, name)?;
+    put_slice(out, b"audit: what a rule denies is in the log, never in an audit")?;
+    put_octet(out, b'\n')
+}
