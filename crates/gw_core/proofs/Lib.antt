@@ -11,6 +11,7 @@ pub mod ShownLemmas
 pub mod LineOutcomeLemmas
 pub mod ReplayLemmas
 pub mod ExplainedLemmas
+pub mod AskedLemmas
 pub mod TurnLemmas
 pub mod RespondLemmas
 pub mod PlainLemmas

@@ -20,7 +20,7 @@ name_at rules number =
     if number == 0 then default_name
     else option_map_or (λ rule. rule.name) (slice_get rules (number - 1)) default_name
 
--- the name of the rule that denied an ask, or `default`
+-- the name of the rule that decided an ask, or `default`
 abbrev pub rule_name : List Rule → Option ℕ → List ℕ
 rule_name rules by = option_map_or (name_at rules) by default_name
 

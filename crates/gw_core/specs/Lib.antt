@@ -4,6 +4,7 @@ pub mod Receive
 pub mod Reply
 pub mod Asks
 pub mod Denials
+pub mod Asked
 pub mod Effects
 pub mod History
 pub mod Resumed

@@ -31,8 +31,8 @@ fn rule_at(rules: &RuleList, number: u16) -> Option<&Rule>
     rules.rules().get(usize::from(number.checked_sub(1)?))
 }
 
-/// A copy of the name of the rule that denied an ask, or of `default`.
-fn rule_name(alloc: Global, rules: &RuleList, by: Option<u16>) -> Result<RuleName, AllocError>
+/// A copy of the name of the rule that decided an ask, or of `default`.
+pub fn rule_name(alloc: Global, rules: &RuleList, by: Option<u16>) -> Result<RuleName, AllocError>
     ensures { IfOk result (λ name. name ≡ rule_name rules.now by) }
 {
     match by {
@@ -54,7 +54,7 @@ fn copy_at(alloc: Global, rules: &RuleList, number: u16) -> Result<RuleName, All
 /// The port that a datagram came on, who it claims to come from, and the link source.
 #[derive(Clone, Copy)]
 pub(crate) struct Origin {
-    port: u8,
+    pub port: u8,
     source: Source,
     network: NetNum,
     link: BipAddr,

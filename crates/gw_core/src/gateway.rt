@@ -7,12 +7,14 @@ ghost use Rattle.gw_addr.specs.declared.TheConstants.{MAX_PORTS};
 ghost use Rattle.gw_device.specs.Response.{HasPlace};
 ghost use Rattle.gw_relay.specs.History.{initial_acts};
 ghost use Rattle.gw_relay.specs.State.{Commit, moved};
+ghost use Rattle.gw_core.specs.Asked.{asked_at, asked_of};
 ghost use Rattle.gw_core.specs.Effects.{changed};
 ghost use Rattle.gw_core.specs.Explained.{asks_text};
 ghost use Rattle.gw_core.specs.Lasting.{lasting_move, lasts};
 ghost use Rattle.gw_core.specs.Resumed.{carried, saved_of};
 ghost use Rattle.gw_script.specs.Event.{Datagram, Tick};
 
+use crate::asked::{AllAsked, asked_of, refused_of};
 use crate::denial::denials_of;
 use crate::drops::DropReason;
 use crate::effects::Effects;
@@ -55,6 +57,22 @@ pub struct Taken {
     pub drop: Option<DropReason>,
     /// Whether it was granted a table of peers (Annex J.4), or the device makes a write (clause 15.9).
     pub lasts: bool,
+}
+
+/// What is done about a datagram, and what it asked.
+#[derive(Drop)]
+struct WatchedOutcome {
+    outcome: Outcome,
+    asked: AllAsked,
+}
+
+/// What an event that was taken does, and what it asked.
+#[derive(Drop)]
+pub struct Watched {
+    /// What it does.
+    pub taken: Taken,
+    /// What it asked, allowed or denied, in order.
+    pub asked: AllAsked,
 }
 
 /// Whether what was granted lasts: a table of peers, or a write to the device.
@@ -133,7 +151,9 @@ impl Gateway {
     ghost use Rattle.gw_core.specs.Drops.{drop_at};
     ghost use Rattle.gw_core.specs.Effects.{NeedsNoMemory, change_for, nothing, passes_end, relay_change_for, sends_for};
     ghost use Rattle.gw_core.specs.History.{IsStateAfter, IsStep, RoutesStand, TablesStand, WritesStand};
+    ghost use Rattle.gw_core.specs.Receive.{origin};
     ghost use Rattle.gw_core.specs.View.{admitted_view};
+    ghost use Rattle.gw_rules.specs.Asker.{verdicts_of};
 
     /// A gateway of this configuration that goes on from these counts. The only fault is want of
     /// memory.
@@ -296,6 +316,60 @@ impl Gateway {
         })
     }
 
+    /// What is done about what is received, and what it asks, while the gateway stays as it is. The faults are
+    /// those of [`Gateway::step`].
+    fn outcome_watched(
+        &self,
+        alloc: Global,
+        received: &Received<'_>,
+    ) -> Result<WatchedOutcome, StepFault>
+        requires { self.now.denials ≤ 2 ^ 63 }
+        ensures sends { let received = admitted_view self.now received.now in
+            let due = sends_for self.now.rules self.now.relay self.now.device received in
+            IfOk result (λ watched. watched.outcome.sends ≡ due) }
+        ensures denials { let due = denials_for self.now (admitted_view self.now received.now) in
+            IfOk result (λ watched. watched.outcome.denials ≡ due) }
+        ensures change { let received = admitted_view self.now received.now in
+            let due = relay_change_for self.now.rules self.now.relay received in
+            IfOk result (λ watched. watched.outcome.change ≡ due) }
+        ensures write { let received = admitted_view self.now received.now in
+            let due = change_for self.now.rules self.now.relay.format self.now.device received in
+            IfOk result (λ watched. watched.outcome.write ≡ due) }
+        ensures place { IfOk result (λ watched. HasPlace self.now.device watched.outcome.write) }
+        ensures room { let received = admitted_view self.now received.now in IsOk result →
+            self.now.denials + length (denials_for self.now received) ≤ 2 ^ 63 }
+        ensures count_end { IsErrOf result StepFault.CountEnd → 2 ^ 63
+            < self.now.denials + length (denials_for self.now (admitted_view self.now received.now)) }
+        ensures silent { let received = admitted_view self.now received.now in
+            asks_for self.now.rules self.now.relay self.now.device received ≡ [] →
+            sends_for self.now.rules self.now.relay self.now.device received ≡ [] → IsOk result }
+        ensures asked { let received = admitted_view self.now received.now in
+            let asks = asks_for self.now.rules self.now.relay self.now.device received in
+            let due = asked_of (origin received) (verdicts_of self.now.rules asks) in
+            IfOk result (λ watched. watched.asked ≡ due) }
+    {
+        let mut turn = Turn::new(Recorder::new(alloc, &self.policy));
+        let write = respond(&self.relay, &self.device, received, &mut turn)?;
+        let verdicts = turn.asker.verdicts();
+        let refusals = refused_of(alloc, verdicts)?;
+        if refusals.len() as u64 > self.left() {
+            return Err(StepFault::CountEnd);
+        }
+        let rules = self.policy.rules();
+        let denials = denials_of(alloc, rules, self.counts, received, refusals.as_slice())?;
+        let asked = asked_of(alloc, received, verdicts)?;
+        let (sends, change) = turn.into_effects();
+        Ok(WatchedOutcome {
+            outcome: Outcome {
+                sends,
+                denials,
+                change,
+                write,
+            },
+            asked,
+        })
+    }
+
     /// Moves on by a datagram: makes its change of the relay and its write to the device, where there
     /// is one, and counts its denials. The only fault is want of memory for the change; then nothing
     /// changed.
@@ -398,6 +472,60 @@ impl Gateway {
             drop,
             lasts,
         })
+    }
+
+    /// Does what [`Gateway::take`] does, and says what the datagram asked, allowed or denied. All that is
+    /// asked is kept, which wants memory.
+    ///
+    /// # Errors
+    ///
+    /// Those of [`Gateway::step`].
+    #[inline(never)]
+    pub fn take_watched(
+        &mut self,
+        alloc: Global,
+        port: u8,
+        from: BipAddr,
+        octets: &[u8],
+    ) -> Result<Watched, StepFault>
+        ensures step { IfOk result
+            (λ watched. IsStep self.old (Datagram port from octets.now) watched.taken.effects self.new) }
+        ensures drop { IfOk result
+            (λ watched. watched.taken.drop ≡ drop_at self.old (Datagram port from octets.now)) }
+        ensures lasts { IfOk result
+            (λ watched. watched.taken.lasts ≡ lasts self.old (Datagram port from octets.now)) }
+        // All that it asks, in order.
+        ensures asked { IfOk result
+            (λ watched. watched.asked ≡ asked_at self.old (Datagram port from octets.now)) }
+        ensures count_end { IsErrOf result StepFault.CountEnd
+            → passes_end self.old (Datagram port from octets.now) ≡ true }
+        // Memory only where something is asked or sent.
+        ensures silent { NeedsNoMemory self.old (Datagram port from octets.now) → IsOk result }
+        ensures err { OnErr result (self.new ≡ self.old) }
+    {
+        let now = &*self;
+        let arrival = Arrival { port, from, octets };
+        let frame = gw_bvll::decode(octets);
+        let mut npdu = Err(NpduFault::Short);
+        read_npdu(&frame, &mut npdu);
+        let device = network_of(&now.device);
+        let received = receive(now.relay.ports(), device, &arrival, &frame, &npdu);
+        let drop = received.drop_reason();
+        let WatchedOutcome { outcome, asked } = now.outcome_watched(alloc, &received)?;
+        let Outcome {
+            sends,
+            denials,
+            change,
+            write,
+        } = outcome;
+        let lasts = is_lasting(&change, &write);
+        self.move_on(change, write, denials.len() as u64)?;
+        let taken = Taken {
+            effects: Effects { sends, denials },
+            drop,
+            lasts,
+        };
+        Ok(Watched { taken, asked })
     }
 
     /// Appends a line for each ask that a datagram raises, allowed or denied, with the rule that decides

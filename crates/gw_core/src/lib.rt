@@ -3,6 +3,7 @@
 //! What an event does is defined in `specs/`, and each answer of a [`Gateway`] is proved to be that, for every history of events.
 #![tactic(auto)]
 
+mod asked;
 mod denial;
 mod drops;
 mod effects;
@@ -21,12 +22,14 @@ mod shown;
 mod telling;
 mod whole_run;
 
+pub use asked::{AllAsked, Asked};
+pub use denial::rule_name;
 pub use drops::DropReason;
 pub use effects::Effects;
 pub use event::Counts;
 pub use explaining::put_verdict;
 pub use fault::StepFault;
-pub use gateway::{Gateway, Taken};
+pub use gateway::{Gateway, Taken, Watched};
 pub use gw_audit::{Denial, Denials};
 pub use gw_configuration::{Config, ConfigFault};
 pub use gw_policy_text::read_config;
@@ -34,4 +37,4 @@ pub use gw_relay::{Batch, Sends};
 pub use gw_script::{Event, script_laws};
 pub use replaying::{RunFault, replay, replay_explaining};
 pub use setting::setting_s;
-pub use whole_run::{run, take_event};
+pub use whole_run::{run, take_event, take_event_watched};

@@ -2,6 +2,7 @@
 
 ghost use Rattle.std.specs.Prelude.{◌≡◌, ℕ, IfOk, IsOk, IsErrOf, OnOk, OnErr, map, false, true};
 ghost use Rattle.gw_script.specs.Event.{event_view};
+ghost use Rattle.gw_core.specs.Asked.{asked_at};
 ghost use Rattle.gw_core.specs.Drops.{drop_at};
 ghost use Rattle.gw_core.specs.Effects.{NeedsNoMemory, effects_at, passes_end};
 ghost use Rattle.gw_core.specs.Lasting.{lasts};
@@ -9,7 +10,8 @@ ghost use Rattle.gw_core.specs.History.{HasTaken, StopsAtEnd, next, run_from, st
 
 use crate::effects::Effects;
 use crate::fault::StepFault;
-use crate::gateway::{Gateway, Taken};
+use crate::asked::AllAsked;
+use crate::gateway::{Gateway, Taken, Watched};
 use gw_script::Event;
 use std::alloc::Global;
 
@@ -41,6 +43,43 @@ pub fn take_event(
                 effects: Effects::none(alloc),
                 drop: None,
                 lasts: false,
+            })
+        }
+    }
+}
+
+/// Takes one event of either kind as [`take_event`] does, and says what it asked. The faults are those of
+/// [`Gateway::step`] and [`Gateway::tick`]; then nothing changed.
+pub fn take_event_watched(
+    alloc: Global,
+    gateway: &mut Gateway,
+    event: &Event<'_>,
+) -> Result<Watched, StepFault>
+    ensures given { IfOk result
+        (λ watched. watched.taken.effects ≡ effects_at gateway.old (event_view event.now)) }
+    ensures drop { IfOk result
+        (λ watched. watched.taken.drop ≡ drop_at gateway.old (event_view event.now)) }
+    ensures lasts { IfOk result
+        (λ watched. watched.taken.lasts ≡ lasts gateway.old (event_view event.now)) }
+    ensures asked { IfOk result
+        (λ watched. watched.asked ≡ asked_at gateway.old (event_view event.now)) }
+    ensures moved { OnOk result (gateway.new ≡ next gateway.old (event_view event.now)) }
+    ensures within { IsOk result → passes_end gateway.old (event_view event.now) ≡ false }
+    ensures count_end { IsErrOf result StepFault.CountEnd →
+        passes_end gateway.old (event_view event.now) ≡ true }
+    ensures memory { IsErrOf result StepFault.Memory →
+        ¬ (NeedsNoMemory gateway.old (event_view event.now)) }
+    ensures err { OnErr result (gateway.new ≡ gateway.old) }
+{
+    match event {
+        Event::Datagram { port, from, octets } => {
+            gateway.take_watched(alloc, *port, *from, octets)
+        }
+        Event::Tick => {
+            let taken = take_event(alloc, gateway, event)?;
+            Ok(Watched {
+                taken,
+                asked: AllAsked::new(alloc),
             })
         }
     }

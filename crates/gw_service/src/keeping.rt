@@ -1,14 +1,14 @@
 //! What keeps the state of a gateway from stretch to stretch, or doesn't.
 
-ghost use Rattle.std.specs.Prelude.{◌≡◌, ℕ, Option};
+ghost use Rattle.std.specs.Prelude.{◌≡◌, ℕ, Option, false};
 ghost use Rattle.gw_core.specs.State.{State};
 ghost use Rattle.gw_saved.specs.Saved.{Origin};
 ghost use Rattle.gw_service.specs.Keeping.{IsKeptAtTick, IsKeptFor, IsPassed, failing_in, unkept_in};
 ghost use Rattle.gw_serving.specs.declared.store.StoreFault.{StoreFault};
 
-use gw_core::{Gateway, Taken};
+use gw_core::Gateway;
 use gw_saved::Origin;
-use gw_serving::{Guard, Keeper, Store, StoreFault};
+use gw_serving::{Guard, Keeper, Seen, Store, StoreFault};
 use std::alloc::Global;
 
 /// What keeps the state of a gateway from stretch to stretch.
@@ -54,10 +54,16 @@ pub enum Kept<S: Store + Drop> {
 impl<S: Store + Drop> Guard for Kept<S> {
     ghost Passes = { IsPassed S.held };
 
-    fn pass(&mut self, alloc: Global, gateway: &Gateway, taken: &Taken) -> bool {
+    ghost watching = { λ _. false };
+
+    fn watches(&self) -> bool {
+        false
+    }
+
+    fn pass(&mut self, alloc: Global, gateway: &Gateway, seen: &Seen) -> bool {
         match self {
             Kept::Nowhere => true,
-            Kept::In(keeper) => keeper.pass(alloc, gateway, taken),
+            Kept::In(keeper) => keeper.pass(alloc, gateway, seen),
         }
     }
 }

@@ -6,4 +6,5 @@ pub mod Reports
 pub mod ReportTurn
 pub mod Served
 pub mod Stretch
+pub mod Both
 pub mod Keeping

@@ -1,14 +1,14 @@
 //! What keeps the state of a gateway in a store.
 
-ghost use Rattle.std.specs.Prelude.{◌≡◌, ◌⊎◌, OnOk, OnErr, Err};
+ghost use Rattle.std.specs.Prelude.{◌≡◌, ◌⊎◌, OnOk, OnErr, Err, false};
 ghost use Rattle.gw_core.specs.Resumed.{saved_of};
 ghost use Rattle.gw_state_text.specs.Text.{state_text};
 ghost use Rattle.gw_serving.specs.Keeping.{HasPassed, Holds, IsHeld, IsTried, KeepsAtTick, KeepsChanged, Tries, failing_of, is_due, is_kept, nothing_kept, one_more};
 
 use crate::alike::{Part, is_same};
-use crate::guard::Guard;
+use crate::guard::{Guard, Seen};
 use crate::store::{Store, StoreFault};
-use gw_core::{Gateway, Taken};
+use gw_core::Gateway;
 use gw_saved::{Origin, Saved};
 use gw_state_text::put_state;
 use std::alloc::Global;
@@ -206,7 +206,13 @@ impl<S: Store + Drop> Keeper<S> {
 impl<S: Store + Drop> Guard for Keeper<S> {
     ghost Passes = { HasPassed S.held };
 
-    fn pass(&mut self, alloc: Global, gateway: &Gateway, taken: &Taken) -> bool {
-        !taken.lasts || self.keep_changed(alloc, gateway, Part::Lasting)
+    ghost watching = { λ _. false };
+
+    fn watches(&self) -> bool {
+        false
+    }
+
+    fn pass(&mut self, alloc: Global, gateway: &Gateway, seen: &Seen) -> bool {
+        !seen.taken.lasts || self.keep_changed(alloc, gateway, Part::Lasting)
     }
 }

@@ -1,9 +1,11 @@
 //! Laws of serving. The functions do nothing: their contracts are the laws.
 
 ghost use Rattle.std.specs.Prelude.{◌≡◌};
+ghost use Rattle.gw_serving.specs.Both.{GoOnUnderSecond, IsUnderFirst};
 ghost use Rattle.gw_serving.specs.Keeping.{AlikeButTicksIsEqual, AlikeIsEqual, EqualIsAlike, TicksKeepRecent};
 ghost use Rattle.gw_serving.specs.Served.{StopsAreServed, TurnsAreServed};
 
+use crate::guard::Guard;
 use crate::store::Store;
 use crate::wire::RECEIVE_ROOM;
 
@@ -28,4 +30,11 @@ pub fn keeping<S: Store>()
     ensures alike { EqualIsAlike }
     ensures but_ticks { AlikeButTicksIsEqual }
     ensures recent { TicksKeepRecent S.held }
+{}
+
+/// Under two guards: if the second lets all go, a stretch is one under the first alone, which knows nothing of the second; and
+/// turns go on under the second as under both.
+pub fn two_guards<G: Guard, H: Guard>()
+    ensures first { IsUnderFirst G.Passes H.Passes }
+    ensures second { GoOnUnderSecond G.Passes H.Passes }
 {}

@@ -14,7 +14,7 @@ mod tally;
 mod wire;
 
 pub use alike::Part;
-pub use guard::{Guard, Unguarded};
+pub use guard::{Both, Guard, Seen, Unguarded};
 pub use keeper::Keeper;
 pub use report::{Report, report_of, tell_report};
 pub use reporting::serve_with_reports;

@@ -10,11 +10,11 @@ ghost use Rattle.gw_serving.specs.Stretch.{CanCount, moment, wire_counts};
 ghost use Rattle.gw_serving.specs.Wire.{Tells, failures_of, receive_call};
 ghost use Rattle.gw_relay.specs.Sends.{sendings_of};
 
-use crate::guard::{Guard, Unguarded};
+use crate::guard::{Guard, Unguarded, take_seen};
 use crate::tally::Tally;
 use crate::wire::{Got, RECEIVE_ROOM, Wire, WireFault};
 use gw_audit::{Denials, line};
-use gw_core::{Gateway, StepFault, take_event};
+use gw_core::{Gateway, StepFault};
 use gw_relay::{Batch, Sends};
 use gw_script::{Event, OctetSink, write_whole};
 use std::alloc::{AllocError, Global};
@@ -209,8 +209,8 @@ impl ServeState {
                 return Ok(true);
             }
         };
-        let taken = match take_event(alloc, gateway, &event) {
-            Ok(taken) => taken,
+        let seen = match take_seen(alloc, gateway, &event, guard.watches()) {
+            Ok(seen) => seen,
             Err(StepFault::Memory) => {
                 self.served.memory_drops += 1;
                 return Ok(true);
@@ -218,9 +218,10 @@ impl ServeState {
             Err(StepFault::CountEnd) => return Err(ServeFault::CountEnd),
         };
         self.served.taken += 1;
+        let taken = &seen.taken;
         log_denials(&mut self.lines, log, &taken.effects.denials)?;
         self.tally.count(taken.drop, &taken.effects.denials);
-        if !guard.pass(alloc, gateway, &taken) {
+        if !guard.pass(alloc, gateway, &seen) {
             return Ok(false);
         }
         try_sends(wire, &taken.effects.sends, &mut self.served);

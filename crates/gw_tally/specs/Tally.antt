@@ -1,5 +1,5 @@
 -- How many asks each rule of a policy decides.
-use Rattle.std.specs.Prelude.{◌≡◌, ℕ, ◌+◌, ◌<◌, ◌==◌, List, [], ◌∷◌, ◌++◌, length, count_by, slice_index, cond, codes, decimal, Option}
+use Rattle.std.specs.Prelude.{◌≡◌, ℕ, ◌+◌, ◌-◌, ◌^◌, ◌<◌, ◌==◌, min, if◌then◌else◌, List, [], ◌∷◌, ◌++◌, length, count_by, slice_index, cond, codes, decimal, Option}
 use Rattle.std.specs.Option.{option_map_or}
 use Rattle.gw_rules.specs.Ask.{Ask}
 use Rattle.gw_rules.specs.RuleList.{first}
@@ -23,6 +23,20 @@ pub record IsTally (rules : List Rule) (asks : List Ask) (counts : List ℕ) : T
 pub record AddsOne (at : ℕ) (before after : List ℕ) : Type 0 where
   pub places : length after ≡ length before
   pub each : (k : ℕ) → k < length before → slice_index after k ≡ slice_index before k + cond (at == k) 1 0
+
+-- the place of an ask that the rule of this number decides, or none
+abbrev pub place_of : Option ℕ → ℕ
+place_of by = option_map_or (λ number. number) by 0
+
+-- one more of a count of 64 bits, which stays at its end
+abbrev pub one_more : ℕ → ℕ
+one_more n = min (n + 1) (2 ^ 64 - 1)
+
+-- one ask more is of this place, and its count may be at its end
+pub record CountsOne (at : ℕ) (before after : List ℕ) : Type 0 where
+  pub places : length after ≡ length before
+  pub each : (k : ℕ) → k < length before
+      → slice_index after k ≡ (if at == k then one_more (slice_index before k) else slice_index before k)
 
 -- the line of a rule: `rule 3 all: 1201`
 abbrev pub rule_line : ℕ → Rule → ℕ → List ℕ

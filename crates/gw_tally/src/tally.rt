@@ -2,7 +2,7 @@
 
 ghost use Rattle.std.specs.Prelude.{◌≡◌, ◌+◌, ◌<◌, [], length, slice_index, IfErr, IfOk, OnOk};
 ghost use Rattle.gw_script.specs.declared.lines.LinesFault.TheVariants as fault;
-ghost use Rattle.gw_tally.specs.Tally.{AddsOne, IsTally, place};
+ghost use Rattle.gw_tally.specs.Tally.{AddsOne, CountsOne, IsTally, place, place_of};
 
 use gw_rules::{Ask, RuleList};
 use gw_script::LinesFault;
@@ -41,6 +41,20 @@ impl Tally {
         match self.counts.get(number) {
             Some(count) => *count,
             None => 0,
+        }
+    }
+
+    /// Counts one ask more that the rule of this number decides, or no rule. A count of 2^64 - 1 stays, and a rule
+    /// that isn't there isn't counted.
+    pub fn count_decided(&mut self, by: Option<u16>)
+        ensures { CountsOne (place_of by) self.old self.new }
+    {
+        let at = match by {
+            Some(number) => usize::from(number),
+            None => 0,
+        };
+        if at < self.counts.len() {
+            self.counts[at] = self.counts[at].saturating_add(1);
         }
     }
 

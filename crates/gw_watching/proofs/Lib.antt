@@ -1,0 +1,3 @@
+pub mod RecordLemmas
+pub mod TrialLemmas
+pub mod RunLemmas

@@ -1,0 +1,67 @@
+-- What a trial records of an event, and that each ask is recorded once.
+use Rattle.std.proofs.Common.{◌≡◌, ◌∙◌, refl, sym, ap, ℕ, ◌+◌, ◌^◌, ◌<◌, suc, Bool, true, false, List, [], ◌∷◌, ◌++◌, length, map, Option, Some, None, arith}
+use Rattle.gw_audit.specs.declared.denial.Denial.{Denial}
+use Rattle.gw_core.specs.Asked.{asked_at, asked_from, asked_of}
+use Rattle.gw_core.specs.Asks.{asks, asks_for}
+use Rattle.gw_core.specs.Denials.{denials_from, denials_of}
+use Rattle.gw_core.specs.Receive.{Origin, Received, barred, dropped, managed, unregistered, message, origin, receive}
+use Rattle.gw_core.specs.State.{State}
+use Rattle.gw_objects.specs.Objects.{Database}
+use Rattle.gw_relay.specs.State.{Relay}
+use Rattle.gw_rules.specs.Ask.{Ask}
+use Rattle.gw_rules.specs.Asker.{verdicts_of}
+use Rattle.gw_rules.specs.Authorizer.{denied_of}
+use Rattle.gw_rules.specs.RuleList.{allows}
+use Rattle.gw_rules.specs.declared.rule.Rule.{Rule}
+use Rattle.gw_tally.specs.Tally.{one_more}
+use Rattle.gw_watching.specs.Laws.{AllAreAsked, TrialIsDenials}
+use Rattle.gw_watching.specs.Records.{denied_by, records}
+
+-- ---- a trial
+
+pub next_number : (last : ℕ) → last + 1 < 2 ^ 64 → one_more last ≡ last + 1
+next_number last few = omega (arith, few)
+
+trial_from : (rules policy : List Rule) (tick : ℕ) (from : Origin) (last : ℕ) (asked : List Ask) → last + length asked < 2 ^ 64
+    → records (denied_by rules) rules last tick (map (asked_from from) (verdicts_of policy asked))
+    ≡ denials_from rules (last + 1) tick from (denied_of rules asked)
+trial_from rules policy tick from last [] few = refl
+trial_from rules policy tick from last (ask ∷ asked) few = by (allows rules ask) refl
+  where
+    by : (b : Bool) → allows rules ask ≡ b
+        → records (denied_by rules) rules last tick (map (asked_from from) (verdicts_of policy (ask ∷ asked)))
+        ≡ denials_from rules (last + 1) tick from (denied_of rules (ask ∷ asked))
+    by true is = rw is (trial_from rules policy tick from last asked (omega (arith, few)))
+    by false is =
+        let number = next_number last (omega (arith, few)) in
+        rw (is, number) (ap (λ (l : List Denial). _ ∷ l) (trial_from rules policy tick from (last + 1) asked (omega (arith, few))))
+
+trial_of : (rules policy : List Rule) (tick last : ℕ) (from : Option Origin) (asked : List Ask) → last + length asked < 2 ^ 64
+    → records (denied_by rules) rules last tick (asked_of from (verdicts_of policy asked))
+    ≡ denials_of rules (last + 1) tick from (denied_of rules asked)
+trial_of rules policy tick last None asked few = refl
+trial_of rules policy tick last (Some from) asked few = trial_from rules policy tick from last asked few
+
+pub trial_is_denials : TrialIsDenials
+unfolding asked_at
+trial_is_denials rules w e last tick few = trial_of rules w.rules tick last (origin (receive w e)) (asks w e) few
+
+-- ---- each ask
+
+asks_again : (rules : List Rule) (from : Origin) (asked : List Ask)
+    → map (λ a. a.verdict.ask) (map (asked_from from) (verdicts_of rules asked)) ≡ asked
+asks_again rules from [] = refl
+asks_again rules from (ask ∷ asked) = ap (λ (l : List Ask). ask ∷ l) (asks_again rules from asked)
+
+asks_received : (rules : List Rule) (relay : Relay) (d : Database) (received : Received)
+    → map (λ a. a.verdict.ask) (asked_of (origin received) (verdicts_of rules (asks_for rules relay d received)))
+    ≡ asks_for rules relay d received
+asks_received rules relay d dropped = refl
+asks_received rules relay d (managed on from frame) = asks_again rules _ (asks_for rules relay d (managed on from frame))
+asks_received rules relay d (unregistered m) = refl
+asks_received rules relay d (barred m) = asks_again rules _ (asks_for rules relay d (barred m))
+asks_received rules relay d (message m) = asks_again rules _ (asks_for rules relay d (message m))
+
+pub all_are_asked : AllAreAsked
+unfolding asked_at asks
+all_are_asked w e = asks_received w.rules w.relay w.device (receive w e)

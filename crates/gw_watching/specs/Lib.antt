@@ -1,0 +1,4 @@
+pub mod Records
+pub mod Beside
+pub mod Watching
+pub mod Laws

@@ -1,0 +1,17 @@
+//! What watches a gateway's asks beside its traffic: a trial policy, an audit of allowed asks, and counts by rule.
+//!
+//! A [`Watcher`] is a guard that withholds nothing, and whatever fails of it, the traffic and the log stay what they are.
+#![tactic(auto)]
+
+mod audit;
+mod beside;
+mod choice;
+pub mod laws;
+mod trial;
+mod watcher;
+mod writing;
+
+pub use audit::Marks;
+pub use beside::Beside;
+pub use choice::Choice;
+pub use watcher::Watcher;
