@@ -129,21 +129,32 @@ impl Store for MemStore {
     }
 }
 
-/// Requests in memory: one at the first look, for this text.
+/// Requests in memory: one at the first look, for what is read then.
 #[derive(Drop)]
 pub struct MemRequests {
-    text: Option<Result<Vec<u8>, ReadFailure>>,
+    read: Option<Result<Option<Vec<u8>>, ReadFailure>>,
 }
 
 impl Requests for MemRequests {
     ghost told = { λ _. None };
 
-    fn take(&mut self, _alloc: Global, _most: usize) -> Option<Result<Vec<u8>, ReadFailure>> {
-        self.text.take()
+    fn take(
+        &mut self,
+        _alloc: Global,
+        _most: usize,
+    ) -> Option<Result<Option<Vec<u8>>, ReadFailure>> {
+        self.read.take()
     }
 
     fn answer(&mut self, _text: &[u8]) {}
 }
+
+/// A request that was made.
+#[derive(Drop)]
+pub struct MemAsked;
+
+/// The text of a request whose configuration isn't there.
+const ABSENT: &[u8] = b"absent";
 
 /// The wire and the log that a machine closed.
 type Closed = (MemSockets, Option<MemWriter>);
@@ -160,6 +171,7 @@ struct MemHost {
     state: Option<Vec<u8>>,
     unkept: Option<StoreFault>,
     reload: Option<Vec<u8>>,
+    answer: Option<Vec<u8>>,
     closed: Option<Closed>,
 }
 
@@ -171,6 +183,12 @@ impl Host for MemHost {
     type StateStore = MemStore;
 
     type Reloads = MemRequests;
+
+    type Asked = MemAsked;
+
+    ghost Asks = { λ _ _ _. ⊤ };
+
+    ghost Answers = { λ _ _. ⊤ };
 
     ghost FileReads = { λ _ _ _. ⊤ };
 
@@ -256,26 +274,36 @@ impl Host for MemHost {
     ) -> Result<MemRequests, AllocError> {
         match &self.reload {
             Some(text) if text.is_empty() => Ok(MemRequests {
-                text: Some(Err(ReadFailure::Unreadable)),
+                read: Some(Err(ReadFailure::Unreadable)),
+            }),
+            Some(text) if text.as_slice() == ABSENT => Ok(MemRequests {
+                read: Some(Ok(None)),
             }),
             Some(text) => Ok(MemRequests {
-                text: Some(Ok(Vec::from_slice(alloc, text)?)),
+                read: Some(Ok(Some(Vec::from_slice(alloc, text)?))),
             }),
-            None => Ok(MemRequests { text: None }),
+            None => Ok(MemRequests { read: None }),
         }
     }
 
-    fn request_reload(&self, _alloc: Global, _request: &str) -> Result<(), StoreFault> {
-        Err(StoreFault::System)
+    fn request_reload(&self, _alloc: Global, _request: &str) -> Result<MemAsked, StoreFault> {
+        if self.answer.is_some() {
+            Ok(MemAsked)
+        } else {
+            Err(StoreFault::System)
+        }
     }
 
     fn await_answer(
         &self,
-        _alloc: Global,
-        _request: &str,
+        alloc: Global,
+        _asked: &MemAsked,
         _seconds: u8,
     ) -> Result<Option<Vec<u8>>, ReadFailure> {
-        Ok(None)
+        match &self.answer {
+            Some(text) => Ok(Some(Vec::from_slice(alloc, text)?)),
+            None => Ok(None),
+        }
     }
 
     fn close(&mut self, sockets: MemSockets, log: Option<MemWriter>)
@@ -328,7 +356,21 @@ fn reload_of(alloc: Global, lines: &str, config: &str) -> Result<Option<Vec<u8>>
     if has_line(lines, "reload faulty") {
         return text_if(alloc, true, "x");
     }
+    if has_line(lines, "reload ranged") {
+        return text_if(alloc, true, "format = 4\n");
+    }
+    if has_line(lines, "reload absent") {
+        return text_if(alloc, true, "absent");
+    }
     text_if(alloc, has_line(lines, "reload unreadable"), "")
+}
+
+/// What another gateway answers to a section's request: that it was taken over, or refused, or nothing.
+fn answer_of(alloc: Global, lines: &str) -> Result<Option<Vec<u8>>, AllocError> {
+    if has_line(lines, "answered") {
+        return text_if(alloc, true, "reload: 3 rules\n");
+    }
+    text_if(alloc, has_line(lines, "refused"), "reload refused: out of memory\n")
 }
 
 /// The output of a section, which has room for so many octets behind its buffer.
@@ -359,6 +401,7 @@ fn run_with(alloc: Global, config: &str, section: &str, room: usize) -> Result<L
             None
         },
         reload: reload_of(alloc, lines, config)?,
+        answer: answer_of(alloc, lines)?,
         closed: None,
     };
     let fails = has_line(lines, "input fails");

@@ -1,8 +1,9 @@
 -- Links one after the other, and what they told.
-use Rattle.std.proofs.Common.{◌≡◌, ◌∙◌, ℕ, ◌+◌, ◌<◌, ◌≤◌, List, [], ◌∷◌, ◌++◌, Option, Some, None, refl, sym, ap, subst, append_assoc, length, arith, rules}
+use Rattle.std.proofs.Common.{◌≡◌, ◌∙◌, ℕ, ◌+◌, ◌<◌, ◌≤◌, List, [], ◌∷◌, ◌++◌, Option, Some, None, refl, sym, ap, subst, append_assoc, length, arith, rules, ◌⊎◌, inr, IfSome, option_map_or}
 use Rattle.std.specs.Io.KnownBytes.{Appends}
 use Rattle.std.proofs.lemmas.List.{append-nil, flat_map_more, length-append}
 use Rattle.std.specs.Prelude.{Result, Ok, Err, Bool}
+use Rattle.std.specs.Global.{Vec}
 use Rattle.gw_configuration.specs.Configuration.{Configuration}
 use Rattle.gw_core.specs.Resumed.{carried, saved, saved_of}
 use Rattle.gw_saved.specs.Saved.{Origin, origin_of}
@@ -16,11 +17,13 @@ use Rattle.gw_serving.specs.Serve.{Turn, count_turn, counts_after, empty_turn, f
 use Rattle.gw_serving.specs.declared.serving.Served.{Served}
 use Rattle.gw_system.specs.Requests.{Exchange, GoesOn, answered, asked}
 use Rattle.gw_system.specs.declared.reading.ReadFailure.{ReadFailure}
-use Rattle.gw_service.specs.Chain.{Advances, AreLinks, IsLink, IsLooked, Link, Look, Manner, Runs, Stage, chain_text, link_text, look_text}
+use Rattle.gw_service.specs.Chain.{Advances, AreLinks, IsLink, IsLooked, Link, Look, Looks, Manner, Runs, Stage, chain_text, link_text, look_text}
 use Rattle.gw_service.specs.Chain.{refused, standing, taken_over, unrequested}
-use Rattle.gw_service.specs.Reload.{IsRefused, IsReloaded, refusal_line, reload_line}
+use Rattle.gw_service.specs.Reload.{IsRefusalLine, IsRefused, IsReloaded, refusal_line, reload_line, with_refused, with_taken_over}
 use Rattle.gw_service.specs.declared.reload.Adopted.{Adopted}
+use Rattle.gw_service.specs.declared.reload.ReloadCounts.{ReloadCounts}
 use Rattle.gw_service.specs.declared.reload.ReloadFault.{ReloadFault}
+use Rattle.gw_service.specs.declared.reload.ReloadFault.TheVariants as faults
 use Rattle.gw_service.proofs.ServingLemmas.{appends_nothing, appends_two}
 
 -- one link more
@@ -62,13 +65,14 @@ turns_counted s (taken_event e tries ∷ turns) =
 -- ---- a request
 
 -- a configuration that is taken over, and what is answered and told of it
-pub taken_so : {K : Type 0} (manner : Manner K) (c : Configuration) (o : Origin) (w : State) (k l : K) (read : Result (List ℕ) ReadFailure)
-    (made : Adopted) (first middle last : Option (List Exchange)) (line : List ℕ) → o ≡ origin_of c → IsReloaded w o read made
-    → manner.Adopts k made.kept made.gateway l → GoesOn first middle (asked read ∷ []) → GoesOn middle last (answered line ∷ [])
-    → line ≡ made.line.items
-    → (d : Configuration) × (look : Look) × (made.origin ≡ origin_of d)
-    × IsLooked manner c (standing w k first) look d (standing made.gateway l last) × (look_text c (standing w k first) look ≡ line)
-taken_so {K} manner c o w k l (Ok text) made first middle last line is_origin is adopts asks answers is_line =
+pub taken_so : {K : Type 0} (Adopts : K → Origin → State → K → Type 0) (o : Origin) (w : State) (k l : K)
+    (read : Result (Option (List ℕ)) ReadFailure) (made : Adopted) (first middle last : Option (List Exchange)) (line : List ℕ)
+    (counts then : ReloadCounts) (Never : Type 0) (held holds : Option (List ℕ)) → IsReloaded w o read made
+    → Adopts k made.kept made.gateway l → GoesOn first middle (asked read ∷ []) → GoesOn middle last (answered line ∷ [])
+    → line ≡ made.line.items → then ≡ with_taken_over counts w.ticks → (Never → Appends held holds line)
+    → Looks (IsLooked Adopts) o (standing w k first counts) made.origin (standing made.gateway l last then) Never held holds
+taken_so {K} Adopts o w k l (Ok (Some text)) made first middle last line counts then Never held holds is adopts asks answers is_line is_counts
+    tells = λ c is_origin.
     let new = is.config in
     let same : saved_of o w ≡ saved c w = ap (λ (x : Origin). saved_of x w) is_origin in
     let is_text : line ≡ reload_line w new (saved c w) = is_line ∙ is.adopted.line ∙ ap (reload_line w new) same in (
@@ -80,32 +84,62 @@ taken_so {K} manner c o w k l (Ok text) made first middle last line is_origin is
         reads = is.reads;
         ports = is.ports;
         gateway = is.adopted.gateway ∙ ap (carried new) same;
-        keeper = subst (λ (x : Origin). manner.Adopts k x made.gateway l) is.adopted.kept adopts;
-        requests = subst (λ (t : List ℕ). GoesOn first last (asked (Ok text) ∷ answered t ∷ [])) is_text
-            (goes_two first middle last (asked (Ok text)) (answered line) asks answers);
+        keeper = subst (λ (x : Origin). Adopts k x made.gateway l) is.adopted.kept adopts;
+        requests = subst (λ (t : List ℕ). GoesOn first last (asked (Ok (Some text)) ∷ answered t ∷ [])) is_text
+            (goes_two first middle last (asked (Ok (Some text))) (answered line) asks answers);
+        counts = is_counts;
       },
-      sym is_text,
+      λ never. subst (λ (t : List ℕ). Appends held holds t) is_text (tells never),
     )
-taken_so manner c o w k l (Err failure) made first middle last line is_origin is adopts asks answers is_line = absurd is
+taken_so Adopts o w k l (Ok None) made first middle last line counts then Never held holds is adopts asks answers is_line is_counts tells =
+    absurd is
+taken_so Adopts o w k l (Err failure) made first middle last line counts then Never held holds is adopts asks answers is_line is_counts tells =
+    absurd is
 
 -- one that isn't
-pub refused_so : {K : Type 0} (manner : Manner K) (c : Configuration) (w : State) (k : K) (read : Result (List ℕ) ReadFailure)
-    (fault : ReloadFault) (first middle last : Option (List Exchange)) (line : List ℕ) → IsRefused w read fault
-    → GoesOn first middle (asked read ∷ []) → GoesOn middle last (answered line ∷ []) → line ≡ refusal_line fault
-    → IsLooked manner c (standing w k first) (refused read fault) c (standing w k last)
-refused_so manner c w k read fault first middle last line is asks answers is_line = record {
-  why = is;
-  stays = record { config = refl; gateway = refl; keeper = refl };
-  requests = subst (λ (t : List ℕ). GoesOn first last (asked read ∷ answered t ∷ [])) is_line
-      (goes_two first middle last (asked read) (answered line) asks answers);
-}
+pub refused_so : {K : Type 0} (Adopts : K → Origin → State → K → Type 0) (o : Origin) (w : State) (k : K)
+    (read : Result (Option (List ℕ)) ReadFailure) (fault : ReloadFault) (first middle last : Option (List Exchange)) (line : List ℕ)
+    (counts then : ReloadCounts) (Never : Type 0) (held holds : Option (List ℕ)) → IsRefused w read fault → IsRefusalLine read fault line
+    → GoesOn first middle (asked read ∷ []) → GoesOn middle last (answered line ∷ []) → then ≡ with_refused counts
+    → (Never → Appends held holds line)
+    → Looks (IsLooked Adopts) o (standing w k first counts) o (standing w k last then) Never held holds
+refused_so Adopts o w k read fault first middle last line counts then Never held holds is says asks answers is_counts tells = λ c is_origin. (
+  c,
+  refused read fault line,
+  is_origin,
+  record {
+    why = is;
+    says = says;
+    stays = record { config = refl; gateway = refl; keeper = refl };
+    requests = goes_two first middle last (asked read) (answered line) asks answers;
+    counts = is_counts;
+  },
+  tells,
+)
+
+-- the line without a place says why
+short_line : (read : Result (Option (List ℕ)) ReadFailure) (fault : ReloadFault) → IsRefusalLine read fault (refusal_line fault)
+short_line (Ok (Some text)) (faults.Configuration f) = inr refl
+short_line (Ok (Some text)) faults.Absent = refl
+short_line (Ok (Some text)) faults.Unreadable = refl
+short_line (Ok (Some text)) faults.Ports = refl
+short_line (Ok (Some text)) faults.Memory = refl
+short_line (Ok None) fault = refl
+short_line (Err failure) fault = refl
+
+-- the line with a place, or else that one
+pub says_why : (read : Result (Option (List ℕ)) ReadFailure) (fault : ReloadFault) (located : Option (Vec ℕ))
+    → IfSome located (λ line. IsRefusalLine read fault line.items)
+    → IsRefusalLine read fault (option_map_or (λ line. line.items) located (refusal_line fault))
+says_why read fault None is = short_line read fault
+says_why read fault (Some line) is = is
 
 -- what is told of a request is the same with any keeper
-pub same_text : {K : Type 0} (c : Configuration) (w : State) (k l : K) (q : Option (List Exchange)) (look : Look)
-    → look_text c (standing w k q) look ≡ look_text c (standing w l q) look
-same_text c w k l q unrequested = refl
-same_text c w k l q (refused text f) = refl
-same_text c w k l q (taken_over text new) = refl
+pub same_text : {K : Type 0} (c : Configuration) (w : State) (k l : K) (q : Option (List Exchange)) (counts : ReloadCounts) (look : Look)
+    → look_text c (standing w k q counts) look ≡ look_text c (standing w l q counts) look
+same_text c w k l q counts unrequested = refl
+same_text c w k l q counts (refused read f line) = refl
+same_text c w k l q counts (taken_over text new) = refl
 
 -- ---- how a stretch ended
 

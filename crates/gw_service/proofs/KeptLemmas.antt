@@ -16,27 +16,31 @@ use Rattle.gw_serving.specs.declared.tally.Tally.{Tally}
 use Rattle.gw_system.specs.Requests.{Exchange, told_by}
 use Rattle.gw_service.specs.Chain.{Link, Manner, Runs, Stage, chain_text, stage}
 use Rattle.gw_service.specs.Keeping.{failing_in, unkept_in}
-use Rattle.gw_service.specs.Kept.{Given, KeepsFirst, LeavesKept, RunsKept, manner_of, outcome_by}
+use Rattle.gw_service.specs.Kept.{Given, KeepsFirst, LeavesKept, RunsKept, manner_of, outcome_by, reporting_of}
 use Rattle.gw_service.specs.Notices.{notice_of}
 use Rattle.gw_service.specs.Serving.{Ends, Service, ends, log_held}
 use Rattle.gw_service.specs.Start.{BeginsAs, counts_of}
-use Rattle.gw_service.specs.Stats.{end_stats}
+use Rattle.gw_service.specs.Reload.{counts_since}
+use Rattle.gw_service.specs.Stats.{Reporting, end_stats, reporting}
 use Rattle.gw_service.specs.declared.fault.ServiceFault.{ServiceFault}
 use Rattle.gw_service.specs.declared.fault.ServiceFault.TheVariants as fault
+use Rattle.std.specs.Prelude.{Bool, is_some}
 use Rattle.gw_service.specs.declared.keeping.Kept.{Kept}
+use Rattle.gw_service.specs.declared.reload.ReloadCounts.{ReloadCounts}
 use Rattle.gw_service.proofs.ChainLemmas.{Ran}
 use Rattle.gw_service.proofs.ServingLemmas.{appends_nothing, appends_two}
 
 -- a run from a stage whose parts are these
 runs_from : {K : Type 0} (how : Manner K) (count : ℕ) (c : Configuration) (now : Scene) (k : K) (s z : Served) (t n : Tally)
-    (q r : Option (List Exchange)) (f e : Option StoreFault) (answer : Result (Unit {0}) ServeFault) (links : List Link) (last : Stage K)
-    → s ≡ z → t ≡ n → q ≡ r → f ≡ e → Runs how count (stage c (moment now k s t) q f) answer links last
-    → Runs how count (stage c (moment now k z n) r e) answer links last
-runs_from how count c now k s z t n q r f e answer links last served tally requests told runs =
-    subst (λ (x : Served). Runs how count (stage c (moment now k x n) r e) answer links last) served
-    (subst (λ (x : Tally). Runs how count (stage c (moment now k s x) r e) answer links last) tally
-    (subst (λ (x : Option (List Exchange)). Runs how count (stage c (moment now k s t) x e) answer links last) requests
-    (subst (λ (x : Option StoreFault). Runs how count (stage c (moment now k s t) q x) answer links last) told runs)))
+    (q r : Option (List Exchange)) (u v : ReloadCounts) (f e : Option StoreFault) (answer : Result (Unit {0}) ServeFault) (links : List Link)
+    (last : Stage K) → s ≡ z → t ≡ n → q ≡ r → u ≡ v → f ≡ e → Runs how count (stage c (moment now k s t) q u f) answer links last
+    → Runs how count (stage c (moment now k z n) r v e) answer links last
+runs_from how count c now k s z t n q r u v f e answer links last served tally requests counts told runs =
+    subst (λ (x : Served). Runs how count (stage c (moment now k x n) r v e) answer links last) served
+    (subst (λ (x : Tally). Runs how count (stage c (moment now k s x) r v e) answer links last) tally
+    (subst (λ (x : Option (List Exchange)). Runs how count (stage c (moment now k s t) x v e) answer links last) requests
+    (subst (λ (x : ReloadCounts). Runs how count (stage c (moment now k s t) q x e) answer links last) counts
+    (subst (λ (x : Option StoreFault). Runs how count (stage c (moment now k s t) q u x) answer links last) told runs))))
 
 -- the counts of a gateway, one by one
 pub same_counts : (k : Counts) (w : State) → k.ticks ≡ w.ticks → k.denials ≡ w.denials → k ≡ counts_of w
@@ -45,24 +49,29 @@ same_counts k w ticks denials =
 
 -- A gateway that began so ran so.
 pub ran_kept : {S Q : Type 0} (given : Given S Q) (c : Configuration) (how : Service) (start : Counts) (w : State) (k : Kept S) (s : Served) (t : Tally)
-    (q : Option (List Exchange)) (f told : Option StoreFault) (before after : Ends) (answer : Result (Unit {0}) ServeFault)
+    (q : Option (List Exchange)) (u : ReloadCounts) (reloads : Bool) (f told : Option StoreFault) (before after : Ends) (answer : Result (Unit {0}) ServeFault)
     (outcome : Result (Unit {0}) ServiceFault) (o p : Origin) (last : Configuration → Stage (Kept S)) (Never Then : Type 0)
     (held middle third holds : Option (List ℕ)) → start ≡ counts_of w → BeginsAs c given.saved given.line w → KeepsFirst given.held given.store c w k
-    → s ≡ zero_counts → t ≡ no_tally → q ≡ told_by given.told given.requests → f ≡ failing_in k → told ≡ None → o ≡ origin_of c
-    → Ran (manner_of given.held how.stats start) how.turns o
-    (λ (d : Configuration). stage d (moment (scene w before.log before.calls) k s t) q f) answer p last Then middle third
+    → s ≡ zero_counts → t ≡ no_tally → q ≡ told_by given.told given.requests → u ≡ counts_since w.ticks
+    → reloads ≡ is_some given.requests → f ≡ failing_in k → told ≡ None → o ≡ origin_of c
+    → Ran (manner_of given.held (reporting how.stats start reloads)) how.turns o
+    (λ (d : Configuration). stage d (moment (scene w before.log before.calls) k s t) q u f) answer p last Then middle third
     → outcome ≡ outcome_by answer → ((d : Configuration) → (last d).now.scene.log ≡ after.log)
     → ((d : Configuration) → (last d).now.scene.calls ≡ after.calls)
     → (Never → Appends held middle (notice_of told f)) → (Never → Then)
-    → ((d : Configuration) → Never → Appends third holds (end_stats unkept_in how.stats start (last d).now.guard
-    (last d).now.scene.gateway (last d).now.served (last d).now.tally))
+    → ((d : Configuration) → Never → Appends third holds (end_stats unkept_in (reporting how.stats start reloads) (last d).now.guard
+    (last d).counts (last d).now.scene.gateway (last d).now.served (last d).now.tally))
     → (text : List ℕ) × LeavesKept given c how before after text outcome × (Never → Appends held holds text)
-ran_kept {S} given c how start w k s t q f told before after answer outcome o p last Never Then held middle third holds is_start begins keeps served tally requests
-    failing untold origin ran answers log calls noticed lasts reported =
+ran_kept {S} given c how start w k s t q u reloads f told before after answer outcome o p last Never Then held middle third holds is_start begins
+    keeps served tally requests is_counts is_reloads failing untold origin ran answers log calls noticed lasts reported =
     let led = ran c origin in
     let notice = notice_of None (failing_in k) in
     let now = (last led.0).now in
-    let report = end_stats unkept_in how.stats (counts_of w) now.guard now.scene.gateway now.served now.tally in
+    let reports : Reporting → List ℕ = λ (x : Reporting).
+        end_stats unkept_in x now.guard (last led.0).counts now.scene.gateway now.served now.tally in
+    let is_reporting : reporting how.stats start reloads ≡ reporting_of given how w =
+    ap (λ (x : Counts). reporting how.stats x reloads) is_start ∙ ap (reporting how.stats (counts_of w)) is_reloads in
+    let report = reports (reporting_of given how w) in
     let same : notice_of told f ≡ notice =
     ap (λ (x : Option StoreFault). notice_of x f) untold ∙ ap (notice_of None) failing in (
       (notice ++ chain_text led.1) ++ report,
@@ -74,10 +83,10 @@ ran_kept {S} given c how start w k s t q f told before after answer outcome o p 
         answer = answer;
         links = led.1;
         last = last led.0;
-        runs = runs_from (manner_of given.held how.stats (counts_of w)) how.turns c (scene w before.log before.calls) k s zero_counts t no_tally q
-            (told_by given.told given.requests) f (failing_in k) answer led.1 (last led.0) served tally requests failing
-            (subst (λ (x : Counts). Runs (manner_of given.held how.stats x) how.turns
-            (stage c (moment (scene w before.log before.calls) k s t) q f) answer led.1 (last led.0)) is_start led.3);
+        runs = runs_from (manner_of given.held (reporting_of given how w)) how.turns c (scene w before.log before.calls) k s zero_counts t no_tally q
+            (told_by given.told given.requests) u (counts_since w.ticks) f (failing_in k) answer led.1 (last led.0) served tally requests is_counts
+            failing (subst (λ (x : Reporting). Runs (manner_of given.held x) how.turns
+            (stage c (moment (scene w before.log before.calls) k s t) q u f) answer led.1 (last led.0)) is_reporting led.3);
         log = log led.0;
         calls = calls led.0;
         answers = answers;
@@ -86,8 +95,7 @@ ran_kept {S} given c how start w k s t q f told before after answer outcome o p 
       λ never. appends_two held third holds (notice ++ chain_text led.1) report
           (appends_two held middle third notice (chain_text led.1)
           (subst (λ (x : List ℕ). Appends held middle x) same (noticed never)) (led.4 (lasts never)))
-          (subst (λ (x : Counts). Appends third holds (end_stats unkept_in how.stats x now.guard now.scene.gateway now.served now.tally)) is_start
-          (reported led.0 never)),
+          (subst (λ (x : Reporting). Appends third holds (reports x)) is_reporting (reported led.0 never)),
     )
 
 -- nothing ran where there was no memory to begin

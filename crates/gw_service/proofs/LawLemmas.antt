@@ -7,7 +7,8 @@ use Rattle.std.proofs.lemmas.List.Elements.{All-from_recursion}
 use Rattle.gw_rules.specs.Authorizer.{denied_of}
 use Rattle.gw_rules.specs.declared.refusal.Refusal.{Refusal}
 use Rattle.gw_core.specs.Asks.{asks_for}
-use Rattle.gw_core.specs.Receive.{Origin, origin, receive}
+use Rattle.gw_core.specs.Receive.{Origin as Sender, origin, receive}
+use Rattle.gw_saved.specs.Saved.{Origin}
 use Rattle.gw_core.specs.declared.event.Counts.{Counts}
 use Rattle.gw_service.specs.Counts.{counts_after, greater, less}
 use Rattle.gw_audit.specs.declared.denial.Denial.{Denial}
@@ -42,20 +43,21 @@ went_rules Passes a b turns went =
     ap (λ (w : State). w.rules) went.went.gateway ∙ rules_stay a.scene.gateway (events_of turns)
 
 -- what comes of a request leaves the rules of the configuration in force
-looked_rules : {K : Type 0} (manner : Manner K) (c d : Configuration) (s t : Standing K) (look : Look) → IsLooked manner c s look d t
+looked_rules : {K : Type 0} (Adopts : K → Origin → State → K → Type 0) (c d : Configuration) (s t : Standing K) (look : Look)
+    → IsLooked Adopts c s look d t
     → s.gateway.rules ≡ c.rules → t.gateway.rules ≡ d.rules
-looked_rules manner c d s t unrequested is has =
-    ap (λ (w : State). w.rules) is.0.gateway ∙ has ∙ sym (ap (λ (x : Configuration). x.rules) is.0.config)
-looked_rules manner c d s t (refused text f) is has =
+looked_rules Adopts c d s t unrequested is has =
     ap (λ (w : State). w.rules) is.stays.gateway ∙ has ∙ sym (ap (λ (x : Configuration). x.rules) is.stays.config)
-looked_rules manner c d s t (taken_over text new) is has =
+looked_rules Adopts c d s t (refused read f line) is has =
+    ap (λ (w : State). w.rules) is.stays.gateway ∙ has ∙ sym (ap (λ (x : Configuration). x.rules) is.stays.config)
+looked_rules Adopts c d s t (taken_over text new) is has =
     ap (λ (w : State). w.rules) is.gateway ∙ sym (ap (λ (x : Configuration). x.rules) is.config)
 
 link_rules : {K : Type 0} (manner : Manner K) (s t : Stage K) (link : Link) → IsLink manner s link t → HasItsRules s → HasItsRules t
 link_rules manner s t (served turns) is has =
     went_rules manner.Passes s.now t.now turns is.went ∙ has ∙ sym (ap (λ (x : Configuration). x.rules) is.config)
 link_rules manner s t (ticked turns look text) is has =
-    looked_rules manner s.config t.config _ _ look is.done.looked (went_rules manner.Passes s.now is.then turns is.went ∙ has)
+    looked_rules manner.Adopts s.config t.config _ _ look is.done.looked (went_rules manner.Passes s.now is.then turns is.went ∙ has)
 link_rules manner s t (withheld turns event text) is has =
     ap (λ (w : State). w.rules) is.last.logged.taken.gateway ∙ next_rules is.then.scene.gateway event
     ∙ went_rules manner.Passes s.now is.then turns is.went ∙ has ∙ sym (ap (λ (x : Configuration). x.rules) is.config)
@@ -85,13 +87,13 @@ is_less : (a b : ℕ) → a ≤ b → less a b ≡ a
 is_less a b most = less_by a b (nat_le a b) most refl
 
 -- denials are numbered up from the first number
-numbered_from : (m n : ℕ) (rules : List Rule) (number tick : ℕ) (from : Origin) (refusals : List Refusal) → m < number → n < number
+numbered_from : (m n : ℕ) (rules : List Rule) (number tick : ℕ) (from : Sender) (refusals : List Refusal) → m < number → n < number
     → AllByRecursion (λ (d : Denial). (m < d.number) × (n < d.number)) (denials_from rules number tick from refusals)
 numbered_from m n rules number tick from [] is_m is_n = tt
 numbered_from m n rules number tick from (refusal ∷ refusals) is_m is_n =
     ((is_m, is_n), numbered_from m n rules (number + 1) tick from refusals (omega (arith, is_m)) (omega (arith, is_n)))
 
-numbered : (m n : ℕ) (rules : List Rule) (number tick : ℕ) (from : Option Origin) (refusals : List Refusal) → m < number → n < number
+numbered : (m n : ℕ) (rules : List Rule) (number tick : ℕ) (from : Option Sender) (refusals : List Refusal) → m < number → n < number
     → AllByRecursion (λ (d : Denial). (m < d.number) × (n < d.number)) (denials_of rules number tick from refusals)
 numbered m n rules number tick None refusals is_m is_n = tt
 numbered m n rules number tick (Some from) refusals is_m is_n = numbered_from m n rules number tick from refusals is_m is_n

@@ -1,6 +1,7 @@
 -- What a run is that keeps its state or reads its configuration again: a chain of stretches of serving, with what is done
 -- between two of them.
-use Rattle.std.specs.Prelude.{◌≡◌, ℕ, ◌+◌, Bool, true, List, [], ◌∷◌, ◌++◌, Option, Result, Ok, Err}
+use Rattle.std.specs.Prelude.{◌≡◌, ℕ, ◌+◌, Bool, true, List, [], ◌∷◌, ◌++◌, Option, Some, Result, Ok, Err}
+use Rattle.std.specs.Io.KnownBytes.{Appends}
 use Rattle.std.specs.List.{flat_map}
 use Rattle.gw_configuration.specs.Configuration.{Configuration}
 use Rattle.gw_policy_text.specs.Document.{configuration}
@@ -17,8 +18,9 @@ use Rattle.gw_serving.specs.declared.store.StoreFault.{StoreFault}
 use Rattle.gw_serving.specs.declared.tally.Tally.{Tally}
 use Rattle.gw_system.specs.Requests.{Exchange, GoesOn, answered, asked, unasked}
 use Rattle.gw_system.specs.declared.reading.ReadFailure.{ReadFailure}
-use Rattle.gw_service.specs.Reload.{IsRefused, have_same_ports, refusal_line, reload_line}
+use Rattle.gw_service.specs.Reload.{IsRefusalLine, IsRefused, have_same_ports, reload_line, with_refused, with_taken_over}
 use Rattle.gw_service.specs.Notices.{notice_of}
+use Rattle.gw_service.specs.declared.reload.ReloadCounts.{ReloadCounts}
 use Rattle.gw_service.specs.declared.reload.ReloadFault.{ReloadFault}
 
 -- ---- what keeps the state
@@ -30,10 +32,10 @@ pub record Manner (K : Type 0) : Type 1 where
   pub Ticks : K → State → K → Type 0
   pub Adopts : K → Origin → State → K → Type 0
   pub failing : K → Option StoreFault
-  pub report : K → State → Served → Tally → List ℕ
+  pub report : K → ReloadCounts → State → Served → Tally → List ℕ
 
 abbrev pub manner : {K : Type 0} → (K → State → Event → K → Bool → Type 0) → (K → State → K → Type 0)
-    → (K → Origin → State → K → Type 0) → (K → Option StoreFault) → (K → State → Served → Tally → List ℕ) → Manner K
+    → (K → Origin → State → K → Type 0) → (K → Option StoreFault) → (K → ReloadCounts → State → Served → Tally → List ℕ) → Manner K
 manner Passes Ticks Adopts failing report = record {
   Passes = Passes;
   Ticks = Ticks;
@@ -44,19 +46,21 @@ manner Passes Ticks Adopts failing report = record {
 
 -- ---- a request
 
--- the gateway, its keeper, and what was asked and answered so far
+-- the gateway, its keeper, what was asked and answered so far, and how often it was
 pub record Standing (K : Type 0) : Type 0 where
   pub gateway : State
   pub keeper : K
   pub requests : Option (List Exchange)
+  pub counts : ReloadCounts
 
-abbrev pub standing : {K : Type 0} → State → K → Option (List Exchange) → Standing K
-standing w keeper requests = record { gateway = w; keeper = keeper; requests = requests }
+abbrev pub standing : {K : Type 0} → State → K → Option (List Exchange) → ReloadCounts → Standing K
+standing w keeper requests counts = record { gateway = w; keeper = keeper; requests = requests; counts = counts }
 
--- What comes of looking for a request: there is none; there is one, and the configuration isn't taken over; or it is.
+-- What comes of looking for a request: there is none; there is one, and the configuration isn't taken over, which this line
+-- says; or it is.
 pub data Look : Type 0 where
   unrequested : Look
-  refused : (text : Result (List ℕ) ReadFailure) (fault : ReloadFault) → Look
+  refused : (read : Result (Option (List ℕ)) ReadFailure) (fault : ReloadFault) (line : List ℕ) → Look
   taken_over : (text : List ℕ) (config : Configuration) → Look
 
 -- All stays as it is.
@@ -65,57 +69,77 @@ pub record Stays {K : Type 0} (c : Configuration) (s : Standing K) (d : Configur
   pub gateway : t.gateway ≡ s.gateway
   pub keeper : t.keeper ≡ s.keeper
 
--- The configuration isn't taken over, and the request is answered so.
-pub record IsRefusedSo {K : Type 0} (c : Configuration) (s : Standing K) (text : Result (List ℕ) ReadFailure) (fault : ReloadFault)
-    (d : Configuration) (t : Standing K) : Type 0 where
-  pub why : IsRefused s.gateway text fault
+-- The configuration isn't taken over, and the request is answered by a line that says why.
+pub record IsRefusedSo {K : Type 0} (c : Configuration) (s : Standing K) (read : Result (Option (List ℕ)) ReadFailure) (fault : ReloadFault)
+    (line : List ℕ) (d : Configuration) (t : Standing K) : Type 0 where
+  pub why : IsRefused s.gateway read fault
+  pub says : IsRefusalLine read fault line
   pub stays : Stays c s d t
-  pub requests : GoesOn s.requests t.requests (asked text ∷ answered (refusal_line fault) ∷ [])
+  pub requests : GoesOn s.requests t.requests (asked read ∷ answered line ∷ [])
+  pub counts : t.counts ≡ with_refused s.counts
 
 -- The configuration of the text is in force: the gateway goes on as one of it that takes over what is saved.
-pub record IsTakenOver {K : Type 0} (manner : Manner K) (c : Configuration) (s : Standing K) (text : List ℕ) (new : Configuration)
+pub record IsTakenOver {K : Type 0} (Adopts : K → Origin → State → K → Type 0) (c : Configuration) (s : Standing K) (text : List ℕ) (new : Configuration)
     (d : Configuration) (t : Standing K) : Type 0 where
   pub config : d ≡ new
   pub reads : configuration text ≡ Ok new
   pub ports : have_same_ports s.gateway.relay.links new.ports ≡ true
   pub gateway : t.gateway ≡ carried new (saved c s.gateway)
-  pub keeper : manner.Adopts s.keeper (origin_of new) t.gateway t.keeper
+  pub keeper : Adopts s.keeper (origin_of new) t.gateway t.keeper
   pub requests : GoesOn s.requests t.requests
-      (asked (Ok text) ∷ answered (reload_line s.gateway new (saved c s.gateway)) ∷ [])
+      (asked (Ok (Some text)) ∷ answered (reload_line s.gateway new (saved c s.gateway)) ∷ [])
+  pub counts : t.counts ≡ with_taken_over s.counts s.gateway.ticks
 
-abbrev pub IsLooked : {K : Type 0} → Manner K → Configuration → Standing K → Look → Configuration → Standing K → Type 0
-IsLooked manner c s unrequested d t = Stays c s d t × GoesOn s.requests t.requests (unasked ∷ [])
-IsLooked manner c s (refused text fault) d t = IsRefusedSo c s text fault d t
-IsLooked manner c s (taken_over text new) d t = IsTakenOver manner c s text new d t
+-- There was no request.
+pub record IsUnrequested {K : Type 0} (c : Configuration) (s : Standing K) (d : Configuration) (t : Standing K) : Type 0 where
+  pub stays : Stays c s d t
+  pub requests : GoesOn s.requests t.requests (unasked ∷ [])
+  pub counts : t.counts ≡ s.counts
+
+abbrev pub IsLooked : {K : Type 0} → (Adopts : K → Origin → State → K → Type 0) → Configuration → Standing K → Look
+    → Configuration → Standing K → Type 0
+IsLooked Adopts c s unrequested d t = IsUnrequested c s d t
+IsLooked Adopts c s (refused read fault line) d t = IsRefusedSo c s read fault line d t
+IsLooked Adopts c s (taken_over text new) d t = IsTakenOver Adopts c s text new d t
 
 -- what is told of it
 abbrev pub look_text : {K : Type 0} → Configuration → Standing K → Look → List ℕ
 look_text c s unrequested = []
-look_text c s (refused text fault) = refusal_line fault
+look_text c s (refused read fault line) = line
 look_text c s (taken_over text new) = reload_line s.gateway new (saved c s.gateway)
 
 -- At a tick the keeper does what is due, and then a request is looked for.
-pub record AtTick {K : Type 0} (manner : Manner K) (c : Configuration) (s : Standing K) (look : Look) (d : Configuration) (t : Standing K)
-    : Type 0 where
+pub record AtTick {K : Type 0} (Ticks : K → State → K → Type 0) (Adopts : K → Origin → State → K → Type 0) (c : Configuration)
+    (s : Standing K) (look : Look) (d : Configuration) (t : Standing K) : Type 0 where
   pub keeper : K
-  pub ticks : manner.Ticks s.keeper s.gateway keeper
-  pub looked : IsLooked manner c (standing s.gateway keeper s.requests) look d t
+  pub ticks : Ticks s.keeper s.gateway keeper
+  pub looked : IsLooked Adopts c (standing s.gateway keeper s.requests s.counts) look d t
+
+-- What is done about a request, whatever configuration this origin is of: one of these looks, which leads to one of a
+-- configuration of that origin; and what is told of it is written, if that never fails.
+abbrev pub Looks : {K : Type 0} → (Done : Configuration → Standing K → Look → Configuration → Standing K → Type 0) → Origin → Standing K
+    → Origin → Standing K → (Never : Type 0) → (held holds : Option (List ℕ)) → Type 0
+Looks Done o s p t Never held holds =
+    (c : Configuration) → o ≡ origin_of c → (d : Configuration) × (look : Look) × (p ≡ origin_of d)
+    × Done c s look d t × (Never → Appends held holds (look_text c s look))
 
 -- ---- one stretch, and what is done after it
 
 -- what there is between two stretches: the configuration in force; the gateway, the log, the wire, the keeper and what was
--- counted; what was asked and answered; and what was told last of the state that is kept
+-- counted; what was asked and answered, and how often; and what was told last of the state that is kept
 pub record Stage (K : Type 0) : Type 0 where
   pub config : Configuration
   pub now : Moment K
   pub requests : Option (List Exchange)
+  pub counts : ReloadCounts
   pub told : Option StoreFault
 
-abbrev pub stage : {K : Type 0} → Configuration → Moment K → Option (List Exchange) → Option StoreFault → Stage K
-stage config now requests told = record { config = config; now = now; requests = requests; told = told }
+abbrev pub stage : {K : Type 0} → Configuration → Moment K → Option (List Exchange) → ReloadCounts → Option StoreFault → Stage K
+stage config now requests counts told =
+    record { config = config; now = now; requests = requests; counts = counts; told = told }
 
-abbrev pub standing_at : {K : Type 0} → Moment K → Option (List Exchange) → Standing K
-standing_at now requests = standing now.scene.gateway now.guard requests
+abbrev pub standing_at : {K : Type 0} → Moment K → Option (List Exchange) → ReloadCounts → Standing K
+standing_at now requests counts = standing now.scene.gateway now.guard requests counts
 
 -- The log, the wire and the counts are as they were.
 pub record IsIdle {K : Type 0} (before after : Moment K) : Type 0 where
@@ -136,6 +160,7 @@ pub record IsServed {K : Type 0} (manner : Manner K) (s : Stage K) (turns : List
   pub went : GoOn manner.Passes s.now turns t.now
   pub config : t.config ≡ s.config
   pub requests : t.requests ≡ s.requests
+  pub counts : t.counts ≡ s.counts
   pub told : t.told ≡ s.told
 
 -- turns were served, the last of which took a tick, and what was due then was done and told
@@ -146,11 +171,12 @@ pub record IsTicked {K : Type 0} (manner : Manner K) (s : Stage K) (turns : List
   pub then : Moment K
   pub went : GoOn manner.Passes s.now turns then
   pub ticks : then.scene.gateway.ticks ≡ s.now.scene.gateway.ticks + 1
-  pub done : AtTick manner s.config (standing_at then s.requests) look t.config (standing_at t.now t.requests)
+  pub done : AtTick manner.Ticks manner.Adopts s.config (standing_at then s.requests s.counts) look t.config
+      (standing_at t.now t.requests t.counts)
   pub rest : IsIdle then t.now
   pub told : t.told ≡ manner.failing t.now.guard
-  pub lines : text ≡ (look_text s.config (standing_at then s.requests) look ++ notice_of s.told t.told)
-      ++ manner.report t.now.guard t.now.scene.gateway t.now.served t.now.tally
+  pub lines : text ≡ (look_text s.config (standing_at then s.requests s.counts) look ++ notice_of s.told t.told)
+      ++ manner.report t.now.guard t.counts t.now.scene.gateway t.now.served t.now.tally
 
 -- The keeper didn't let the datagrams of the last event go, and that was told.
 pub record IsHeldBack {K : Type 0} (manner : Manner K) (s : Stage K) (turns : List Turn) (event : Event) (text : List ℕ) (t : Stage K)
@@ -160,6 +186,7 @@ pub record IsHeldBack {K : Type 0} (manner : Manner K) (s : Stage K) (turns : Li
   pub last : IsWithheld manner.Passes then event t.now
   pub config : t.config ≡ s.config
   pub requests : t.requests ≡ s.requests
+  pub counts : t.counts ≡ s.counts
   pub told : t.told ≡ manner.failing t.now.guard
   pub lines : text ≡ notice_of s.told t.told
 
@@ -194,6 +221,7 @@ pub record EndsSo {K : Type 0} (manner : Manner K) (count : ℕ) (fault : ServeF
   pub ends : EndsFaulty manner.Passes count then.now fault last.now
   pub config : last.config ≡ then.config
   pub requests : last.requests ≡ then.requests
+  pub counts : last.counts ≡ then.counts
   pub told : last.told ≡ then.told
 
 -- it did so before so many turns were served

@@ -3,7 +3,6 @@ use Rattle.std.specs.Prelude.{◌≡◌, ◌⊎◌, ⊤, ℕ, ◌&&◌, Bool, tr
 use Rattle.std.specs.Global.{Vec}
 use Rattle.gw_configuration.specs.Configuration.{Configuration}
 use Rattle.gw_core.specs.State.{State}
-use Rattle.gw_core.specs.declared.event.Counts.{Counts}
 use Rattle.gw_saved.specs.Saved.{Saved, origin_of}
 use Rattle.gw_serving.specs.Keeping.{IsTried, nothing_kept}
 use Rattle.gw_serving.specs.Serve.{scene, zero_counts}
@@ -23,7 +22,8 @@ use Rattle.gw_service.specs.Keeping.{IsKeptAtTick, IsKeptFor, IsPassed, failing_
 use Rattle.gw_service.specs.Notices.{notice_of}
 use Rattle.gw_service.specs.Serving.{AreOpen, ArentOpen, Ends, LeavesServed, LogStays, Machine, Service, ends, log_held, service}
 use Rattle.gw_service.specs.Start.{BeginsAs, IsStateRead, counts_of, start_text}
-use Rattle.gw_service.specs.Stats.{due_stats, end_stats}
+use Rattle.gw_service.specs.Reload.{counts_since}
+use Rattle.gw_service.specs.Stats.{Reporting, due_stats, end_stats, reporting}
 use Rattle.gw_service.specs.declared.fault.ServiceFault.{ServiceFault}
 use Rattle.gw_service.specs.declared.fault.ServiceFault.TheVariants as fault
 use Rattle.gw_service.specs.declared.keeping.Kept.{Kept}
@@ -113,9 +113,8 @@ given held told before = record {
 }
 
 -- what keeps the state of a gateway, by a store
-abbrev pub manner_of : {S : Type 0} → (S → Option (List ℕ)) → Option ℕ → Counts → Manner (Kept S)
-manner_of held seconds start =
-    manner (IsPassed held) (IsKeptAtTick held) (IsKeptFor held) failing_in (due_stats unkept_in seconds start)
+abbrev pub manner_of : {S : Type 0} → (S → Option (List ℕ)) → Reporting → Manner (Kept S)
+manner_of held how = manner (IsPassed held) (IsKeptAtTick held) (IsKeptFor held) failing_in (due_stats unkept_in how)
 
 -- the outcome of a run, by the answer of serving
 abbrev pub outcome_by : Result (Unit {0}) ServeFault → Result (Unit {0}) ServiceFault
@@ -125,7 +124,13 @@ outcome_by (Err fault) = Err (fault_of_serving fault)
 -- the first stage: nothing was counted, and it was told whether the state is kept
 abbrev pub first_stage : {S Q : Type 0} → Given S Q → Configuration → State → Kept S → Ends → Stage (Kept S)
 first_stage given c w keeper ends =
-    stage c (moment (scene w ends.log ends.calls) keeper zero_counts no_tally) (told_by given.told given.requests) (failing_in keeper)
+    stage c (moment (scene w ends.log ends.calls) keeper zero_counts no_tally) (told_by given.told given.requests) (counts_since w.ticks)
+    (failing_in keeper)
+
+-- What is reported of such a run, of which a gateway in this state begins: how often its configuration was read again, if
+-- requests are looked for.
+abbrev pub reporting_of : {S Q : Type 0} → Given S Q → Service → State → Reporting
+reporting_of given how w = reporting how.stats (counts_of w) (is_some given.requests)
 
 -- A gateway of this configuration begins with what was saved, its state is kept at once, and then it runs for so many turns, and
 -- reports what it did.
@@ -138,12 +143,13 @@ pub record RunsKept {S Q : Type 0} (given : Given S Q) (c : Configuration) (how 
   pub answer : Result (Unit {0}) ServeFault
   pub links : List Link
   pub last : Stage (Kept S)
-  pub runs : Runs (manner_of given.held how.stats (counts_of gateway)) how.turns (first_stage given c gateway keeper before) answer links last
+  pub runs : Runs (manner_of given.held (reporting_of given how gateway)) how.turns (first_stage given c gateway keeper before) answer links last
   pub log : last.now.scene.log ≡ after.log
   pub calls : last.now.scene.calls ≡ after.calls
   pub answers : outcome ≡ outcome_by answer
   pub told : text ≡ (notice_of None (failing_in keeper) ++ chain_text links)
-      ++ end_stats unkept_in how.stats (counts_of gateway) last.now.guard last.now.scene.gateway last.now.served last.now.tally
+      ++ end_stats unkept_in (reporting_of given how gateway) last.now.guard last.counts last.now.scene.gateway last.now.served
+      last.now.tally
 
 -- Memory ran out before that: nothing was received or told.
 abbrev pub IsUnbegun : (before after : Ends) → (text : List ℕ) → (outcome : Result (Unit {0}) ServiceFault) → Type 0

@@ -1,10 +1,11 @@
 -- What is reported of a run, each so many seconds and at its end.
-use Rattle.std.specs.Prelude.{ℕ, ◌+◌, ◌-◌, ◌%◌, ◌==◌, ◌&&◌, Bool, nat_le, if◌then◌else◌, List, [], ◌∷◌, ◌++◌, Option, Some, None, codes, decimal}
+use Rattle.std.specs.Prelude.{ℕ, ◌+◌, ◌-◌, ◌%◌, ◌==◌, ◌&&◌, Bool, true, false, nat_le, if◌then◌else◌, List, [], ◌∷◌, ◌++◌, Option, Some, None, codes, decimal}
 use Rattle.gw_core.specs.State.{State}
 use Rattle.gw_core.specs.declared.event.Counts.{Counts}
 use Rattle.gw_serving.specs.Reports.{report_line, report_of}
 use Rattle.gw_serving.specs.declared.serving.Served.{Served}
 use Rattle.gw_serving.specs.declared.tally.Tally.{Tally}
+use Rattle.gw_service.specs.declared.reload.ReloadCounts.{ReloadCounts}
 
 -- The counts of a gateway in this state didn't fall since it began with these, and each tick is an event that was taken.
 abbrev pub has_gone_on : Counts → State → Served → Bool
@@ -15,18 +16,46 @@ has_gone_on start w s =
 abbrev pub unkept_text : ℕ → List ℕ
 unkept_text unkept = codes "stats unkept=" ++ (decimal unkept ++ 10 ∷ [])
 
--- a report of what was done since the gateway began with these counts
-abbrev pub stats_text : Counts → State → Served → Tally → ℕ → List ℕ
-stats_text start w s tally unkept =
-    if has_gone_on start w s then report_line (report_of start w s tally) ++ unkept_text unkept else []
+-- how often a configuration was taken over and refused, and the tick since which the one in force is, if it is read again
+abbrev pub reloads_text : Bool → ReloadCounts → List ℕ
+reloads_text false counts = []
+reloads_text true counts =
+    codes "stats reloads=" ++ (decimal counts.taken_over ++ (codes " refused=" ++ (decimal counts.refused
+    ++ (codes " since=" ++ (decimal counts.since ++ 10 ∷ [])))))
+
+-- When what is reported: each so many seconds, if reports are asked for; since a gateway began with these counts; and whether
+-- its configuration is read again.
+pub record Reporting : Type 0 where
+  pub seconds : Option ℕ
+  pub start : Counts
+  pub reloads : Bool
+
+abbrev pub reporting : Option ℕ → Counts → Bool → Reporting
+reporting seconds start reloads = record { seconds = seconds; start = start; reloads = reloads }
+
+-- a report of what was done since then
+abbrev pub stats_text : Reporting → ReloadCounts → State → Served → Tally → ℕ → List ℕ
+stats_text how counts w s tally unkept =
+    if has_gone_on how.start w s
+    then report_line (report_of how.start w s tally) ++ (unkept_text unkept ++ reloads_text how.reloads counts) else []
+
+-- whether a multiple of so many seconds has passed
+abbrev pub is_due : Counts → State → ℕ → Bool
+is_due start w seconds = (w.ticks - start.ticks) % seconds == 0
 
 -- what is reported at the end, if reports are asked for
-abbrev pub end_stats : {K : Type 0} → (K → ℕ) → Option ℕ → Counts → K → State → Served → Tally → List ℕ
-end_stats unkept None start k w s tally = []
-end_stats unkept (Some seconds) start k w s tally = stats_text start w s tally (unkept k)
+abbrev pub end_by : Option ℕ → (text : List ℕ) → List ℕ
+end_by None text = []
+end_by (Some seconds) text = text
+
+abbrev pub end_stats : {K : Type 0} → (K → ℕ) → Reporting → K → ReloadCounts → State → Served → Tally → List ℕ
+end_stats unkept how k counts w s tally = end_by how.seconds (stats_text how counts w s tally (unkept k))
 
 -- what is reported at a tick: something if a multiple of so many seconds has passed
-abbrev pub due_stats : {K : Type 0} → (K → ℕ) → Option ℕ → Counts → K → State → Served → Tally → List ℕ
-due_stats unkept None start k w s tally = []
-due_stats unkept (Some seconds) start k w s tally =
-    if (w.ticks - start.ticks) % seconds == 0 then stats_text start w s tally (unkept k) else []
+abbrev pub due_by : Option ℕ → Counts → State → (text : List ℕ) → List ℕ
+due_by None start w text = []
+due_by (Some seconds) start w text = if is_due start w seconds then text else []
+
+abbrev pub due_stats : {K : Type 0} → (K → ℕ) → Reporting → K → ReloadCounts → State → Served → Tally → List ℕ
+due_stats unkept how k counts w s tally =
+    due_by how.seconds how.start w (stats_text how counts w s tally (unkept k))

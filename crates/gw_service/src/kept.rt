@@ -10,6 +10,7 @@ ghost use Rattle.gw_serving.specs.Stretch.{CanCount};
 ghost use Rattle.gw_serving.specs.Tally.{no_tally};
 ghost use Rattle.gw_service.specs.Kept.{AreRequestsUnder, IsLastLine, IsStateUnder, IsStoreUnder, IsUnprepared, KeepsFirst, LeavesKept, LeavesWithState, given, line_read, names_of, outcome_by, state_machine, text_before};
 ghost use Rattle.gw_service.specs.Announcement.{startup_line};
+ghost use Rattle.gw_service.specs.Reload.{counts_since};
 ghost use Rattle.gw_service.specs.Serving.{IsFlushedFor, LogStays, ends, log_held, machine, service};
 ghost use Rattle.gw_service.specs.Start.{BeginsAs};
 ghost use Rattle.gw_system.specs.Host.{OpensAtLine};
@@ -17,6 +18,7 @@ ghost use Rattle.gw_system.specs.Host.{OpensAtLine};
 use crate::announcement::warning_of;
 use crate::fault::ServiceFault;
 use crate::keeping::{Kept, StateKeeper};
+use crate::reload::ReloadCounts;
 use crate::running::Running;
 use crate::serving::{Opening, open};
 use crate::start::{MAX_STATE_OCTETS, begin_after, saved_in, start_text};
@@ -205,6 +207,7 @@ fn make_running<S: Store + Drop, Q: Requests + Drop>(
         (λ r. BeginsAs config before.saved (option_map (λ line. line.items) before.line) r.gateway) }
     ensures keeps { IfOk result (λ r. KeepsFirst S.held before.store config r.gateway r.keeper) }
     ensures requests { IfOk result (λ r. r.requests ≡ before.requests) }
+    ensures counts { IfOk result (λ r. r.counts ≡ counts_since r.gateway.ticks) }
     ensures served { IfOk result (λ r. r.state.served ≡ zero_counts) }
     ensures tally { IfOk result (λ r. r.state.tally ≡ no_tally) }
     ensures told { IfOk result (λ r. r.told ≡ None) }
@@ -222,11 +225,13 @@ fn make_running<S: Store + Drop, Q: Requests + Drop>(
     let kept = Origin::of(alloc, &config)?;
     let gateway = begin_after(alloc, config, &saved, &line)?;
     let keeper = kept_in(alloc, store, kept, &gateway);
+    let counts = ReloadCounts::since(gateway.counts().ticks);
     Ok(Running {
         gateway,
         origin,
         keeper,
         requests,
+        counts,
         state: ServeState::new(alloc),
         told: None,
     })
@@ -259,14 +264,22 @@ fn run_on<S: Store + Drop, Q: Requests + Drop, X: Wire, L: OctetSink, E: OctetSi
         × (E.NeverFails errors.old → Appends (E.held errors.old) (E.held errors.new) text) }
     ensures lasting { E.NeverFails errors.old → E.NeverFails errors.new }
 {
+    let reloads = before.requests.is_some();
     let mut running = make_running(alloc, config, before)?;
     running.told = running.notice(errors);
     let schedule = Schedule {
         start: running.gateway.counts(),
         seconds: options.stats,
+        reloads,
     };
     let answer = running.serve(alloc, sockets, log, errors, &schedule, options.turns);
-    schedule.tell_last(&running.gateway, &running.state, &running.keeper, errors);
+    schedule.tell_last(
+        &running.gateway,
+        &running.state,
+        &running.keeper,
+        running.counts,
+        errors,
+    );
     outcome_of(answer)
 }
 

@@ -5,6 +5,7 @@ ghost use Rattle.gw_core.specs.State.{State};
 ghost use Rattle.gw_serving.specs.declared.serving.Served.{Served};
 ghost use Rattle.gw_serving.specs.declared.tally.Tally.{Tally};
 ghost use Rattle.gw_service.specs.Chain.{manner};
+ghost use Rattle.gw_service.specs.declared.reload.ReloadCounts.{ReloadCounts};
 ghost use Rattle.gw_service.specs.Laws.{NumbersGoOn, RulesAreInForce, RulesStay};
 
 use crate::keeping::StateKeeper;
@@ -12,7 +13,7 @@ use crate::keeping::StateKeeper;
 /// Each event is judged by the rules of the configuration in force: wherever a run leads, the gateway has them, and in a stretch
 /// they stay.
 pub fn rules_are_in_force<K: StateKeeper>()
-    ensures chain { (report : K → State → Served → Tally → List ℕ) →
+    ensures chain { (report : K → ReloadCounts → State → Served → Tally → List ℕ) →
         RulesAreInForce (manner K.Passes K.Ticks K.Adopts K.failing report) }
     ensures stretch { RulesStay }
 {}

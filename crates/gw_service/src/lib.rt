@@ -21,7 +21,7 @@ pub use fault::ServiceFault;
 pub use gw_command_line::RunOptions;
 pub use keeping::StateKeeper;
 pub use line::name_of;
-pub use reload::{Adopted, ReloadFault, reloaded};
+pub use reload::{Adopted, ReloadCounts, ReloadFault, reloaded};
 pub use running::Running;
 pub use serving::{serve_fresh, serve_ports};
 pub use stats::Schedule;

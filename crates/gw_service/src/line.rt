@@ -1,14 +1,18 @@
 //! What is reported of a configuration that is read again.
 
-ghost use Rattle.std.specs.Prelude.{◌≡◌, IfOk};
-ghost use Rattle.gw_service.specs.Reload.{name_of, refusal_line, refusal_words, reload_line};
+ghost use Rattle.std.specs.Prelude.{◌≡◌, IfOk, IfSome, None};
+ghost use Rattle.gw_explanation.specs.Explanation.{ExplainsText};
+ghost use Rattle.gw_service.specs.Reload.{IsRefusalLine, located_line, name_of, refusal_line, refusal_words, reload_line};
+ghost use Rattle.gw_system.specs.Requests.{text_found};
 
 use crate::reload::ReloadFault;
 use gw_addr::put_decimal;
 use gw_configuration::{Config, ConfigFault};
 use gw_core::Gateway;
+use gw_explanation::{Explanation, explain};
 use gw_rule_changes::{changes_of, put_changes};
 use gw_saved::Saved;
+use gw_system::ReadFailure;
 use gw_takeover::{put_take_over, take_over};
 use std::alloc::{AllocError, Global};
 
@@ -73,9 +77,50 @@ pub(crate) fn refusal_line(fault: ReloadFault) -> &'static str
     ensures { result.now ≡ refusal_line fault }
 {
     match fault {
+        ReloadFault::Absent => "reload refused: cannot read configuration: no such file\n",
         ReloadFault::Unreadable => "reload refused: cannot read configuration\n",
         ReloadFault::Configuration(fault) => refusal_of_text(fault),
         ReloadFault::Ports => "reload refused: the ports differ: restart for them\n",
         ReloadFault::Memory => "reload refused: out of memory\n",
+    }
+}
+
+/// The line of a text's fault whose place is known.
+fn located_line(
+    alloc: Global,
+    fault: ConfigFault,
+    place: &Explanation,
+) -> Result<Vec<u8>, AllocError>
+    ensures { IfOk result (λ line. line.items ≡ located_line fault place.now) }
+{
+    let mut line = Vec::from_slice(alloc, b"reload refused: configuration: ")?;
+    line.extend_from_slice(name_of(fault).as_bytes())?;
+    line.extend_from_slice(b": ")?;
+    line.extend_from_slice(place.as_bytes())?;
+    line.push(b'\n')?;
+    Ok(line)
+}
+
+/// The line of a text's fault with its place, if there is memory for it.
+fn explained_line(alloc: Global, text: &[u8], fault: ConfigFault) -> Option<Vec<u8>>
+    ensures { IfSome result (λ line. IsRefusalLine (Ok (Some text.now)) (ReloadFault.Configuration fault) line.items) }
+{
+    match explain(alloc, text, fault) {
+        Ok(Some(place)) => located_line(alloc, fault, &place).ok(),
+        Ok(None) | Err(_) => None,
+    }
+}
+
+/// The line of what was read and isn't taken over that takes memory: of a fault of the text, with its place.
+pub(crate) fn line_with_place(
+    alloc: Global,
+    read: &Result<Option<Vec<u8>>, ReadFailure>,
+    fault: ReloadFault,
+) -> Option<Vec<u8>>
+    ensures { IfSome result (λ line. IsRefusalLine (text_found read.now) fault line.items) }
+{
+    match (read, fault) {
+        (Ok(Some(text)), ReloadFault::Configuration(fault)) => explained_line(alloc, text, fault),
+        _ => None,
     }
 }

@@ -4,8 +4,9 @@ ghost use Rattle.std.specs.Prelude.{◌≡◌, IfErr, IfOk, true};
 ghost use Rattle.std.specs.Cmp.Lexicographic.{pointwise};
 ghost use Rattle.gw_core.specs.Resumed.{saved_of};
 ghost use Rattle.gw_saved.specs.Saved.{origin_of};
-ghost use Rattle.gw_service.specs.Reload.{IsAdopted, IsPortsOrMemory, IsRefused, IsReloaded, have_same_ports, reload_line, same_port};
-ghost use Rattle.gw_system.specs.Requests.{text_read};
+ghost use Rattle.gw_serving.specs.Keeping.{one_more};
+ghost use Rattle.gw_service.specs.Reload.{IsAdopted, IsPortsOrMemory, IsRefused, IsReloaded, counts_since, have_same_ports, reload_line, same_port, with_refused, with_taken_over};
+ghost use Rattle.gw_system.specs.Requests.{text_found};
 
 use crate::line::reload_line;
 use gw_configuration::{Config, ConfigFault, Port};
@@ -19,13 +20,15 @@ use std::alloc::{AllocError, Global};
 /// Why a configuration that was read again isn't taken over. The gateway then goes on as it is.
 #[derive(Clone, Copy)]
 pub enum ReloadFault {
-    /// 1: its file can't be read.
+    /// 1: there is no file of its name.
+    Absent,
+    /// 2: its file can't be read.
     Unreadable,
-    /// 2: what the file says is none, and why.
+    /// 3: what the file says is none, and why.
     Configuration(ConfigFault),
-    /// 3: its ports aren't those that are served: in this order, with these networks, own and broadcast addresses.
+    /// 4: its ports aren't those that are served: in this order, with these networks, own and broadcast addresses.
     Ports,
-    /// 4: a growth was refused.
+    /// 5: a growth was refused.
     Memory,
 }
 
@@ -65,6 +68,59 @@ impl From<AllocError> for ReloadFault {
 
     fn from(_refused: AllocError) -> ReloadFault {
         ReloadFault::Memory
+    }
+}
+
+/// How often a configuration was read again.
+#[derive(Clone, Copy)]
+pub struct ReloadCounts {
+    /// How many were taken over.
+    pub taken_over: u64,
+    /// How many were refused.
+    pub refused: u64,
+    /// The tick since which the one in force is.
+    pub since: u64,
+}
+
+/// A count and one more, unless it would pass its end.
+fn one_more(count: u64) -> u64
+    ensures { result ≡ one_more count }
+{
+    if count < u64::MAX { count + 1 } else { count }
+}
+
+impl ReloadCounts {
+    /// None was read again since the one in force began at this tick.
+    pub(crate) fn since(tick: u64) -> Self
+        ensures { result ≡ counts_since tick }
+    {
+        ReloadCounts {
+            taken_over: 0,
+            refused: 0,
+            since: tick,
+        }
+    }
+
+    /// One more was taken over, at this tick.
+    pub(crate) fn with_taken_over(self, tick: u64) -> Self
+        ensures { result ≡ with_taken_over self tick }
+    {
+        ReloadCounts {
+            taken_over: one_more(self.taken_over),
+            refused: self.refused,
+            since: tick,
+        }
+    }
+
+    /// One more was refused.
+    pub(crate) fn with_refused(self) -> Self
+        ensures { result ≡ with_refused self }
+    {
+        ReloadCounts {
+            taken_over: self.taken_over,
+            refused: one_more(self.refused),
+            since: self.since,
+        }
     }
 }
 
@@ -181,19 +237,20 @@ fn adopt_ports(
     Ok(adopt(alloc, gateway, origin, config)?)
 }
 
-/// What becomes of a text that was read again: the gateway of its configuration with what is saved of this one, or why this
+/// What becomes of what was read again: the gateway of its configuration with what is saved of this one, or why this
 /// one goes on. Both gateways are there for a moment; this one is only read.
 pub fn reloaded(
     alloc: Global,
     gateway: &Gateway,
     origin: &Origin,
-    text: &Result<Vec<u8>, ReadFailure>,
+    read: &Result<Option<Vec<u8>>, ReadFailure>,
 ) -> Result<Adopted, ReloadFault>
-    ensures adopted { IfOk result (IsReloaded gateway.now origin.now (text_read text.now)) }
-    ensures fault { IfErr result (IsRefused gateway.now (text_read text.now)) }
+    ensures adopted { IfOk result (IsReloaded gateway.now origin.now (text_found read.now)) }
+    ensures fault { IfErr result (IsRefused gateway.now (text_found read.now)) }
 {
-    match text {
-        Ok(text) => adopt_ports(alloc, gateway, origin, read_config(alloc, text)?),
+    match read {
+        Ok(Some(text)) => adopt_ports(alloc, gateway, origin, read_config(alloc, text)?),
+        Ok(None) => Err(ReloadFault::Absent),
         Err(failure) => Err(ReloadFault::from(*failure)),
     }
 }

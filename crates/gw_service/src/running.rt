@@ -1,24 +1,22 @@
 //! A gateway that runs by stretches: each is served to a tick, and then its state is kept, and its configuration read again
 //! if that was asked for.
 
-ghost use Rattle.std.specs.Prelude.{◌≡◌, ◌+◌, ◌≤◌, ◌<◌, ◌^◌, ◌∷◌, [], ℕ, List, Option, IfOk, IsErrOf, Ok, OnOk};
+ghost use Rattle.std.specs.Prelude.{◌≡◌, ◌+◌, ◌≤◌, ◌<◌, ◌^◌, ◌∷◌, [], ℕ, List, Option, IfOk, IsErrOf, Ok, OnOk, option_map_or};
 ghost use Rattle.std.specs.Io.KnownBytes.{Appends};
 ghost use Rattle.gw_configuration.specs.Configuration.{Configuration};
 ghost use Rattle.gw_saved.specs.Saved.{origin_of};
 ghost use Rattle.gw_serving.specs.Serve.{scene};
 ghost use Rattle.gw_serving.specs.Stretch.{CanCount, moment};
-ghost use Rattle.gw_system.specs.Requests.{Exchange, GoesOn, asked, text_read};
-ghost use Rattle.gw_service.specs.Chain.{Advances, AtTick, IsLooked, Link, Look, Runs, chain_text, look_text, manner, stage, standing};
-ghost use Rattle.gw_core.specs.State.{State};
-ghost use Rattle.gw_serving.specs.declared.serving.Served.{Served};
-ghost use Rattle.gw_serving.specs.declared.tally.Tally.{Tally};
+ghost use Rattle.gw_system.specs.Requests.{Exchange, GoesOn, asked, text_found};
+ghost use Rattle.gw_service.specs.Chain.{Advances, AtTick, IsLooked, Link, Looks, Runs, chain_text, manner, stage, standing};
 ghost use Rattle.gw_service.specs.Notices.{notice_of};
-ghost use Rattle.gw_service.specs.Stats.{due_stats};
+ghost use Rattle.gw_service.specs.Reload.{refusal_line};
+ghost use Rattle.gw_service.specs.Stats.{due_stats, reporting};
 
 use crate::keeping::StateKeeper;
-use crate::line::refusal_line;
+use crate::line::{line_with_place, refusal_line};
 use crate::notices::notice_of;
-use crate::reload::{Adopted, reloaded};
+use crate::reload::{Adopted, ReloadCounts, ReloadFault, reloaded};
 use crate::stats::Schedule;
 use crate::telling::tell;
 use gw_core::Gateway;
@@ -40,6 +38,8 @@ pub struct Running<K, Q> {
     pub keeper: K,
     /// What asks to read the configuration again.
     pub requests: Q,
+    /// How often it was.
+    pub counts: ReloadCounts,
     /// What is kept from turn to turn, and what was counted.
     pub state: ServeState,
     /// What was told last of the state: why it isn't kept, or that it is.
@@ -54,32 +54,41 @@ impl<K: Drop, Q: Drop> Drop for Running<K, Q> {
             origin: _,
             keeper: _,
             requests: _,
+            counts: _,
             state: _,
             told: _,
         } = self;
     }
 }
 
+/// This line of what isn't taken over, or else that of the fault, which takes no memory.
+fn line_or(line: &Option<Vec<u8>>, fault: ReloadFault) -> &[u8]
+    ensures { result.now ≡ option_map_or (λ line. line.items) line.now (refusal_line fault) }
+{
+    match line {
+        Some(line) => line.as_slice(),
+        None => refusal_line(fault).as_bytes(),
+    }
+}
+
 impl<K: StateKeeper, Q: Requests> Running<K, Q> {
-    /// Takes the configuration of a text over, or goes on as before; answers the request, and tells it.
+    /// Takes the configuration of what was read over, or goes on as before; answers the request, and tells it.
     fn reload<E: OctetSink>(
         &mut self,
         alloc: Global,
-        text: &Result<Vec<u8>, ReadFailure>,
+        read: &Result<Option<Vec<u8>>, ReadFailure>,
         errors: &mut E,
     )
-        ensures looked { (c : Configuration) (first : Option (List Exchange)) (report : K → State → Served → Tally → List ℕ) → self.old.origin ≡ origin_of c →
-            GoesOn first (Q.told self.old.requests) (asked (text_read text.now) ∷ []) →
-            let before = standing self.old.gateway self.old.keeper first in
-            let after = standing self.new.gateway self.new.keeper (Q.told self.new.requests) in
-            (d : Configuration) × (look : Look) × (self.new.origin ≡ origin_of d)
-            × IsLooked (manner K.Passes K.Ticks K.Adopts K.failing report) c before look d after
-            × (E.NeverFails errors.old → Appends (E.held errors.old) (E.held errors.new) (look_text c before look)) }
+        ensures looked { (first : Option (List Exchange)) →
+            GoesOn first (Q.told self.old.requests) (asked (text_found read.now) ∷ []) →
+            Looks (IsLooked K.Adopts) self.old.origin (standing self.old.gateway self.old.keeper first self.old.counts)
+            self.new.origin (standing self.new.gateway self.new.keeper (Q.told self.new.requests) self.new.counts)
+            (E.NeverFails errors.old) (E.held errors.old) (E.held errors.new) }
         ensures state { self.new.state ≡ self.old.state }
         ensures told { self.new.told ≡ self.old.told }
         ensures lasts { E.NeverFails errors.old → E.NeverFails errors.new }
     {
-        match reloaded(alloc, &self.gateway, &self.origin, text) {
+        match reloaded(alloc, &self.gateway, &self.origin, read) {
             Ok(
                 Adopted {
                     gateway,
@@ -88,6 +97,7 @@ impl<K: StateKeeper, Q: Requests> Running<K, Q> {
                     line,
                 },
             ) => {
+                self.counts = self.counts.with_taken_over(self.gateway.counts().ticks);
                 self.gateway = gateway;
                 self.origin = origin;
                 self.keeper.adopt(alloc, kept, &self.gateway);
@@ -95,7 +105,9 @@ impl<K: StateKeeper, Q: Requests> Running<K, Q> {
                 tell(&line, errors);
             }
             Err(fault) => {
-                let line = refusal_line(fault).as_bytes();
+                self.counts = self.counts.with_refused();
+                let located = line_with_place(alloc, read, fault);
+                let line = line_or(&located, fault);
                 self.requests.answer(line);
                 tell(line, errors);
             }
@@ -104,18 +116,16 @@ impl<K: StateKeeper, Q: Requests> Running<K, Q> {
 
     /// Looks for a request, and if there is one reads the configuration again.
     fn look<E: OctetSink>(&mut self, alloc: Global, errors: &mut E)
-        ensures looked { (c : Configuration) (report : K → State → Served → Tally → List ℕ) → self.old.origin ≡ origin_of c →
-            let before = standing self.old.gateway self.old.keeper (Q.told self.old.requests) in
-            let after = standing self.new.gateway self.new.keeper (Q.told self.new.requests) in
-            (d : Configuration) × (look : Look) × (self.new.origin ≡ origin_of d)
-            × IsLooked (manner K.Passes K.Ticks K.Adopts K.failing report) c before look d after
-            × (E.NeverFails errors.old → Appends (E.held errors.old) (E.held errors.new) (look_text c before look)) }
+        ensures looked { Looks (IsLooked K.Adopts) self.old.origin
+            (standing self.old.gateway self.old.keeper (Q.told self.old.requests) self.old.counts)
+            self.new.origin (standing self.new.gateway self.new.keeper (Q.told self.new.requests) self.new.counts)
+            (E.NeverFails errors.old) (E.held errors.old) (E.held errors.new) }
         ensures state { self.new.state ≡ self.old.state }
         ensures told { self.new.told ≡ self.old.told }
         ensures lasts { E.NeverFails errors.old → E.NeverFails errors.new }
     {
-        if let Some(text) = self.requests.take(alloc, MAX_OCTETS) {
-            self.reload(alloc, &text, errors);
+        if let Some(read) = self.requests.take(alloc, MAX_OCTETS) {
+            self.reload(alloc, &read, errors);
         }
     }
 
@@ -133,12 +143,10 @@ impl<K: StateKeeper, Q: Requests> Running<K, Q> {
 
     /// Does what is due at a tick: keeps the state, and looks for a request.
     fn at_tick<E: OctetSink>(&mut self, alloc: Global, errors: &mut E)
-        ensures done { (c : Configuration) (report : K → State → Served → Tally → List ℕ) → self.old.origin ≡ origin_of c →
-            let before = standing self.old.gateway self.old.keeper (Q.told self.old.requests) in
-            let after = standing self.new.gateway self.new.keeper (Q.told self.new.requests) in
-            (d : Configuration) × (look : Look) × (self.new.origin ≡ origin_of d)
-            × AtTick (manner K.Passes K.Ticks K.Adopts K.failing report) c before look d after
-            × (E.NeverFails errors.old → Appends (E.held errors.old) (E.held errors.new) (look_text c before look)) }
+        ensures done { Looks (AtTick K.Ticks K.Adopts) self.old.origin
+            (standing self.old.gateway self.old.keeper (Q.told self.old.requests) self.old.counts)
+            self.new.origin (standing self.new.gateway self.new.keeper (Q.told self.new.requests) self.new.counts)
+            (E.NeverFails errors.old) (E.held errors.old) (E.held errors.new) }
         ensures state { self.new.state ≡ self.old.state }
         ensures told { self.new.told ≡ self.old.told }
         ensures lasts { E.NeverFails errors.old → E.NeverFails errors.new }
@@ -160,11 +168,11 @@ impl<K: StateKeeper, Q: Requests> Running<K, Q> {
         requires count { CanCount self.old.state.served self.old.state.tally (W.failure_count wire.old) turns }
         ensures advances { (c : Configuration) → self.old.origin ≡ origin_of c →
             let before = stage c (moment (scene self.old.gateway (L.held log.old) (W.calls wire.old)) self.old.keeper
-            self.old.state.served self.old.state.tally) (Q.told self.old.requests) self.old.told in
+            self.old.state.served self.old.state.tally) (Q.told self.old.requests) self.old.counts self.old.told in
             (d : Configuration) × (text : List ℕ) × (self.new.origin ≡ origin_of d)
-            × Advances (manner K.Passes K.Ticks K.Adopts K.failing (due_stats K.unkept schedule.now.seconds schedule.now.start)) turns before result text
+            × Advances (manner K.Passes K.Ticks K.Adopts K.failing (due_stats K.unkept (reporting schedule.now.seconds schedule.now.start schedule.now.reloads))) turns before result text
             (stage d (moment (scene self.new.gateway (L.held log.new) (W.calls wire.new)) self.new.keeper
-            self.new.state.served self.new.state.tally) (Q.told self.new.requests) self.new.told)
+            self.new.state.served self.new.state.tally) (Q.told self.new.requests) self.new.counts self.new.told)
             × (E.NeverFails errors.old → Appends (E.held errors.old) (E.held errors.new) text) }
         ensures rest { (rest : ℕ) → self.new.state.served.turns + rest ≤ self.old.state.served.turns + turns →
             CanCount self.new.state.served self.new.state.tally (W.failure_count wire.new) rest }
@@ -181,7 +189,13 @@ impl<K: StateKeeper, Q: Requests> Running<K, Q> {
             Ok(Pause::Tick) => {
                 self.at_tick(alloc, errors);
                 self.told = self.notice(errors);
-                schedule.tell_due(&self.gateway, &self.state, &self.keeper, errors);
+                schedule.tell_due(
+                    &self.gateway,
+                    &self.state,
+                    &self.keeper,
+                    self.counts,
+                    errors,
+                );
             }
             Ok(Pause::Withheld) => self.told = self.notice(errors),
             Err(fault) => return Err(fault),
@@ -208,11 +222,11 @@ impl<K: StateKeeper, Q: Requests> Running<K, Q> {
         requires count { CanCount self.old.state.served self.old.state.tally (W.failure_count wire.old) turns }
         ensures runs { (c : Configuration) → self.old.origin ≡ origin_of c →
             let before = stage c (moment (scene self.old.gateway (L.held log.old) (W.calls wire.old)) self.old.keeper
-            self.old.state.served self.old.state.tally) (Q.told self.old.requests) self.old.told in
+            self.old.state.served self.old.state.tally) (Q.told self.old.requests) self.old.counts self.old.told in
             (d : Configuration) × (links : List Link) × (self.new.origin ≡ origin_of d)
-            × Runs (manner K.Passes K.Ticks K.Adopts K.failing (due_stats K.unkept schedule.now.seconds schedule.now.start)) turns before result links
+            × Runs (manner K.Passes K.Ticks K.Adopts K.failing (due_stats K.unkept (reporting schedule.now.seconds schedule.now.start schedule.now.reloads))) turns before result links
             (stage d (moment (scene self.new.gateway (L.held log.new) (W.calls wire.new)) self.new.keeper
-            self.new.state.served self.new.state.tally) (Q.told self.new.requests) self.new.told)
+            self.new.state.served self.new.state.tally) (Q.told self.new.requests) self.new.counts self.new.told)
             × (E.NeverFails errors.old → Appends (E.held errors.old) (E.held errors.new) (chain_text links)) }
         ensures lasts { E.NeverFails errors.old → E.NeverFails errors.new }
     {

@@ -4,21 +4,25 @@ ghost use Rattle.std.proofs.Props.{props};
 ghost use Rattle.std.specs.Prelude.{◌≡◌, ◌++◌, ◌-◌, ◌%◌, ◌==◌, ◌<◌, ◌≤◌, IfSome, IsOk, IsTrue, OnOk, decimal, if◌then◌else◌, [], List, ℕ};
 ghost use Rattle.std.specs.Io.KnownBytes.{Appends};
 ghost use Rattle.gw_serving.specs.ReportTurn.{HasGoneOn};
-ghost use Rattle.gw_service.specs.Stats.{due_stats, end_stats, has_gone_on, stats_text, unkept_text};
+ghost use Rattle.gw_service.specs.Stats.{due_stats, end_stats, has_gone_on, is_due, reloads_text, reporting, stats_text, unkept_text};
 
 use crate::keeping::StateKeeper;
+use crate::reload::ReloadCounts;
 use gw_core::{Counts, Gateway};
 use gw_script::{OctetSink, WriteFailed, write_whole};
 use gw_serving::{ServeState, Served, report_of, tell_report};
 use itoa::Buffer;
 
-/// When a report is due: the counts of the gateway at first, and the seconds from one to the next, if reports are asked for.
+/// When a report is due: the counts of the gateway at first, and the seconds from one to the next, if reports are asked for;
+/// and whether it says how often the configuration was read again.
 #[derive(Clone, Copy)]
 pub struct Schedule {
     /// The counts of the gateway at first.
     pub start: Counts,
     /// How many seconds lie between two reports.
     pub seconds: Option<u64>,
+    /// Whether the configuration is read again if that is asked for.
+    pub reloads: bool,
     pub ghost some: { IfSome seconds (λ n. 0 < n) } by { Prim.hlevel props },
 }
 
@@ -41,6 +45,38 @@ fn tell_unkept<E: OctetSink>(unkept: u64, errors: &mut E)
     let _ = write_unkept(unkept, errors);
 }
 
+/// Writes a text and this count.
+fn write_count<E: OctetSink>(text: &str, count: u64, errors: &mut E) -> Result<(), WriteFailed>
+    ensures ok { OnOk result (Appends (E.held errors.old) (E.held errors.new) (text.now ++ decimal count)) }
+    ensures sure { E.NeverFails errors.old → IsOk result }
+    ensures lasts { E.NeverFails errors.old → E.NeverFails errors.new }
+{
+    write_whole(errors, text.as_bytes())?;
+    write_whole(errors, Buffer::new().format(count).as_bytes())
+}
+
+/// Writes how often a configuration was taken over and refused, and since when the one in force is.
+fn write_reloads<E: OctetSink>(counts: ReloadCounts, errors: &mut E) -> Result<(), WriteFailed>
+    ensures ok { OnOk result (Appends (E.held errors.old) (E.held errors.new) (reloads_text true counts)) }
+    ensures sure { E.NeverFails errors.old → IsOk result }
+    ensures lasts { E.NeverFails errors.old → E.NeverFails errors.new }
+{
+    write_count("stats reloads=", counts.taken_over, errors)?;
+    write_count(" refused=", counts.refused, errors)?;
+    write_count(" since=", counts.since, errors)?;
+    write_whole(errors, b"\n")
+}
+
+/// Tells how often the configuration was read again, if it is.
+fn tell_reloads<E: OctetSink>(is_read: bool, counts: ReloadCounts, errors: &mut E)
+    ensures told { E.NeverFails errors.old → Appends (E.held errors.old) (E.held errors.new) (reloads_text is_read counts) }
+    ensures lasts { E.NeverFails errors.old → E.NeverFails errors.new }
+{
+    if is_read {
+        let _ = write_reloads(counts, errors);
+    }
+}
+
 /// Whether a gateway's counts didn't fall since it began with these, and each tick is an event that was taken. It is always so.
 fn has_gone_on(start: Counts, gateway: &Gateway, served: &Served) -> bool
     ensures is { result ≡ has_gone_on start gateway.now served.now }
@@ -52,49 +88,54 @@ fn has_gone_on(start: Counts, gateway: &Gateway, served: &Served) -> bool
         && now.ticks - start.ticks <= served.taken
 }
 
-/// Tells what was done since a gateway began with these counts.
-fn tell_stats<E: OctetSink>(
-    start: Counts,
-    gateway: &Gateway,
-    state: &ServeState,
-    unkept: u64,
-    errors: &mut E,
-)
-    ensures told { E.NeverFails errors.old → Appends (E.held errors.old) (E.held errors.new)
-        (stats_text start gateway.now state.now.served state.now.tally unkept) }
-    ensures lasts { E.NeverFails errors.old → E.NeverFails errors.new }
-{
-    if has_gone_on(start, gateway, &state.served) {
-        let report = report_of(start, gateway, &state.served, state.tally);
-        tell_report(&report, errors);
-        tell_unkept(unkept, errors);
-    }
-}
-
 /// Whether so many seconds have passed, or a multiple of that.
 fn is_due(start: Counts, gateway: &Gateway, seconds: u64) -> bool
     requires { 0 < seconds }
-    ensures { result ≡ ((gateway.now.ticks - start.ticks) % seconds == 0) }
+    ensures { result ≡ is_due start gateway.now seconds }
 {
     gateway.counts().ticks.saturating_sub(start.ticks) % seconds == 0
 }
 
 impl Schedule {
+    /// Tells what was done since a gateway began.
+    fn tell_stats<E: OctetSink>(
+        &self,
+        gateway: &Gateway,
+        state: &ServeState,
+        unkept: u64,
+        counts: ReloadCounts,
+        errors: &mut E,
+    )
+        ensures told { E.NeverFails errors.old → Appends (E.held errors.old) (E.held errors.new)
+            (stats_text (reporting self.now.seconds self.now.start self.now.reloads) counts gateway.now state.now.served
+            state.now.tally unkept) }
+        ensures lasts { E.NeverFails errors.old → E.NeverFails errors.new }
+    {
+        if has_gone_on(self.start, gateway, &state.served) {
+            let report = report_of(self.start, gateway, &state.served, state.tally);
+            tell_report(&report, errors);
+            tell_unkept(unkept, errors);
+            tell_reloads(self.reloads, counts, errors);
+        }
+    }
+
     /// Tells a report at a tick, if one is due.
     pub(crate) fn tell_due<K: StateKeeper, E: OctetSink>(
         &self,
         gateway: &Gateway,
         state: &ServeState,
         keeper: &K,
+        counts: ReloadCounts,
         errors: &mut E,
     )
         ensures told { E.NeverFails errors.old → Appends (E.held errors.old) (E.held errors.new)
-            (due_stats K.unkept self.now.seconds self.now.start keeper.now gateway.now state.now.served state.now.tally) }
+            (due_stats K.unkept (reporting self.now.seconds self.now.start self.now.reloads) keeper.now counts gateway.now
+            state.now.served state.now.tally) }
         ensures lasts { E.NeverFails errors.old → E.NeverFails errors.new }
     {
         if let Some(seconds) = self.seconds {
             if is_due(self.start, gateway, seconds) {
-                tell_stats(self.start, gateway, state, keeper.unkept(), errors);
+                self.tell_stats(gateway, state, keeper.unkept(), counts, errors);
             }
         }
     }
@@ -105,14 +146,16 @@ impl Schedule {
         gateway: &Gateway,
         state: &ServeState,
         keeper: &K,
+        counts: ReloadCounts,
         errors: &mut E,
     )
         ensures told { E.NeverFails errors.old → Appends (E.held errors.old) (E.held errors.new)
-            (end_stats K.unkept self.now.seconds self.now.start keeper.now gateway.now state.now.served state.now.tally) }
+            (end_stats K.unkept (reporting self.now.seconds self.now.start self.now.reloads) keeper.now counts gateway.now
+            state.now.served state.now.tally) }
         ensures lasts { E.NeverFails errors.old → E.NeverFails errors.new }
     {
         if self.seconds.is_some() {
-            tell_stats(self.start, gateway, state, keeper.unkept(), errors);
+            self.tell_stats(gateway, state, keeper.unkept(), counts, errors);
         }
     }
 }

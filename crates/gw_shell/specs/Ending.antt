@@ -10,6 +10,7 @@ use Rattle.gw_command_line.specs.declared.fault.WordsFault.TheVariants as words
 use Rattle.gw_state_text.specs.declared.fault.FaultKind.{FaultKind}
 use Rattle.gw_state_text.specs.declared.fault.FaultKind.TheVariants as state_fault
 use Rattle.gw_state_text.specs.declared.fault.StateFault.{StateFault}
+use Rattle.gw_service.specs.Reload.{name_of}
 use Rattle.gw_service.specs.declared.fault.ServiceFault.{ServiceFault}
 use Rattle.gw_service.specs.declared.fault.ServiceFault.TheVariants as service
 use Rattle.gw_serving.specs.declared.store.StoreFault.{StoreFault}
@@ -28,17 +29,6 @@ use Rattle.gw_core.specs.declared.replaying.RunFault.{RunFault}
 use Rattle.gw_core.specs.declared.replaying.RunFault.TheVariants as run
 use Rattle.gw_script.specs.declared.flaw.LineFlaw.{LineFlaw}
 use Rattle.gw_script.specs.declared.flaw.LineFlaw.TheVariants as flaw
-
--- the name of a fault of a configuration
-abbrev pub name_of : ConfigFault → List ℕ
-name_of config.NotToml = codes "NotToml"
-name_of config.UnknownKey = codes "UnknownKey"
-name_of config.Missing = codes "Missing"
-name_of config.Kind = codes "Kind"
-name_of config.Range = codes "Range"
-name_of config.Duplicate = codes "Duplicate"
-name_of config.TooMany = codes "TooMany"
-name_of config.Memory = codes "Memory"
 
 -- what is wrong with a line
 abbrev pub words_of : LineFlaw → List ℕ
@@ -177,6 +167,16 @@ IsUnanswered (fault.Request f) = ⊤
 IsUnanswered fault.NoAnswer = ⊤
 IsUnanswered fault.Memory = ⊤
 IsUnanswered _ = ⊥
+
+-- the answer to a request of this name, or why there is none
+abbrev pub IsAnswerTo : (Answers : List ℕ → List ℕ → Type 0) → List ℕ → Result (List ℕ) Fault → Type 0
+IsAnswerTo Answers request (Ok answer) = Answers request answer
+IsAnswerTo Answers request (Err f) = IsUnanswered f
+
+-- what may be answered to a request of a name, by what asking by the name gives and what is answered to that
+abbrev pub answers_by : {A : Type 0} → (Asks : List ℕ → A → Type 0) → (Answers : A → List ℕ → Type 0) → List ℕ → List ℕ
+    → Type 0
+answers_by {A} Asks Answers request answer = (asked : A) × Asks request asked × Answers asked answer
 
 -- the fault of a run, as the program tells it
 abbrev pub fault_of : RunFault → Fault

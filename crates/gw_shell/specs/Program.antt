@@ -1,6 +1,8 @@
 -- The program as a whole: what the words chose, what stands on standard output then, the line on standard error and
 -- the exit status.
-use Rattle.std.specs.Prelude.{◌≡◌, ◌≢◌, ◌⊎◌, ⊤, Bool, true, false, ℕ, List, [], ◌++◌, Option, Some, Result, Ok, Err, IfErr, OnOk, option_map}
+use Rattle.std.specs.Prelude.{◌≡◌, ◌≢◌, ◌⊎◌, ⊤, Bool, true, false, ℕ, List, [], ◌++◌, Option, Some, None, Result, Ok, Err, OnOk, option_map}
+use Rattle.gw_command_line.specs.Requests.{most_count}
+use Rattle.gw_command_line.specs.declared.options.ReloadOptions.{ReloadOptions}
 use Rattle.std.specs.Prelude.{string_bytes}
 use Rattle.std.specs.Io.KnownBytes.{Appends}
 use Rattle.gw_script.specs.Known.{OnKnown}
@@ -19,7 +21,7 @@ use Rattle.gw_shell.specs.declared.fault.Fault.{Fault}
 use Rattle.gw_shell.specs.declared.fault.Fault.TheVariants as fault
 use Rattle.gw_shell.specs.Asking.{Answers, Counts}
 use Rattle.gw_shell.specs.Configured.{IsConfigurationOf, IsConfigured}
-use Rattle.gw_shell.specs.Ending.{FaultNote, IsUnanswered, chosen, error_text, outcome_of_answer, status_by, usage_of}
+use Rattle.gw_shell.specs.Ending.{FaultNote, IsAnswerTo, chosen, error_text, outcome_of_answer, status_by, usage_of}
 use Rattle.gw_shell.specs.Checked.{IsChecked}
 use Rattle.gw_shell.specs.Kept.{IsSaidOfText}
 use Rattle.gw_shell.specs.Replay.{Plays}
@@ -167,22 +169,55 @@ abbrev pub LeavesAnswer : Result (List ℕ) Fault → Option (List ℕ) → Opti
 LeavesAnswer (Ok answer) held holds outcome = LeavesText answer held holds outcome
 LeavesAnswer (Err f) held holds outcome = (outcome ≡ Err f) × (holds ≡ held)
 
--- What a request leaves: an answer, or nothing if there is none.
-abbrev pub LeavesAsked : Option (List ℕ) → Option (List ℕ) → Result (Unit {0}) Fault → Type 0
-LeavesAsked held holds outcome =
-    (answer : Result (List ℕ) Fault) × IfErr answer IsUnanswered × LeavesAnswer answer held holds outcome
+-- What a request of a name leaves: an answer to it, or nothing if there is none. `Answers` is what may be answered to one.
+abbrev pub LeavesAsked : (Answers : List ℕ → List ℕ → Type 0) → List ℕ → Option (List ℕ) → Option (List ℕ)
+    → Result (Unit {0}) Fault → Type 0
+LeavesAsked Answers request held holds outcome =
+    (answer : Result (List ℕ) Fault) × IsAnswerTo Answers request answer × LeavesAnswer answer held holds outcome
 
 -- What `reload` leaves if the configuration is one.
-abbrev pub LeavesReload : Option (List ℕ) → Option (List ℕ) → Result Configuration Fault → Result (Unit {0}) Fault
-    → Type 0
-LeavesReload held holds (Ok c) outcome = LeavesAsked held holds outcome
-LeavesReload held holds (Err f) outcome = (outcome ≡ Err f) × (holds ≡ held)
+abbrev pub LeavesReload : (Answers : List ℕ → List ℕ → Type 0) → List ℕ → Option (List ℕ) → Option (List ℕ)
+    → Result Configuration Fault → Result (Unit {0}) Fault → Type 0
+LeavesReload Answers request held holds (Ok c) outcome = LeavesAsked Answers request held holds outcome
+LeavesReload Answers request held holds (Err f) outcome = (outcome ≡ Err f) × (holds ≡ held)
 
--- What it leaves if that is the file of this name.
-abbrev pub LeavesReloadIn : (Reads : List ℕ → Result (List ℕ) Fault → Type 0) → List ℕ → Option (List ℕ)
-    → Option (List ℕ) → Result (Unit {0}) Fault → Type 0
-LeavesReloadIn Reads file held holds outcome =
-    (c : Result Configuration Fault) × IsConfigured Reads (Some file) c × LeavesReload held holds c outcome
+-- A comparison was made, whatever it found.
+abbrev pub IsCompared : Result (Unit {0}) Fault → Bool
+IsCompared (Ok done) = true
+IsCompared (Err fault.Different) = true
+IsCompared (Err f) = false
+
+-- What comes after a comparison: what the request leaves, or nothing, and its fault is the outcome.
+abbrev pub LeavesAfter : Bool → (Asked Stopped : Type 0) → Type 0
+LeavesAfter true Asked Stopped = Asked
+LeavesAfter false Asked Stopped = Stopped
+
+-- What `reload --was` leaves of the configuration that was in force and of the other one: what they decide otherwise, and then
+-- what the request leaves. If they aren't compared, no request is made.
+pub record LeavesCompareReload (Answers : List ℕ → List ℕ → Type 0) (request : List ℕ) (held holds : Option (List ℕ))
+    (was is : Result Configuration Fault) (outcome : Result (Unit {0}) Fault) : Type 0 where
+  pub between : Option (List ℕ)
+  pub compared : Result (Unit {0}) Fault
+  pub first : LeavesComparison most_count held between was is compared
+  pub then : LeavesAfter (IsCompared compared) (LeavesAsked Answers request between holds outcome)
+      ((outcome ≡ compared) × (holds ≡ between))
+
+-- What it leaves of the files of these names.
+abbrev pub LeavesReloadFrom : (Reads : List ℕ → Result (List ℕ) Fault → Type 0) → (Answers : List ℕ → List ℕ → Type 0)
+    → ReloadOptions → Option (List ℕ) → Option (List ℕ) → Option (List ℕ) → Result (Unit {0}) Fault → Type 0
+LeavesReloadFrom Reads Answers options None held holds outcome =
+    (c : Result Configuration Fault) × IsConfigured Reads (Some (string_bytes options.config)) c
+    × LeavesReload Answers (string_bytes options.request) held holds c outcome
+LeavesReloadFrom Reads Answers options (Some name) held holds outcome =
+    (was : Result Configuration Fault) × IsConfigured Reads (Some name) was
+    × (is : Result Configuration Fault) × IsConfigured Reads (Some (string_bytes options.config)) is
+    × LeavesCompareReload Answers (string_bytes options.request) held holds was is outcome
+
+-- What `reload` leaves by its options.
+abbrev pub LeavesReloadIn : (Reads : List ℕ → Result (List ℕ) Fault → Type 0) → (Answers : List ℕ → List ℕ → Type 0)
+    → ReloadOptions → Option (List ℕ) → Option (List ℕ) → Result (Unit {0}) Fault → Type 0
+LeavesReloadIn Reads Answers options held holds outcome =
+    LeavesReloadFrom Reads Answers options (option_map string_bytes options.was) held holds outcome
 
 -- What `why --count` leaves of a text: how many of its asks each of these rules decides, or the first line that says none.
 abbrev pub LeavesCounts : List Rule → List ℕ → Option (List ℕ) → Option (List ℕ) → Result (Unit {0}) Fault → Type 0
@@ -199,48 +234,48 @@ LeavesAnswered true input held holds (Ok c) outcome =
     (text : List ℕ) → input ≡ Some text → LeavesCounts c.rules text held holds outcome
 LeavesAnswered counts input held holds (Err f) outcome = (outcome ≡ Err f) × (holds ≡ held)
 
--- What stands on standard output, which held `held` before, if files give what `Reads` and `ReadsState` say and `run`
--- opens what the machine says: at `check`, `replay` and `why` what they leave of some configuration that is the one they name,
+-- What stands on standard output, which held `held` before, if files give what `Reads` and `ReadsState` say, `run`
+-- opens what the machine says, and `reload` is answered what `Answers` says: at `check`, `replay` and `why` what they leave of some configuration that is the one they name,
 -- at `compare` of the two, at `state` of the one and the state, at `run` also what was told at the start, at `log` what that leaves of the log, and at help its text, of which a
 -- failed write may leave a front. Words that choose nothing leave it as it was, and their fault is the outcome.
 abbrev pub LeavesOutput : {Log Sockets S Q : Type 0} → (Reads ReadsState : List ℕ → Result (List ℕ) Fault → Type 0)
-    → WholeMachine Log Sockets S Q → Option (List ℕ) → Option (List ℕ) → Option (List ℕ) → List ℕ
+    → (Answers : List ℕ → List ℕ → Type 0) → WholeMachine Log Sockets S Q → Option (List ℕ) → Option (List ℕ) → Option (List ℕ) → List ℕ
     → Result Choice Fault → Result (Unit {0}) Fault → Type 0
-LeavesOutput Reads ReadsState machine input held holds told (Ok (choice.Check file explains lints)) outcome =
+LeavesOutput Reads ReadsState Answers machine input held holds told (Ok (choice.Check file explains lints)) outcome =
     (text : Result (List ℕ) Fault) × Reads (string_bytes file) text
     × LeavesOfText explains lints text held holds outcome
-LeavesOutput Reads ReadsState machine input held holds told (Ok (choice.Migrate file)) outcome =
+LeavesOutput Reads ReadsState Answers machine input held holds told (Ok (choice.Migrate file)) outcome =
     (c : Result Configuration Fault) × IsConfigured Reads (Some (string_bytes file)) c
     × LeavesMigrated held holds c outcome
-LeavesOutput Reads ReadsState machine input held holds told (Ok (choice.Replay file explains)) outcome =
+LeavesOutput Reads ReadsState Answers machine input held holds told (Ok (choice.Replay file explains)) outcome =
     (c : Result Configuration Fault) × IsConfigured Reads (option_map string_bytes file) c
     × LeavesPlayed explains input held holds c outcome
-LeavesOutput Reads ReadsState machine input held holds told (Ok (choice.Run options)) outcome =
+LeavesOutput Reads ReadsState Answers machine input held holds told (Ok (choice.Run options)) outcome =
     (text : Result (List ℕ) Fault) × Reads (string_bytes options.config) text
     × (c : Result Configuration Fault) × IsConfigurationOf text c
     × LeavesRun machine text held holds options c told outcome
-LeavesOutput Reads ReadsState machine input held holds told (Ok (choice.Why file counts)) outcome =
+LeavesOutput Reads ReadsState Answers machine input held holds told (Ok (choice.Why file counts)) outcome =
     (c : Result Configuration Fault) × IsConfigured Reads (Some (string_bytes file)) c
     × LeavesAnswered counts input held holds c outcome
-LeavesOutput Reads ReadsState machine input held holds told (Ok (choice.Reload config request)) outcome =
-    LeavesReloadIn Reads (string_bytes config) held holds outcome
-LeavesOutput Reads ReadsState machine input held holds told (Ok (choice.Compare old new most)) outcome =
+LeavesOutput Reads ReadsState Answers machine input held holds told (Ok (choice.Reload options)) outcome =
+    LeavesReloadIn Reads Answers options held holds outcome
+LeavesOutput Reads ReadsState Answers machine input held holds told (Ok (choice.Compare old new most)) outcome =
     (a : Result Configuration Fault) × IsConfigured Reads (Some (string_bytes old)) a
     × (b : Result Configuration Fault) × IsConfigured Reads (Some (string_bytes new)) b
     × LeavesComparison most held holds a b outcome
-LeavesOutput Reads ReadsState machine input held holds told (Ok (choice.State config state)) outcome =
+LeavesOutput Reads ReadsState Answers machine input held holds told (Ok (choice.State config state)) outcome =
     LeavesStateIn Reads ReadsState (string_bytes config) (string_bytes state) held holds outcome
-LeavesOutput Reads ReadsState machine input held holds told (Ok (choice.Suggest file fills exact)) outcome =
+LeavesOutput Reads ReadsState Answers machine input held holds told (Ok (choice.Suggest file fills exact)) outcome =
     LeavesSuggestedIn Reads (string_bytes file) (record { keeps_services = exact; fills = fills }) input held holds outcome
-LeavesOutput Reads ReadsState machine input held holds told (Ok (choice.Log start)) outcome =
+LeavesOutput Reads ReadsState Answers machine input held holds told (Ok (choice.Log start)) outcome =
     OnKnown input held holds (λ log before. Tells start log before outcome)
-LeavesOutput Reads ReadsState machine input held holds told (Ok (choice.Help text)) (Ok done) =
+LeavesOutput Reads ReadsState Answers machine input held holds told (Ok (choice.Help text)) (Ok done) =
     Appends held holds (string_bytes text)
-LeavesOutput Reads ReadsState machine input held holds told (Ok (choice.Help text)) (Err f) =
+LeavesOutput Reads ReadsState Answers machine input held holds told (Ok (choice.Help text)) (Err f) =
     (f ≡ fault.Write) × AppendsFront held holds (string_bytes text)
-LeavesOutput Reads ReadsState machine input held holds told (Ok (choice.Usage text)) outcome =
+LeavesOutput Reads ReadsState Answers machine input held holds told (Ok (choice.Usage text)) outcome =
     (outcome ≡ Err fault.CommandLine) × (holds ≡ held)
-LeavesOutput Reads ReadsState machine input held holds told (Err f) outcome = (outcome ≡ Err f) × (holds ≡ held)
+LeavesOutput Reads ReadsState Answers machine input held holds told (Err f) outcome = (outcome ≡ Err f) × (holds ≡ held)
 
 -- Only `run` tells something before a fault's line.
 abbrev pub IsQuiet : Result Choice Fault → List ℕ → Type 0

@@ -4,13 +4,15 @@ ghost use Rattle.std.specs.Prelude.{◌≡◌, ◌++◌, ◌∷◌, [], codes, d
 ghost use Rattle.std.specs.Io.KnownBytes.{Appends};
 ghost use Rattle.std.specs.Process.{exit_status};
 ghost use Rattle.gw_shell.specs.declared.fault.Fault.TheVariants as fault;
-ghost use Rattle.gw_shell.specs.Ending.{cause_of, error_text, line_of, name_of, reason_of, status_after, status_by, store_words, text_of, usage_of, words_of};
+ghost use Rattle.gw_service.specs.Reload.{name_of};
+ghost use Rattle.gw_shell.specs.Ending.{cause_of, error_text, line_of, reason_of, status_after, status_by, store_words, text_of, usage_of, words_of};
 
-use crate::fault::{Fault, cause_of, name_of, reason_of, store_words, words_of};
+use crate::fault::{Fault, cause_of, reason_of, store_words, words_of};
 use gw_command_line::Choice;
 use gw_configuration::ConfigFault;
 use gw_migration::MigrationFault;
 use gw_script::{LineFlaw, OctetSink, WriteFailed, write_whole};
+use gw_service::name_of;
 use gw_serving::StoreFault;
 use gw_state_text::StateFault;
 use itoa::Buffer;
@@ -141,15 +143,6 @@ fn write_fault<E: OctetSink>(fault: Fault, errors: &mut E) -> Result<(), WriteFa
         }
         Fault::Refused | Fault::Different => write_whole(errors, b""),
     }
-}
-
-/// Tells what an operator may want to know beside a fault's line. Where standard error takes nothing
-/// the program goes on all the same.
-pub fn tell<E: OctetSink>(text: &[u8], errors: &mut E)
-    ensures told { E.NeverFails errors.old → Appends (E.held errors.old) (E.held errors.new) text.now }
-    ensures lasts { E.NeverFails errors.old → E.NeverFails errors.new }
-{
-    let _ = write_whole(errors, text);
 }
 
 /// What is told behind the line of words that are no command line, and nothing behind another.

@@ -1,7 +1,7 @@
 //! Why the program ends without success, and its exit status.
 
 ghost use Rattle.std.specs.Prelude.{◌≡◌, ◌≢◌};
-ghost use Rattle.gw_shell.specs.Ending.{IsUnanswered, cause_of, fault_of, fault_of_configuration, fault_of_migration, fault_of_request, fault_of_service, fault_of_state, fault_of_store, fault_of_suggestion, fault_of_words, name_of, reason_of, status_of, status_of_comparison, store_words, words_of};
+ghost use Rattle.gw_shell.specs.Ending.{IsUnanswered, cause_of, fault_of, fault_of_configuration, fault_of_migration, fault_of_request, fault_of_service, fault_of_state, fault_of_store, fault_of_suggestion, fault_of_words, reason_of, status_of, status_of_comparison, store_words, words_of};
 ghost use Rattle.gw_shell.specs.Lines.{fault_of_lines};
 ghost use Rattle.gw_shell.specs.declared.fault.Fault.TheVariants.{CommandLine, Memory};
 
@@ -135,22 +135,6 @@ impl Fault {
             Fault::Different => 1,
             _ => 2,
         }
-    }
-}
-
-/// The name of a fault of a configuration.
-pub fn name_of(fault: ConfigFault) -> &'static str
-    ensures { result.now ≡ name_of fault }
-{
-    match fault {
-        ConfigFault::NotToml => "NotToml",
-        ConfigFault::UnknownKey => "UnknownKey",
-        ConfigFault::Missing => "Missing",
-        ConfigFault::Kind => "Kind",
-        ConfigFault::Range => "Range",
-        ConfigFault::Duplicate => "Duplicate",
-        ConfigFault::TooMany => "TooMany",
-        ConfigFault::Memory => "Memory",
     }
 }
 

@@ -9,10 +9,10 @@ ghost use Rattle.gw_migration.specs.declared.fault.MigrationFault.TheVariants as
 ghost use Rattle.gw_rules.specs.declared.format.Format.TheVariants as formats;
 ghost use Rattle.gw_shell.specs.Configured.{IsConfigurationOf};
 ghost use Rattle.gw_shell.specs.Ending.{outcome_of_comparison, served};
-ghost use Rattle.gw_shell.specs.Ending.{FaultNote, IsExplainedBy};
+ghost use Rattle.gw_shell.specs.Ending.{FaultNote, IsExplainedBy, answers_by};
 ghost use Rattle.gw_shell.specs.Files.{result_map};
 ghost use Rattle.gw_system.specs.Host.{OpensAtLine};
-ghost use Rattle.gw_shell.specs.Program.{AppendsFront, IsChoiceOf, IsFlushed, IsFollowed, IsRun, LeavesAnswer, LeavesAnswered, LeavesAsked, LeavesCompared, LeavesComparison, LeavesConfigured, LeavesCounts, LeavesInFormatThree, LeavesMigrated, LeavesOfText, LeavesOutput, LeavesPlayed, LeavesPrinted, LeavesReload, LeavesReloadIn, LeavesSaid, LeavesState, LeavesStateIn, LeavesSuggested, LeavesSuggestedIn, LeavesText};
+ghost use Rattle.gw_shell.specs.Program.{AppendsFront, IsChoiceOf, IsFlushed, IsFollowed, IsRun, LeavesAnswer, LeavesAnswered, LeavesAsked, LeavesCompareReload, LeavesCompared, LeavesComparison, LeavesConfigured, LeavesCounts, LeavesInFormatThree, LeavesMigrated, LeavesOfText, LeavesOutput, LeavesPlayed, LeavesPrinted, LeavesReload, LeavesReloadIn, LeavesSaid, LeavesState, LeavesStateIn, LeavesSuggested, LeavesSuggestedIn, LeavesText};
 ghost use Rattle.gw_service.specs.Kept.{state_machine, whole_machine};
 ghost use Rattle.gw_service.specs.Serving.{IsFlushedFor, machine};
 ghost use Rattle.gw_shell.specs.Serving.{LeavesRun};
@@ -22,7 +22,7 @@ ghost use Rattle.gw_shell.specs.declared.fault.Fault.TheVariants as fault;
 use crate::asking::{count, why};
 use crate::checked::checked_text;
 use crate::configured::{configuration, configuration_in, configuration_of};
-use crate::ending::{end_by, tell, usage_of};
+use crate::ending::{end_by, usage_of};
 use crate::fault::Fault;
 use crate::files::ConfigFiles;
 use crate::kept::words_of_text;
@@ -30,14 +30,14 @@ use crate::reloading::{self, ask};
 use crate::script::replay;
 use crate::suggesting::suggest;
 use crate::telling;
-use gw_command_line::{Choice, RunOptions, choice_of};
+use gw_command_line::{Choice, ReloadOptions, RunOptions, choice_of};
 use gw_compare::{Compared, put_comparison};
 use gw_configuration::{Config, ConfigFault};
 use gw_explanation::{Explanation, explain};
 use gw_migration::migrate;
 use gw_rules::RuleList;
 use gw_script::{OctetSink, OctetSource, write_whole};
-use gw_service::{ServiceFault, serve_ports};
+use gw_service::{ServiceFault, serve_ports, tell};
 use gw_suggest::Manner;
 use gw_system::Host;
 use std::alloc::{AllocError, Global};
@@ -339,8 +339,8 @@ fn reload<H: Host, W: Write + Drop>(
     host: &H,
     output: &mut BufWriter<W>,
 ) -> Result<(), Fault>
-    ensures output { LeavesReload (writer_contents W.contents output.old)
-        (writer_contents W.contents output.new) config result }
+    ensures output { LeavesReload (answers_by (H.Asks host.now) H.Answers) request.now
+        (writer_contents W.contents output.old) (writer_contents W.contents output.new) config result }
     ensures flush { OnOk result (writer_buffer output.new ≡ []) }
 {
     let _config = config?;
@@ -354,7 +354,8 @@ fn print_asked<H: Host, W: Write + Drop>(
     host: &H,
     output: &mut BufWriter<W>,
 ) -> Result<(), Fault>
-    ensures output { LeavesAsked (writer_contents W.contents output.old) (writer_contents W.contents output.new) result }
+    ensures output { LeavesAsked (answers_by (H.Asks host.now) H.Answers) request.now
+        (writer_contents W.contents output.old) (writer_contents W.contents output.new) result }
     ensures flush { OnOk result (writer_buffer output.new ≡ []) }
 {
     print_answer(ask(alloc, request, host), output)
@@ -446,21 +447,53 @@ fn suggest_in<F: ConfigFiles, R: OctetSource, W: Write + Drop>(
     suggest_rules(alloc, &text, manner, input, output)
 }
 
-/// Asks the gateway that runs under the configuration of a file to read it again.
-fn reload_in<F: ConfigFiles, H: Host, W: Write + Drop>(
+/// How many lines say what two configurations decide otherwise, at most: all.
+const ALL_LINES: u64 = i64::MAX as u64;
+
+/// Says which asks two configurations decide otherwise, and asks the gateway that runs under the second one to read it again.
+fn reload_compared<H: Host, W: Write + Drop>(
     alloc: Global,
-    files: &F,
-    config: &str,
+    was: Result<Config, Fault>,
+    is: Result<Config, Fault>,
     request: &str,
     host: &H,
     output: &mut BufWriter<W>,
 ) -> Result<(), Fault>
-    ensures output { LeavesReloadIn (F.Reads files.now) config.now
+    ensures output { LeavesCompareReload (answers_by (H.Asks host.now) H.Answers) request.now
+        (writer_contents W.contents output.old) (writer_contents W.contents output.new) was is result }
+    ensures flush { OnOk result (writer_buffer output.new ≡ []) }
+{
+    match compare(alloc, ALL_LINES, was, is, output) {
+        Ok(()) => print_asked(alloc, request, host, output),
+        Err(Fault::Different) => print_asked(alloc, request, host, output),
+        Err(fault) => Err(fault),
+    }
+}
+
+/// Asks the gateway that runs under the configuration of a file to read it again. If the file of the one that was in force
+/// is named, it first prints what the two decide otherwise.
+fn reload_in<F: ConfigFiles, H: Host, W: Write + Drop>(
+    alloc: Global,
+    files: &F,
+    options: &ReloadOptions,
+    host: &H,
+    output: &mut BufWriter<W>,
+) -> Result<(), Fault>
+    ensures output { LeavesReloadIn (F.Reads files.now) (answers_by (H.Asks host.now) H.Answers) options.now
         (writer_contents W.contents output.old) (writer_contents W.contents output.new) result }
     ensures flush { OnOk result (writer_buffer output.new ≡ []) }
 {
-    let config = configuration_in(alloc, files, config);
-    reload(alloc, config, request, host, output)
+    match &options.was {
+        Some(name) => {
+            let was = configuration_in(alloc, files, name);
+            let is = configuration_in(alloc, files, &options.config);
+            reload_compared(alloc, was, is, &options.request, host, output)
+        }
+        None => {
+            let config = configuration_in(alloc, files, &options.config);
+            reload(alloc, config, &options.request, host, output)
+        }
+    }
 }
 
 /// How serving ended.
@@ -517,7 +550,7 @@ fn follow<F: ConfigFiles, H: Host, R: OctetSource, W: Write + Drop, E: OctetSink
     errors: &mut E,
 ) -> Result<(), Fault>
     ensures followed { IsFollowed
-        (LeavesOutput (F.Reads files.now) (F.ReadsState files.now)
+        (LeavesOutput (F.Reads files.now) (F.ReadsState files.now) (answers_by (H.Asks host.old) H.Answers)
         (whole_machine (machine (OpensAtLine (H.LogOpens host.old) (H.LogIsCut host.old) H.Log.held)
         (H.SocketsOpen host.old) (H.RoutesIp host.old) (H.Closes host.new) H.Log.held H.Sockets.calls)
         (state_machine (H.FileReads host.old) (H.LastLines host.old) (H.StoreOpens host.old)
@@ -556,9 +589,7 @@ fn follow<F: ConfigFiles, H: Host, R: OctetSource, W: Write + Drop, E: OctetSink
             let config = configuration_in(alloc, files, file);
             answer(alloc, *counts, config, input, output)
         }
-        Ok(Choice::Reload { config, request }) => {
-            reload_in(alloc, files, config, request, host, output)
-        }
+        Ok(Choice::Reload(options)) => reload_in(alloc, files, options, host, output),
         Ok(Choice::Compare { old, new, most }) => {
             let before = configuration_in(alloc, files, old);
             let after = configuration_in(alloc, files, new);
@@ -599,7 +630,7 @@ pub fn run<F: ConfigFiles, H: Host, R: OctetSource, W: Write + Drop, E: OctetSin
         (λ choice. MatchResult words
         (λ w. IsChoiceOf (map string_bytes w.items) choice)
         (λ f. choice ≡ Err f))
-        (LeavesOutput (F.Reads files.now) (F.ReadsState files.now)
+        (LeavesOutput (F.Reads files.now) (F.ReadsState files.now) (answers_by (H.Asks host.old) H.Answers)
         (whole_machine (machine (OpensAtLine (H.LogOpens host.old) (H.LogIsCut host.old) H.Log.held)
         (H.SocketsOpen host.old) (H.RoutesIp host.old) (H.Closes host.new) H.Log.held H.Sockets.calls)
         (state_machine (H.FileReads host.old) (H.LastLines host.old) (H.StoreOpens host.old)

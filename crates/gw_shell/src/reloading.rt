@@ -1,7 +1,8 @@
 //! A running gateway is asked to read its configuration again.
 
-ghost use Rattle.std.specs.Prelude.{◌≡◌, IfErr};
-ghost use Rattle.gw_shell.specs.Ending.{IsUnanswered, outcome_of_answer};
+ghost use Rattle.std.specs.Prelude.{◌≡◌, []};
+ghost use Rattle.gw_shell.specs.Ending.{IsAnswerTo, answers_by, outcome_of_answer};
+ghost use Rattle.gw_shell.specs.Files.{result_map};
 
 use crate::fault::Fault;
 use gw_system::{Host, ReadFailure};
@@ -13,18 +14,19 @@ const MAX_WAIT: u8 = 10;
 /// Makes the request under this name, and waits for its answer. Faults: `Request` if it can't be made, `NoAnswer`, and
 /// `Memory`.
 pub fn ask<H: Host>(alloc: Global, request: &str, host: &H) -> Result<Vec<u8>, Fault>
-    ensures { IfErr result IsUnanswered }
+    ensures { IsAnswerTo (answers_by (H.Asks host.now) H.Answers) request.now (result_map (λ octets. octets.items) result) }
 {
     match host.request_reload(alloc, request) {
-        Ok(()) => answer(alloc, request, host),
+        Ok(asked) => answer(alloc, &asked, host),
         Err(fault) => Err(Fault::of_request(fault)),
     }
 }
 
-fn answer<H: Host>(alloc: Global, request: &str, host: &H) -> Result<Vec<u8>, Fault>
-    ensures { IfErr result IsUnanswered }
+/// Waits for the answer to a request. Faults: `NoAnswer`, and `Memory`.
+fn answer<H: Host>(alloc: Global, asked: &H::Asked, host: &H) -> Result<Vec<u8>, Fault>
+    ensures { IsAnswerTo (λ _. H.Answers asked.now) [] (result_map (λ octets. octets.items) result) }
 {
-    match host.await_answer(alloc, request, MAX_WAIT) {
+    match host.await_answer(alloc, asked, MAX_WAIT) {
         Ok(Some(answer)) => Ok(answer),
         Ok(None) | Err(ReadFailure::Unreadable) => Err(Fault::NoAnswer),
         Err(ReadFailure::Memory) => Err(Fault::Memory),

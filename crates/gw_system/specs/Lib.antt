@@ -1,3 +1,4 @@
+pub mod Folder
 pub mod Host
 pub mod Opening
 pub mod Waiting

@@ -1,6 +1,6 @@
 //! What `run` takes of the machine: a log, and a wire over the sockets of the ports.
 
-ghost use Rattle.std.specs.Prelude.{◌≡◌, ◌≤◌, ℕ, Bool, List, length, ⊤, Result, Option, IfOk, IfErr};
+ghost use Rattle.std.specs.Prelude.{◌≡◌, ◌≤◌, ℕ, Bool, List, length, ⊤, Result, Option, IfOk, IfErr, IfSome, string_bytes};
 ghost use Rattle.gw_addr.specs.declared.TheConstants.{MAX_PORTS};
 ghost use Rattle.gw_configuration.specs.declared.port.Port.{Port};
 ghost use Rattle.gw_system.specs.Host.{IsSocketFailure, OpensAtLine};
@@ -10,10 +10,11 @@ ghost use Rattle.gw_system.specs.Requests.{text_found};
 ghost use Rattle.gw_system.specs.declared.reading.ReadFailure.{ReadFailure};
 ghost use Rattle.gw_serving.specs.declared.store.StoreFault.{StoreFault};
 
+use crate::folder::{Folder, SystemFolder};
 use crate::opening::{LogFailure, SocketFailure, Step};
 use crate::poll_waiter::PollWaiter;
 use crate::reading::{ReadFailure, read_file, read_last_line};
-use crate::requests::{FileRequests, Requests, make_request, wait_for_answer};
+use crate::requests::{AskedFile, FileRequests, Requests, make_request, wait_for_answer};
 use crate::store::FileStore;
 use crate::system_clock::SystemClock;
 use crate::udp::{UdpSock, open_pairs};
@@ -43,6 +44,15 @@ pub trait Host {
 
     /// What asks to read the configuration again.
     type Reloads: Requests + Drop;
+
+    /// A request to read the configuration again, which was made.
+    type Asked: Drop;
+
+    /// What asking by the file of a name may give.
+    ghost Asks: { Self → List ℕ → Self.Asked → Type 0 };
+
+    /// What may be answered to a request.
+    ghost Answers: { Self.Asked → List ℕ → Type 0 };
 
     /// What reading a file of a name, or the last line of a log of a name, may give.
     ghost FileReads: { Self → List ℕ → Result (Option (List ℕ)) ReadFailure → Type 0 };
@@ -127,16 +137,18 @@ pub trait Host {
         ensures { IfOk result (ReloadsOpen self.now request.now config.now) };
 
     /// Asks by the file of this name to read the configuration again, after an older answer was taken away.
-    fn request_reload(&self, alloc: Global, request: &str) -> Result<(), StoreFault>;
+    fn request_reload(&self, alloc: Global, request: &str) -> Result<Self::Asked, StoreFault>
+        ensures { IfOk result (Asks self.now request.now) };
 
-    /// Waits at most so many seconds for the answer to a request, gives its octets and takes its file away. `None` if
-    /// none came. Faults: `Unreadable`, also if the system can't wait, and `Memory`.
+    /// Waits at most so many seconds for the answer to this request, gives its octets and takes its file away. `None`
+    /// if none came; then the request is taken away. Faults: `Unreadable`, also if the system can't wait, and `Memory`.
     fn await_answer(
         &self,
         alloc: Global,
-        request: &str,
+        asked: &Self::Asked,
         seconds: u8,
-    ) -> Result<Option<Vec<u8>>, ReadFailure>;
+    ) -> Result<Option<Vec<u8>>, ReadFailure>
+        ensures { IfOk result (λ found. IfSome found (λ answer. Answers asked.now answer.items)) };
 
     /// Closes the sockets and the log.
     fn close(&mut self, sockets: Self::Sockets, log: Option<Self::Log>)
@@ -226,7 +238,13 @@ impl<'a, R: Files + Net + Clock> Host for SystemHost<'a, R> {
 
     type StateStore = FileStore<'a, R>;
 
-    type Reloads = FileRequests<'a, R>;
+    type Reloads = FileRequests<SystemFolder<'a, R>>;
+
+    type Asked = AskedFile;
+
+    ghost Asks = { λ _ name asked. string_bytes asked.request ≡ name };
+
+    ghost Answers = { λ _ _. ⊤ };
 
     ghost FileReads = { λ _ _ _. ⊤ };
 
@@ -312,21 +330,28 @@ impl<'a, R: Files + Net + Clock> Host for SystemHost<'a, R> {
         alloc: Global,
         request: &str,
         config: &str,
-    ) -> Result<FileRequests<'a, R>, AllocError> {
-        FileRequests::new(self.rt, alloc, request, config)
+    ) -> Result<FileRequests<SystemFolder<'a, R>>, AllocError> {
+        FileRequests::new(SystemFolder { rt: self.rt }, alloc, request, config)
     }
 
-    fn request_reload(&self, alloc: Global, request: &str) -> Result<(), StoreFault> {
-        make_request(self.rt, alloc, request)
+    fn request_reload(&self, alloc: Global, request: &str) -> Result<AskedFile, StoreFault> {
+        make_request(&mut SystemFolder { rt: self.rt }, alloc, request)
     }
 
     fn await_answer(
         &self,
         alloc: Global,
-        request: &str,
+        asked: &AskedFile,
         seconds: u8,
     ) -> Result<Option<Vec<u8>>, ReadFailure> {
-        wait_for_answer(self.rt, alloc, request, seconds)
+        let mut folder = SystemFolder { rt: self.rt };
+        let found = wait_for_answer(self.rt, &folder, alloc, asked, seconds);
+        let done = match found {
+            Ok(Some(_)) => &asked.answer,
+            Ok(None) | Err(_) => &asked.request,
+        };
+        let _ = folder.take_away(done);
+        found
     }
 
     fn close(

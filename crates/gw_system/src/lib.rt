@@ -5,6 +5,7 @@
 //! and clock are a wire of `gw_ports`.
 #![tactic(auto)]
 
+mod folder;
 mod host;
 mod opening;
 mod poll_waiter;
@@ -14,11 +15,12 @@ mod store;
 mod system_clock;
 mod udp;
 
+pub use folder::{Folder, SystemFolder};
 pub use host::{Host, SystemHost, open_at_line};
 pub use opening::{FailedStep, LogFailure, OpenFailure, Reason, SocketFailure, Step, note_of};
 pub use poll_waiter::PollWaiter;
 pub use reading::{MAX_LOG_END, ReadFailure};
-pub use requests::{FileRequests, Requests};
+pub use requests::{AskedFile, FileRequests, Requests};
 pub use store::FileStore;
 pub use system_clock::SystemClock;
 pub use udp::UdpSock;

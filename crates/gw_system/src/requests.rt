@@ -1,16 +1,17 @@
 //! What asks a running gateway to read its configuration again.
 
-ghost use Rattle.std.specs.Prelude.{◌≡◌, ◌∷◌, [], List, Option, None};
+ghost use Rattle.std.specs.Prelude.{◌≡◌, ◌≢◌, ◌++◌, ◌∷◌, [], List, ℕ, Option, Some, None, true, codes, string_bytes, IfOk, IfSome};
+ghost use Rattle.gw_system.specs.Folder.{Holds, IsAnswer, IsTakenAway};
 ghost use Rattle.gw_system.specs.Requests.{Exchange, GoesOn, answered, asked_by, told_by};
 
-use crate::reading::{ReadFailure, read_file};
-use crate::store::{name_with, remove_if_there, replace_file, store_fault, write_new};
+use crate::folder::Folder;
+use crate::reading::ReadFailure;
+use crate::store::name_with;
 use gw_serving::StoreFault;
 use mio::{Events, Poll};
 use std::alloc::{AllocError, Global};
 use std::io;
 use std::net::Net;
-use std::rt::Files;
 use std::time::Duration;
 
 /// What asks a running gateway to read its configuration again, and is answered.
@@ -19,8 +20,9 @@ pub trait Requests {
     ghost told: { Self → Option (List Exchange) };
 
     /// Takes a request away. If there was one, it gives the text of the configuration, of which there are at
-    /// most so many octets, or why that can't be had; and `None` if there was none.
-    fn take(&mut self, alloc: Global, most: usize) -> Option<Result<Vec<u8>, ReadFailure>>
+    /// most so many octets, or `Ok(None)` if its file isn't there, or why that can't be read; and `None` if there was
+    /// no request.
+    fn take(&mut self, alloc: Global, most: usize) -> Option<Result<Option<Vec<u8>>, ReadFailure>>
         ensures { GoesOn (told self.old) (told self.new) (asked_by result ∷ []) };
 
     /// Answers the request that was taken last. An answer that can't be given is left out.
@@ -32,7 +34,7 @@ pub trait Requests {
 impl<Q: Requests> Requests for Option<Q> {
     ghost told = { told_by Q.told };
 
-    fn take(&mut self, alloc: Global, most: usize) -> Option<Result<Vec<u8>, ReadFailure>> {
+    fn take(&mut self, alloc: Global, most: usize) -> Option<Result<Option<Vec<u8>>, ReadFailure>> {
         match self {
             Some(requests) => requests.take(alloc, most),
             None => None,
@@ -46,69 +48,101 @@ impl<Q: Requests> Requests for Option<Q> {
     }
 }
 
-/// A request is a file. It is asked again at each call by taking the file away, and the answer is a file too,
-/// whose name has `.answer` after its name.
+/// A request that is a file, and the file of its answer, whose name has `.answer` after its name.
 #[derive(Drop)]
-pub struct FileRequests<'a, R> {
-    rt: &'a R,
-    request: String,
-    config: String,
-    answer: String,
-    beside: String,
+pub struct AskedFile {
+    /// The name of the request.
+    pub request: String,
+    /// The name of the answer.
+    pub answer: String,
+    pub ghost differ: { string_bytes request ≢ string_bytes answer },
 }
 
-impl<'a, R: Files> FileRequests<'a, R> {
-    /// The requests by the file of this name to read that configuration. The only fault is want of memory.
-    pub fn new(rt: &'a R, alloc: Global, request: &str, config: &str) -> Result<Self, AllocError> {
-        Ok(FileRequests {
-            rt,
-            answer: name_with(alloc, request, ".answer")?,
-            beside: name_with(alloc, request, ".answer.new")?,
+impl AskedFile {
+    /// The request of this name, with its answer. The only fault is want of memory.
+    fn of(alloc: Global, request: &str) -> Result<Self, AllocError>
+        ensures request { IfOk result (λ asked. string_bytes asked.request ≡ request.now) }
+        ensures answer { IfOk result (λ asked. string_bytes asked.answer ≡ request.now ++ codes ".answer") }
+    {
+        Ok(AskedFile {
             request: name_with(alloc, request, "")?,
+            answer: name_with(alloc, request, ".answer")?,
+        })
+    }
+}
+
+/// Requests by a file in a folder. It is looked for at each call and taken away, and the answer is a file too.
+#[derive(Drop)]
+pub struct FileRequests<F> {
+    folder: F,
+    asked: AskedFile,
+    beside: String,
+    config: String,
+}
+
+/// Takes the file of a request away, and before it the answer to an older one; and answers whether there was one.
+fn take_request<F: Folder>(folder: &mut F, asked: &AskedFile) -> bool
+    ensures taken { result ≡ true → IsTakenAway (F.known folder.old (string_bytes asked.now.request))
+        (F.known folder.new (string_bytes asked.now.request)) }
+{
+    if !folder.has(&asked.request) {
+        return false;
+    }
+    let _ = folder.take_away(&asked.answer);
+    match folder.take_away(&asked.request) {
+        Ok(was_there) => was_there,
+        Err(_) => false,
+    }
+}
+
+impl<F: Folder + Drop> FileRequests<F> {
+    /// The requests by the file of this name to read that configuration. The only fault is want of memory.
+    pub fn new(folder: F, alloc: Global, request: &str, config: &str) -> Result<Self, AllocError> {
+        Ok(FileRequests {
+            folder,
+            asked: AskedFile::of(alloc, request)?,
+            beside: name_with(alloc, request, ".answer.new")?,
             config: name_with(alloc, config, "")?,
         })
     }
-
-    /// The text of the configuration.
-    fn text(&self, alloc: Global, most: usize) -> Result<Vec<u8>, ReadFailure> {
-        match read_file(self.rt, alloc, &self.config, most)? {
-            Some(text) => Ok(text),
-            None => Err(ReadFailure::Unreadable),
-        }
-    }
 }
 
-impl<R: Files> Requests for FileRequests<'_, R> {
+impl<F: Folder> Requests for FileRequests<F> {
     ghost told = { λ _. None };
 
-    fn take(&mut self, alloc: Global, most: usize) -> Option<Result<Vec<u8>, ReadFailure>> {
-        match self.rt.remove_file(&self.request) {
-            Ok(()) => Some(self.text(alloc, most)),
-            Err(_) => None,
+    fn take(&mut self, alloc: Global, most: usize) -> Option<Result<Option<Vec<u8>>, ReadFailure>> {
+        if take_request(&mut self.folder, &self.asked) {
+            Some(self.folder.read(alloc, &self.config, most))
+        } else {
+            None
         }
     }
 
     fn answer(&mut self, text: &[u8]) {
-        let _ = replace_file(self.rt, &self.answer, &self.beside, text);
+        let _ = self
+            .folder
+            .replace(&self.asked.answer, &self.beside, text);
     }
 }
 
 /// Makes the file of a request, after the answer to an older one was taken away.
-pub(crate) fn make_request<R: Files>(
-    rt: &R,
+pub(crate) fn make_request<F: Folder>(
+    folder: &mut F,
     alloc: Global,
     request: &str,
-) -> Result<(), StoreFault> {
-    let Ok(answer) = name_with(alloc, request, ".answer") else {
+) -> Result<AskedFile, StoreFault>
+    ensures made { IfOk result (λ asked. Holds (F.known folder.new (string_bytes asked.request)) (Some [])) }
+    ensures unanswered { IfOk result (λ asked. Holds (F.known folder.new (string_bytes asked.answer)) None) }
+{
+    let Ok(asked) = AskedFile::of(alloc, request) else {
         return Err(StoreFault::Memory);
     };
-    let made = match remove_if_there(rt, &answer) {
-        Ok(()) => write_new(rt, request, b""),
-        Err(error) => Err(error),
-    };
-    match made {
-        Ok(()) => Ok(()),
-        Err(error) => Err(store_fault(&error)),
+    if let Err(fault) = folder.take_away(&asked.answer) {
+        return Err(fault);
+    }
+    match folder.make(&asked.request) {
+        Ok(()) => Ok(asked),
+        Err(fault) => Err(fault),
     }
 }
 
@@ -123,37 +157,43 @@ fn wait(poll: &mut Poll, events: &mut Events) -> io::Result<()> {
     poll.poll(events, Some(Duration::from_millis(100)))
 }
 
-/// The answer of this name, if it is there, which is then taken away.
-fn take_answer<R: Files>(
-    rt: &R,
+/// The answer to a request, if there is one. What is there while the request is, is an older one: whoever takes a request
+/// takes that away first.
+fn answer_to<F: Folder>(
+    folder: &F,
     alloc: Global,
-    answer: &str,
-) -> Result<Option<Vec<u8>>, ReadFailure> {
-    let text = read_file(rt, alloc, answer, MAX_ANSWER)?;
-    if text.is_some() {
-        let _ = rt.remove_file(answer);
+    asked: &AskedFile,
+) -> Result<Option<Vec<u8>>, ReadFailure>
+    ensures { IfOk result (λ found. IfSome found (λ text. IsAnswer (F.known folder.now (string_bytes asked.now.request))
+        (F.known folder.now (string_bytes asked.now.answer)) text.items)) }
+{
+    if folder.has(&asked.request) {
+        return Ok(None);
     }
-    Ok(text)
+    folder.read(alloc, &asked.answer, MAX_ANSWER)
 }
 
 /// Waits at most so many seconds for the answer to a request.
-pub(crate) fn wait_for_answer<R: Files + Net>(
+pub(crate) fn wait_for_answer<F: Folder, R: Net>(
     rt: &R,
+    folder: &F,
     alloc: Global,
-    request: &str,
+    asked: &AskedFile,
     seconds: u8,
-) -> Result<Option<Vec<u8>>, ReadFailure> {
-    let answer = name_with(alloc, request, ".answer")?;
+) -> Result<Option<Vec<u8>>, ReadFailure>
+    ensures { IfOk result (λ found. IfSome found (λ text. IsAnswer (F.known folder.now (string_bytes asked.now.request))
+        (F.known folder.now (string_bytes asked.now.answer)) text.items)) }
+{
     let (Ok(mut poll), Ok(mut events)) = (Poll::new(rt), Events::with_capacity(alloc, 1)) else {
         return Err(ReadFailure::Unreadable);
     };
     for _ in 0..u32::from(seconds) * LOOKS {
-        if let Some(text) = take_answer(rt, alloc, &answer)? {
+        if let Some(text) = answer_to(folder, alloc, asked)? {
             return Ok(Some(text));
         }
         if wait(&mut poll, &mut events).is_err() {
             return Err(ReadFailure::Unreadable);
         }
     }
-    take_answer(rt, alloc, &answer)
+    answer_to(folder, alloc, asked)
 }

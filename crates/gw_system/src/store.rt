@@ -1,5 +1,7 @@
 //! The file of a state.
 
+ghost use Rattle.std.specs.Prelude.{◌≡◌, ◌++◌, string_bytes, IfOk};
+
 use crate::host::{MODE, is_link};
 use gw_serving::{Store, StoreFault};
 use std::alloc::{AllocError, Global};
@@ -42,7 +44,9 @@ fn folder_of(name: &str) -> &str {
 }
 
 /// A name with this behind it.
-pub(crate) fn name_with(alloc: Global, name: &str, ending: &str) -> Result<String, AllocError> {
+pub(crate) fn name_with(alloc: Global, name: &str, ending: &str) -> Result<String, AllocError>
+    ensures { IfOk result (λ longer. string_bytes longer ≡ name.now ++ ending.now) }
+{
     let mut longer = String::new(alloc);
     longer.push_str(name)?;
     longer.push_str(ending)?;

@@ -33,16 +33,17 @@ returns-clause-ran g c =
     let never = g.E.OctetSink.NeverFails in
     let told = told_by g.Q.Requests.told in
     ran_kept (given g.S.Store.held g.Q.Requests.told c.args.before) c.args.config (service c.args.options.now.turns c.args.options.now.stats)
-    c.counts.result run.gateway run.keeper run.state.served run.state.tally (told run.requests) c.notice-running.result run.told
+    c.counts.result run.gateway run.keeper run.state.served run.state.tally (told run.requests) run.counts c.is_some-reloads.result c.notice-running.result run.told
     (ends (g.L.OctetSink.held c.args.log.now) (g.X.Wire.calls c.args.sockets.now))
     (ends (g.L.OctetSink.held c.serve-answer.new.log) (g.X.Wire.calls c.serve-answer.new.wire)) c.serve-answer.result c.outcome_of.result
     run.origin new.origin
     (λ (config : Configuration). stage config
     (moment (scene new.gateway (g.L.OctetSink.held c.serve-answer.new.log) (g.X.Wire.calls c.serve-answer.new.wire))
-    new.keeper new.state.served new.state.tally) (told new.requests) new.told)
+    new.keeper new.state.served new.state.tally) (told new.requests) new.counts new.told)
     (never c.args.errors.now) (never c.notice-running.new.errors) (held c.args.errors.now) (held c.notice-running.new.errors)
     (held c.serve-answer.new.errors) (held c.tell_last.new.errors)
     (same_counts c.counts.result run.gateway c.counts.ensures.ticks c.counts.ensures.denials) is.begins is.keeps is.served is.tally (ap told is.requests)
+    is.counts c.is_some-reloads.ensures
     c.notice-running.ensures.failing is.told is.origin c.serve-answer.ensures.runs c.outcome_of.ensures (λ d. refl) (λ d. refl)
     c.notice-running.ensures.text c.notice-running.ensures.lasts
     (λ d is_never. c.tell_last.ensures.told (c.serve-answer.ensures.lasts (c.notice-running.ensures.lasts is_never)))

@@ -8,7 +8,7 @@ use Rattle.gw_serving.specs.declared.store.StoreFault.{StoreFault}
 use Rattle.gw_serving.specs.declared.stretch.Pause.TheVariants as pause
 use Rattle.gw_service.specs.Chain.{look_text, manner, served, standing, ticked, withheld}
 use Rattle.gw_service.specs.Notices.{notice_of}
-use Rattle.gw_service.specs.Stats.{due_stats}
+use Rattle.gw_service.specs.Stats.{due_stats, reporting}
 use Rattle.gw_service.proofs.ChainLemmas.{ends_as, more_at_tick, more_at_turns, more_withheld}
 use Rattle.gw_service.proofs.ServingLemmas.{appends_nothing, appends_two}
 use Rattle.gw_service.proofs.running.Running.advance.Goals as goal
@@ -24,7 +24,7 @@ returns-in-Ok-Turns-clause-advances g c = λ config is_config.
       config,
       [],
       is_config,
-      (served end.turns, record { went = end.went; config = refl; requests = refl; told = refl }, refl),
+      (served end.turns, record { went = end.went; config = refl; requests = refl; counts = refl; told = refl }, refl),
       λ never. appends_nothing (g.E.OctetSink.held c.args.errors.now),
     )
 
@@ -55,11 +55,12 @@ returns-in-Ok-Tick-clause-advances g c = λ config is_config.
     let held = g.E.OctetSink.held in
     let old = c.args.self.now in
     let stretch = c.serve_to_tick.new in
-    let done = c.at_tick.ensures.done config (due_stats g.K.StateKeeper.unkept c.args.schedule.now.seconds c.args.schedule.now.start) is_config in
-    let look = look_text config (standing stretch.gateway stretch.guard (g.Q.Requests.told old.requests)) done.1 in
+    let done = c.at_tick.ensures.done config is_config in
+    let look = look_text config (standing stretch.gateway stretch.guard (g.Q.Requests.told old.requests) old.counts) done.1 in
     let notice = notice_of old.told c.notice-self.result in
     let after = c.at_tick.new.self in
-    let report = due_stats g.K.StateKeeper.unkept c.args.schedule.now.seconds c.args.schedule.now.start after.keeper after.gateway
+    let report = due_stats g.K.StateKeeper.unkept
+    (reporting c.args.schedule.now.seconds c.args.schedule.now.start c.args.schedule.now.reloads) after.keeper after.counts after.gateway
     after.state.served after.state.tally in
     let turns = end.turns ++ taken_event event.Tick end.tries ∷ [] in
     let then = moment (scene stretch.gateway (g.L.OctetSink.held stretch.log) (g.W.Wire.calls stretch.wire)) stretch.guard stretch.self.served stretch.self.tally in (
@@ -133,6 +134,7 @@ returns-in-Ok-Withheld-clause-advances g c = λ config is_config.
           last = end.last;
           config = refl;
           requests = refl;
+          counts = refl;
           told = c.notice-self-in-Ok-Withheld.ensures.failing;
           lines = refl;
         },

@@ -4,14 +4,14 @@ use Rattle.gw_service.proofs.ChainLemmas.{same_text}
 use Rattle.gw_service.proofs.running.Running.at_tick.Goals as goal
 
 pub returns-clause-done : goal.returns-clause-done
-returns-clause-done g c = λ config report is_config.
+returns-clause-done g c = λ config is_config.
     let old = c.args.self.now in
     let held = g.E.OctetSink.held in
-    let looked = c.look.ensures.looked config report is_config in (
+    let looked = c.look.ensures.looked config is_config in (
       looked.0,
       looked.1,
       looked.2,
       record { keeper = c.keep_at_tick.new.self; ticks = c.keep_at_tick.ensures; looked = looked.3 },
       λ never. subst (λ (t : List ℕ). Appends (held c.args.errors.now) (held c.look.new.errors) t)
-          (same_text config old.gateway c.keep_at_tick.new.self old.keeper (g.Q.Requests.told old.requests) looked.1) (looked.4 never),
+          (same_text config old.gateway c.keep_at_tick.new.self old.keeper (g.Q.Requests.told old.requests) old.counts looked.1) (looked.4 never),
     )

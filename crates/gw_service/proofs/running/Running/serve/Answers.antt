@@ -5,14 +5,14 @@ use Rattle.gw_serving.specs.Serve.{scene}
 use Rattle.gw_serving.specs.Stretch.{moment}
 use Rattle.gw_serving.specs.declared.serving.ServeFault.{ServeFault}
 use Rattle.gw_service.specs.Chain.{Stage, manner, stage}
-use Rattle.gw_service.specs.Stats.{due_stats}
+use Rattle.gw_service.specs.Stats.{due_stats, reporting}
 use Rattle.gw_service.proofs.ChainLemmas.{Ran, chained_more, chained_none, ran_until}
 use Rattle.gw_service.proofs.running.Running.serve.Goals as goal
 
 pub loop-init : goal.loop-init
 loop-init g c =
     let how = manner g.K.Guard.Passes g.K.StateKeeper.Ticks g.K.StateKeeper.Adopts g.K.StateKeeper.failing
-    (due_stats g.K.StateKeeper.unkept c.args.schedule.now.seconds c.args.schedule.now.start) in
+    (due_stats g.K.StateKeeper.unkept (reporting c.args.schedule.now.seconds c.args.schedule.now.start c.args.schedule.now.reloads)) in
     let old = c.args.self.now in (
       omega arith,
       refl,
@@ -20,14 +20,14 @@ loop-init g c =
       λ never. never,
       chained_none how old.origin
           (λ (config : Configuration). stage config (moment (scene old.gateway (g.L.OctetSink.held c.args.log.now) (g.W.Wire.calls c.args.wire.now))
-          old.keeper old.state.served old.state.tally) (g.Q.Requests.told old.requests) old.told)
+          old.keeper old.state.served old.state.tally) (g.Q.Requests.told old.requests) old.counts old.told)
           (g.E.OctetSink.NeverFails c.args.errors.now) (g.E.OctetSink.held c.args.errors.now),
     )
 
 pub loop-preserved : goal.loop-preserved
 loop-preserved g c =
     let how = manner g.K.Guard.Passes g.K.StateKeeper.Ticks g.K.StateKeeper.Adopts g.K.StateKeeper.failing
-    (due_stats g.K.StateKeeper.unkept c.args.schedule.now.seconds c.args.schedule.now.start) in
+    (due_stats g.K.StateKeeper.unkept (reporting c.args.schedule.now.seconds c.args.schedule.now.start c.args.schedule.now.reloads)) in
     let old = c.args.self.now in
     let now = c.loop.self in
     let new = c.advance.new.self in
@@ -43,11 +43,11 @@ loop-preserved g c =
       λ never. c.advance.ensures.lasts (kept.3 never),
       chained_more how c.loop.left old.origin now.origin new.origin
           (λ (config : Configuration). stage config (moment (scene old.gateway (g.L.OctetSink.held c.args.log.now) (g.W.Wire.calls c.args.wire.now))
-          old.keeper old.state.served old.state.tally) (g.Q.Requests.told old.requests) old.told)
+          old.keeper old.state.served old.state.tally) (g.Q.Requests.told old.requests) old.counts old.told)
           (λ (config : Configuration). stage config (moment (scene now.gateway (g.L.OctetSink.held c.loop.log) (g.W.Wire.calls c.loop.wire))
-          now.keeper now.state.served now.state.tally) (g.Q.Requests.told now.requests) now.told)
+          now.keeper now.state.served now.state.tally) (g.Q.Requests.told now.requests) now.counts now.told)
           (λ (config : Configuration). stage config (moment (scene new.gateway (g.L.OctetSink.held c.advance.new.log) (g.W.Wire.calls c.advance.new.wire))
-          new.keeper new.state.served new.state.tally) (g.Q.Requests.told new.requests) new.told)
+          new.keeper new.state.served new.state.tally) (g.Q.Requests.told new.requests) new.counts new.told)
           c.in_ok-advance.field-0 (g.E.OctetSink.NeverFails c.args.errors.now) (g.E.OctetSink.NeverFails c.loop.errors)
           (g.E.OctetSink.held c.args.errors.now) (g.E.OctetSink.held c.loop.errors) (g.E.OctetSink.held c.advance.new.errors)
           kept.4 c.in_ok-advance.ensures.advances kept.3,
@@ -56,7 +56,7 @@ loop-preserved g c =
 pub returns-in_err-advance-clause-runs : goal.returns-in_err-advance-clause-runs
 returns-in_err-advance-clause-runs g c =
     let how = manner g.K.Guard.Passes g.K.StateKeeper.Ticks g.K.StateKeeper.Adopts g.K.StateKeeper.failing
-    (due_stats g.K.StateKeeper.unkept c.args.schedule.now.seconds c.args.schedule.now.start) in
+    (due_stats g.K.StateKeeper.unkept (reporting c.args.schedule.now.seconds c.args.schedule.now.start c.args.schedule.now.reloads)) in
     let old = c.args.self.now in
     let now = c.loop.self in
     let new = c.advance.new.self in
@@ -66,14 +66,14 @@ returns-in_err-advance-clause-runs g c =
     let held = g.E.OctetSink.held in
     let first : Configuration → Stage _ = λ (config : Configuration). stage config
     (moment (scene old.gateway (g.L.OctetSink.held c.args.log.now) (g.W.Wire.calls c.args.wire.now)) old.keeper old.state.served old.state.tally)
-    (g.Q.Requests.told old.requests) old.told in
+    (g.Q.Requests.told old.requests) old.counts old.told in
     let last : Configuration → Stage _ = λ (config : Configuration). stage config
     (moment (scene new.gateway (g.L.OctetSink.held c.advance.new.log) (g.W.Wire.calls c.advance.new.wire)) new.keeper new.state.served
-    new.state.tally) (g.Q.Requests.told new.requests) new.told in
+    new.state.tally) (g.Q.Requests.told new.requests) new.counts new.told in
     passes_on (λ (r : Result (Unit {0}) ServeFault). Ran how c.args.turns old.origin first r new.origin last (never c.args.errors.now)
     (held c.args.errors.now) (held c.advance.new.errors)) fault c.from_residual.result c.from_residual.ensures
     (ran_until how c.args.turns c.loop.left old.origin now.origin new.origin first
     (λ (config : Configuration). stage config (moment (scene now.gateway (g.L.OctetSink.held c.loop.log) (g.W.Wire.calls c.loop.wire))
-    now.keeper now.state.served now.state.tally) (g.Q.Requests.told now.requests) now.told)
+    now.keeper now.state.served now.state.tally) (g.Q.Requests.told now.requests) now.counts now.told)
     last fault (never c.args.errors.now) (never c.loop.errors) (held c.args.errors.now) (held c.loop.errors) (held c.advance.new.errors)
     kept.4 c.in_err-advance.ensures.advances kept.3 (λ a b. kept.1))

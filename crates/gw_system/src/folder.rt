@@ -1,0 +1,87 @@
+//! Files by their names, as requests and their answers use them.
+
+ghost use Rattle.std.specs.Prelude.{◌≡◌, ◌≢◌, [], Some, None, Ok, false, true, List, ℕ, IfOk, OnOk};
+ghost use Rattle.gw_system.specs.Folder.{Holds, IsTakenAway, Known, octets_of};
+
+use crate::reading::{ReadFailure, read_file};
+use crate::store::{remove_if_there, replace_file, store_fault, write_new};
+use gw_serving::StoreFault;
+use std::alloc::Global;
+use std::io::ErrorKind;
+use std::rt::Files;
+
+/// Files by their names. What contracts know of one is what it has if nobody else changes it.
+pub trait Folder {
+    /// What is known of the file of a name.
+    ghost known: { Self → List ℕ → Known };
+
+    /// Whether there may be a file of this name.
+    fn has(&self, name: &str) -> bool
+        ensures { result ≡ false → Holds (known self.now name.now) None };
+
+    /// Takes the file of this name away, and answers whether there was one.
+    fn take_away(&mut self, name: &str) -> Result<bool, StoreFault>
+        ensures taken { result ≡ Ok true → IsTakenAway (known self.old name.now) (known self.new name.now) }
+        ensures gone { OnOk result (Holds (known self.new name.now) None) }
+        ensures others { (other : List ℕ) → other ≢ name.now → known self.new other ≡ known self.old other };
+
+    /// Makes an empty file of this name. What had the name is taken away first.
+    fn make(&mut self, name: &str) -> Result<(), StoreFault>
+        ensures made { OnOk result (Holds (known self.new name.now) (Some [])) }
+        ensures others { (other : List ℕ) → other ≢ name.now → known self.new other ≡ known self.old other };
+
+    /// The octets of the regular file of this name, or `None` if there is no such file. Faults: `Unreadable` if it
+    /// can't be read, is no regular file or has more than so many octets; and `Memory`.
+    fn read(&self, alloc: Global, name: &str, most: usize) -> Result<Option<Vec<u8>>, ReadFailure>
+        ensures { IfOk result (λ octets. Holds (known self.now name.now) (octets_of octets)) };
+
+    /// Replaces the file of a name whole by these octets, which are written to the file of the other name first.
+    fn replace(&mut self, name: &str, beside: &str, octets: &[u8]) -> Result<(), StoreFault>
+        ensures { OnOk result (Holds (known self.new name.now) (Some octets.now)) };
+}
+
+/// The files of the system, of which contracts know nothing.
+#[derive(Drop)]
+pub struct SystemFolder<'a, R> {
+    /// By what they are opened.
+    pub rt: &'a R,
+}
+
+impl<R: Files> Folder for SystemFolder<'_, R> {
+    ghost known = { λ _ _. None };
+
+    fn has(&self, name: &str) -> bool {
+        match self.rt.symlink_metadata(name) {
+            Ok(_) => true,
+            Err(error) => !matches!(error.kind(), ErrorKind::NotFound),
+        }
+    }
+
+    fn take_away(&mut self, name: &str) -> Result<bool, StoreFault> {
+        match self.rt.remove_file(name) {
+            Ok(()) => Ok(true),
+            Err(error) => match error.kind() {
+                ErrorKind::NotFound => Ok(false),
+                _ => Err(store_fault(&error)),
+            },
+        }
+    }
+
+    fn make(&mut self, name: &str) -> Result<(), StoreFault> {
+        match write_new(self.rt, name, b"") {
+            Ok(()) => Ok(()),
+            Err(error) => Err(store_fault(&error)),
+        }
+    }
+
+    fn read(&self, alloc: Global, name: &str, most: usize) -> Result<Option<Vec<u8>>, ReadFailure> {
+        read_file(self.rt, alloc, name, most)
+    }
+
+    fn replace(&mut self, name: &str, beside: &str, octets: &[u8]) -> Result<(), StoreFault> {
+        match replace_file(self.rt, name, beside, octets) {
+            Ok(()) => Ok(()),
+            Err(error) => Err(store_fault(&error)),
+        }
+    }
+}
