@@ -12,7 +12,7 @@ program = program or os.path.join(top, "crates/bacgw/out/bacgw")
 if not os.access(program, os.X_OK):
     sys.exit("build bacgw first: ./bacgw prove")
 page = open(os.path.join(top, "docs/spec/configuration.md")).read()
-section = page.split("## Wrong texts, and what is told of them")[1].split("\n## ")[0]
+section = page.split("## Wrong texts and their lines")[1].split("\n## ")[0]
 rows = re.findall(r"^\| `(.*?)` \| `(.*?)` \| `(\w+)` \| `(.*)` \|$", section, re.M)
 rows += [line.split("\t") for line in open(os.path.join(top, "examples/wrong_texts.tsv")).read().splitlines()]
 text = "".join(open(os.path.join(top, "examples", part)).read() for part in ("base.toml", "wrong_texts.toml"))
