@@ -5,6 +5,7 @@
 //! and clock are a wire of `gw_ports`.
 #![tactic(auto)]
 
+mod file_log;
 mod host;
 mod opening;
 mod poll_waiter;
@@ -14,6 +15,7 @@ mod store;
 mod system_clock;
 mod udp;
 
+pub use file_log::FileLog;
 pub use host::{Host, SystemHost, open_at_line};
 pub use opening::{FailedStep, LogFailure, OpenFailure, Reason, SocketFailure, Step, note_of};
 pub use poll_waiter::PollWaiter;
