@@ -3,6 +3,7 @@
 ghost use Rattle.std.specs.Prelude.{None};
 
 use crate::host::{MODE, is_link};
+use crate::named_log::{NamedFiles, NamedLog};
 use crate::opening::LogFailure;
 use crate::store::name_with;
 use gw_script::{OctetSink, WriteFailed};
@@ -13,17 +14,14 @@ use std::os::unix::fs::{MetadataExt, OpenOptionsExt};
 use std::rt::Files;
 use std::time::Clock;
 
-/// A log that is appended to the file of a name. If that file was moved or taken away, the first line that begins a
-/// second or more later goes to a new file of the name: whoever rotates logs renames the file, and need not ask. The
-/// file is looked for once a second at most, and the old one stays open if no new one can be opened.
+/// The log of the system: it is appended to the file of a name, whatever file that is.
+pub type FileLog<'a, R> = NamedLog<LogFiles<'a, R>>;
+
+/// A file of a log.
 #[derive(Drop)]
-pub struct FileLog<'a, R: Files> {
-    rt: &'a R,
-    name: String,
+pub struct LogFile<R: Files> {
     file: R::File,
     place: Option<Place>,
-    looked: u64,
-    is_at_line: bool,
 }
 
 /// Which file it is: its device, and its number there.
@@ -46,67 +44,61 @@ impl Place {
     }
 }
 
+impl<R: Files> OctetSink for LogFile<R> {
+    ghost held = { λ _. None };
+
+    ghost NeverFails = { λ _. ⊥ };
+
+    fn write_octets(&mut self, text: &[u8]) -> Result<usize, WriteFailed> {
+        match self.file.write(text) {
+            Ok(0) if !text.is_empty() => Err(WriteFailed),
+            Ok(count) => Ok(count),
+            Err(_) => Err(WriteFailed),
+        }
+    }
+}
+
+/// The files that one after the other have a name. It is looked at once a second at most.
+#[derive(Drop)]
+pub struct LogFiles<'a, R> {
+    rt: &'a R,
+    name: String,
+    looked: u64,
+}
+
 /// Opens the file of a log to append to it. An `Err` if the system doesn't, or it is a symbolic link.
-fn open_file<R: Files>(rt: &R, name: &str) -> io::Result<R::File> {
+fn open_file<R: Files>(rt: &R, name: &str) -> io::Result<LogFile<R>> {
     if is_link(rt, name) {
         return Err(ErrorKind::PermissionDenied.into());
     }
-    File::options()
+    let file = File::options()
         .append(true)
         .create(true)
         .mode(MODE)
-        .open(rt, name)
-}
-
-/// Which file is open, if the system says it.
-fn place_of<F: OpenFile>(file: &F) -> Option<Place> {
-    match file.metadata() {
+        .open(rt, name)?;
+    let place = match file.metadata() {
         Ok(metadata) => Some(Place::of(&metadata)),
         Err(_) => None,
-    }
+    };
+    Ok(LogFile { file, place })
 }
 
-impl<'a, R: Files + Clock> FileLog<'a, R> {
-    /// Opens the file of this name. Faults: `Failed` if the system doesn't, or it is a symbolic link; and `Memory`.
-    pub fn open(rt: &'a R, alloc: Global, name: &str) -> Result<Self, LogFailure> {
-        let file = match open_file(rt, name) {
-            Ok(file) => file,
-            Err(error) => return Err(log_failure(&error)),
-        };
-        let Ok(name) = name_with(alloc, name, "") else {
-            return Err(LogFailure::Memory);
-        };
-        Ok(FileLog {
-            rt,
-            name,
-            place: place_of(&file),
-            file,
-            looked: seconds(rt),
-            is_at_line: true,
-        })
-    }
-
-    /// Opens a file of the name anew if that of the log has it no more.
-    fn follow_name(&mut self) {
-        if self.has_its_name() {
-            return;
-        }
-        if let Ok(file) = open_file(self.rt, &self.name) {
-            self.place = place_of(&file);
-            self.file = file;
-        }
-    }
-
-    /// Whether the file of the name is the log's, or can't be looked at.
-    fn has_its_name(&self) -> bool {
-        let Some(place) = self.place else {
-            return true;
-        };
-        match self.rt.metadata(&self.name) {
-            Ok(metadata) => place.is_same(Place::of(&metadata)),
-            Err(error) => !matches!(error.kind(), ErrorKind::NotFound),
-        }
-    }
+/// Opens the log in the file of this name. Faults: `Failed` if the system doesn't, or it is a symbolic link; and
+/// `Memory`.
+pub fn open_log<'a, R: Files + Clock>(
+    rt: &'a R,
+    alloc: Global,
+    name: &str,
+) -> Result<FileLog<'a, R>, LogFailure> {
+    let file = match open_file(rt, name) {
+        Ok(file) => file,
+        Err(error) => return Err(log_failure(&error)),
+    };
+    let Ok(name) = name_with(alloc, name, "") else {
+        return Err(LogFailure::Memory);
+    };
+    let looked = seconds(rt);
+    Ok(NamedLog::new(LogFiles { rt, name, looked }, file))
 }
 
 /// The seconds of a clock that never goes back, 0 if it can't be read.
@@ -125,24 +117,30 @@ fn log_failure(error: &io::Error) -> LogFailure {
     }
 }
 
-impl<R: Files + Clock> OctetSink for FileLog<'_, R> {
-    ghost held = { λ _. None };
-
-    ghost NeverFails = { λ _. ⊥ };
-
-    fn write_octets(&mut self, text: &[u8]) -> Result<usize, WriteFailed> {
-        let now = seconds(self.rt);
-        if self.is_at_line && now != self.looked {
-            self.looked = now;
-            self.follow_name();
-        }
-        match self.file.write(text) {
-            Ok(0) if !text.is_empty() => Err(WriteFailed),
-            Ok(count) => {
-                self.is_at_line = text[..count].ends_with(b"\n");
-                Ok(count)
-            }
-            Err(_) => Err(WriteFailed),
-        }
+/// Whether the file of the name is this one, or can't be looked at.
+fn has_name<R: Files>(rt: &R, name: &str, place: Place) -> bool {
+    match rt.metadata(name) {
+        Ok(metadata) => place.is_same(Place::of(&metadata)),
+        Err(error) => !matches!(error.kind(), ErrorKind::NotFound),
     }
+}
+
+impl<R: Files + Clock> NamedFiles for LogFiles<'_, R> {
+    type File = LogFile<R>;
+
+    ghost left = { λ _. None };
+
+    fn renewed(&mut self, file: &LogFile<R>) -> Option<LogFile<R>> {
+        let now = seconds(self.rt);
+        if now == self.looked {
+            return None;
+        }
+        self.looked = now;
+        if has_name(self.rt, &self.name, file.place?) {
+            return None;
+        }
+        open_file(self.rt, &self.name).ok()
+    }
+
+    fn leave(&mut self, _file: LogFile<R>) {}
 }

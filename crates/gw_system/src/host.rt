@@ -10,7 +10,7 @@ ghost use Rattle.gw_system.specs.Requests.{text_found};
 ghost use Rattle.gw_system.specs.declared.reading.ReadFailure.{ReadFailure};
 ghost use Rattle.gw_serving.specs.declared.store.StoreFault.{StoreFault};
 
-use crate::file_log::FileLog;
+use crate::file_log::{self, FileLog};
 use crate::opening::{LogFailure, SocketFailure, Step};
 use crate::poll_waiter::PollWaiter;
 use crate::reading::{ReadFailure, read_file, read_last_line};
@@ -246,7 +246,7 @@ impl<'a, R: Files + Net + Clock> Host for SystemHost<'a, R> {
     ghost Closes = { λ _ _ _. ⊤ };
 
     fn open_log(&self, alloc: Global, name: &str) -> Result<FileLog<'a, R>, LogFailure> {
-        FileLog::open(self.rt, alloc, name)
+        file_log::open_log(self.rt, alloc, name)
     }
 
     fn is_cut(&self, name: &str) -> bool {

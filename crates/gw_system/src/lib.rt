@@ -7,6 +7,7 @@
 
 mod file_log;
 mod host;
+mod named_log;
 mod opening;
 mod poll_waiter;
 mod reading;
@@ -15,8 +16,9 @@ mod store;
 mod system_clock;
 mod udp;
 
-pub use file_log::FileLog;
+pub use file_log::{FileLog, LogFile, LogFiles};
 pub use host::{Host, SystemHost, open_at_line};
+pub use named_log::{NamedFiles, NamedLog};
 pub use opening::{FailedStep, LogFailure, OpenFailure, Reason, SocketFailure, Step, note_of};
 pub use poll_waiter::PollWaiter;
 pub use reading::{MAX_LOG_END, ReadFailure};
