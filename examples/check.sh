@@ -303,13 +303,17 @@ same 'the log has the denials with their ticks behind a line that was cut' \
 1 . 1 1:7F030005BAC0 read dst=100 svc=12 obj=5,2 prop=85 prio=- rule=hide
 2 . 1 1:7F030005BAC0 read dst=100 svc=12 obj=5,2 prop=85 prio=- rule=hide'
 
-# A log that is copied and cut while it is served goes on at its front.
+# A log that is copied and cut while it is served goes on at its front. One that is renamed or removed goes on in a new file.
 : > "$work/log"
 python3 "$here/loopback.py" rotate "$program" "$work/served.toml" "$work/log" > "$work/out" 2>&1
 same 'the copy of a log' "$(sed 's/^1 [0-9]* /1 . /' "$work/log.1")" \
     '1 . 1 1:7F030005BAC0 read dst=100 svc=12 obj=5,2 prop=85 prio=- rule=hide'
-same 'a log that was cut to nothing' "$(sed 's/^2 [0-9]* /2 . /' "$work/log")" \
+same 'a log that was cut to nothing' "$(sed 's/^2 [0-9]* /2 . /' "$work/log.2")" \
     '2 . 1 1:7F030005BAC0 read dst=100 svc=12 obj=5,2 prop=85 prio=- rule=hide'
+same 'a log that was renamed, and one that was removed' "$(grep -o '^[0-9]* .*rule=hide' "$work/out" | sed 's/^\([34]\) [0-9]* /\1 . /')" \
+    '3 . 1 1:7F030005BAC0 read dst=100 svc=12 obj=5,2 prop=85 prio=- rule=hide
+4 . 1 1:7F030005BAC0 read dst=100 svc=12 obj=5,2 prop=85 prio=- rule=hide'
+same 'the mode of a new log' "$(stat -c %a "$work/log")" 600
 
 # A send of fewer octets than it was given is a failure. The system makes none of a datagram, so a library that is loaded before the
 # program does, and the counts tell of it.

@@ -143,7 +143,7 @@ def taken(program, file, address):
 
 
 def rotate(program, file, log):
-    """Lets a read be denied before and behind what logrotate does under `copytruncate`."""
+    """Lets a read be denied before and after what logrotate does, by renaming and under `copytruncate`, and after the file is removed."""
     gateway = subprocess.Popen([program, "run", "--config", file, "--log", log, "--verbose"], stdin=subprocess.DEVNULL, stderr=subprocess.PIPE)
     try:
         gateway.stderr.readline()
@@ -152,6 +152,11 @@ def rotate(program, file, log):
         shutil.copyfile(log, log + ".1")
         os.truncate(log, 0)
         read(line, 12, 2, PORT_1)
+        for number, change in ((13, lambda: os.rename(log, log + ".2")), (14, lambda: os.remove(log))):
+            change()
+            time.sleep(1.1)
+            read(line, number, 2, PORT_1)
+            print(open(log).read(), end="")
     finally:
         gateway.terminate()
         gateway.wait(timeout=10)

@@ -208,7 +208,7 @@ impl Host for MemHost {
 
     ghost Closes = { λ host sockets log. host.closed ≡ Some (sockets, log) };
 
-    fn open_log(&self, _name: &str) -> Result<MemWriter, LogFailure> {
+    fn open_log(&self, _alloc: Global, _name: &str) -> Result<MemWriter, LogFailure> {
         match self.log {
             Some(room) => Ok(MemWriter::with_room(self.alloc, room, true)?),
             None => Err(LogFailure::Failed),

@@ -35,7 +35,7 @@ impl Same for Text {
 
 impl Same for bool {
     fn is_same(&self, other: &Self) -> bool {
-        self == other
+        *self == *other
     }
 }
 

@@ -109,6 +109,7 @@ pub fn serve_fresh<S: Wire, L: OctetSink, E: OctetSink>(
 
 /// Opens the log: the file of this name, or standard output, whose buffer is flushed.
 fn open_log<H: Host, W: Write + Drop>(
+    alloc: Global,
     log: &Option<String>,
     host: &H,
     output: &mut BufWriter<W>,
@@ -123,7 +124,7 @@ fn open_log<H: Host, W: Write + Drop>(
         (writer_buffer output.old) (writer_buffer output.new)) }
 {
     match log {
-        Some(name) => Ok(Some(open_at_line(name, host)?)),
+        Some(name) => Ok(Some(open_at_line(alloc, name, host)?)),
         None => match output.flush() {
             Ok(()) => Ok(None),
             Err(_) => Err(LogFailure::Failed),
@@ -178,7 +179,7 @@ pub(crate) fn open<H: Host, W: Write + Drop>(
         (writer_buffer output.old) (writer_buffer output.new)) }
 {
     let line = startup_line(alloc, config, &options.log, options.verbose)?;
-    let log = match open_log(&options.log, host, output) {
+    let log = match open_log(alloc, &options.log, host, output) {
         Ok(log) => log,
         Err(failure) => return Err(OpenFailure::Log(failure)),
     };

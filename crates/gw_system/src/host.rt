@@ -10,7 +10,11 @@ ghost use Rattle.gw_system.specs.Requests.{text_found};
 ghost use Rattle.gw_system.specs.declared.reading.ReadFailure.{ReadFailure};
 ghost use Rattle.gw_serving.specs.declared.store.StoreFault.{StoreFault};
 
+<<<<<<< HEAD
 use crate::folder::{Folder, SystemFolder};
+=======
+use crate::file_log::{self, FileLog};
+>>>>>>> audit/main
 use crate::opening::{LogFailure, SocketFailure, Step};
 use crate::poll_waiter::PollWaiter;
 use crate::reading::{ReadFailure, read_file, read_last_line};
@@ -23,10 +27,8 @@ use gw_ports::{Ports, SockPair, TimedPorts, Watch};
 use gw_script::{OctetSink, write_whole};
 use gw_serving::{Store, StoreFault, Wire};
 use std::alloc::{AllocError, Global};
-use std::fs::File;
 use std::io::{ErrorKind, Read, Seek, SeekFrom};
 use std::net::Net;
-use std::os::unix::fs::OpenOptionsExt;
 use std::rt::Files;
 use std::time::Clock;
 use std::{fs, io};
@@ -83,7 +85,7 @@ pub trait Host {
 
     /// Opens the log of this name, to append to it. Faults: `Failed` if the system doesn't, or the file is
     /// a symbolic link; and `Memory`.
-    fn open_log(&self, name: &str) -> Result<Self::Log, LogFailure>
+    fn open_log(&self, alloc: Global, name: &str) -> Result<Self::Log, LogFailure>
         ensures { LogOpens self.now name.now result };
 
     /// Whether the log of this name has octets and doesn't end in a line feed, as where a disk was
@@ -157,10 +159,10 @@ pub trait Host {
 
 /// Opens the log of this name. Where its last line was cut, that gets its line feed, so that the next
 /// one has a line of its own. Faults: `Failed`, and `Memory`.
-pub fn open_at_line<H: Host>(name: &str, host: &H) -> Result<H::Log, LogFailure>
+pub fn open_at_line<H: Host>(alloc: Global, name: &str, host: &H) -> Result<H::Log, LogFailure>
     ensures { OpensAtLine (H.LogOpens host.now) (H.LogIsCut host.now) H.Log.held name.now result }
 {
-    let mut log = host.open_log(name)?;
+    let mut log = host.open_log(alloc, name)?;
     if !host.is_cut(name) {
         return Ok(log);
     }
@@ -232,7 +234,7 @@ impl<'a, R: Net + Clock> SystemHost<'a, R> {
 }
 
 impl<'a, R: Files + Net + Clock> Host for SystemHost<'a, R> {
-    type Log = R::File;
+    type Log = FileLog<'a, R>;
 
     type Sockets = TimedPorts<UdpSock, SystemClock<'a, R>, PollWaiter>;
 
@@ -264,22 +266,8 @@ impl<'a, R: Files + Net + Clock> Host for SystemHost<'a, R> {
 
     ghost Closes = { λ _ _ _. ⊤ };
 
-    fn open_log(&self, name: &str) -> Result<R::File, LogFailure> {
-        if is_link(self.rt, name) {
-            return Err(LogFailure::Failed);
-        }
-        match File::options()
-            .append(true)
-            .create(true)
-            .mode(MODE)
-            .open(self.rt, name)
-        {
-            Ok(file) => Ok(file),
-            Err(error) => match error.kind() {
-                ErrorKind::OutOfMemory => Err(LogFailure::Memory),
-                _ => Err(LogFailure::Failed),
-            },
-        }
+    fn open_log(&self, alloc: Global, name: &str) -> Result<FileLog<'a, R>, LogFailure> {
+        file_log::open_log(self.rt, alloc, name)
     }
 
     fn is_cut(&self, name: &str) -> bool {
@@ -357,7 +345,7 @@ impl<'a, R: Files + Net + Clock> Host for SystemHost<'a, R> {
     fn close(
         &mut self,
         _sockets: TimedPorts<UdpSock, SystemClock<'a, R>, PollWaiter>,
-        _log: Option<R::File>,
+        _log: Option<FileLog<'a, R>>,
     )
         ensures { self.new ≡ self.old }
     {}

@@ -5,8 +5,13 @@
 //! and clock are a wire of `gw_ports`.
 #![tactic(auto)]
 
+<<<<<<< HEAD
 mod folder;
+=======
+mod file_log;
+>>>>>>> audit/main
 mod host;
+mod named_log;
 mod opening;
 mod poll_waiter;
 mod reading;
@@ -15,8 +20,13 @@ mod store;
 mod system_clock;
 mod udp;
 
+<<<<<<< HEAD
 pub use folder::{Folder, SystemFolder};
+=======
+pub use file_log::{FileLog, LogFile, LogFiles};
+>>>>>>> audit/main
 pub use host::{Host, SystemHost, open_at_line};
+pub use named_log::{NamedFiles, NamedLog};
 pub use opening::{FailedStep, LogFailure, OpenFailure, Reason, SocketFailure, Step, note_of};
 pub use poll_waiter::PollWaiter;
 pub use reading::{MAX_LOG_END, ReadFailure};

@@ -1,4 +1,5 @@
 //! Warnings of audits.
+ghost use Rattle.std.specs.Prelude.{◌≡◌};
 ghost use Rattle.gw_addr.specs.Appending.{IsAppended};
 ghost use Rattle.gw_script.specs.Order.{in_order};
 ghost use Rattle.gw_warnings.specs.Warnings.{audit_line, audit_lines, is_audited};
