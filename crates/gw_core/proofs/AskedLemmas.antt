@@ -34,11 +34,12 @@ use Rattle.gw_core.proofs.DenialLemmas.{origin_admitted}
 -- the refusals among the verdicts on asks are the asks that are denied
 pub refused_are : (rules : List Rule) (asked : List Ask) → refused_of (verdicts_of rules asked) ≡ denied_of rules asked
 refused_are rules [] = refl
-refused_are rules (ask ∷ asked) = by (allows rules ask) refl
+refused_are rules (ask ∷ asked) = by (allows rules ask) refl (refused_are rules asked)
   where
-    by : (b : Bool) → allows rules ask ≡ b → refused_of (verdicts_of rules (ask ∷ asked)) ≡ denied_of rules (ask ∷ asked)
-    by true is = rw is (refused_are rules asked)
-    by false is = rw is (ap (λ (l : List Refusal). refusal rules ask ∷ l) (refused_are rules asked))
+    by : (b : Bool) → allows rules ask ≡ b → refused_of (verdicts_of rules asked) ≡ denied_of rules asked
+        → refused_of (verdicts_of rules (ask ∷ asked)) ≡ denied_of rules (ask ∷ asked)
+    by true is later = rw is later
+    by false is later = rw is (ap (λ (l : List Refusal). refusal rules ask ∷ l) later)
 
 -- ---- what a turn has that had nothing before, and whose asker keeps all verdicts
 

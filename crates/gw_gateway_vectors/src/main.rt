@@ -8,6 +8,7 @@ mod replays;
 mod serving;
 mod streams;
 mod turns;
+mod watching;
 mod wire;
 
 use gw_cases::{Case, Kinds, write_groups};
@@ -29,6 +30,7 @@ impl Kinds for GatewayKinds {
             "octets" => configurations::octets(alloc, line, out),
             "streams" => streams::stream(alloc, config, line, out),
             "keep" => keeping::keeping(alloc, config, line, out),
+            "trial" => watching::watched(alloc, config, line, out),
             "serve" => serving::call(alloc, config, line, out),
             "reports" => serving::reports(alloc, config, line, out),
             "turns" => turns::turns(alloc, line, out),

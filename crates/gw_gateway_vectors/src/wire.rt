@@ -17,7 +17,7 @@ use std::alloc::{AllocError, Global};
 const PORTS: u8 = 2;
 
 /// A call of a wire, with its answer.
-#[derive(Drop)]
+#[derive(Drop, PartialEq)]
 enum Call {
     /// A receive that found nothing.
     EmptyReceive,
@@ -105,6 +105,14 @@ impl<'a> MemWire<'a> {
             fails,
             failures: 0,
             calls: Some(Vec::new(alloc)),
+        }
+    }
+
+    /// Whether both told the same calls with the same answers, octet for octet.
+    pub fn is_same(&self, other: &MemWire<'_>) -> bool {
+        match (&self.calls, &other.calls) {
+            (Some(calls), Some(others)) => calls == others,
+            _ => false,
         }
     }
 

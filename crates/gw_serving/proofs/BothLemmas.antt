@@ -33,16 +33,16 @@ first_turn : {G H : Type 0} (First : G → State → Event → G → Bool → Ty
 first_turn First Second g h w empty_turn p = ap (λ (b : Both _ _). b.first) p
 first_turn First Second g h w failed_turn p = ap (λ (b : Both _ _). b.first) p
 first_turn First Second g h w (lost_event event) p = ap (λ (b : Both _ _). b.first) p
-first_turn First Second g h w (taken_event event tries) (one, two, first, second, is) =
-    subst (λ (b : Bool). First g.first w event h.first b) (first_of one two is) first
+first_turn First Second g h w (taken_event event tries) p =
+    subst (λ (b : Bool). First g.first w event h.first b) (first_of p.0 p.1 p.4) p.2
 
 second_turn : {G H : Type 0} (First : G → State → Event → G → Bool → Type 0) (Second : H → State → Event → H → Bool → Type 0) (g h : Both G H)
     (w : State) (turn : Turn) → GuardsTurn (PassesBoth First Second) g w turn h → GuardsTurn Second g.second w turn h.second
 second_turn First Second g h w empty_turn p = ap (λ (b : Both _ _). b.second) p
 second_turn First Second g h w failed_turn p = ap (λ (b : Both _ _). b.second) p
 second_turn First Second g h w (lost_event event) p = ap (λ (b : Both _ _). b.second) p
-second_turn First Second g h w (taken_event event tries) (one, two, first, second, is) =
-    subst (λ (b : Bool). Second g.second w event h.second b) (second_of one two is) second
+second_turn First Second g h w (taken_event event tries) p =
+    subst (λ (b : Bool). Second g.second w event h.second b) (second_of p.0 p.1 p.4) p.3
 
 -- ---- turns, one after the other
 
@@ -91,9 +91,11 @@ second_goes First Second before after turns p = record {
 first_withheld : {G H : Type 0} (First : G → State → Event → G → Bool → Type 0) (Second : H → State → Event → H → Bool → Type 0)
     → LetsAllGo Second → (g h : Both G H) (w : State) (event : Event) → PassesBoth First Second g w event h false
     → First g.first w event h.first false
-first_withheld First Second lets g h w event (one, true, first, second, is) =
-    subst (λ (b : Bool). First g.first w event h.first b) (first_withholds one true is refl) first
-first_withheld First Second lets g h w event (one, false, first, second, is) = absurd (lets g.second h.second w event second)
+first_withheld First Second lets g h w event p = by p.1 refl
+  where
+    by : (two : Bool) → p.1 ≡ two → First g.first w event h.first false
+    by true is = subst (λ (b : Bool). First g.first w event h.first b) (first_withholds p.0 p.1 p.4 is) p.2
+    by false is = absurd (lets g.second h.second w event (subst (λ (b : Bool). Second g.second w event h.second b) is p.3))
 
 pub under_first : {G H : Type 0} (First : G → State → Event → G → Bool → Type 0) (Second : H → State → Event → H → Bool → Type 0)
     → IsUnderFirst First Second

@@ -50,7 +50,7 @@ impl Tally {
         ensures { CountsOne (place_of by) self.old self.new }
     {
         let at = match by {
-            Some(number) => usize::from(number),
+            Some(rule) => usize::from(rule),
             None => 0,
         };
         if at < self.counts.len() {

@@ -24,14 +24,17 @@ pub records_along : (chosen : Asked → Option (Option ℕ)) (rules : List Rule)
     → records chosen rules last tick (one ++ two)
     ≡ records chosen rules last tick one ++ records chosen rules (last_number last (records chosen rules last tick one)) tick two
 records_along chosen rules last tick [] two = refl
-records_along chosen rules last tick (a ∷ one) two = by (chosen a) refl
+records_along chosen rules last tick (a ∷ one) two =
+    by (chosen a) refl (λ number. records_along chosen rules number tick one two)
   where
     by : (is : Option (Option ℕ)) → chosen a ≡ is
+        → ((number : ℕ) → records chosen rules number tick (one ++ two)
+        ≡ records chosen rules number tick one ++ records chosen rules (last_number number (records chosen rules number tick one)) tick two)
         → records chosen rules last tick (a ∷ one ++ two)
         ≡ records chosen rules last tick (a ∷ one) ++ records chosen rules (last_number last (records chosen rules last tick (a ∷ one))) tick two
-    by None is = rw is (records_along chosen rules last tick one two)
-    by (Some number) is = rw is
-        (ap (λ (l : List Denial). record_of rules (one_more last) tick a number ∷ l) (records_along chosen rules (one_more last) tick one two))
+    by None is later = rw is (later last)
+    by (Some number) is later = rw is
+        (ap (λ (l : List Denial). record_of rules (one_more last) tick a number ∷ l) (later (one_more last)))
 
 pub lines_along : (front : List ℕ) (one two : List Denial) → lines_behind front (one ++ two) ≡ lines_behind front one ++ lines_behind front two
 lines_along front one two = flat_map-append (λ d. front ++ line_text d) one two
@@ -74,11 +77,12 @@ put_next front chosen rules last tick done a start b c text then more begun p q 
 pub few_records : (chosen : Asked → Option (Option ℕ)) (rules : List Rule) (last tick : ℕ) (asked : List Asked)
     → length (records chosen rules last tick asked) ≤ length asked
 few_records chosen rules last tick [] = omega arith
-few_records chosen rules last tick (a ∷ asked) = by (chosen a) refl
+few_records chosen rules last tick (a ∷ asked) = by (chosen a) refl (λ number. few_records chosen rules number tick asked)
   where
-    by : (is : Option (Option ℕ)) → chosen a ≡ is → length (records chosen rules last tick (a ∷ asked)) ≤ suc (length asked)
-    by None is = rw is (omega (arith, few_records chosen rules last tick asked))
-    by (Some number) is = rw is (omega (arith, few_records chosen rules (one_more last) tick asked))
+    by : (is : Option (Option ℕ)) → chosen a ≡ is → ((number : ℕ) → length (records chosen rules number tick asked) ≤ length asked)
+        → length (records chosen rules last tick (a ∷ asked)) ≤ suc (length asked)
+    by None is few = rw is (omega (arith, few last))
+    by (Some number) is few = rw is (omega (arith, few (one_more last)))
 
 -- ---- counts
 

@@ -171,13 +171,17 @@ run_watched : {T A : Type 0} (trial : T → Option (List ℕ)) (audit : A → Op
     → AreWatched trial audit g w (events_of turns) h × (g.unseen ≡ 0)
 unfolding AreGuarded AreWatched state_from
 run_watched trial audit g h w [] p on none = (p, ap (λ (x : Watching _ _). x.unseen) (sym p) ∙ none)
-run_watched {T} {A} trial audit g h w (turn ∷ turns) p on none = by turn p.1 p.2
+run_watched {T} {A} trial audit g h w (turn ∷ turns) p on none =
+    by turn p.1 p.2 (λ m v. run_watched trial audit m h v turns)
   where
-    still : (turn : Turn) → turn_events turn ≡ [] → p.0 ≡ g → AreGuarded (HasWatched trial audit) p.0 w turns h
+    Later : Watching T A → State → Type 0
+    Later m v = AreGuarded (HasWatched trial audit) m v turns h → is_watching m ≡ true → h.unseen ≡ 0
+        → AreWatched trial audit m v (events_of turns) h × (m.unseen ≡ 0)
+
+    still : (turn : Turn) → turn_events turn ≡ [] → p.0 ≡ g → AreGuarded (HasWatched trial audit) p.0 w turns h → Later g w
         → AreWatched trial audit g w (events_of (turn ∷ turns)) h × (g.unseen ≡ 0)
-    still turn nothing same rest =
-        let later = run_watched trial audit g h w turns
-        (subst (λ (x : Watching T A). AreGuarded (HasWatched trial audit) x w turns h) same rest) on none in
+    still turn nothing same rest goes =
+        let later = goes (subst (λ (x : Watching T A). AreGuarded (HasWatched trial audit) x w turns h) same rest) on none in
         (
           subst (λ (l : List Event). AreWatched trial audit g w l h)
               (sym (flat_map-cons turn_events turn turns ∙ ap (λ (l : List Event). l ++ events_of turns) nothing)) later.0,
@@ -185,13 +189,13 @@ run_watched {T} {A} trial audit g h w (turn ∷ turns) p on none = by turn p.1 p
         )
 
     by : (turn : Turn) → GuardsTurn (HasWatched trial audit) g w turn p.0
-        → AreGuarded (HasWatched trial audit) p.0 (state_from w (turn_events turn)) turns h
+        → AreGuarded (HasWatched trial audit) p.0 (state_from w (turn_events turn)) turns h → ((m : Watching T A) (v : State) → Later m v)
         → AreWatched trial audit g w (events_of (turn ∷ turns)) h × (g.unseen ≡ 0)
-    by empty_turn same rest = still empty_turn refl same rest
-    by failed_turn same rest = still failed_turn refl same rest
-    by (lost_event event) same rest = still (lost_event event) refl same rest
-    by (taken_event event tries) passed rest =
-        let later = run_watched trial audit p.0 h (next w event) turns rest (stays_watching trial audit g p.0 w event passed ∙ on) none in
+    by empty_turn same rest goes = still empty_turn refl same rest (goes g w)
+    by failed_turn same rest goes = still failed_turn refl same rest (goes g w)
+    by (lost_event event) same rest goes = still (lost_event event) refl same rest (goes g w)
+    by (taken_event event tries) passed rest goes =
+        let later = goes p.0 (next w event) rest (stays_watching trial audit g p.0 w event passed ∙ on) none in
         let now = event_watched trial audit g p.0 w event passed on later.1 in
         (
           subst (λ (l : List Event). AreWatched trial audit g w l h) (sym (flat_map-cons turn_events (taken_event event tries) turns))

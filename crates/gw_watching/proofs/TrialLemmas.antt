@@ -9,13 +9,13 @@ use Rattle.gw_core.specs.State.{State}
 use Rattle.gw_objects.specs.Objects.{Database}
 use Rattle.gw_relay.specs.State.{Relay}
 use Rattle.gw_rules.specs.Ask.{Ask}
-use Rattle.gw_rules.specs.Asker.{verdicts_of}
+use Rattle.gw_rules.specs.Asker.{verdict, verdicts_of}
 use Rattle.gw_rules.specs.Authorizer.{denied_of}
-use Rattle.gw_rules.specs.RuleList.{allows}
+use Rattle.gw_rules.specs.RuleList.{allows, first}
 use Rattle.gw_rules.specs.declared.rule.Rule.{Rule}
 use Rattle.gw_tally.specs.Tally.{one_more}
 use Rattle.gw_watching.specs.Laws.{AllAreAsked, TrialIsDenials}
-use Rattle.gw_watching.specs.Records.{denied_by, records}
+use Rattle.gw_watching.specs.Records.{denied_by, record_of, records}
 
 -- ---- a trial
 
@@ -26,15 +26,21 @@ trial_from : (rules policy : List Rule) (tick : ℕ) (from : Origin) (last : ℕ
     → records (denied_by rules) rules last tick (map (asked_from from) (verdicts_of policy asked))
     ≡ denials_from rules (last + 1) tick from (denied_of rules asked)
 trial_from rules policy tick from last [] few = refl
-trial_from rules policy tick from last (ask ∷ asked) few = by (allows rules ask) refl
+trial_from rules policy tick from last (ask ∷ asked) few =
+    by (allows rules ask) refl (trial_from rules policy tick from last asked (omega (arith, few)))
+    (trial_from rules policy tick from (last + 1) asked (omega (arith, few)))
   where
     by : (b : Bool) → allows rules ask ≡ b
+        → records (denied_by rules) rules last tick (map (asked_from from) (verdicts_of policy asked))
+        ≡ denials_from rules (last + 1) tick from (denied_of rules asked)
+        → records (denied_by rules) rules (last + 1) tick (map (asked_from from) (verdicts_of policy asked))
+        ≡ denials_from rules (last + 1 + 1) tick from (denied_of rules asked)
         → records (denied_by rules) rules last tick (map (asked_from from) (verdicts_of policy (ask ∷ asked)))
         ≡ denials_from rules (last + 1) tick from (denied_of rules (ask ∷ asked))
-    by true is = rw is (trial_from rules policy tick from last asked (omega (arith, few)))
-    by false is =
+    by true is allowed denied = rw is allowed
+    by false is allowed denied =
         let number = next_number last (omega (arith, few)) in
-        rw (is, number) (ap (λ (l : List Denial). _ ∷ l) (trial_from rules policy tick from (last + 1) asked (omega (arith, few))))
+        rw (is, number) (ap (λ (l : List Denial). record_of rules (last + 1) tick (asked_from from (verdict policy ask)) (first rules ask) ∷ l) denied)
 
 trial_of : (rules policy : List Rule) (tick last : ℕ) (from : Option Origin) (asked : List Ask) → last + length asked < 2 ^ 64
     → records (denied_by rules) rules last tick (asked_of from (verdicts_of policy asked))

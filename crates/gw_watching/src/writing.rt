@@ -12,6 +12,7 @@ use gw_rules::RuleList;
 use std::alloc::{AllocError, Global};
 
 /// How asks are recorded: which, under whose names, and at which tick.
+#[derive(Drop)]
 pub(crate) struct Writing<'a, C> {
     /// The allocator of names.
     pub alloc: Global,

@@ -40,8 +40,8 @@ returns-in_err-refusals-clause-silent c =
     rw (← c.self.view_is) (λ asks sends. let ok = c.in_err-refusals.ensures.silent (c.verdicts-verdicts.ensures ∙ r.verdicts ∙ ap (verdicts_of w.rules) asks) in
     absurd cc)
 
-pub returns-then-refusals-left-clause-count_end : goal.returns-then-refusals-left-clause-count_end
-returns-then-refusals-left-clause-count_end c =
+pub returns-then-len-left-clause-count_end : goal.returns-then-len-left-clause-count_end
+returns-then-len-left-clause-count_end c =
     let w : State = record {
       relay = c.self.inside.relay;
       device = c.self.inside.device;
@@ -58,7 +58,7 @@ returns-then-refusals-left-clause-count_end c =
     let refusals = c.in_ok-refusals.ensures.refusals ∙ ap refused_of c.verdicts-verdicts.ensures ∙ r.refusals in
     rw (← c.self.view_is) (λ h. omega (
       arith,
-      c.if-refusals-left.true,
+      c.if-len-left.true,
       ap (λ (s : State). s.denials) c.self.view_is,
       c.left.ensures,
       c.len.ensures,
@@ -66,8 +66,8 @@ returns-then-refusals-left-clause-count_end c =
       counted_for w received,
     ))
 
-pub returns-then-refusals-left-clause-silent : goal.returns-then-refusals-left-clause-silent
-returns-then-refusals-left-clause-silent c =
+pub returns-then-len-left-clause-silent : goal.returns-then-len-left-clause-silent
+returns-then-len-left-clause-silent c =
     let w : State = record {
       relay = c.self.inside.relay;
       device = c.self.inside.device;
@@ -84,7 +84,7 @@ returns-then-refusals-left-clause-silent c =
     let refusals = c.in_ok-refusals.ensures.refusals ∙ ap refused_of c.verdicts-verdicts.ensures ∙ r.refusals in
     rw (← c.self.view_is) (λ asks sends. absurd (omega (
       arith,
-      c.if-refusals-left.true,
+      c.if-len-left.true,
       c.left.ensures,
       c.len.ensures,
       ap length refusals,
@@ -182,7 +182,7 @@ returns-clause-room c =
     let refusals = c.in_ok-refusals.ensures.refusals ∙ ap refused_of c.verdicts-verdicts.ensures ∙ r.refusals in
     rw (← c.self.view_is) (λ is. omega (
       arith,
-      c.if-refusals-left.false,
+      c.if-len-left.false,
       c.left.ensures,
       ap (λ (s : State). s.denials) c.self.view_is,
       c.len.ensures,
