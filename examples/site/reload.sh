@@ -74,10 +74,9 @@ sleep 2
 # The rule that is put in front: the second subnet may not read the fan.
 awk '/^\[\[rule\]\]$/ && !done { print "[[rule]]\nname = \"no-fan\"\nallow = false\noperation = [\"read\"]\nport = [2]\n"
     done = 1 } { print }' site.toml > next.toml
-cp site.toml old.toml
 mv next.toml site.toml
 asked=$(now)
-"$program" reload --config site.toml --was old.toml --reload request
+"$program" reload --config site.toml --reload request
 answered=$(now)
 sleep 2
 touch stop
