@@ -9,7 +9,7 @@ _bacgw() {
         equals=yes before=${COMP_WORDS[COMP_CWORD - 2]}
     elif [[ $word == --*=* ]]; then
         case $word in
-            --config=* | --with=* | --was=* | --log=* | --state=* | --reload=*) mapfile -t COMPREPLY < <(compgen -f -P "${word%%=*}=" -- "${word#*=}") ;;
+            --config=* | --with=* | --log=* | --state=* | --reload=*) mapfile -t COMPREPLY < <(compgen -f -P "${word%%=*}=" -- "${word#*=}") ;;
         esac
         return
     fi
@@ -17,7 +17,7 @@ _bacgw() {
         options='check replay run why compare log state reload suggest help --help --version'
     else
         case $before in
-            --config | --with | --was | --log | --state | --reload) compopt -o default; return ;;
+            --config | --with | --log | --state | --reload) compopt -o default; return ;;
             --turns | --stats | --start | --most) return ;;
         esac
         if [ "$equals" ]; then return; fi
@@ -27,7 +27,7 @@ _bacgw() {
             run) options='--config --log --turns --stats --verbose --state --reload --help' ;;
             why) options='--config --count --help' ;;
             state) options='--config --state --help' ;;
-            reload) options='--config --reload --was --help' ;;
+            reload) options='--config --reload --help' ;;
             suggest) options='--config --fill --exact --help' ;;
             compare) options='--config --with --most --help' ;;
             log) options='--start --help' ;;

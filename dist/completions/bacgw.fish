@@ -23,7 +23,6 @@ complete -c bacgw -n '__fish_seen_subcommand_from run' -l turns -x -d 'How many 
 complete -c bacgw -n '__fish_seen_subcommand_from run' -l stats -x -d 'Tells what was done each so many seconds'
 complete -c bacgw -n '__fish_seen_subcommand_from run' -l verbose -d 'Tells what is served, or where a fault is'
 complete -c bacgw -n '__fish_seen_subcommand_from run state' -l state -r -F -d 'The file in which run keeps the state'
-complete -c bacgw -n '__fish_seen_subcommand_from reload' -l was -r -F -d 'The configuration in force until now'
 complete -c bacgw -n '__fish_seen_subcommand_from run reload' -l reload -r -F -d 'The file that asks to read the configuration again'
 complete -c bacgw -n '__fish_seen_subcommand_from why' -l count -d 'Prints how many asks each rule decides instead'
 complete -c bacgw -n '__fish_seen_subcommand_from suggest' -l fill -d 'Lets each station do what it did with each object'

@@ -3,10 +3,13 @@ device. It prints what it sends and what comes back.
 
     client.py panel BROADCAST       finds the device, and reads the fan and the door
     client.py workstation MANAGER   registers with the broadcast manager, and waits for a broadcast of its subnet
+    client.py reader GATEWAY        reads the fan again and again until a file `stop` is there, and prints when which answers came
 """
 
+import os
 import socket
 import sys
+import time
 
 PORT = 47808
 ERROR, COMPLEX_ACK = 5, 3
@@ -87,6 +90,25 @@ def wait(line):
     print("  no broadcast came")
 
 
+def read_on(line, gateway):
+    """Reads the fan of the device on network 100 again and again; prints each change of the answer with the time at which the read
+    was sent, by the clock of the machine, and at the end how many reads there were and how many had no answer."""
+    reads, unanswered, last = 0, 0, None
+    while not os.path.exists("stop"):
+        reads += 1
+        npdu = b"\x01\x24\x00\x64\x01\x01\xFF"
+        apdu = bytes([0x00, 0x05, reads % 256, 0x0C, 0x0C]) + (5 << 22 | 1).to_bytes(4, "big") + b"\x19\x55"
+        sent = time.monotonic()
+        line.sendto(frame(0x0A, npdu + apdu), (gateway, PORT))
+        message, _ = receive(line)
+        if message is None:
+            unanswered += 1
+        elif (what := "read" if message[10:][0] >> 4 == COMPLEX_ACK else "denied") != last:
+            print(f"{sent:.6f} {what}", flush=True)
+            last = what
+    print(f"reads {reads} unanswered {unanswered}")
+
+
 def main():
     role, other = sys.argv[1:]
     with open_line() as line:
@@ -94,6 +116,8 @@ def main():
             device = who_is(line, other)
             read(line, device, "the fan", 1)
             read(line, device, "the door", 2)
+        elif role == "reader":
+            read_on(line, other)
         else:
             register(line, other, 60)
             sys.stdout.flush()

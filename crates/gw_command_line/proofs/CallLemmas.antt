@@ -24,7 +24,6 @@ calls_are_taken = record {
   suggest = λ program. record { taken = refl; asked = refl; sound = λ void. void };
   suggest_whole = λ program. record { taken = refl; asked = refl; sound = λ void. void };
   reload = λ program. record { taken = refl; asked = refl; sound = λ void. void };
-  reload_compared = λ program. record { taken = refl; asked = refl; sound = λ void. void };
   log = λ program. record { taken = refl; asked = refl; sound = λ void. void None refl };
   log_since = λ program. record { taken = refl; asked = refl; sound = λ void. void (Some morning) morning_is_read };
 }

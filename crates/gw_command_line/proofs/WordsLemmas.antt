@@ -51,7 +51,7 @@ refusal_answers words k (Ok (choice.Why file counts)) among is = absurd is
 refusal_answers words k (Ok (choice.Compare old new most)) among is = absurd is
 refusal_answers words k (Ok (choice.Log start)) among is = absurd is
 refusal_answers words k (Ok (choice.State config state)) among is = absurd is
-refusal_answers words k (Ok (choice.Reload options)) among is = absurd is
+refusal_answers words k (Ok (choice.Reload config file)) among is = absurd is
 refusal_answers words k (Ok (choice.Suggest file fills exact)) among is = absurd is
 
 -- nothing is chosen for which nothing can be chosen
@@ -74,7 +74,7 @@ taken_answers words (Ok (choice.Why file counts)) none is = (none, is)
 taken_answers words (Ok (choice.Compare old new most)) none is = (none, is)
 taken_answers words (Ok (choice.Log start)) none is = (none, is)
 taken_answers words (Ok (choice.State config state)) none is = (none, is)
-taken_answers words (Ok (choice.Reload options)) none is = (none, is)
+taken_answers words (Ok (choice.Reload config file)) none is = (none, is)
 taken_answers words (Ok (choice.Suggest file fills exact)) none is = (none, is)
 
 no_kind : (kinds : Kinds) (k : ErrorKind) → kinds ≡ [] → IsAmong k kinds → ⊥
@@ -101,7 +101,7 @@ chooses words request (Ok (choice.Why file counts)) asks is = chosen words reque
 chooses words request (Ok (choice.Compare old new most)) asks is = chosen words request (Ok (choice.Compare old new most)) asks.asked is.1
 chooses words request (Ok (choice.Log start)) asks is = chosen words request (Ok (choice.Log start)) asks.asked is.1
 chooses words request (Ok (choice.State config state)) asks is = chosen words request (Ok (choice.State config state)) asks.asked is.1
-chooses words request (Ok (choice.Reload options)) asks is = chosen words request (Ok (choice.Reload options)) asks.asked is.1
+chooses words request (Ok (choice.Reload config file)) asks is = chosen words request (Ok (choice.Reload config file)) asks.asked is.1
 chooses words request (Ok (choice.Suggest file fills exact)) asks is = chosen words request (Ok (choice.Suggest file fills exact)) asks.asked is.1
 
 some_same : {A : Type 0} (x y : A) → Some x ≡ Some y → x ≡ y

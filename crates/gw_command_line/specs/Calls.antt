@@ -50,10 +50,7 @@ pub record CallsAreTaken : Type 0 where
   pub state : Calls (codes "state" ∷ on_site (codes "--state" ∷ codes "state.txt" ∷ [])) (Shows site (codes "state.txt"))
   pub suggest : Calls (codes "suggest" ∷ on_site []) (Suggests site false false)
   pub suggest_whole : Calls (codes "suggest" ∷ on_site (codes "--fill" ∷ codes "--exact" ∷ [])) (Suggests site true true)
-  pub reload : Calls (codes "reload" ∷ on_site (codes "--reload" ∷ codes "again" ∷ [])) (Reloads site (codes "again") None)
-  pub reload_compared : Calls
-      (codes "reload" ∷ on_site (codes "--reload" ∷ codes "again" ∷ codes "--was" ∷ codes "old.toml" ∷ []))
-      (Reloads site (codes "again") (Some (codes "old.toml")))
+  pub reload : Calls (codes "reload" ∷ on_site (codes "--reload" ∷ codes "again" ∷ [])) (Reloads site (codes "again"))
   pub log : Calls (codes "log" ∷ []) (TellsLog None)
   pub log_since : Calls (codes "log" ∷ codes "--start" ∷ codes "2026-11-25T08:00:00+01:00" ∷ [])
       (TellsLog (Some (codes "2026-11-25T08:00:00+01:00")))

@@ -10,7 +10,6 @@ use Rattle.gw_command_line.specs.Commands.{commands}
 use Rattle.gw_command_line.specs.Requests.{Checks, Compares, Explains, Migrates, Reloads, Replays, Request, Serves, Service, Shows, Suggests, TellsLog, asked_in}
 use Rattle.gw_command_line.specs.declared.command_line.Choice.{Choice}
 use Rattle.gw_command_line.specs.declared.command_line.Choice.TheVariants as choice
-use Rattle.gw_command_line.specs.declared.options.ReloadOptions.{ReloadOptions}
 use Rattle.gw_command_line.specs.declared.options.RunOptions.{RunOptions}
 use Rattle.gw_command_line.specs.declared.fault.WordsFault.{WordsFault}
 use Rattle.gw_command_line.specs.declared.fault.WordsFault.TheVariants as fault
@@ -37,11 +36,6 @@ service options = record {
   reload = option_map string_bytes options.reload;
 }
 
--- what `reload` is asked for by its options
-abbrev pub reload : ReloadOptions → Request
-reload options =
-    Reloads (string_bytes options.config) (string_bytes options.request) (option_map string_bytes options.was)
-
 -- a choice is what was asked for
 abbrev pub IsFor : Request → Choice → Type 0
 IsFor request (choice.Check file explains lints) = request ≡ Checks (string_bytes file) explains lints
@@ -52,7 +46,7 @@ IsFor request (choice.Why file counts) = request ≡ Explains (string_bytes file
 IsFor request (choice.Compare old new most) = request ≡ Compares (string_bytes old) (string_bytes new) most
 IsFor request (choice.State config state) = request ≡ Shows (string_bytes config) (string_bytes state)
 IsFor request (choice.Suggest file fills exact) = request ≡ Suggests (string_bytes file) fills exact
-IsFor request (choice.Reload options) = request ≡ reload options
+IsFor request (choice.Reload config file) = request ≡ Reloads (string_bytes config) (string_bytes file)
 IsFor request (choice.Log start) = (text : Option Text) × (request ≡ TellsLog text) × IsStart text start
 IsFor request (choice.Help text) = ⊥
 IsFor request (choice.Usage text) = ⊥

@@ -59,9 +59,9 @@ state = with_rule (of_file (codes "state")) (needed (codes "state"))
 abbrev pub suggest : App
 suggest = with_rule (with_rule (of_file (codes "suggest")) (flag (codes "fill"))) (flag (codes "exact"))
 
--- `reload --config FILE --reload FILE [--was FILE]`
+-- `reload --config FILE --reload FILE`
 abbrev pub reload : App
-reload = with_rule (with_rule (of_file (codes "reload")) (needed (codes "reload"))) (option (codes "was"))
+reload = with_rule (of_file (codes "reload")) (needed (codes "reload"))
 
 -- the program, whose call has to name a command
 abbrev pub program : App

@@ -26,7 +26,7 @@ pub data Request : Type 0 where
   Explains : (file : Text) (counts : Bool) → Request
   Compares : (old new : Text) (most : ℕ) → Request
   Shows : (config state : Text) → Request
-  Reloads : (config request : Text) (was : Option Text) → Request
+  Reloads : (config request : Text) → Request
   Suggests : (file : Text) (fills exact : Bool) → Request
   TellsLog : (start : Option Text) → Request
 
@@ -106,12 +106,9 @@ state_asked config None = None
 state_asked config (Some state) = Some (Shows config state)
 
 -- `reload`, whose request has to be named
-abbrev pub reload_of : Text → Option Text → Option Text → Option Request
-reload_of config None was = None
-reload_of config (Some request) was = Some (Reloads config request was)
-
-abbrev pub reload_asked : Text → Values → Option Request
-reload_asked config value = reload_of config (value (codes "reload")) (value (codes "was"))
+abbrev pub reload_asked : Text → Option Text → Option Request
+reload_asked config None = None
+reload_asked config (Some request) = Some (Reloads config request)
 
 -- a command's name is this one
 abbrev pub is_named : Text → Text → Bool
@@ -124,7 +121,7 @@ asked_of_file name value file =
     else if is_named name (codes "run") then run_asked file value
     else if is_named name (codes "why") then Some (Explains file (is_true (value (codes "count"))))
     else if is_named name (codes "compare") then compare_asked file value
-    else if is_named name (codes "reload") then reload_asked file value
+    else if is_named name (codes "reload") then reload_asked file (value (codes "reload"))
     else if is_named name (codes "suggest")
     then Some (Suggests file (is_true (value (codes "fill"))) (is_true (value (codes "exact"))))
     else if is_named name (codes "state") then state_asked file (value (codes "state"))

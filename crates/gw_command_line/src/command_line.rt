@@ -8,7 +8,7 @@ ghost use Rattle.gw_command_line.specs.Requests.{Request, TellsLog, asked, asked
 
 use crate::commands::make_commands;
 use crate::fault::WordsFault;
-use crate::options::{ReloadOptions, RunOptions};
+use crate::options::RunOptions;
 use crate::values::{count_of, file_of, is_given, period_of, start_of};
 use clap::error::ErrorKind;
 use clap::{ArgMatches, Error};
@@ -53,8 +53,12 @@ pub enum Choice {
         config: String,
         state: String,
     },
-    /// Ask a running gateway to read its configuration again, by making the file of the request.
-    Reload(ReloadOptions),
+    /// Ask the gateway that runs under the configuration in the first file to read it again, by making the
+    /// file of the request.
+    Reload {
+        config: String,
+        request: String,
+    },
     /// Write rules that allow the asks on standard input, to be put in front of those of the configuration in
     /// this file: for each station what it did with all objects that it asked for, if that is asked for, and
     /// with the services of reads and lists, if that is.
@@ -168,15 +172,11 @@ fn reload_choice(
     matches: &ArgMatches<'_>,
     config: String,
 ) -> Result<Choice, WordsFault>
-    ensures { IsChosen (reload_asked (string_bytes config) (first_value (found_of matches.now))) result }
+    ensures { let request = first_value (found_of matches.now) (codes "reload") in
+        IsChosen (reload_asked (string_bytes config) request) result }
 {
-    let was = file_of(alloc, matches, "was")?;
     match file_of(alloc, matches, "reload")? {
-        Some(request) => Ok(Choice::Reload(ReloadOptions {
-            config,
-            request,
-            was,
-        })),
+        Some(request) => Ok(Choice::Reload { config, request }),
         None => Err(WordsFault::CommandLine),
     }
 }

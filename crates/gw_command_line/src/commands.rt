@@ -226,13 +226,10 @@ fn make_reload<'a>(alloc: Global) -> Result<Command<'a>, AllocError>
 {
     let help = "The file that run --reload looks for";
     let request = make_needed(alloc, "reload", help);
-    let help = "The configuration in force until now; first prints what is decided otherwise";
-    let was = make_option(alloc, "was", FILE, help);
     let about = "Asks a running gateway to read its configuration again, and says what it did";
     make_of_file(alloc, "reload", about)?
         .after_help(RELOAD_EXAMPLE)
-        .arg(request)?
-        .arg(was)
+        .arg(request)
 }
 
 /// The program, with no command yet.

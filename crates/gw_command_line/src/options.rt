@@ -3,17 +3,6 @@
 ghost use Rattle.std.proofs.Props.{props};
 ghost use Rattle.std.specs.Prelude.{◌<◌, ◌^◌, IfSome};
 
-/// What `reload` is asked for.
-#[derive(Drop)]
-pub struct ReloadOptions {
-    /// The file of the configuration, by which the gateway runs that is asked.
-    pub config: String,
-    /// The file that is made to ask.
-    pub request: String,
-    /// The file of the configuration that was in force. Without it the two aren't compared.
-    pub was: Option<String>,
-}
-
 /// What `run` is asked for.
 #[derive(Drop)]
 pub struct RunOptions {

@@ -68,10 +68,8 @@ fn put_choice(
         Ok(Choice::State { config, state }) => {
             put(out, &["state ", config.as_str(), " of=", state.as_str()])
         }
-        Ok(Choice::Reload(options)) => {
-            put(out, &["reload ", options.config.as_str()])?;
-            put(out, &[" by=", options.request.as_str()])?;
-            put_file(out, " was=", &options.was)
+        Ok(Choice::Reload { config, request }) => {
+            put(out, &["reload ", config.as_str(), " by=", request.as_str()])
         }
         Ok(Choice::Suggest { file, fills, exact }) => {
             put(out, &["suggest ", file.as_str()])?;

@@ -1,8 +1,6 @@
 -- The program as a whole: what the words chose, what stands on standard output then, the line on standard error and
 -- the exit status.
-use Rattle.std.specs.Prelude.{◌≡◌, ◌≢◌, ◌⊎◌, ⊤, Bool, true, false, ℕ, List, [], ◌++◌, Option, Some, None, Result, Ok, Err, OnOk, option_map}
-use Rattle.gw_command_line.specs.Requests.{most_count}
-use Rattle.gw_command_line.specs.declared.options.ReloadOptions.{ReloadOptions}
+use Rattle.std.specs.Prelude.{◌≡◌, ◌≢◌, ◌⊎◌, ⊤, Bool, true, false, ℕ, List, [], ◌++◌, Option, Some, Result, Ok, Err, OnOk, option_map}
 use Rattle.std.specs.Prelude.{string_bytes}
 use Rattle.std.specs.Io.KnownBytes.{Appends}
 use Rattle.gw_script.specs.Known.{OnKnown}
@@ -181,43 +179,11 @@ abbrev pub LeavesReload : (Answers : List ℕ → List ℕ → Type 0) → List 
 LeavesReload Answers request held holds (Ok c) outcome = LeavesAsked Answers request held holds outcome
 LeavesReload Answers request held holds (Err f) outcome = (outcome ≡ Err f) × (holds ≡ held)
 
--- A comparison was made, whatever it found.
-abbrev pub IsCompared : Result (Unit {0}) Fault → Bool
-IsCompared (Ok done) = true
-IsCompared (Err fault.Different) = true
-IsCompared (Err f) = false
-
--- What comes after a comparison: what the request leaves, or nothing, and its fault is the outcome.
-abbrev pub LeavesAfter : Bool → (Asked Stopped : Type 0) → Type 0
-LeavesAfter true Asked Stopped = Asked
-LeavesAfter false Asked Stopped = Stopped
-
--- What `reload --was` leaves of the configuration that was in force and of the other one: what they decide otherwise, and then
--- what the request leaves. If they aren't compared, no request is made.
-pub record LeavesCompareReload (Answers : List ℕ → List ℕ → Type 0) (request : List ℕ) (held holds : Option (List ℕ))
-    (was is : Result Configuration Fault) (outcome : Result (Unit {0}) Fault) : Type 0 where
-  pub between : Option (List ℕ)
-  pub compared : Result (Unit {0}) Fault
-  pub first : LeavesComparison most_count held between was is compared
-  pub then : LeavesAfter (IsCompared compared) (LeavesAsked Answers request between holds outcome)
-      ((outcome ≡ compared) × (holds ≡ between))
-
--- What it leaves of the files of these names.
-abbrev pub LeavesReloadFrom : (Reads : List ℕ → Result (List ℕ) Fault → Type 0) → (Answers : List ℕ → List ℕ → Type 0)
-    → ReloadOptions → Option (List ℕ) → Option (List ℕ) → Option (List ℕ) → Result (Unit {0}) Fault → Type 0
-LeavesReloadFrom Reads Answers options None held holds outcome =
-    (c : Result Configuration Fault) × IsConfigured Reads (Some (string_bytes options.config)) c
-    × LeavesReload Answers (string_bytes options.request) held holds c outcome
-LeavesReloadFrom Reads Answers options (Some name) held holds outcome =
-    (was : Result Configuration Fault) × IsConfigured Reads (Some name) was
-    × (is : Result Configuration Fault) × IsConfigured Reads (Some (string_bytes options.config)) is
-    × LeavesCompareReload Answers (string_bytes options.request) held holds was is outcome
-
--- What `reload` leaves by its options.
+-- What it leaves if that is the file of this name.
 abbrev pub LeavesReloadIn : (Reads : List ℕ → Result (List ℕ) Fault → Type 0) → (Answers : List ℕ → List ℕ → Type 0)
-    → ReloadOptions → Option (List ℕ) → Option (List ℕ) → Result (Unit {0}) Fault → Type 0
-LeavesReloadIn Reads Answers options held holds outcome =
-    LeavesReloadFrom Reads Answers options (option_map string_bytes options.was) held holds outcome
+    → (file request : List ℕ) → Option (List ℕ) → Option (List ℕ) → Result (Unit {0}) Fault → Type 0
+LeavesReloadIn Reads Answers file request held holds outcome =
+    (c : Result Configuration Fault) × IsConfigured Reads (Some file) c × LeavesReload Answers request held holds c outcome
 
 -- What `why --count` leaves of a text: how many of its asks each of these rules decides, or the first line that says none.
 abbrev pub LeavesCounts : List Rule → List ℕ → Option (List ℕ) → Option (List ℕ) → Result (Unit {0}) Fault → Type 0
@@ -257,8 +223,8 @@ LeavesOutput Reads ReadsState Answers machine input held holds told (Ok (choice.
 LeavesOutput Reads ReadsState Answers machine input held holds told (Ok (choice.Why file counts)) outcome =
     (c : Result Configuration Fault) × IsConfigured Reads (Some (string_bytes file)) c
     × LeavesAnswered counts input held holds c outcome
-LeavesOutput Reads ReadsState Answers machine input held holds told (Ok (choice.Reload options)) outcome =
-    LeavesReloadIn Reads Answers options held holds outcome
+LeavesOutput Reads ReadsState Answers machine input held holds told (Ok (choice.Reload config request)) outcome =
+    LeavesReloadIn Reads Answers (string_bytes config) (string_bytes request) held holds outcome
 LeavesOutput Reads ReadsState Answers machine input held holds told (Ok (choice.Compare old new most)) outcome =
     (a : Result Configuration Fault) × IsConfigured Reads (Some (string_bytes old)) a
     × (b : Result Configuration Fault) × IsConfigured Reads (Some (string_bytes new)) b

@@ -12,7 +12,7 @@ ghost use Rattle.gw_shell.specs.Ending.{outcome_of_comparison, served};
 ghost use Rattle.gw_shell.specs.Ending.{FaultNote, IsExplainedBy, answers_by};
 ghost use Rattle.gw_shell.specs.Files.{result_map};
 ghost use Rattle.gw_system.specs.Host.{OpensAtLine};
-ghost use Rattle.gw_shell.specs.Program.{AppendsFront, IsChoiceOf, IsFlushed, IsFollowed, IsRun, LeavesAnswer, LeavesAnswered, LeavesAsked, LeavesCompareReload, LeavesCompared, LeavesComparison, LeavesConfigured, LeavesCounts, LeavesInFormatThree, LeavesMigrated, LeavesOfText, LeavesOutput, LeavesPlayed, LeavesPrinted, LeavesReload, LeavesReloadIn, LeavesSaid, LeavesState, LeavesStateIn, LeavesSuggested, LeavesSuggestedIn, LeavesText};
+ghost use Rattle.gw_shell.specs.Program.{AppendsFront, IsChoiceOf, IsFlushed, IsFollowed, IsRun, LeavesAnswer, LeavesAnswered, LeavesAsked, LeavesCompared, LeavesComparison, LeavesConfigured, LeavesCounts, LeavesInFormatThree, LeavesMigrated, LeavesOfText, LeavesOutput, LeavesPlayed, LeavesPrinted, LeavesReload, LeavesReloadIn, LeavesSaid, LeavesState, LeavesStateIn, LeavesSuggested, LeavesSuggestedIn, LeavesText};
 ghost use Rattle.gw_service.specs.Kept.{state_machine, whole_machine};
 ghost use Rattle.gw_service.specs.Serving.{IsFlushedFor, machine};
 ghost use Rattle.gw_shell.specs.Serving.{LeavesRun};
@@ -30,7 +30,7 @@ use crate::reloading::{self, ask};
 use crate::script::replay;
 use crate::suggesting::suggest;
 use crate::telling;
-use gw_command_line::{Choice, ReloadOptions, RunOptions, choice_of};
+use gw_command_line::{Choice, RunOptions, choice_of};
 use gw_compare::{Compared, put_comparison};
 use gw_configuration::{Config, ConfigFault};
 use gw_explanation::{Explanation, explain};
@@ -447,53 +447,21 @@ fn suggest_in<F: ConfigFiles, R: OctetSource, W: Write + Drop>(
     suggest_rules(alloc, &text, manner, input, output)
 }
 
-/// How many lines say what two configurations decide otherwise, at most: all.
-const ALL_LINES: u64 = i64::MAX as u64;
-
-/// Says which asks two configurations decide otherwise, and asks the gateway that runs under the second one to read it again.
-fn reload_compared<H: Host, W: Write + Drop>(
+/// Asks the gateway that runs under the configuration of a file to read it again.
+fn reload_in<F: ConfigFiles, H: Host, W: Write + Drop>(
     alloc: Global,
-    was: Result<Config, Fault>,
-    is: Result<Config, Fault>,
+    files: &F,
+    config: &str,
     request: &str,
     host: &H,
     output: &mut BufWriter<W>,
 ) -> Result<(), Fault>
-    ensures output { LeavesCompareReload (answers_by (H.Asks host.now) H.Answers) request.now
-        (writer_contents W.contents output.old) (writer_contents W.contents output.new) was is result }
-    ensures flush { OnOk result (writer_buffer output.new ≡ []) }
-{
-    match compare(alloc, ALL_LINES, was, is, output) {
-        Ok(()) => print_asked(alloc, request, host, output),
-        Err(Fault::Different) => print_asked(alloc, request, host, output),
-        Err(fault) => Err(fault),
-    }
-}
-
-/// Asks the gateway that runs under the configuration of a file to read it again. If the file of the one that was in force
-/// is named, it first prints what the two decide otherwise.
-fn reload_in<F: ConfigFiles, H: Host, W: Write + Drop>(
-    alloc: Global,
-    files: &F,
-    options: &ReloadOptions,
-    host: &H,
-    output: &mut BufWriter<W>,
-) -> Result<(), Fault>
-    ensures output { LeavesReloadIn (F.Reads files.now) (answers_by (H.Asks host.now) H.Answers) options.now
+    ensures output { LeavesReloadIn (F.Reads files.now) (answers_by (H.Asks host.now) H.Answers) config.now request.now
         (writer_contents W.contents output.old) (writer_contents W.contents output.new) result }
     ensures flush { OnOk result (writer_buffer output.new ≡ []) }
 {
-    match &options.was {
-        Some(name) => {
-            let was = configuration_in(alloc, files, name);
-            let is = configuration_in(alloc, files, &options.config);
-            reload_compared(alloc, was, is, &options.request, host, output)
-        }
-        None => {
-            let config = configuration_in(alloc, files, &options.config);
-            reload(alloc, config, &options.request, host, output)
-        }
-    }
+    let config = configuration_in(alloc, files, config);
+    reload(alloc, config, request, host, output)
 }
 
 /// How serving ended.
@@ -589,7 +557,9 @@ fn follow<F: ConfigFiles, H: Host, R: OctetSource, W: Write + Drop, E: OctetSink
             let config = configuration_in(alloc, files, file);
             answer(alloc, *counts, config, input, output)
         }
-        Ok(Choice::Reload(options)) => reload_in(alloc, files, options, host, output),
+        Ok(Choice::Reload { config, request }) => {
+            reload_in(alloc, files, config, request, host, output)
+        }
         Ok(Choice::Compare { old, new, most }) => {
             let before = configuration_in(alloc, files, old);
             let after = configuration_in(alloc, files, new);

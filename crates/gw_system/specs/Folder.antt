@@ -25,4 +25,4 @@ octets_of (Some octets) = Some octets.items
 -- An answer belongs to a request: that was taken away, and this is what the file of the answer holds.
 pub record IsAnswer (request answer : Known) (text : List ℕ) : Type 0 where
   pub gone : Holds request None
-  pub text : Holds answer (Some text)
+  pub holds : Holds answer (Some text)

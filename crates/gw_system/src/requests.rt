@@ -119,9 +119,7 @@ impl<F: Folder> Requests for FileRequests<F> {
     }
 
     fn answer(&mut self, text: &[u8]) {
-        let _ = self
-            .folder
-            .replace(&self.asked.answer, &self.beside, text);
+        let _ = self.folder.replace(&self.asked.answer, &self.beside, text);
     }
 }
 
@@ -131,6 +129,7 @@ pub(crate) fn make_request<F: Folder>(
     alloc: Global,
     request: &str,
 ) -> Result<AskedFile, StoreFault>
+    ensures name { IfOk result (λ asked. string_bytes asked.request ≡ request.now) }
     ensures made { IfOk result (λ asked. Holds (F.known folder.new (string_bytes asked.request)) (Some [])) }
     ensures unanswered { IfOk result (λ asked. Holds (F.known folder.new (string_bytes asked.answer)) None) }
 {

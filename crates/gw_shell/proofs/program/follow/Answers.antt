@@ -3,9 +3,10 @@ use Rattle.std.specs.Global.{Vec}
 use Rattle.std.specs.Io.Buffered.{writer_contents}
 use Rattle.std.specs.Prelude.{string_bytes}
 use Rattle.gw_shell.specs.Configured.{IsConfigured}
+use Rattle.gw_shell.specs.Ending.{answers_by}
 use Rattle.gw_shell.specs.Files.{result_map}
 use Rattle.gw_command_line.specs.declared.command_line.Choice.TheVariants as choice
-use Rattle.gw_shell.specs.Program.{LeavesStateIn, LeavesSuggestedIn}
+use Rattle.gw_shell.specs.Program.{LeavesReloadIn, LeavesStateIn, LeavesSuggestedIn}
 use Rattle.gw_suggest.specs.declared.suggestion.Manner.{Manner}
 use Rattle.gw_shell.proofs.ChoiceLemmas.{followed}
 use Rattle.gw_shell.proofs.AppendLemmas.{appends_nothing}
@@ -79,9 +80,17 @@ returns-in-Ok-State-clause-followed g c =
 
 pub returns-in-Ok-Reload-clause-followed : goal.returns-in-Ok-Reload-clause-followed
 returns-in-Ok-Reload-clause-followed g c =
-    let is : c.args.choice.now ≡ Ok (choice.Reload c.in-Ok-Reload.options) = search rules in
-    followed _ _ c.args.choice.now (Ok (choice.Reload c.in-Ok-Reload.options)) c.reload_in.result is refl c.reload_in.ensures.output
-    (λ never. appends_nothing (g.E.OctetSink.held c.args.errors.now))
+    let chosen = choice.Reload c.in-Ok-Reload.config c.in-Ok-Reload.request in
+    let is : c.args.choice.now ≡ Ok chosen = search rules in
+    let held = writer_contents g.W.Write.contents c.args.output.now in
+    let holds = writer_contents g.W.Write.contents c.reload_in.new.output in
+    let reads = g.F.ConfigFiles.Reads c.args.files.now in
+    let answers = answers_by (g.H.Host.Asks c.args.host.now) g.H.Host.Answers in
+    let named = subst (λ (name : List ℕ). LeavesReloadIn reads answers name c.deref-in-Ok-Reload-2.result.now held holds c.reload_in.result)
+    c.deref-in-Ok-Reload.ensures c.reload_in.ensures.output in
+    let both = subst (λ (name : List ℕ). LeavesReloadIn reads answers (string_bytes c.in-Ok-Reload.config) name held holds c.reload_in.result)
+    c.deref-in-Ok-Reload-2.ensures named in
+    followed _ _ c.args.choice.now (Ok chosen) c.reload_in.result is refl both (λ never. appends_nothing (g.E.OctetSink.held c.args.errors.now))
 
 pub returns-in-Ok-Suggest-clause-followed : goal.returns-in-Ok-Suggest-clause-followed
 returns-in-Ok-Suggest-clause-followed g c =
