@@ -62,7 +62,8 @@ pub record DeviceKnown (K : Known) (c : Configured) : Type 0 where
   pub device : K.IsThing (device_id c.device)
   pub objects : AllByRecursion (λ o. K.IsThing (object_id_of o)) c.objects
   pub named : (object : Object) (p : ℕ) → K.IsNamed object p → K.IsNamed (named_object c object) p
-  pub property : (object : Object) (p : ℕ) (q : Property) → K.IsNamed object p → K.IsNamed object (property_number q)
+  pub listed : (object : Object) (p : ℕ) (kind : ObjectType) (set : PropertySet) → K.IsNamed object p
+      → AllByRecursion (λ q. K.IsNamed object (property_number q)) (properties kind set)
 
 each_if : (P : Ask → Type 0) (b : Bool) (x y : Response) → AllByRecursion P x.asks → AllByRecursion P y.asks
     → AllByRecursion P (if b then x else y).asks
@@ -80,18 +81,19 @@ each_silenced P respond (Ok b) each = each b refl
 each_silenced P respond (Err fault) each = tt
 
 each_property : (P : Ask → Type 0) (K : Known) (rules : List Rule) (d : Database) (context : Context) (object : Object) (ps : List Property)
-    → DeviceCases P K d context → ((q : Property) → K.IsNamed object (property_number q))
+    → DeviceCases P K d context → AllByRecursion (λ q. K.IsNamed object (property_number q)) ps
     → AllByRecursion P (properties_part rules d context object ps).asks
 each_property P K rules d context object [] cases known = tt
 each_property P K rules d context object (p ∷ ps) cases known =
-    (cases.multi object (property_number p) (known p), each_property P K rules d context object ps cases known)
+    (cases.multi object (property_number p) known.0, each_property P K rules d context object ps cases known.1)
 
 each_member : (P : Ask → Type 0) (K : Known) (rules : List Rule) (d : Database) (context : Context) (object : Object) (p : ℕ) (set : PropertySet)
-    (kind : Option ObjectType) → DeviceCases P K d context → ((q : Property) → K.IsNamed object (property_number q))
+    (kind : Option ObjectType) → DeviceCases P K d context
+    → ((kind : ObjectType) → AllByRecursion (λ q. K.IsNamed object (property_number q)) (properties kind set))
     → AllByRecursion P (members_part rules d context object p set kind).asks
 each_member P K rules d context object p set None cases known = tt
 each_member P K rules d context object p set (Some kind) cases known =
-    each_property P K rules d context object (properties kind set) cases known
+    each_property P K rules d context object (properties kind set) cases (known kind)
 
 each_part_if : (P : Ask → Type 0) (b : Bool) (x y : Part) → AllByRecursion P x.asks → AllByRecursion P y.asks
     → AllByRecursion P (if b then x else y).asks
@@ -104,7 +106,7 @@ each_named : (P : Ask → Type 0) (K : Known) (rules : List Rule) (d : Database)
 each_named P K rules d context object p index None cases own known = (cases.multi object p known, tt)
 each_named P K rules d context object p index (Some set) cases own known =
     each_part_if P (allows rules (multi_ask d context object p)) _ _
-    (cases.multi object p known, each_member P K rules d context object p set (type_at d.configured object) cases (λ q. own.property object p q known))
+    (cases.multi object p known, each_member P K rules d context object p set (type_at d.configured object) cases (λ kind. own.listed object p kind set known))
     (cases.multi object p known, tt)
 
 each_multi : (P : Ask → Type 0) (K : Known) (rules : List Rule) (d : Database) (context : Context) (rs : List Reference) → DeviceCases P K d context

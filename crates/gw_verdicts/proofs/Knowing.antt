@@ -28,11 +28,11 @@ pub record Known : Type 1 where
   pub who_has : (body : List ℕ) (w : WhoHas) → IsText body → who_has_at body ≡ Ok w → IsSoughtBy IsThing w.sought
 
 -- nothing
-each_unknown : (rs : List Reference) → AllByRecursion (λ r. ⊤) rs
+pub each_unknown : (rs : List Reference) → AllByRecursion (λ r. ⊤) rs
 each_unknown [] = tt
 each_unknown (r ∷ rs) = (tt, each_unknown rs)
 
-sought_unknown : (s : Sought) → IsSoughtBy (λ o. ⊤) s
+pub sought_unknown : (s : Sought) → IsSoughtBy (λ o. ⊤) s
 sought_unknown (the_object o) = tt
 sought_unknown (the_name charset name) = tt
 

@@ -94,12 +94,13 @@ npdu_read octets f fits e =
     let all = subst AreOctets laid.parts fits in
     let to = destination_part f.destination in
     let from = source_part f.source in
-    let rest = hops_part f.destination ++ payload_part f.payload in
-    let parts : AreOctets (to ++ (from ++ rest)) = AreOctets-drop 2 front (front_octets front (payload_octets f.payload) all) in
+    let hops = hops_part f.destination in
+    let rest = payload_part f.payload in
+    let parts : AreOctets (to ++ from ++ hops ++ rest) = AreOctets-drop 2 front (front_octets front (payload_octets f.payload) all) in
+    let both : AreOctets (to ++ from) = front_octets (to ++ from) hops (front_octets (to ++ from ++ hops) rest parts) in
     record {
-      destination = destination_fits f.destination laid.fits.destination (λ bad. is.addressed (inl bad)) (front_octets to (from ++ rest) parts);
-      source = source_fits f.source laid.fits.source (λ bad. is.addressed (inr bad))
-          (front_octets from rest (behind_octets to (from ++ rest) parts));
+      destination = destination_fits f.destination laid.fits.destination (λ bad. is.addressed (inl bad)) (front_octets to from both);
+      source = source_fits f.source laid.fits.source (λ bad. is.addressed (inr bad)) (behind_octets to from both);
       fits = laid.fits.payload;
       octets = behind_octets front (payload_octets f.payload) all;
     }
@@ -145,7 +146,7 @@ kind_small : (v : Option ℕ) (kind : ℕ) → MatchOption v (kind < first_vendo
 kind_small None kind fits = omega (arith, fits)
 kind_small (Some v) kind fits =
     let small = fits.1 in
-    omega (arith, small.0)
+    omega (arith, small)
 
 pub payload_asks : (payload : Payload) → FitsPayload payload → AreOctets (payload_octets payload) → IsAskedFor (service_of payload)
 payload_asks (message m) fits octets =
@@ -163,7 +164,7 @@ Fits _ = ⊤
 content_fits : (shape : Content_shape) (own : List ℕ) (held : Content) → IsContentOf shape own held → Fits held
 content_fits an_object own held (of_object id is parts) = is
 content_fits (a_number least most) own held (of_number n is) = tt
-content_fits a_text own held (of_text charset text is parts) = tt
+content_fits a_text own held (of_text charset words is parts) = tt
 
 held_fits : (p : Parameter) (octets : List ℕ) (held : Content) (rest : List ℕ) → Holds p octets held rest → Fits held
 held_fits (under tag shape) octets held rest (tagged own begins is) = content_fits shape own held is
@@ -183,7 +184,7 @@ body_fits (may tag shape behind without) octets held (left_out absent later) = b
 
 -- the object and the property of a body that begins with them
 abbrev pub AreNamed : Object → ℕ → Type 0
-AreNamed object property = IsObject object × (property ≤ last_property)
+AreNamed id property = IsObject id × (property ≤ last_property)
 
 in_range_to : (p most : ℕ) → in_range 0 most p ≡ true → p ≤ most
 in_range_to p most t = leb-true p most (both_true (nat_le 0 p) (nat_le p most) t).1
@@ -214,7 +215,7 @@ number_fits least most n own e =
     ranged_fits least most read.0 n read.2
 
 abbrev IsMaybe : ℕ → ℕ → Option ℕ → Type 0
-IsMaybe least most number = IfSome number (λ n. (least ≤ n) × (n ≤ most))
+IsMaybe least most given_number = IfSome given_number (λ n. (least ≤ n) × (n ≤ most))
 
 given_fits : (least most : ℕ) (octets : List ℕ) (content : Option (List ℕ × List ℕ)) (x : Option ℕ × List ℕ)
     → number_given least most octets content ≡ Ok x → IsMaybe least most x.0

@@ -336,7 +336,7 @@ device_lies format rules d from m comes own =
     -- the APDU is the payload's octets
     of_payload : (payload : Payload) → AreOctets (payload_octets payload) → IfSome (apdu_of payload) AreOctets
     of_payload (apdu octets) fits = fits
-    of_payload (network_message message) fits = tt
+    of_payload (network_message other) fits = tt
 
     if_to : (b : Bool) (payload : Payload) → AreOctets (payload_octets payload) → IfSome (if b then apdu_of payload else None) AreOctets
     if_to true payload fits = of_payload payload fits

@@ -1,5 +1,5 @@
 -- What holds of each ask that the relay can raise holds of all that it raises for a message.
-use Rattle.std.proofs.Common.{◌≡◌, ◌≢◌, ◌∙◌, ◌⊎◌, inl, inr, ◌+◌, sym, ap, refl, subst, ℕ, Bool, true, false, List, [], ◌∷◌, ◌++◌, map, Option, Some, None, Result, Ok, Err}
+use Rattle.std.proofs.Common.{◌≡◌, ◌≢◌, ◌∙◌, ◌⊎◌, inl, inr, ◌+◌, sym, ap, refl, subst, ℕ, Bool, true, false, List, [], ◌∷◌, ◌++◌, length, map, Option, Some, None, Result, Ok, Err}
 use Rattle.std.specs.Prelude.{◌&&◌, ◌||◌, ◌==◌, IfSome, is_some, nat_eq, not, if◌then◌else◌}
 use Rattle.std.specs.Int.{w16, from_be_bytes}
 use Rattle.std.specs.List.{AllByRecursion}
@@ -37,7 +37,7 @@ use Rattle.gw_services.specs.declared.fault.BodyFault.{BodyFault}
 use Rattle.gw_tags.specs.Object.{Object}
 use Rattle.gw_relay.specs.Asks.{bound_for, service_of}
 use Rattle.gw_relay.specs.Cast.{cast_ask, cast_asks, goes_on, is_broadcast}
-use Rattle.gw_relay.specs.Manage.{are_networks, is_i_am_router, is_what_is_network_number, is_who_is_router, learn_ask, manage_asks, named_networks, network_ask, networks_in, question_of, question_steps}
+use Rattle.gw_relay.specs.Manage.{are_networks, is_for_all, is_i_am_router, is_what_is_network_number, is_who_is_router, learn_ask, manage_asks, named_networks, network_ask, networks_in, question_of, question_steps}
 use Rattle.gw_relay.specs.Message.{Message}
 use Rattle.gw_relay.specs.Named.{apdu_asks, body_asks, forward_asks, header_asks, multi_asks, named_ask, named_asks, payload_asks, read_asks, reference_ask, request_asks, segment_asks, unnamed_ask, write_asks}
 use Rattle.gw_relay.specs.Route.{copy, is_kind, is_local, leaves, others, route_ask, route_asks, steps_by}
@@ -209,11 +209,11 @@ each_copy P K format m d (link ∷ links) cases nets fits =
 -- what holds of each port holds of the others
 each_other : (Is : PortState → Type 0) (number : ℕ) (links : List PortState) → AllByRecursion Is links → AllByRecursion Is (others number links)
 each_other Is number [] each = tt
-each_other Is number (link ∷ links) each = by (not (nat_eq link.port.number number))
+each_other Is number (link ∷ links) each = by (not (nat_eq link.port.number number)) (each_other Is number links each.1)
   where
-    by : (b : Bool) → AllByRecursion Is (if b then link ∷ others number links else others number links)
-    by true = (each.0, each_other Is number links each.1)
-    by false = each_other Is number links each.1
+    by : (b : Bool) → AllByRecursion Is (others number links) → AllByRecursion Is (if b then link ∷ others number links else others number links)
+    by true rest = (each.0, rest)
+    by false rest = rest
 
 -- 65535 is everywhere
 everywhere : (t : Table) (n : ℕ) → n ≡ EVERYWHERE → way t n ≡ ways.Everywhere
@@ -327,7 +327,7 @@ each_network P relay m cases =
     let payload = m.npdu.payload in
     steps_if P (is_i_am_router m.npdu) _ _
     (λ e. each_learning P relay.format m (named_networks m) (kind_service IAmRouterToNetwork payload (i_am e)) (from_router e)
-    (each_in (payload_octets payload) (last_part _ _ e)) cases)
+    (each_in (payload_octets payload) (nets e)) cases)
     (steps_if P (is_who_is_router m.npdu) (question_steps relay m (payload_octets payload)) _
     (λ e. each_question P relay m (payload_octets payload) (kind_service WhoIsRouterToNetwork payload (first_part _ _ e)) cases)
     (steps_if P (is_what_is_network_number m.npdu) _ []
@@ -340,7 +340,26 @@ each_network P relay m cases =
     what e = first_part _ _ (first_part _ _ (first_part _ _ e))
 
     from_router : is_i_am_router m.npdu ≡ true → m.npdu.source ≡ None
-    from_router e = silent m.npdu.source (last_part _ _ (first_part _ _ (first_part _ _ e)))
+    from_router e =
+        let kind = is_kind IAmRouterToNetwork m.npdu.payload in
+        let all = is_for_all m.npdu in
+        let none = not (is_some m.npdu.source) in
+        let some = not (length (payload_octets m.npdu.payload) == 0) in
+        silent m.npdu.source (last_part (kind && all) none (first_part (kind && all && none) some
+        (first_part (kind && all && none && some) (are_networks (payload_octets m.npdu.payload)) e)))
+
+    nets : is_i_am_router m.npdu ≡ true → are_networks (payload_octets m.npdu.payload) ≡ true
+    nets e =
+        let kind = is_kind IAmRouterToNetwork m.npdu.payload in
+        let all = is_for_all m.npdu in
+        let none = not (is_some m.npdu.source) in
+        let some = not (length (payload_octets m.npdu.payload) == 0) in
+        last_part (kind && all && none && some) (are_networks (payload_octets m.npdu.payload)) e
 
     from_asker : is_what_is_network_number m.npdu ≡ true → m.npdu.source ≡ None
-    from_asker e = silent m.npdu.source (last_part _ _ (first_part _ _ e))
+    from_asker e =
+        let kind = is_kind WhatIsNetworkNumber m.npdu.payload in
+        let here = not (is_some m.npdu.destination) in
+        let none = not (is_some m.npdu.source) in
+        silent m.npdu.source (last_part (kind && here) none
+        (first_part (kind && here && none) (length (payload_octets m.npdu.payload) == 0) e))

@@ -1,9 +1,9 @@
 -- Every ask that a gateway raises lies in a shape of its configuration.
 use Rattle.std.proofs.Common.{◌≡◌, ◌≢◌, ◌∙◌, inl, inr, sym, ap, refl, subst, ℕ, ◌+◌, ◌≤◌, ◌<◌, Bool, true, false, List, [], ◌∷◌, ◌++◌, length, map, nat_le, Option, Some, None, arith}
 use Rattle.std.specs.Prelude.{◌==◌, ◌&&◌, ◌||◌, ◌^◌, not, if◌then◌else◌, IfSome}
-use Rattle.std.specs.List.{AllByRecursion, flat_map, list_any}
+use Rattle.std.specs.List.{AllByRecursion, flat_map, list_all, list_any}
 use Rattle.std.specs.Option.{option_map_or}
-use Rattle.std.proofs.lemmas.Bool.{eqb-false, or_parts}
+use Rattle.std.proofs.lemmas.Bool.{and_parts, eqb-false, leb-true, or_parts}
 use Rattle.gw_addr.specs.declared.bip.BipAddr.{BipAddr}
 use Rattle.gw_addr.specs.declared.station.Source.{Source}
 use Rattle.gw_addr.specs.Address.{IsAddress}
@@ -20,10 +20,11 @@ use Rattle.gw_objects.specs.declared.property.ObjectType.{ObjectType}
 use Rattle.gw_objects.specs.declared.property.ObjectType.TheVariants as types
 use Rattle.gw_objects.specs.declared.property.ObjectType.TheVariants.{BinaryValue, CharacterStringValue, Device, IntegerValue, MultiStateValue, PositiveIntegerValue}
 use Rattle.gw_objects.specs.declared.property.Property.{Property}
-use Rattle.gw_objects.specs.declared.property.Property.TheVariants.{ActiveText, ApduTimeout, ApplicationSoftwareVersion, Description, DeviceAddressBinding, EventState, FirmwareRevision, InactiveText, MaxApduLengthAccepted, ModelName, NumberOfApduRetries, NumberOfStates, ObjectIdentifier, ObjectList, ObjectName, TypeOfObject, OutOfService, PresentValue, PriorityArray, ProtocolObjectTypesSupported, ProtocolServicesSupported, ProtocolVersion, RelinquishDefault, SegmentationSupported, StateText, StatusFlags, SystemStatus, Units, VendorIdentifier, VendorName, ProtocolRevision, DatabaseRevision}
+use Rattle.gw_objects.specs.declared.property.PropertySet.{PropertySet}
+use Rattle.gw_objects.specs.declared.property.PropertySet.TheVariants.{All, Optional, Required}
 use Rattle.gw_objects.specs.Identifier.{type_of}
 use Rattle.gw_objects.specs.Objects.{configured_of, database_of, device_id, id, object_id_of}
-use Rattle.gw_objects.specs.Property.{property_number, type_number}
+use Rattle.gw_objects.specs.Property.{properties, property_number, type_number}
 use Rattle.gw_device.specs.Asks.{named_object}
 use Rattle.gw_rules.specs.declared.format.Format.{Format}
 use Rattle.gw_relay.specs.Asks as table
@@ -63,7 +64,7 @@ use Rattle.gw_verdicts.proofs.Brought.{Brought, IsBrought, brought_at}
 use Rattle.gw_verdicts.proofs.DeviceAsks.{DeviceKnown}
 use Rattle.gw_verdicts.proofs.Gaps.{WithinOne, apart, in_gap}
 use Rattle.gw_verdicts.proofs.Knowing.{bounds_known}
-use Rattle.gw_verdicts.proofs.Octets.{IsPlace, IsStation}
+use Rattle.gw_verdicts.proofs.Octets.{AreNamed, IsPlace, IsStation}
 use Rattle.gw_verdicts.proofs.Parts.{each_entry}
 use Rattle.gw_verdicts.proofs.RelayAsks.{Reached}
 use Rattle.gw_verdicts.proofs.Raised.{Comes, any_octets, claim_lies, enter_lies, link_lies, message_lies, near_cases, six_octets}
@@ -357,8 +358,37 @@ own_object c object own is = by _
     by true = own
     by false = is
 
-property_below : (q : Property) → property_number q ≤ last_property
-property_below q = elim q as (λ q. property_number q ≤ last_property) [ ActiveText ↦ omega arith | ApduTimeout ↦ omega arith | ApplicationSoftwareVersion ↦ omega arith | Description ↦ omega arith | DeviceAddressBinding ↦ omega arith | EventState ↦ omega arith | FirmwareRevision ↦ omega arith | InactiveText ↦ omega arith | MaxApduLengthAccepted ↦ omega arith | ModelName ↦ omega arith | NumberOfApduRetries ↦ omega arith | NumberOfStates ↦ omega arith | ObjectIdentifier ↦ omega arith | ObjectList ↦ omega arith | ObjectName ↦ omega arith | TypeOfObject ↦ omega arith | OutOfService ↦ omega arith | PresentValue ↦ omega arith | PriorityArray ↦ omega arith | ProtocolObjectTypesSupported ↦ omega arith | ProtocolServicesSupported ↦ omega arith | ProtocolVersion ↦ omega arith | RelinquishDefault ↦ omega arith | SegmentationSupported ↦ omega arith | StateText ↦ omega arith | StatusFlags ↦ omega arith | SystemStatus ↦ omega arith | Units ↦ omega arith | VendorIdentifier ↦ omega arith | VendorName ↦ omega arith | ProtocolRevision ↦ omega arith | DatabaseRevision ↦ omega arith ]
+-- the properties that the device has are properties
+small : Property → Bool
+small q = nat_le (property_number q) last_property
+
+all_small : (kind : ObjectType) (set : PropertySet) → list_all small (properties kind set) ≡ true
+unfolding small
+all_small BinaryValue All = refl
+all_small BinaryValue Required = refl
+all_small BinaryValue Optional = refl
+all_small CharacterStringValue All = refl
+all_small CharacterStringValue Required = refl
+all_small CharacterStringValue Optional = refl
+all_small Device All = refl
+all_small Device Required = refl
+all_small Device Optional = refl
+all_small IntegerValue All = refl
+all_small IntegerValue Required = refl
+all_small IntegerValue Optional = refl
+all_small MultiStateValue All = refl
+all_small MultiStateValue Required = refl
+all_small MultiStateValue Optional = refl
+all_small PositiveIntegerValue All = refl
+all_small PositiveIntegerValue Required = refl
+all_small PositiveIntegerValue Optional = refl
+
+each_small : (object : Object) (ps : List Property) → IsObject object → list_all small ps ≡ true → AllByRecursion (λ q. AreNamed object (property_number q)) ps
+unfolding small
+each_small object [] is e = tt
+each_small object (p ∷ ps) is e =
+    let both = and_parts (small p) (list_all small ps) e in
+    ((is, leb-true (property_number p) last_property both.0), each_small object ps is both.1)
 
 device_known : (c : Configured) → c.device.instance ≤ 4194302 → AllByRecursion (λ o. o.instance ≤ 4194302) c.objects → DeviceKnown bounds_known c
 device_known c small each =
@@ -366,7 +396,7 @@ device_known c small each =
       device = own;
       objects = their_ids c.objects each;
       named = λ object p known. (own_object c object own known.0, known.1);
-      property = λ object p q known. (known.0, property_below q);
+      listed = λ object p kind set known. each_small object (properties kind set) known.0 (all_small kind set);
     }
 
 configured_small : (objects : List ConfigurationObject) → AllByRecursion IsInstance objects

@@ -20,6 +20,7 @@ use Rattle.gw_bvll.specs.Bvll as bvll
 use Rattle.gw_bvll.specs.Reading.{bvll_at}
 use Rattle.gw_npdu.specs.Npdu.{Fields}
 use Rattle.gw_objects.specs.Objects.{Database}
+use Rattle.gw_objects.specs.Property.{properties}
 use Rattle.gw_objects.specs.declared.configured.Configured.{Configured}
 use Rattle.gw_rules.specs.declared.format.Format.{Format}
 use Rattle.gw_relay.specs.Cast.{accepts, is_unregistered}
@@ -151,7 +152,7 @@ own_unknown c = record {
   device = tt;
   objects = each_unknown c.objects;
   named = λ object p known. tt;
-  property = λ object p q known. tt;
+  listed = λ object p kind set known. each_unknown (properties kind set);
 }
 
 reached_unknown : (relay : Relay) (m : Message) → Reached nothing_known relay m
